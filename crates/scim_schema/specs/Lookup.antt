@@ -1,0 +1,27 @@
+-- Look-ups by name.
+use Rattle.std.specs.Prelude.{ℕ, List, ◌&&◌, Option, find}
+use denote.Enum.Bare.{sameb}
+use Rattle.scim_schema.specs.declared.Kind.{Kind}
+use Rattle.scim_schema.specs.declared.Attribute.{Attribute}
+use Rattle.scim_schema.specs.declared.SubAttribute.{SubAttribute}
+use Rattle.scim_schema.specs.declared.schemas.Schema.{Schema}
+use Rattle.scim_schema.specs.contracts.schemas.Schema.{the_type as the_schema}
+use Rattle.scim_schema.specs.Names.{is_same_name, attribute_name, sub_attribute_name}
+use Rattle.scim_schema.specs.Table.{attributes, sub_attributes}
+use Rattle.scim_schema.specs.Schemas.{urn, schemas, schema_of}
+
+-- the attribute of a kind with this name in any ASCII case; those of an extension are found by their bare name too
+abbrev pub attribute_named : Kind → List ℕ → Option Attribute
+attribute_named kind name = find (λ a. is_same_name (attribute_name a) name) (attributes kind)
+
+-- the attribute with this name among those of a kind that stand in this schema (RFC 7644 section 3.10)
+abbrev pub attribute_in : Kind → Schema → List ℕ → Option Attribute
+attribute_in kind schema name = find (λ a. sameb the_schema (schema_of kind a) schema && is_same_name (attribute_name a) name) (attributes kind)
+
+-- the sub-attribute of an attribute with this name in any ASCII case
+abbrev pub sub_attribute_named : Attribute → List ℕ → Option SubAttribute
+sub_attribute_named a name = find (λ b. is_same_name (sub_attribute_name b) name) (sub_attributes a)
+
+-- the schema with this URN in any ASCII case
+abbrev pub schema_named : List ℕ → Option Schema
+schema_named name = find (λ s. is_same_name (urn s) name) schemas

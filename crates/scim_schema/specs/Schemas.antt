@@ -1,0 +1,42 @@
+-- The schemas, and the attributes that stand in each (RFC 7643 sections 3 and 8.7).
+use Rattle.std.specs.Prelude.{ℕ, List, [], ◌∷◌, codes, Option, None, Some, unwrap_or}
+use Rattle.scim_schema.specs.declared.Kind.{Kind}
+use Rattle.scim_schema.specs.declared.Kind.TheVariants.{User, Group}
+use Rattle.scim_schema.specs.declared.Attribute.{Attribute}
+use Rattle.scim_schema.specs.declared.Attribute.TheVariants.{EmployeeNumber, CostCenter, Organization, Division, Department, Manager}
+use Rattle.scim_schema.specs.declared.schemas.Schema.{Schema}
+use Rattle.scim_schema.specs.declared.schemas.Schema.TheVariants.{User as UserSchema, Group as GroupSchema, EnterpriseUser}
+
+-- the URN of a schema (RFC 7643 section 8.7)
+abbrev pub urn : Schema → List ℕ
+urn UserSchema = codes "urn:ietf:params:scim:schemas:core:2.0:User"
+urn GroupSchema = codes "urn:ietf:params:scim:schemas:core:2.0:Group"
+urn EnterpriseUser = codes "urn:ietf:params:scim:schemas:extension:enterprise:2.0:User"
+
+-- all schemas of resources
+abbrev pub schemas : List Schema
+schemas = UserSchema ∷ GroupSchema ∷ EnterpriseUser ∷ []
+
+-- the schema that each resource of a kind has
+abbrev pub core_schema : Kind → Schema
+core_schema User = UserSchema
+core_schema Group = GroupSchema
+
+-- the extensions that a resource of a kind may have (RFC 7643 section 3.3)
+abbrev pub extensions : Kind → List Schema
+extensions User = EnterpriseUser ∷ []
+extensions Group = []
+
+-- the extension that an attribute belongs to (RFC 7643 section 4.3)
+abbrev pub extension_of : Attribute → Option Schema
+extension_of EmployeeNumber = Some EnterpriseUser
+extension_of CostCenter = Some EnterpriseUser
+extension_of Organization = Some EnterpriseUser
+extension_of Division = Some EnterpriseUser
+extension_of Department = Some EnterpriseUser
+extension_of Manager = Some EnterpriseUser
+extension_of _ = None
+
+-- the schema that an attribute of a kind stands in; `id`, `externalId` and `meta` count to the core schema
+abbrev pub schema_of : Kind → Attribute → Schema
+schema_of kind a = unwrap_or (extension_of a) (core_schema kind)

@@ -1,0 +1,23 @@
+-- Leaves and units: what a cell holds one atom of, and what is given and written as one.
+use Rattle.std.specs.Prelude.{None, Some, if◌then◌else◌}
+use Rattle.scim_schema.specs.declared.Attribute.{Attribute}
+use Rattle.scim_schema.specs.declared.SubAttribute.{SubAttribute}
+use Rattle.scim_schema.specs.declared.Leaf.{Leaf}
+use Rattle.scim_schema.specs.declared.Unit.{Unit as AttributeUnit}
+use Rattle.scim_schema.specs.Characteristics.{is_multi_valued}
+
+-- the leaf that a simple attribute is
+abbrev pub simple : Attribute → Leaf
+simple a = record { attribute = a; sub_attribute = None }
+
+-- the leaf of a sub-attribute
+abbrev pub leaf_at : Attribute → SubAttribute → Leaf
+leaf_at a b = record { attribute = a; sub_attribute = Some b }
+
+-- a whole attribute as a unit
+abbrev pub whole : Attribute → AttributeUnit
+whole a = record { attribute = a; sub_attribute = None }
+
+-- the unit of a leaf: the leaf itself, but all leaves of a multi-valued attribute form one unit
+abbrev pub unit_of : Leaf → AttributeUnit
+unit_of leaf = record { attribute = leaf.attribute; sub_attribute = if is_multi_valued leaf.attribute then None else leaf.sub_attribute }

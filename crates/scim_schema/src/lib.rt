@@ -1,0 +1,118 @@
+//! The attribute table of SCIM: the kinds of resources, their attributes and sub-attributes, the
+//! schemas that these stand in, and what each characteristic is (RFC 7643 sections 2, 3.1, 4 and 7).
+//!
+//! Nothing here takes memory or can fail.
+#![tactic(auto)]
+
+pub mod characteristics;
+pub mod leaves;
+pub mod lookup;
+pub mod names;
+pub mod schemas;
+pub mod table;
+pub mod units;
+
+/// A kind of resource, called its resource type in RFC 7643 section 6.
+#[derive(Clone, Copy, Debug, PartialEq, Eq, Hash)]
+pub enum Kind {
+    User,
+    Group,
+}
+
+/// What a client may be allowed to do with a resource.
+#[derive(Clone, Copy, Debug, PartialEq, Eq, Hash)]
+pub enum Op {
+    Read,
+    Create,
+    Modify,
+    Delete,
+}
+
+/// An attribute of a user (RFC 7643 sections 3.1, 4.1 and 4.3) or a group (sections 3.1 and 4.2).
+///
+/// An attribute that both kinds have is one variant.
+#[derive(Clone, Copy, Debug, PartialEq, Eq, Hash)]
+pub enum Attribute {
+    Id,
+    ExternalId,
+    UserName,
+    Name,
+    DisplayName,
+    NickName,
+    ProfileUrl,
+    Title,
+    UserType,
+    PreferredLanguage,
+    Locale,
+    Timezone,
+    Active,
+    Password,
+    Emails,
+    PhoneNumbers,
+    Ims,
+    Photos,
+    Addresses,
+    Groups,
+    Entitlements,
+    Roles,
+    X509Certificates,
+    EmployeeNumber,
+    CostCenter,
+    Organization,
+    Division,
+    Department,
+    Manager,
+    Members,
+    Meta,
+}
+
+/// A sub-attribute: a named part of a complex attribute's value (RFC 7643 sections 2.3.8 and 2.4).
+#[derive(Clone, Copy, Debug, PartialEq, Eq, Hash)]
+pub enum SubAttribute {
+    Formatted,
+    FamilyName,
+    GivenName,
+    MiddleName,
+    HonorificPrefix,
+    HonorificSuffix,
+    Value,
+    /// `$ref`
+    Reference,
+    Display,
+    /// `type`
+    TypeName,
+    Primary,
+    StreetAddress,
+    Locality,
+    Region,
+    PostalCode,
+    Country,
+    DisplayName,
+    ResourceType,
+    Created,
+    LastModified,
+    Location,
+}
+
+/// A simple attribute, or a sub-attribute of a complex one: what a cell of a resource holds one
+/// atom of.
+///
+/// Not every pair is a leaf of a kind: `table::has_leaf` tells.
+#[derive(Clone, Copy, Debug, PartialEq, Eq, Hash)]
+pub struct Leaf {
+    pub attribute: Attribute,
+    /// None at a simple attribute.
+    pub sub_attribute: Option<SubAttribute>,
+}
+
+/// What is given and written as one: a simple attribute, a sub-attribute of a single complex
+/// attribute, or a whole multi-valued attribute.
+#[derive(Clone, Copy, Debug, PartialEq, Eq, Hash)]
+pub struct Unit {
+    pub attribute: Attribute,
+    /// None at a simple attribute and at a whole multi-valued one.
+    pub sub_attribute: Option<SubAttribute>,
+}
+
+#[cfg(test)]
+mod tests;

@@ -1,0 +1,76 @@
+//! The schemas and their URNs (RFC 7643 sections 3 and 8.7).
+ghost use Rattle.std.specs.Prelude.{◌≡◌};
+ghost use Rattle.scim_schema.specs.Schemas as spec;
+
+use crate::{Attribute, Kind};
+
+/// A schema of resources: the core schema of a kind, or an extension.
+#[derive(Clone, Copy, Debug, PartialEq, Eq, Hash)]
+pub enum Schema {
+    User,
+    Group,
+    EnterpriseUser,
+}
+
+impl Schema {
+    /// The schema's URN as it is printed.
+    pub fn urn(self) -> &'static str
+        ensures { result.now ≡ spec.urn self }
+    {
+        match self {
+            Schema::User => "urn:ietf:params:scim:schemas:core:2.0:User",
+            Schema::Group => "urn:ietf:params:scim:schemas:core:2.0:Group",
+            Schema::EnterpriseUser => "urn:ietf:params:scim:schemas:extension:enterprise:2.0:User",
+        }
+    }
+}
+
+/// All schemas, in the order in which they are listed.
+pub fn schemas() -> &'static [Schema]
+    ensures { result.now ≡ spec.schemas }
+{
+    &[Schema::User, Schema::Group, Schema::EnterpriseUser]
+}
+
+/// The schema that each resource of the kind has.
+pub fn core_schema(kind: Kind) -> Schema
+    ensures { result ≡ spec.core_schema kind }
+{
+    match kind {
+        Kind::User => Schema::User,
+        Kind::Group => Schema::Group,
+    }
+}
+
+/// The extensions that a resource of the kind may have (RFC 7643 section 3.3).
+pub fn extensions(kind: Kind) -> &'static [Schema]
+    ensures { result.now ≡ spec.extensions kind }
+{
+    match kind {
+        Kind::User => &[Schema::EnterpriseUser],
+        Kind::Group => &[],
+    }
+}
+
+/// The extension that an attribute belongs to; None for an attribute of a core schema.
+pub fn extension_of(attribute: Attribute) -> Option<Schema>
+    ensures { result ≡ spec.extension_of attribute }
+{
+    match attribute {
+        Attribute::EmployeeNumber
+        | Attribute::CostCenter
+        | Attribute::Organization
+        | Attribute::Division
+        | Attribute::Department
+        | Attribute::Manager => Some(Schema::EnterpriseUser),
+        _ => None,
+    }
+}
+
+/// The schema under whose URN an attribute of the kind stands; `id`, `externalId` and `meta` count
+/// to the core schema.
+pub fn schema_of(kind: Kind, attribute: Attribute) -> Schema
+    ensures { result ≡ spec.schema_of kind attribute }
+{
+    extension_of(attribute).unwrap_or(core_schema(kind))
+}

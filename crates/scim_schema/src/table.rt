@@ -1,0 +1,239 @@
+//! Which attributes, sub-attributes and leaves there are, in the order of the table.
+ghost use Rattle.std.specs.Prelude.{◌≡◌, ◌↔◌, IsTrue};
+ghost use Rattle.scim_schema.specs.Table as table;
+
+use crate::{Attribute, Kind, Leaf, SubAttribute};
+
+// A line of the tables below: a simple attribute, or an attribute with one of its sub-attributes.
+macro_rules! leaf {
+    ($attribute:ident) => {
+        Leaf {
+            attribute: Attribute::$attribute,
+            sub_attribute: None,
+        }
+    };
+    ($attribute:ident, $sub_attribute:ident) => {
+        Leaf {
+            attribute: Attribute::$attribute,
+            sub_attribute: Some(SubAttribute::$sub_attribute),
+        }
+    };
+}
+
+static USER_ATTRIBUTES: [Attribute; 30] = [
+    Attribute::Id,
+    Attribute::ExternalId,
+    Attribute::UserName,
+    Attribute::Name,
+    Attribute::DisplayName,
+    Attribute::NickName,
+    Attribute::ProfileUrl,
+    Attribute::Title,
+    Attribute::UserType,
+    Attribute::PreferredLanguage,
+    Attribute::Locale,
+    Attribute::Timezone,
+    Attribute::Active,
+    Attribute::Password,
+    Attribute::Emails,
+    Attribute::PhoneNumbers,
+    Attribute::Ims,
+    Attribute::Photos,
+    Attribute::Addresses,
+    Attribute::Groups,
+    Attribute::Entitlements,
+    Attribute::Roles,
+    Attribute::X509Certificates,
+    Attribute::EmployeeNumber,
+    Attribute::CostCenter,
+    Attribute::Organization,
+    Attribute::Division,
+    Attribute::Department,
+    Attribute::Manager,
+    Attribute::Meta,
+];
+
+static GROUP_ATTRIBUTES: [Attribute; 5] = [
+    Attribute::Id,
+    Attribute::ExternalId,
+    Attribute::DisplayName,
+    Attribute::Members,
+    Attribute::Meta,
+];
+
+static USER_LEAVES: [Leaf; 71] = [
+    leaf!(Id),
+    leaf!(ExternalId),
+    leaf!(UserName),
+    leaf!(Name, Formatted),
+    leaf!(Name, FamilyName),
+    leaf!(Name, GivenName),
+    leaf!(Name, MiddleName),
+    leaf!(Name, HonorificPrefix),
+    leaf!(Name, HonorificSuffix),
+    leaf!(DisplayName),
+    leaf!(NickName),
+    leaf!(ProfileUrl),
+    leaf!(Title),
+    leaf!(UserType),
+    leaf!(PreferredLanguage),
+    leaf!(Locale),
+    leaf!(Timezone),
+    leaf!(Active),
+    leaf!(Password),
+    leaf!(Emails, Value),
+    leaf!(Emails, Display),
+    leaf!(Emails, TypeName),
+    leaf!(Emails, Primary),
+    leaf!(PhoneNumbers, Value),
+    leaf!(PhoneNumbers, Display),
+    leaf!(PhoneNumbers, TypeName),
+    leaf!(PhoneNumbers, Primary),
+    leaf!(Ims, Value),
+    leaf!(Ims, Display),
+    leaf!(Ims, TypeName),
+    leaf!(Ims, Primary),
+    leaf!(Photos, Value),
+    leaf!(Photos, Display),
+    leaf!(Photos, TypeName),
+    leaf!(Photos, Primary),
+    leaf!(Addresses, Formatted),
+    leaf!(Addresses, StreetAddress),
+    leaf!(Addresses, Locality),
+    leaf!(Addresses, Region),
+    leaf!(Addresses, PostalCode),
+    leaf!(Addresses, Country),
+    leaf!(Addresses, TypeName),
+    leaf!(Addresses, Primary),
+    leaf!(Groups, Value),
+    leaf!(Groups, Reference),
+    leaf!(Groups, Display),
+    leaf!(Groups, TypeName),
+    leaf!(Entitlements, Value),
+    leaf!(Entitlements, Display),
+    leaf!(Entitlements, TypeName),
+    leaf!(Entitlements, Primary),
+    leaf!(Roles, Value),
+    leaf!(Roles, Display),
+    leaf!(Roles, TypeName),
+    leaf!(Roles, Primary),
+    leaf!(X509Certificates, Value),
+    leaf!(X509Certificates, Display),
+    leaf!(X509Certificates, TypeName),
+    leaf!(X509Certificates, Primary),
+    leaf!(EmployeeNumber),
+    leaf!(CostCenter),
+    leaf!(Organization),
+    leaf!(Division),
+    leaf!(Department),
+    leaf!(Manager, Value),
+    leaf!(Manager, Reference),
+    leaf!(Manager, DisplayName),
+    leaf!(Meta, ResourceType),
+    leaf!(Meta, Created),
+    leaf!(Meta, LastModified),
+    leaf!(Meta, Location),
+];
+
+static GROUP_LEAVES: [Leaf; 11] = [
+    leaf!(Id),
+    leaf!(ExternalId),
+    leaf!(DisplayName),
+    leaf!(Members, Value),
+    leaf!(Members, Reference),
+    leaf!(Members, TypeName),
+    leaf!(Members, Display),
+    leaf!(Meta, ResourceType),
+    leaf!(Meta, Created),
+    leaf!(Meta, LastModified),
+    leaf!(Meta, Location),
+];
+
+/// The attributes of a kind, in the order of the table.
+pub fn attributes(kind: Kind) -> &'static [Attribute]
+    ensures { result.now ≡ table.attributes kind }
+{
+    match kind {
+        Kind::User => &USER_ATTRIBUTES,
+        Kind::Group => &GROUP_ATTRIBUTES,
+    }
+}
+
+/// The leaves of a kind, in the order of the table: leaf order.
+pub fn leaves(kind: Kind) -> &'static [Leaf]
+    ensures { result.now ≡ table.leaves kind }
+{
+    match kind {
+        Kind::User => &USER_LEAVES,
+        Kind::Group => &GROUP_LEAVES,
+    }
+}
+
+/// Whether the kind has this leaf.
+pub fn has_leaf(kind: Kind, leaf: Leaf) -> bool
+    ensures { IsTrue result ↔ table.HasLeaf kind leaf }
+{
+    leaves(kind).contains(&leaf)
+}
+
+/// The sub-attributes of a complex attribute, in the order of the table; a simple one has none.
+pub fn sub_attributes(attribute: Attribute) -> &'static [SubAttribute]
+    ensures { result.now ≡ table.sub_attributes attribute }
+{
+    match attribute {
+        Attribute::Name => &[
+            SubAttribute::Formatted,
+            SubAttribute::FamilyName,
+            SubAttribute::GivenName,
+            SubAttribute::MiddleName,
+            SubAttribute::HonorificPrefix,
+            SubAttribute::HonorificSuffix,
+        ],
+        Attribute::Addresses => &[
+            SubAttribute::Formatted,
+            SubAttribute::StreetAddress,
+            SubAttribute::Locality,
+            SubAttribute::Region,
+            SubAttribute::PostalCode,
+            SubAttribute::Country,
+            SubAttribute::TypeName,
+            SubAttribute::Primary,
+        ],
+        Attribute::Groups => &[
+            SubAttribute::Value,
+            SubAttribute::Reference,
+            SubAttribute::Display,
+            SubAttribute::TypeName,
+        ],
+        Attribute::Members => &[
+            SubAttribute::Value,
+            SubAttribute::Reference,
+            SubAttribute::TypeName,
+            SubAttribute::Display,
+        ],
+        Attribute::Manager => &[
+            SubAttribute::Value,
+            SubAttribute::Reference,
+            SubAttribute::DisplayName,
+        ],
+        Attribute::Meta => &[
+            SubAttribute::ResourceType,
+            SubAttribute::Created,
+            SubAttribute::LastModified,
+            SubAttribute::Location,
+        ],
+        Attribute::Emails
+        | Attribute::PhoneNumbers
+        | Attribute::Ims
+        | Attribute::Photos
+        | Attribute::Entitlements
+        | Attribute::Roles
+        | Attribute::X509Certificates => &[
+            SubAttribute::Value,
+            SubAttribute::Display,
+            SubAttribute::TypeName,
+            SubAttribute::Primary,
+        ],
+        _ => &[],
+    }
+}

@@ -1,0 +1,3 @@
+pub mod Calendar
+pub mod Fractions
+pub mod Spellings

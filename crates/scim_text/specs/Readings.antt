@@ -1,0 +1,58 @@
+-- What the text of a moment stands for.
+use Rattle.std.specs.Prelude.{◌≡◌, ℕ, ◌+◌, ◌*◌, ◌==◌, not, Bool, false, List, ℤ, pos, neg_ℤ, ◌+ℤ◌, ◌-ℤ◌, ◌*ℤ◌, ◌≤◌}
+use Rattle.std.specs.List.{list_any}
+use Rattle.jiff_core.specs.Calendar.{days_from_civil}
+use Rattle.scim_text.specs.declared.readings.Reading.{Reading}
+use Rattle.scim_text.specs.Moments.{last_moment, moment_text}
+use Rattle.scim_text.specs.Spelling.{CivilDate, Clock, Zone, absent, utc, ahead, behind, Spelling, spelling_text, IsSpelling}
+
+-- the number of a day, where 1970-01-01 is 0
+abbrev pub day_number : CivilDate → ℤ
+day_number d = days_from_civil (pos d.year) d.month d.day
+
+-- the seconds since midnight
+abbrev pub clock_seconds : Clock → ℕ
+clock_seconds c = c.hour * 3600 + c.minute * 60 + c.second
+
+-- hours and minutes in seconds
+abbrev pub offset_seconds : ℕ → ℕ → ℕ
+offset_seconds hours minutes = hours * 3600 + minutes * 60
+
+-- how many seconds the clock is ahead of UTC. A clock whose zone is not named shows UTC
+abbrev pub zone_seconds : Zone → ℤ
+zone_seconds absent = pos 0
+zone_seconds utc = pos 0
+zone_seconds (ahead hours minutes) = pos (offset_seconds hours minutes)
+zone_seconds (behind hours minutes) = neg_ℤ (pos (offset_seconds hours minutes))
+
+-- some digit of the fraction is not `0`
+abbrev pub is_above_zero : List ℕ → Bool
+is_above_zero fraction = list_any (λ digit. not (digit == 48)) fraction
+
+-- the instant in whole seconds since 1970-01-01T00:00:00Z, and whether a fraction of a second is left
+abbrev pub reading_of : Spelling → Reading
+reading_of s = record {
+  second = day_number s.date *ℤ pos 86400 +ℤ pos (clock_seconds s.clock) -ℤ zone_seconds s.zone;
+  later = is_above_zero s.fraction;
+}
+
+-- the text is of the form in which moments are written
+pub record IsMomentForm (text : List ℕ) : Type 0 where
+  pub spelling : Spelling
+  pub is_spelling : IsSpelling spelling
+  pub written : text ≡ spelling_text spelling
+
+-- the text is of that form, and stands for this reading
+pub record Spells (text : List ℕ) (reading : Reading) : Type 0 where
+  pub spelling : Spelling
+  pub is_spelling : IsSpelling spelling
+  pub written : text ≡ spelling_text spelling
+  pub meant : reading ≡ reading_of spelling
+
+-- a text stands for one reading at most
+abbrev pub HasOneReading : Type 0
+HasOneReading = (text : List ℕ) (a b : Reading) → Spells text a → Spells text b → a ≡ b
+
+-- the text of a moment stands for that moment, with no fraction
+abbrev pub PrintedReadsBack : Type 0
+PrintedReadsBack = (n : ℕ) → n ≤ last_moment → Spells (moment_text n) (record { second = pos n; later = false })

@@ -1,0 +1,102 @@
+-- How a moment is written: as a `dateTime` of RFC 7643 section 2.3.5, in the form of RFC 3339, where the zone may be left out
+-- as in XML Schema. A text is the list of its bytes.
+use Rattle.std.specs.Prelude.{ℕ, ◌+◌, ◌/◌, ◌%◌, ◌≤◌, List, [], ◌∷◌, ◌++◌, pos, codes, IsTrue}
+use Rattle.std.specs.List.{list_all}
+use Rattle.std.specs.Char.{is_ascii_digit}
+use Rattle.jiff_core.specs.Calendar.{IsCivilDate}
+
+-- a number below 100 in two digits
+abbrev pub two_digits : ℕ → List ℕ
+two_digits n = (48 + n / 10) ∷ (48 + n % 10) ∷ []
+
+-- a number below 10000 in four digits
+abbrev pub four_digits : ℕ → List ℕ
+four_digits n = two_digits (n / 100) ++ two_digits (n % 100)
+
+-- a day of the calendar
+pub record CivilDate : Type 0 where
+  pub year : ℕ
+  pub month : ℕ
+  pub day : ℕ
+
+-- a second of a day
+pub record Clock : Type 0 where
+  pub hour : ℕ
+  pub minute : ℕ
+  pub second : ℕ
+
+-- the zone of the clock: none is named, UTC, or so many hours and minutes ahead of UTC or behind it
+pub data Zone : Type 0 where
+  absent : Zone
+  utc : Zone
+  ahead : ℕ → ℕ → Zone
+  behind : ℕ → ℕ → Zone
+
+-- the parts of a moment's text. The fraction is the digits after the point, and empty where there is no point
+pub record Spelling : Type 0 where
+  pub date : CivilDate
+  pub clock : Clock
+  pub fraction : List ℕ
+  pub zone : Zone
+
+-- `2024-02-29`
+abbrev pub date_text : CivilDate → List ℕ
+date_text d = four_digits d.year ++ codes "-" ++ two_digits d.month ++ codes "-" ++ two_digits d.day
+
+-- `T23:59:59`
+abbrev pub clock_text : Clock → List ℕ
+clock_text c =
+    codes "T" ++ two_digits c.hour ++ codes ":" ++ two_digits c.minute ++ codes ":" ++ two_digits c.second
+
+-- `.5`, or nothing
+abbrev pub fraction_text : List ℕ → List ℕ
+fraction_text [] = []
+fraction_text (digit ∷ digits) = codes "." ++ digit ∷ digits
+
+-- hours and minutes, as `05:30`
+abbrev pub offset_text : ℕ → ℕ → List ℕ
+offset_text hours minutes = two_digits hours ++ codes ":" ++ two_digits minutes
+
+-- `Z`, `+05:30`, `-05:30` or nothing
+abbrev pub zone_text : Zone → List ℕ
+zone_text absent = []
+zone_text utc = codes "Z"
+zone_text (ahead hours minutes) = codes "+" ++ offset_text hours minutes
+zone_text (behind hours minutes) = codes "-" ++ offset_text hours minutes
+
+-- the whole text, as `2024-02-29T23:59:59.5+05:30`
+abbrev pub spelling_text : Spelling → List ℕ
+spelling_text s = date_text s.date ++ clock_text s.clock ++ fraction_text s.fraction ++ zone_text s.zone
+
+-- the calendar has the day, from year 1 to year 9999
+pub record IsDate (d : CivilDate) : Type 0 where
+  pub from_year_one : 1 ≤ d.year
+  pub in_calendar : IsCivilDate (pos d.year) d.month d.day
+
+-- a clock shows this
+pub record IsClock (c : Clock) : Type 0 where
+  pub hour : c.hour ≤ 23
+  pub minute : c.minute ≤ 59
+  pub second : c.second ≤ 59
+
+-- the fraction consists of digits
+abbrev pub IsFraction : List ℕ → Type 0
+IsFraction digits = IsTrue (list_all is_ascii_digit digits)
+
+-- the hours and minutes of an offset
+abbrev pub IsOffset : ℕ → ℕ → Type 0
+IsOffset hours minutes = (hours ≤ 23) × (minutes ≤ 59)
+
+-- a zone that can be written
+abbrev pub IsZone : Zone → Type 0
+IsZone absent = Unit {0}
+IsZone utc = Unit {0}
+IsZone (ahead hours minutes) = IsOffset hours minutes
+IsZone (behind hours minutes) = IsOffset hours minutes
+
+-- the parts are those of a moment
+pub record IsSpelling (s : Spelling) : Type 0 where
+  pub date : IsDate s.date
+  pub clock : IsClock s.clock
+  pub fraction : IsFraction s.fraction
+  pub zone : IsZone s.zone

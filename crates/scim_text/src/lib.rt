@@ -1,0 +1,18 @@
+//! The plain texts of SCIM: names and folded texts that are compared without regard to case
+//! (RFC 7643 section 2.1), and moments, which are written and read as the `dateTime` of RFC 7643
+//! section 2.3.5.
+#![tactic(auto)]
+
+mod laws;
+mod memory;
+mod moments;
+mod names;
+mod readings;
+#[cfg(test)]
+mod tests;
+
+pub use laws::{one_reading, printed_reads_back};
+pub use memory::NoMemory;
+pub use moments::{Moment, print_moment};
+pub use names::{fold, same_name};
+pub use readings::{BadMoment, Reading, read_moment};
