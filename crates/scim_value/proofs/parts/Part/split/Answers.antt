@@ -1,0 +1,29 @@
+use Rattle.std.proofs.Common.{rules, sym, subst, not, ◌∙◌, ap, ◌++◌, List}
+use Rattle.std.proofs.lemmas.List.{take-append-drop}
+use Rattle.std.specs.Prelude.{AllPairs}
+use Rattle.std.specs.Ordering.{is_lt, is_gt}
+use Rattle.std.specs.List.Sorted.{IsPartitionedBy}
+use Rattle.std.proofs.lemmas.List.Sorted.{IsPartitionPoint-from_clause}
+use Rattle.scim_value.specs.Place.{unit_cmp}
+use Rattle.scim_value.specs.Place.{unit_cmp}
+use Rattle.scim_value.specs.Rows.{Row}
+use Rattle.scim_value.proofs.OfLemmas.{sound_part}
+use Rattle.scim_value.proofs.SoundLemmas.{NotAfter, not_after, split_rows, partitioned_lt, partitioned_le, partitioned_drop}
+use Rattle.scim_value.proofs.parts.Part.split.Goals as goal
+
+pub returns : goal.returns
+returns c =
+    let unit = c.args.unit in
+    let rows = c.rows-rows.result.now in
+    let order = subst (AllPairs NotAfter) (sym c.rows-rows.ensures.rows) (not_after _ (sound_part c.args.self.now c.rows-rows.ensures.valid).in_order) in
+    let point = IsPartitionPoint-from_clause (λ (r : Row). is_lt (unit_cmp r.unit unit)) _ _ c.partition_point-start.ensures.partitioned
+    (partitioned_lt unit rows order) (λ a r q k. search rules) in
+    let rest : IsPartitionedBy (λ (r : Row). not (is_gt (unit_cmp r.unit unit))) c.split_at.result.1.now
+    = subst (IsPartitionedBy (λ (r : Row). not (is_gt (unit_cmp r.unit unit)))) (sym c.split_at.ensures.back) (partitioned_drop (λ (r : Row). not (is_gt (unit_cmp r.unit unit))) rows c.partition_point-start.result (partitioned_le unit rows order)) in
+    let end = IsPartitionPoint-from_clause (λ (r : Row). not (is_gt (unit_cmp r.unit unit))) _ _ c.partition_point-end.ensures.partitioned rest (λ a r q k. search rules) in
+    let r = split_rows unit rows c.split_at.result.0.now c.split_at.result.1.now c.split_at-2.result.0.now c.split_at-2.result.1.now c.partition_point-start.result c.partition_point-end.result
+    c.split_at.ensures.front c.split_at.ensures.back c.split_at-2.ensures.front c.split_at-2.ensures.back c.partition_point-start.ensures.bound c.partition_point-end.ensures.bound point end in
+    let rest_is = (λ i. c.split_at-2.ensures.front i ++ c.split_at-2.ensures.back i) ∙ take-append-drop c.partition_point-end.result c.split_at.result.1.now in
+    let all_is = (λ i. c.split_at.ensures.front i ++ c.split_at.ensures.back i) ∙ take-append-drop c.partition_point-start.result rows in
+    let whole = sym (ap (λ (rs : List Row). c.split_at.result.0.now ++ rs) rest_is ∙ all_is ∙ c.rows-rows.ensures.rows) in
+    record { before = rw (← c.rows-rows.ensures.rows) r.0; own = rw (← c.rows-rows.ensures.rows) r.1; after = rw (← c.rows-rows.ensures.rows) r.2; whole = whole; valid = c.rows-rows.ensures.valid }

@@ -1,0 +1,13 @@
+pub mod Atoms
+pub mod Changes
+pub mod Chain
+pub mod Content
+pub mod Equality
+pub mod Fields
+pub mod Grouping
+pub mod Ids
+pub mod Inside
+pub mod Laws
+pub mod Place
+pub mod Resource
+pub mod Rows

@@ -1,0 +1,98 @@
+-- What a resource is: a part that has all that RFC 7643 sections 2.2 to 2.5, 3.1, 4.1 and 4.2 ask of it, within this server's limits.
+use Rattle.std.specs.Prelude.{◌≡◌, ◌≢◌, Bool, false, ℕ, ◌≤◌, List, [], ◌++◌, length, codes, Option, Some, IsSome, All}
+use Rattle.std.specs.List.{count_by}
+use Rattle.std.specs.FinMap.{get}
+use Rattle.scim_schema.specs.declared.Kind.{Kind}
+use Rattle.scim_schema.specs.declared.Kind.TheVariants.{User, Group}
+use Rattle.scim_schema.specs.declared.Leaf.{Leaf}
+use Rattle.scim_schema.specs.declared.Attribute.TheVariants.{Id, UserName, DisplayName, Groups, Members, Meta}
+use Rattle.scim_schema.specs.declared.SubAttribute.TheVariants.{Value, Primary, ResourceType, Created, LastModified, Location}
+use Rattle.scim_schema.specs.declared.characteristics.Mutability.TheVariants.{WriteOnly}
+use Rattle.scim_schema.specs.Characteristics.{characteristics_of}
+use Rattle.scim_schema.specs.Names.{kind_name, endpoint}
+use Rattle.scim_schema.specs.Table.{attributes}
+use Rattle.scim_schema.specs.Units.{simple, leaf_at, whole}
+use Rattle.scim_value.specs.Ids.{id_text}
+use Rattle.scim_value.specs.declared.atoms.Atom.{Atom}
+use Rattle.scim_value.specs.declared.atoms.Atom.TheVariants.{Text, Truth}
+use Rattle.scim_value.specs.declared.rows.Field.{Field}
+use Rattle.scim_value.specs.Place.{place_at}
+use Rattle.scim_value.specs.Content.{Content, IsPart}
+use Rattle.scim_value.specs.Rows.{Row, rows, values, atom_in}
+
+-- what stands at the first position of a leaf
+abbrev pub first_at : Leaf → Content → Option Atom
+first_at l c = get c.cells (place_at l 0)
+
+-- `id` is there and is the id's text (RFC 7643 section 3.1)
+abbrev pub IsIdentified : Content → Type 0
+IsIdentified c = first_at (simple Id) c ≡ Some (Text (id_text c.id))
+
+-- `meta.resourceType` is the kind's name, and `meta.created` and `meta.lastModified` are there (RFC 7643 section 3.1)
+abbrev pub HasMeta : Content → Type 0
+HasMeta c =
+    (first_at (leaf_at Meta ResourceType) c ≡ Some (Text (kind_name c.kind)))
+    × IsSome (first_at (leaf_at Meta Created) c) × IsSome (first_at (leaf_at Meta LastModified) c)
+
+-- where a resource is found below a base (RFC 7644 section 3.2)
+abbrev pub location : List ℕ → Content → List ℕ
+location base c = base ++ (endpoint c.kind ++ (codes "/" ++ id_text c.id))
+
+-- `meta.location` is where the resource is found below this base (RFC 7643 section 3.1)
+abbrev pub HasBase : List ℕ → Content → Type 0
+HasBase base c = first_at (leaf_at Meta Location) c ≡ Some (Text (location base c))
+
+-- a text that isn't empty
+abbrev pub IsFilled : Option Atom → Type 0
+IsFilled (Some (Text t)) = t ≢ []
+IsFilled _ = ⊥
+
+abbrev pub IsNamedAs : Kind → Content → Type 0
+IsNamedAs User c = IsFilled (first_at (simple UserName) c)
+IsNamedAs Group c = IsSome (first_at (simple DisplayName) c)
+
+-- a user has a `userName` that isn't empty (RFC 7643 section 4.1.1), a group a `displayName` (section 4.2)
+abbrev pub IsNamed : Content → Type 0
+IsNamed c = IsNamedAs c.kind c
+
+-- each member has a `value` (RFC 7643 section 4.2)
+abbrev pub MembersHaveValues : Content → Type 0
+MembersHaveValues c = All (λ r. IsSome (atom_in (leaf_at Members Value) r.fields)) (values (whole Members) (rows c))
+
+abbrev pub is_truth : Option Atom → Bool
+is_truth (Some (Truth b)) = b
+is_truth _ = false
+
+-- whether a value is marked as the primary one
+abbrev pub is_primary : Row → Bool
+is_primary r = is_truth (atom_in (leaf_at r.unit.attribute Primary) r.fields)
+
+-- each attribute has at most one value whose `primary` is true (RFC 7643 section 2.4)
+abbrev pub HasOnePrimary : Content → Type 0
+HasOnePrimary c = All (λ a. count_by is_primary (values (whole a) (rows c)) ≤ 1) (attributes c.kind)
+
+-- no multi-valued attribute has more than 10,000 values
+abbrev pub HasFewValues : Content → Type 0
+HasFewValues c = All (λ a. length (values (whole a) (rows c)) ≤ 10000) (attributes c.kind)
+
+abbrev pub IsShort : Atom → Type 0
+IsShort (Text t) = length t ≤ 65536
+IsShort _ = Unit {0}
+
+-- a field that a resource may keep: not of `groups`, which is computed, nor of a writeOnly leaf (RFC 7643 sections 4.1.2 and 7), and with a text of at most 65,536 bytes, `meta.location` aside
+pub record MayBeKept (kind : Kind) (f : Field) : Type 0 where
+  pub own : f.leaf.attribute ≢ Groups
+  pub shown : (characteristics_of kind f.leaf).mutability ≢ WriteOnly
+  pub short : f.leaf ≢ leaf_at Meta Location → IsShort f.atom
+
+-- a part that is a whole resource
+pub record IsResource (c : Content) : Type 0 where
+  pub part : IsPart c
+  pub identified : IsIdentified c
+  pub has_meta : HasMeta c
+  pub located : (base : List ℕ) × HasBase base c
+  pub named : IsNamed c
+  pub members_have_values : MembersHaveValues c
+  pub one_primary : HasOnePrimary c
+  pub few_values : HasFewValues c
+  pub may_be_kept : All (λ r. All (MayBeKept c.kind) r.fields) (rows c)

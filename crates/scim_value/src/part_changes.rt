@@ -1,0 +1,145 @@
+//! Parts with one cell changed, and the cells of a part one by one.
+ghost use Rattle.std.specs.Prelude.{◌≡◌, ◌+◌, ◌^◌, ◌<◌, ◌++◌, filter, map, not, true, IfOk, OnOk, Err, None, length};
+ghost use Rattle.std.specs.Option.{ForSome};
+ghost use Rattle.std.specs.Ordering.{is_eq};
+ghost use Rattle.std.specs.List.Sorted.{IsBinarySearchResult, IsSearchInRange};
+ghost use Rattle.std.specs.FinMap.{entries, put, is_sorted};
+ghost use Rattle.scim_value.specs.Place.{place_cmp, place_at};
+ghost use Rattle.scim_value.specs.Content.{place_of, entries_of, IsPart};
+ghost use Rattle.scim_value.specs.Changes.{with_cell, without_cell};
+ghost use Rattle.scim_value.specs.Rows as spec;
+
+use crate::atoms::Atom;
+use crate::cells::Cell;
+use crate::faults::Fault;
+use crate::part_of_cells::rows_from;
+use crate::parts::Part;
+use crate::places::Place;
+use crate::rows::{Field, Row};
+use scim_schema::characteristics::is_multi_valued;
+use scim_schema::{Leaf, Unit};
+use scim_text::NoMemory;
+use std::alloc::Global;
+
+impl Part {
+    /// The cells, in order of place; NoMemory where none was to be had.
+    pub fn cells(&self, alloc: Global) -> Result<Vec<Cell>, NoMemory>
+        ensures cells { IfOk result (λ v. entries_of v.items ≡ entries self.now.cells) }
+        ensures valid { IsPart self.now }
+    {
+        cells_of(alloc, self.rows())
+    }
+
+    /// The part with this cell, in place of one that stands there.
+    ///
+    /// Invalid where no part has these cells: the leaf or the atom's type isn't the kind's, there
+    /// is no value at the position before, or a single-valued attribute would have a position
+    /// beyond 0. NoMemory where none was to be had.
+    pub fn with(
+        &self,
+        alloc: Global,
+        leaf: Leaf,
+        position: usize,
+        atom: Atom,
+    ) -> Result<Part, Fault>
+        ensures ok { IfOk result (λ p. p ≡ with_cell leaf position atom self.now) }
+        ensures invalid { result ≡ Err Fault.Invalid → ¬ IsPart (with_cell leaf position atom self.now) }
+    {
+        let mut cells = self.cells(alloc)?;
+        let cell = Cell {
+            leaf,
+            position,
+            atom,
+        };
+        put_cell(&mut cells, cell)?;
+        Part::of_sorted(alloc, self.kind(), self.id(), cells)
+    }
+
+    /// The part without the cell at a position of a leaf, if one stands there: a value left without
+    /// a cell goes, and the positions of those behind it close up. NoMemory where none was to be
+    /// had.
+    pub fn without(&self, alloc: Global, leaf: Leaf, position: usize) -> Result<Part, NoMemory>
+        ensures { IfOk result (λ p. p ≡ without_cell leaf position self.now) }
+    {
+        let mut cells = self.cells(alloc)?;
+        let place = Place {
+            attribute: leaf.attribute,
+            position,
+            sub_attribute: leaf.sub_attribute,
+        };
+        remove_cell(&mut cells, place);
+        let rows = rows_from(alloc, cells)?;
+        Ok(Part::of_rows(self.kind(), self.id(), rows))
+    }
+}
+
+/// The position of the next row of a unit, after the last row and its position.
+fn next_position(last: Option<(Unit, usize)>, unit: Unit) -> usize
+    requires { ForSome last (λ l. l.1 + 1 < 2 ^ 64) }
+    ensures { result ≡ spec.next_position last unit }
+{
+    match last {
+        Some((before, position))
+            if before.attribute == unit.attribute && is_multi_valued(unit.attribute) => position
+            + 1,
+        _ => 0,
+    }
+}
+
+fn append_fields(
+    alloc: Global,
+    cells: &mut Vec<Cell>,
+    fields: &[Field],
+    position: usize,
+) -> Result<(), NoMemory>
+    ensures { OnOk result (entries_of cells.new.items ≡ entries_of cells.old.items ++ map (λ f. (place_at f.leaf position, f.atom)) fields.now) }
+{
+    for field in fields {
+        let atom = field.atom.try_copy(alloc)?;
+        cells.push(Cell {
+            leaf: field.leaf,
+            position,
+            atom,
+        })?;
+    }
+    Ok(())
+}
+
+fn cells_of(alloc: Global, rows: &[Row]) -> Result<Vec<Cell>, NoMemory>
+    ensures { IfOk result (λ v. entries_of v.items ≡ spec.numbered None rows.now) }
+{
+    let mut cells = Vec::new(alloc);
+    let mut last = None;
+    for row in rows {
+        let position = next_position(last, row.unit());
+        append_fields(alloc, &mut cells, row.fields(), position)?;
+        last = Some((row.unit(), position));
+    }
+    Ok(cells)
+}
+
+fn place_in(cells: &[Cell], place: Place) -> Result<usize, usize>
+    ensures range { IsSearchInRange result (length cells.now) }
+    ensures searched { IsBinarySearchResult (λ c. place_cmp (place_of c) place) cells.now result }
+{
+    cells.binary_search_by(|cell| cell.place().compare(place))
+}
+
+/// Puts a cell into its place, over one that stands there.
+fn put_cell(cells: &mut Vec<Cell>, cell: Cell) -> Result<(), NoMemory>
+    requires { is_sorted place_cmp (entries_of cells.old.items) ≡ true }
+    ensures { OnOk result (entries_of cells.new.items ≡ put place_cmp (place_of cell) cell.atom (entries_of cells.old.items)) }
+{
+    match place_in(cells.as_slice(), cell.place()) {
+        Ok(index) => cells[index] = cell,
+        Err(index) => cells.insert(index, cell)?,
+    }
+    Ok(())
+}
+
+/// Takes out the cell that stands at a place, if there is one.
+fn remove_cell(cells: &mut Vec<Cell>, place: Place)
+    ensures { cells.new.items ≡ filter (λ c. not (is_eq (place_cmp (place_of c) place))) cells.old.items }
+{
+    cells.retain(|cell| !cell.place().compare(place).is_eq());
+}

@@ -1,0 +1,118 @@
+//! Parts made from cells.
+ghost use Rattle.std.specs.Prelude.{◌≡◌, IfOk, OnOk, OnErr, None, Err};
+ghost use Rattle.std.specs.List.Sorted.{IsPermutation};
+ghost use Rattle.std.specs.FinMap.{entries};
+ghost use Rattle.scim_value.specs.Content.{entry_of, entries_of, AreSortedPartCells, AreCellsOfAPart};
+ghost use Rattle.scim_value.specs.Rows.{rows_of, goes_with};
+ghost use Rattle.scim_value.specs.Grouping.{grouped, joins};
+
+use crate::cells::{Cell, are_sorted_part_cells};
+use crate::faults::Fault;
+use crate::ids::Id;
+use crate::parts::Part;
+use crate::places::Place;
+use crate::rows::{Field, Row};
+use scim_schema::Kind;
+use scim_schema::characteristics::is_multi_valued;
+use scim_schema::units::unit_of;
+use scim_text::NoMemory;
+use std::alloc::Global;
+
+impl Part {
+    /// The part of these cells, which may come in any order.
+    ///
+    /// Invalid where no part of the kind has these cells: a leaf or an atom's type isn't the
+    /// kind's, two cells stand at one place, positions have a gap, or a single-valued attribute has
+    /// a position beyond 0. NoMemory where none was to be had.
+    pub fn of(alloc: Global, kind: Kind, id: Id, mut cells: Vec<Cell>) -> Result<Part, Fault>
+        ensures kind { IfOk result (λ p. p.kind ≡ kind) }
+        ensures id { IfOk result (λ p. p.id ≡ id) }
+        ensures cells { IfOk result (λ p. IsPermutation (entries_of cells.items) (entries p.cells)) }
+        ensures valid { OnOk result (AreCellsOfAPart kind (entries_of cells.items)) }
+        ensures invalid { result ≡ Err Fault.Invalid → ¬ AreCellsOfAPart kind (entries_of cells.items) }
+    {
+        cells.sort_unstable_by(|a, b| a.place().compare(b.place()));
+        Part::of_sorted(alloc, kind, id, cells)
+    }
+
+    /// The part of these cells, which stand in order of place.
+    pub(crate) fn of_sorted(
+        alloc: Global,
+        kind: Kind,
+        id: Id,
+        cells: Vec<Cell>,
+    ) -> Result<Part, Fault>
+        ensures kind { IfOk result (λ p. p.kind ≡ kind) }
+        ensures id { IfOk result (λ p. p.id ≡ id) }
+        ensures cells { IfOk result (λ p. entries p.cells ≡ entries_of cells.items) }
+        ensures valid { OnOk result (AreSortedPartCells kind (entries_of cells.items)) }
+        ensures invalid { result ≡ Err Fault.Invalid → ¬ AreSortedPartCells kind (entries_of cells.items) }
+    {
+        if !are_sorted_part_cells(kind, cells.as_slice()) {
+            return Err(Fault::Invalid);
+        }
+        let rows = rows_from(alloc, cells)?;
+        Ok(Part::of_rows(kind, id, rows))
+    }
+}
+
+/// Whether two cells are of one value of a multi-valued attribute.
+#[tactic(auto, unfolding(crate::specs::Rows::goes_with))]
+fn go_together(a: Place, b: Place) -> bool
+    ensures { result ≡ goes_with a b }
+{
+    is_multi_valued(a.attribute) && a.attribute == b.attribute && a.position == b.position
+}
+
+fn joins_last(before: Option<Place>, place: Place) -> bool
+    ensures { result ≡ joins before place }
+{
+    match before {
+        Some(last) => go_together(last, place),
+        None => false,
+    }
+}
+
+// The cell goes into the last row, or into one of its own.
+fn group_cell(
+    alloc: Global,
+    rows: &mut Vec<Row>,
+    is_joined: bool,
+    cell: Cell,
+) -> Result<(), NoMemory>
+    ensures { OnOk result (rows.new.items ≡ grouped is_joined (entry_of cell) rows.old.items) }
+{
+    let Cell {
+        leaf,
+        position: _,
+        atom,
+    } = cell;
+    let field = Field { leaf, atom };
+    if is_joined {
+        if let Some(last) = rows.pop() {
+            let unit = last.unit();
+            let mut fields = last.into_fields();
+            fields.push(field)?;
+            rows.push(Row::new(unit, fields))?;
+            return Ok(());
+        }
+    }
+    let mut fields = Vec::new(alloc);
+    fields.push(field)?;
+    rows.push(Row::new(unit_of(leaf), fields))?;
+    Ok(())
+}
+
+/// The rows of cells that are in order of place.
+pub(crate) fn rows_from(alloc: Global, cells: Vec<Cell>) -> Result<Vec<Row>, NoMemory>
+    ensures { IfOk result (λ v. v.items ≡ rows_of (entries_of cells.items)) }
+{
+    let mut rows = Vec::new(alloc);
+    let mut before = None;
+    for cell in cells {
+        let place = cell.place();
+        group_cell(alloc, &mut rows, joins_last(before, place), cell)?;
+        before = Some(place);
+    }
+    Ok(rows)
+}

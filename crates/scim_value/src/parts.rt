@@ -1,0 +1,203 @@
+//! Parts: a kind, an id and the cells of a resource or of what is visible or shown of one.
+ghost use Rattle.std.specs.Prelude.{◌≡◌, ◌++◌, IfOk, filter};
+ghost use Rattle.std.specs.List.{list_any};
+ghost use denote.Enum.Bare.{sameb};
+ghost use Rattle.scim_schema.specs.contracts.Attribute.{the_type as the_attribute};
+ghost use Rattle.std.specs.Ordering.{is_lt, is_eq, is_gt};
+ghost use Rattle.std.specs.Option.{option_copied};
+ghost use Rattle.std.specs.FinMap.{get, entries};
+ghost use Rattle.scim_schema.specs.Units.{unit_of};
+ghost use Rattle.scim_value.specs.Place.{place_at, unit_cmp};
+ghost use Rattle.scim_value.specs.Content.{entries_of, IsPart, AreSortedPartCells};
+ghost use Rattle.scim_value.specs.Rows as spec;
+ghost use Rattle.scim_value.specs.Rows.{AreSound, AreValues};
+
+use crate::atoms::Atom;
+use crate::ids::Id;
+use crate::places::compare_units;
+use crate::rows::{Row, RowTest, copy_rows, kept_rows};
+use scim_schema::characteristics::is_multi_valued;
+use scim_schema::units::unit_of;
+use scim_schema::{Attribute, Kind, Leaf, Unit};
+use scim_text::NoMemory;
+use std::alloc::Global;
+use std::marker::Model;
+
+/// A kind, an id and cells of the kind whose positions run from 0 without a gap: all cells of a
+/// resource, or those that are visible or shown of one.
+///
+/// A part keeps its cells by value, as rows: contracts see the finite map from leaf and position to
+/// atom, and `rows` lends the rows of that map.
+#[derive(Debug, Drop)]
+pub struct Part {
+    kind: Kind,
+    id: Id,
+    rows: Vec<Row>,
+}
+
+impl Model for Part {
+    ghost use Rattle.std.specs.Coded.{codes};
+    ghost use Rattle.std.specs.FinMap as map;
+    ghost use Rattle.scim_value.specs.contracts.places.Place as place;
+    ghost use Rattle.scim_value.specs.Place.{place_cmp};
+    ghost use Rattle.scim_value.specs.contracts.atoms.Atom as atom;
+    ghost use Rattle.scim_value.specs.Content.{Content};
+
+    ghost Value = { Content };
+
+    ghost coded = { Prim.hlevel (codes, map.code {R = place_cmp} place.the_row.coded atom.the_row.coded) };
+
+    ghost use Rattle.scim_value.specs.Inside.{content_of, IsSoundPart};
+
+    ghost view = { content_of };
+
+    ghost invariant = { IsSoundPart };
+}
+
+impl Part {
+    /// The part of these rows: none is without a field, each is sound for the kind, they stand in
+    /// order of unit, and a unit of a single-valued attribute has one at most.
+    pub fn of_rows(kind: Kind, id: Id, rows: Vec<Row>) -> Part
+        requires { AreSound kind rows.items }
+        ensures kind { result.kind ≡ kind }
+        ensures id { result.id ≡ id }
+        ensures rows { spec.rows result ≡ rows.items }
+        ensures valid { IsPart result }
+    {
+        Part { kind, id, rows }
+    }
+
+    /// The kind.
+    pub fn kind(&self) -> Kind
+        ensures { result ≡ self.now.kind }
+    {
+        self.kind
+    }
+
+    /// The id.
+    pub fn id(&self) -> Id
+        ensures { result ≡ self.now.id }
+    {
+        self.id
+    }
+
+    /// The rows, in order of unit.
+    pub fn rows(&self) -> &[Row]
+        ensures rows { result.now ≡ spec.rows self.now }
+        ensures valid { IsPart self.now }
+    {
+        self.rows.as_slice()
+    }
+
+    /// The kind, the id and the rows, to keep.
+    pub fn into_parts(self) -> (Kind, Id, Vec<Row>)
+        ensures kind { result.0 ≡ self.kind }
+        ensures id { result.1 ≡ self.id }
+        ensures rows { result.2.items ≡ spec.rows self }
+        ensures valid { IsPart self }
+    {
+        let Part { kind, id, rows } = self;
+        (kind, id, rows)
+    }
+
+    // The rows of the units before this one, its own, and those of the units after it.
+    fn split(&self, unit: Unit) -> (&[Row], &[Row], &[Row])
+        ensures before { result.0.now ≡ filter (λ r. is_lt (unit_cmp r.unit unit)) (spec.rows self.now) }
+        ensures own { result.1.now ≡ spec.values unit (spec.rows self.now) }
+        ensures after { result.2.now ≡ filter (λ r. is_gt (unit_cmp r.unit unit)) (spec.rows self.now) }
+        ensures whole { spec.rows self.now ≡ result.0.now ++ (result.1.now ++ result.2.now) }
+        ensures valid { IsPart self.now }
+    {
+        let rows = self.rows();
+        let start = rows.partition_point(|row| compare_units(row.unit(), unit).is_lt());
+        let (before, rest) = rows.split_at(start);
+        let end = rest.partition_point(|row| !compare_units(row.unit(), unit).is_gt());
+        let (own, after) = rest.split_at(end);
+        (before, own, after)
+    }
+
+    /// The values of a unit, by position.
+    pub fn values(&self, unit: Unit) -> &[Row]
+        ensures rows { result.now ≡ spec.values unit (spec.rows self.now) }
+        ensures valid { IsPart self.now }
+    {
+        self.split(unit).1
+    }
+
+    /// The part with these values of a unit in place of its own; NoMemory where none was to be had.
+    ///
+    /// The values are sound for the unit, which `row_checks::are_values` tells. The rows of other
+    /// units are moved, not copied.
+    pub fn put(self, unit: Unit, mut values: Vec<Row>) -> Result<Part, NoMemory>
+        requires { AreValues self.kind unit values.items }
+        ensures kind { IfOk result (λ p. p.kind ≡ self.kind) }
+        ensures id { IfOk result (λ p. p.id ≡ self.id) }
+        ensures rows { IfOk result (λ p. spec.rows p ≡ spec.put_values unit values.items (spec.rows self)) }
+    {
+        let (before, own, _) = self.split(unit);
+        let start = before.len();
+        let end = start + own.len();
+        let (kind, id, mut rows) = self.into_parts();
+        let mut after = rows.split_off(end)?;
+        rows.truncate(start);
+        rows.append(&mut values)?;
+        rows.append(&mut after)?;
+        Ok(Part::of_rows(kind, id, rows))
+    }
+
+    /// The atom that stands at a position of a leaf, from 0; None where there is none.
+    pub fn get(&self, leaf: Leaf, position: usize) -> Option<&Atom>
+        ensures { option_copied result ≡ get self.now.cells (place_at leaf position) }
+    {
+        atom_at(self.values(unit_of(leaf)), leaf, position)
+    }
+
+    /// How many positions of an attribute have cells: the number of values of a multi-valued
+    /// attribute; of a single-valued one 1 where it has any cell, else 0.
+    pub fn positions(&self, attribute: Attribute) -> usize
+        ensures { result ≡ spec.positions attribute (spec.rows self.now) }
+    {
+        if is_multi_valued(attribute) {
+            self.values(Unit::whole(attribute)).len()
+        } else if has_attribute(self.rows(), attribute) {
+            1
+        } else {
+            0
+        }
+    }
+
+    /// A copy; NoMemory where none was to be had.
+    pub fn try_copy(&self, alloc: Global) -> Result<Part, NoMemory>
+        ensures { IfOk result (λ p. p ≡ self.now) }
+    {
+        let rows = copy_rows(alloc, self.rows())?;
+        Ok(Part::of_rows(self.kind(), self.id(), rows))
+    }
+
+    /// What is left where only the fields that the test admits are kept: rows without a field go,
+    /// so that positions close up. NoMemory where none was to be had.
+    pub fn restrict<T: RowTest>(&self, alloc: Global, test: &T) -> Result<Part, NoMemory>
+        ensures kind { IfOk result (λ p. p.kind ≡ self.now.kind) }
+        ensures id { IfOk result (λ p. p.id ≡ self.now.id) }
+        ensures rows { IfOk result (λ p. spec.rows p ≡ spec.restricted (T.keeps test.now) (spec.rows self.now)) }
+    {
+        let rows = kept_rows(alloc, self.rows(), test)?;
+        Ok(Part::of_rows(self.kind(), self.id(), rows))
+    }
+}
+
+fn atom_at(own: &[Row], leaf: Leaf, position: usize) -> Option<&Atom>
+    ensures { option_copied result ≡ spec.atom_at leaf position own.now }
+{
+    if position < own.len() {
+        own[position].get(leaf)
+    } else {
+        None
+    }
+}
+
+fn has_attribute(own: &[Row], attribute: Attribute) -> bool
+    ensures { result ≡ list_any (λ r. sameb the_attribute r.unit.attribute attribute) own.now }
+{
+    own.iter().any(|row| row.unit().attribute == attribute)
+}

@@ -1,0 +1,129 @@
+//! Resources: parts that are whole (RFC 7643 sections 2 to 4).
+ghost use Rattle.std.specs.Prelude.{◌≡◌, ◌↔◌, IfOk, IsOk};
+ghost use Rattle.std.specs.Option.{option_copied};
+ghost use Rattle.std.specs.FinMap.{get};
+ghost use Rattle.scim_value.specs.Place.{place_at};
+ghost use Rattle.scim_value.specs.Rows.{positions, rows};
+ghost use Rattle.scim_value.specs.Resource.{IsResource, HasBase};
+
+use crate::atoms::Atom;
+use crate::faults::Invalid;
+use crate::ids::Id;
+use crate::parts::Part;
+use crate::validity::{has_base, is_resource};
+use scim_schema::{Attribute, Kind, Leaf};
+use scim_text::NoMemory;
+use std::alloc::Global;
+use std::marker::Model;
+
+/// A part that is a whole resource: it has what RFC 7643 sections 3.1, 4.1 and 4.2 ask of it and
+/// keeps to this server's limits. `validity::is_resource` tells which parts are.
+///
+/// Contracts see its part, of which they know that it is a resource.
+#[derive(Debug, Drop)]
+pub struct Resource {
+    part: Part,
+}
+
+impl Model for Resource {
+    ghost use Rattle.std.specs.Coded.{codes};
+    ghost use Rattle.std.specs.FinMap as map;
+    ghost use Rattle.scim_value.specs.contracts.places.Place as place;
+    ghost use Rattle.scim_value.specs.Place.{place_cmp};
+    ghost use Rattle.scim_value.specs.contracts.atoms.Atom as atom;
+    ghost use Rattle.scim_value.specs.Content.{Content};
+    ghost use Rattle.scim_value.specs.Resource.{IsResource};
+
+    ghost Value = { Content };
+
+    ghost coded = { Prim.hlevel (codes, map.code {R = place_cmp} place.the_row.coded atom.the_row.coded) };
+
+    ghost view = { λ r. r.part };
+
+    ghost invariant = { λ r. IsResource r.part };
+}
+
+impl Resource {
+    /// The resource that the part is. `base` is that below which its `meta.location` has to stand, as
+    /// `http://127.0.0.1:8080`.
+    ///
+    /// Invalid where the part isn't a resource, or its location stands below another base; the part
+    /// is dropped then. Takes no memory.
+    pub fn of(part: Part, base: &str) -> Result<Resource, Invalid>
+        ensures value { IfOk result (λ r. r ≡ part) }
+        ensures valid { IsOk result ↔ (IsResource part × HasBase base.now part) }
+    {
+        if is_resource(&part) && has_base(&part, base) {
+            Ok(Resource { part })
+        } else {
+            Err(Invalid)
+        }
+    }
+
+    /// The resource that the part is, below whatever base; Invalid where it isn't one. Takes no
+    /// memory.
+    pub(crate) fn of_part(part: Part) -> Result<Resource, Invalid>
+        ensures value { IfOk result (λ r. r ≡ part) }
+        ensures valid { IsOk result ↔ IsResource part }
+    {
+        if is_resource(&part) {
+            Ok(Resource { part })
+        } else {
+            Err(Invalid)
+        }
+    }
+
+    /// The part, with all cells.
+    pub fn part(&self) -> &Part
+        ensures value { result.now ≡ self.now }
+        ensures valid { IsResource self.now }
+    {
+        &self.part
+    }
+
+    /// The part, to keep.
+    pub fn into_part(self) -> Part
+        ensures value { result ≡ self }
+        ensures valid { IsResource self }
+    {
+        let Resource { part } = self;
+        part
+    }
+
+    /// The kind.
+    pub fn kind(&self) -> Kind
+        ensures { result ≡ self.now.kind }
+    {
+        self.part().kind()
+    }
+
+    /// The id.
+    pub fn id(&self) -> Id
+        ensures { result ≡ self.now.id }
+    {
+        self.part().id()
+    }
+
+    /// The atom that stands at a position of a leaf, from 0; None where there is none.
+    pub fn get(&self, leaf: Leaf, position: usize) -> Option<&Atom>
+        ensures { option_copied result ≡ get self.now.cells (place_at leaf position) }
+    {
+        self.part().get(leaf, position)
+    }
+
+    /// How many positions of an attribute have cells: the number of values of a multi-valued
+    /// attribute; of a single-valued one 1 where it has any cell, else 0.
+    pub fn positions(&self, attribute: Attribute) -> usize
+        ensures { result ≡ positions attribute (rows self.now) }
+    {
+        self.part().positions(attribute)
+    }
+
+    /// A copy; NoMemory where none was to be had.
+    pub fn try_copy(&self, alloc: Global) -> Result<Resource, NoMemory>
+        ensures { IfOk result (λ r. r ≡ self.now) }
+    {
+        let part = self.part().try_copy(alloc)?;
+        Ok(Resource { part })
+    }
+}
