@@ -1,0 +1,3 @@
+pub mod Adding
+pub mod KeyLemmas
+pub mod Printed

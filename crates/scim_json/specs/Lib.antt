@@ -1,0 +1,3 @@
+pub mod Keys
+pub mod PartData
+pub mod Tokens

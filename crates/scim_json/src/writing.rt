@@ -1,0 +1,362 @@
+//! Writing a part as JSON, token by token (RFC 7643 sections 2.3, 3 and 8).
+ghost use Rattle.std.specs.Prelude.{◌≡◌, ◌∷◌, filter, IfOk, OnOk, string_bytes, Some, option_map, is_some};
+ghost use Rattle.std.specs.List.{list_any};
+ghost use Rattle.std.specs.Option.{option_copied};
+ghost use Rattle.json.specs.Token.{begin_array};
+ghost use Rattle.serde_json.specs.Written.{compact_text};
+ghost use Rattle.scim_schema.specs.Names.{attribute_name, sub_attribute_name};
+ghost use Rattle.scim_schema.specs.Schemas.{urn};
+ghost use Rattle.scim_schema.specs.Units.{whole};
+ghost use Rattle.scim_value.specs.Rows.{rows, values, cell_at};
+ghost use Rattle.scim_json.specs.Keys.{key_text};
+ghost use Rattle.scim_json.specs.PartData as spec;
+ghost use Rattle.scim_json.specs.PartData.{members_where, items_of};
+ghost use Rattle.scim_json.specs.Tokens.{Adds, value_tokens, member_tokens, members_tokens, items_tokens};
+
+use crate::keys::{Form, Key, Shape, extension_keys, keys, ordered_sub_attributes, shape_of};
+use json::Writer;
+use scim_schema::schemas::{Schema, core_schema, extension_of, extensions};
+use scim_schema::units::unit_of;
+use scim_schema::{Attribute, Leaf, SubAttribute, Unit};
+use scim_text::{NoMemory, print_moment};
+use scim_value::atoms::Atom;
+use scim_value::parts::Part;
+use scim_value::rows::Row;
+use std::alloc::Global;
+
+/// The JSON text of a part, as a client is shown it: its cells and `schemas`, and nothing else
+/// (RFC 7643 section 3). It has no spaces, and the keys of each object stand in byte order.
+///
+/// The only error is [`NoMemory`].
+#[tactic(auto, unfolding(crate::specs::PartData::part_data))]
+pub fn to_json(alloc: Global, part: &Part) -> Result<String, NoMemory>
+    ensures { IfOk result (λ t. string_bytes t ≡ compact_text (spec.part_data part.now)) }
+{
+    text_of(alloc, part, Form::Shown)
+}
+
+/// The JSON text that is kept of a part: that of [`to_json`] without `schemas`, `groups` and
+/// `meta.location`, which can be told from the rest.
+///
+/// The only error is [`NoMemory`].
+#[tactic(auto, unfolding(crate::specs::PartData::stored_data))]
+pub fn stored_text(alloc: Global, part: &Part) -> Result<String, NoMemory>
+    ensures { IfOk result (λ t. string_bytes t ≡ compact_text (spec.stored_data part.now)) }
+{
+    text_of(alloc, part, Form::Stored)
+}
+
+#[tactic(auto, using(crate::proofs::Printed::texts))]
+fn text_of(alloc: Global, part: &Part, form: Form) -> Result<String, NoMemory>
+    ensures { IfOk result (λ t. string_bytes t ≡ compact_text (spec.data_of form part.now)) }
+{
+    let mut out = Writer::new(Vec::with_capacity(alloc, 512)?);
+    write_part(alloc, &mut out, part, form)?;
+    Ok(unsafe { String::from_utf8_unchecked(out.into_inner()) })
+}
+
+#[tactic(auto, unfolding(crate::specs::PartData::data_of))]
+fn write_part(alloc: Global, out: &mut Writer, part: &Part, form: Form) -> Result<(), NoMemory>
+    ensures { OnOk result (Adds out.old out.new (value_tokens (spec.data_of form part.now))) }
+{
+    out.begin_object()?;
+    write_keys(alloc, out, part, form, keys(form, part.kind()))
+}
+
+/// The members of these keys, and the object's end.
+fn write_keys(
+    alloc: Global,
+    out: &mut Writer,
+    part: &Part,
+    form: Form,
+    keys: &[Key],
+) -> Result<(), NoMemory>
+    ensures { OnOk result (Adds out.old out.new
+        (members_tokens (members_where key_text (spec.key_data form part.now) keys.now))) }
+{
+    for key in keys {
+        write_key(alloc, out, part, form, *key)?;
+    }
+    out.end_object()?;
+    Ok(())
+}
+
+/// The member of a key, if it has a value.
+fn write_key(
+    alloc: Global,
+    out: &mut Writer,
+    part: &Part,
+    form: Form,
+    key: Key,
+) -> Result<(), NoMemory>
+    ensures { OnOk result (Adds out.old out.new
+        (member_tokens (key_text key) (spec.key_data form part.now key))) }
+{
+    match key {
+        Key::Of(attribute) => write_attribute(alloc, out, part, form, attribute),
+        Key::Schemas => {
+            let kind = part.kind();
+            write_schemas(out, part, core_schema(kind), extensions(kind))
+        }
+        Key::Extension(schema) => write_extension(alloc, out, part, form, schema),
+    }
+}
+
+fn write_schemas(
+    out: &mut Writer,
+    part: &Part,
+    core: Schema,
+    extensions: &[Schema],
+) -> Result<(), NoMemory>
+    ensures { OnOk result (Adds out.old out.new
+        (member_tokens (key_text Key.Schemas)
+        (Some (spec.schemas_data (rows part.now) core extensions.now)))) }
+{
+    out.key(Key::Schemas.text())?;
+    write_urns(out, part, core, extensions)
+}
+
+/// The URN of the core schema, and those of the extensions of which a cell is there.
+fn write_urns(
+    out: &mut Writer,
+    part: &Part,
+    core: Schema,
+    extensions: &[Schema],
+) -> Result<(), NoMemory>
+    ensures { OnOk result (Adds out.old out.new
+        (value_tokens (spec.schemas_data (rows part.now) core extensions.now))) }
+{
+    out.begin_array()?;
+    out.string(core.urn())?;
+    for extension in extensions {
+        if has_extension(part, *extension) {
+            out.string(extension.urn())?;
+        }
+    }
+    out.end_array()?;
+    Ok(())
+}
+
+/// Whether a cell of an attribute of the extension is there.
+#[tactic(auto, unfolding(crate::specs::PartData::has_extension))]
+fn has_extension(part: &Part, schema: Schema) -> bool
+    ensures { result ≡ spec.has_extension (rows part.now) schema }
+{
+    part.rows()
+        .iter()
+        .any(|row| extension_of(row.unit().attribute) == Some(schema))
+}
+
+#[tactic(auto, unfolding(crate::specs::PartData::extension_data))]
+fn write_extension(
+    alloc: Global,
+    out: &mut Writer,
+    part: &Part,
+    form: Form,
+    schema: Schema,
+) -> Result<(), NoMemory>
+    ensures { OnOk result (Adds out.old out.new
+        (member_tokens (urn schema) (spec.extension_data form (rows part.now) schema))) }
+{
+    if !has_extension(part, schema) {
+        return Ok(());
+    }
+    out.key(schema.urn())?;
+    out.begin_object()?;
+    write_attributes(alloc, out, part, form, extension_keys(schema))
+}
+
+/// The members of these attributes, and the object's end.
+fn write_attributes(
+    alloc: Global,
+    out: &mut Writer,
+    part: &Part,
+    form: Form,
+    attributes: &[Attribute],
+) -> Result<(), NoMemory>
+    ensures { OnOk result (Adds out.old out.new
+        (members_tokens
+        (members_where attribute_name (spec.attribute_data form (rows part.now)) attributes.now))) }
+{
+    for attribute in attributes {
+        write_attribute(alloc, out, part, form, *attribute)?;
+    }
+    out.end_object()?;
+    Ok(())
+}
+
+fn write_attribute(
+    alloc: Global,
+    out: &mut Writer,
+    part: &Part,
+    form: Form,
+    attribute: Attribute,
+) -> Result<(), NoMemory>
+    ensures { OnOk result (Adds out.old out.new
+        (member_tokens (attribute_name attribute) (spec.attribute_data form (rows part.now) attribute))) }
+{
+    match shape_of(attribute) {
+        Shape::Simple => {
+            let atom = single_atom(part, Leaf::simple(attribute));
+            write_member(alloc, out, attribute.name(), atom)
+        }
+        Shape::Complex => {
+            let sub_attributes = ordered_sub_attributes(form, attribute);
+            write_complex(alloc, out, part, attribute, sub_attributes)
+        }
+        Shape::MultiValued => {
+            write_values(alloc, out, values_of(part, attribute), form, attribute)
+        }
+    }
+}
+
+/// The atom of a leaf of a single-valued attribute.
+fn single_atom(part: &Part, leaf: Leaf) -> Option<&Atom>
+    ensures { option_copied result ≡ cell_at leaf 0 (rows part.now) }
+{
+    match part.values(unit_of(leaf)) {
+        [row, ..] => row.get(leaf),
+        [] => None,
+    }
+}
+
+/// The member of a single complex attribute, if one of these sub-attributes has a cell.
+fn write_complex(
+    alloc: Global,
+    out: &mut Writer,
+    part: &Part,
+    attribute: Attribute,
+    sub_attributes: &[SubAttribute],
+) -> Result<(), NoMemory>
+    ensures { OnOk result (Adds out.old out.new (member_tokens (attribute_name attribute)
+        (spec.object_of (members_where sub_attribute_name
+        (spec.sub_data (rows part.now) attribute) sub_attributes.now)))) }
+{
+    if !has_sub_attribute(part, attribute, sub_attributes) {
+        return Ok(());
+    }
+    out.key(attribute.name())?;
+    out.begin_object()?;
+    write_sub_attributes(alloc, out, part, attribute, sub_attributes)
+}
+
+/// Whether the part has a cell of one of these sub-attributes of a single-valued attribute.
+fn has_sub_attribute(part: &Part, attribute: Attribute, sub_attributes: &[SubAttribute]) -> bool
+    ensures { result
+        ≡ list_any (λ b. is_some (spec.sub_data (rows part.now) attribute b)) sub_attributes.now }
+{
+    sub_attributes
+        .iter()
+        .any(|b| single_atom(part, Leaf::of(attribute, *b)).is_some())
+}
+
+/// The members of these sub-attributes, and the object's end.
+fn write_sub_attributes(
+    alloc: Global,
+    out: &mut Writer,
+    part: &Part,
+    attribute: Attribute,
+    sub_attributes: &[SubAttribute],
+) -> Result<(), NoMemory>
+    ensures { OnOk result (Adds out.old out.new
+        (members_tokens (members_where sub_attribute_name
+        (spec.sub_data (rows part.now) attribute) sub_attributes.now))) }
+{
+    for sub_attribute in sub_attributes {
+        let atom = single_atom(part, Leaf::of(attribute, *sub_attribute));
+        write_member(alloc, out, sub_attribute.name(), atom)?;
+    }
+    out.end_object()?;
+    Ok(())
+}
+
+/// The values of a multi-valued attribute, by position.
+fn values_of(part: &Part, attribute: Attribute) -> &[Row]
+    ensures { result.now ≡ values (whole attribute) (rows part.now) }
+{
+    part.values(Unit::whole(attribute))
+}
+
+/// The member of a multi-valued attribute, if it has a value.
+fn write_values(
+    alloc: Global,
+    out: &mut Writer,
+    values: &[Row],
+    form: Form,
+    attribute: Attribute,
+) -> Result<(), NoMemory>
+    ensures { OnOk result (Adds out.old out.new (member_tokens (attribute_name attribute)
+        (spec.array_of (items_of (spec.value_data form attribute) values.now)))) }
+{
+    if values.is_empty() {
+        return Ok(());
+    }
+    out.key(attribute.name())?;
+    write_array(alloc, out, values, form, attribute)
+}
+
+fn write_array(
+    alloc: Global,
+    out: &mut Writer,
+    values: &[Row],
+    form: Form,
+    attribute: Attribute,
+) -> Result<(), NoMemory>
+    ensures { OnOk result (Adds out.old out.new
+        (begin_array ∷ items_tokens (items_of (spec.value_data form attribute) values.now))) }
+{
+    out.begin_array()?;
+    for value in values {
+        write_value(alloc, out, value, form, attribute)?;
+    }
+    out.end_array()?;
+    Ok(())
+}
+
+fn write_value(
+    alloc: Global,
+    out: &mut Writer,
+    value: &Row,
+    form: Form,
+    attribute: Attribute,
+) -> Result<(), NoMemory>
+    ensures { OnOk result (Adds out.old out.new (value_tokens (spec.value_data form attribute value.now))) }
+{
+    out.begin_object()?;
+    for sub_attribute in ordered_sub_attributes(form, attribute) {
+        let atom = value.get(Leaf::of(attribute, *sub_attribute));
+        write_member(alloc, out, sub_attribute.name(), atom)?;
+    }
+    out.end_object()?;
+    Ok(())
+}
+
+/// A member with this atom, if there is one.
+fn write_member(
+    alloc: Global,
+    out: &mut Writer,
+    name: &str,
+    atom: Option<&Atom>,
+) -> Result<(), NoMemory>
+    ensures { OnOk result (Adds out.old out.new
+        (member_tokens name.now (option_map spec.atom_data (option_copied atom.entry)))) }
+{
+    match atom {
+        Some(atom) => {
+            out.key(name)?;
+            write_atom(alloc, out, atom)
+        }
+        None => Ok(()),
+    }
+}
+
+fn write_atom(alloc: Global, out: &mut Writer, atom: &Atom) -> Result<(), NoMemory>
+    ensures { OnOk result (Adds out.old out.new (value_tokens (spec.atom_data atom.now))) }
+{
+    match atom {
+        Atom::Text(text) => out.string(text.as_str())?,
+        Atom::Truth(truth) => out.boolean(*truth)?,
+        Atom::Moment(moment) => out.string(print_moment(alloc, *moment)?.as_str())?,
+    }
+    Ok(())
+}
