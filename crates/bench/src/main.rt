@@ -4,6 +4,7 @@
 //! compare with each other alone, since machines and runs differ.
 #![tactic(auto)]
 
+mod documents;
 mod parts;
 
 use anyhow::{Result, bail};
@@ -17,10 +18,11 @@ fn main(rt: HostRuntime) -> Result<()> {
     match scenario {
         None => {
             println!(rt;
-                "bench parts: making, copying, restricting and looking up parts of 10, 1,000 and 40,000 cells"
+                "bench documents: writing and reading the JSON of a user, beside serde_json\nbench parts: making, copying, restricting and looking up parts of 10, 1,000 and 40,000 cells"
             )?;
             Ok(())
         }
+        Some(name) if name.as_str() == "documents" => documents::run(&rt, rt.alloc()),
         Some(name) if name.as_str() == "parts" => parts::run(&rt, rt.alloc()),
         Some(name) => bail!("there is no scenario {name}"),
     }

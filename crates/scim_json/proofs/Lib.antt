@@ -1,3 +1,13 @@
 pub mod Adding
+pub mod Ascending
+pub mod Kept
 pub mod KeyLemmas
 pub mod Printed
+pub mod Forms
+pub mod Lookups
+pub mod FoundValues
+pub mod ShapeLemmas
+pub mod KeyedLookups
+pub mod PartCells
+pub mod Back
+pub mod ReadingLemmas

@@ -2,10 +2,16 @@
 //! 3 and 8, RFC 7644 section 3).
 #![tactic(auto)]
 
+mod faults;
 mod keys;
+mod laws;
+mod reading;
 #[cfg(test)]
 mod tests;
 mod writing;
 
+pub use faults::StoredFault;
 pub use keys::{keys_ascend, keys_have_all_attributes};
+pub use laws::{documents_are_apart, documents_read_back, parts_are_shown_whole};
+pub use reading::read_stored;
 pub use writing::{stored_text, to_json};

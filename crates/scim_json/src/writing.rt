@@ -3,6 +3,7 @@ ghost use Rattle.std.specs.Prelude.{◌≡◌, ◌∷◌, filter, IfOk, OnOk, st
 ghost use Rattle.std.specs.List.{list_any};
 ghost use Rattle.std.specs.Option.{option_copied};
 ghost use Rattle.json.specs.Token.{begin_array};
+ghost use Rattle.serde_json.specs.Read.{read};
 ghost use Rattle.serde_json.specs.Written.{compact_text};
 ghost use Rattle.scim_schema.specs.Names.{attribute_name, sub_attribute_name};
 ghost use Rattle.scim_schema.specs.Schemas.{urn};
@@ -21,34 +22,40 @@ use scim_schema::{Attribute, Leaf, SubAttribute, Unit};
 use scim_text::{NoMemory, print_moment};
 use scim_value::atoms::Atom;
 use scim_value::parts::Part;
+use scim_value::resources::Resource;
 use scim_value::rows::Row;
 use std::alloc::Global;
 
 /// The JSON text of a part, as a client is shown it: its cells and `schemas`, and nothing else
 /// (RFC 7643 section 3). It has no spaces, and the keys of each object stand in byte order.
+/// serde_json reads it back as the value that it was written from.
 ///
 /// The only error is [`NoMemory`].
 #[tactic(auto, unfolding(crate::specs::PartData::part_data))]
 pub fn to_json(alloc: Global, part: &Part) -> Result<String, NoMemory>
-    ensures { IfOk result (λ t. string_bytes t ≡ compact_text (spec.part_data part.now)) }
+    ensures text { IfOk result (λ t. string_bytes t ≡ compact_text (spec.part_data part.now)) }
+    ensures reads { IfOk result (λ t. read (string_bytes t) ≡ Some (spec.part_data part.now)) }
 {
     text_of(alloc, part, Form::Shown)
 }
 
-/// The JSON text that is kept of a part: that of [`to_json`] without `schemas`, `groups` and
-/// `meta.location`, which can be told from the rest.
+/// The JSON text that is kept of a resource: that of [`to_json`] without `schemas`, `groups` and
+/// `meta.location`, which can be told from the rest. serde_json reads it back as the value that it
+/// was written from.
 ///
 /// The only error is [`NoMemory`].
 #[tactic(auto, unfolding(crate::specs::PartData::stored_data))]
-pub fn stored_text(alloc: Global, part: &Part) -> Result<String, NoMemory>
-    ensures { IfOk result (λ t. string_bytes t ≡ compact_text (spec.stored_data part.now)) }
+pub fn stored_text(alloc: Global, resource: &Resource) -> Result<String, NoMemory>
+    ensures text { IfOk result (λ t. string_bytes t ≡ compact_text (spec.stored_data resource.now)) }
+    ensures reads { IfOk result (λ t. read (string_bytes t) ≡ Some (spec.stored_data resource.now)) }
 {
-    text_of(alloc, part, Form::Stored)
+    text_of(alloc, resource.part(), Form::Stored)
 }
 
-#[tactic(auto, using(crate::proofs::Printed::texts))]
+#[tactic(auto, using(crate::proofs::Printed::texts, crate::proofs::Kept::read_from_part))]
 fn text_of(alloc: Global, part: &Part, form: Form) -> Result<String, NoMemory>
-    ensures { IfOk result (λ t. string_bytes t ≡ compact_text (spec.data_of form part.now)) }
+    ensures text { IfOk result (λ t. string_bytes t ≡ compact_text (spec.data_of form part.now)) }
+    ensures reads { IfOk result (λ t. read (string_bytes t) ≡ Some (spec.data_of form part.now)) }
 {
     let mut out = Writer::new(Vec::with_capacity(alloc, 512)?);
     write_part(alloc, &mut out, part, form)?;

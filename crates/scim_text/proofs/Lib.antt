@@ -1,3 +1,4 @@
 pub mod Calendar
 pub mod Fractions
+pub mod Printed
 pub mod Spellings

@@ -1,5 +1,5 @@
 -- Moments, in seconds after 1970-01-01T00:00:00Z, and their text.
-use Rattle.std.specs.Prelude.{ℕ, zero, suc, ◌/◌, ◌%◌, Bool, if◌then◌else◌, List, [], pos, int_le}
+use Rattle.std.specs.Prelude.{◌≡◌, ◌≤◌, ℕ, zero, suc, ◌+◌, ◌/◌, ◌%◌, Bool, if◌then◌else◌, Option, None, Some, List, [], pos, int_le, bytes_eq}
 use Rattle.jiff_core.specs.Calendar.{days_from_civil}
 use Rattle.scim_text.specs.Spelling.{CivilDate, Clock, utc, Spelling, spelling_text}
 
@@ -47,3 +47,16 @@ moment_spelling n =
 -- the text of the moment that many seconds after 1970-01-01T00:00:00Z
 unfoldable pub moment_text : ℕ → List ℕ
 moment_text n = spelling_text (moment_spelling n)
+
+-- the last of the numbers below n that passes the test
+unfoldable pub last_below : (ℕ → Bool) → ℕ → Option ℕ
+last_below test zero = None
+last_below test (suc n) = if test n then Some n else last_below test n
+
+-- the moment that has this text, where one has it
+unfoldable pub moment_of : List ℕ → Option ℕ
+moment_of text = last_below (λ n. bytes_eq (moment_text n) text) (last_moment + 1)
+
+-- each moment is the one that has its text
+abbrev pub PrintedIsRead : Type 0
+PrintedIsRead = (n : ℕ) → n ≤ last_moment → moment_of (moment_text n) ≡ Some n

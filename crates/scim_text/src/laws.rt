@@ -1,4 +1,5 @@
 //! What holds of all texts of moments.
+ghost use Rattle.scim_text.specs.Moments.{PrintedIsRead};
 ghost use Rattle.scim_text.specs.Readings.{HasOneReading, PrintedReadsBack};
 
 /// A text stands for one reading at most. So [`crate::read_moment`], whose answer is one that the text
@@ -11,4 +12,10 @@ pub fn one_reading()
 /// [`crate::read_moment`] reads back.
 pub fn printed_reads_back()
     ensures { PrintedReadsBack }
+{}
+
+/// Each moment is the one that has its text. So what [`crate::print_moment`] prints,
+/// [`crate::read_printed_moment`] reads back.
+pub fn printed_moments_are_read()
+    ensures { PrintedIsRead }
 {}

@@ -11,8 +11,8 @@ mod readings;
 #[cfg(test)]
 mod tests;
 
-pub use laws::{one_reading, printed_reads_back};
+pub use laws::{one_reading, printed_moments_are_read, printed_reads_back};
 pub use memory::NoMemory;
-pub use moments::{Moment, print_moment};
+pub use moments::{Moment, print_moment, read_printed_moment};
 pub use names::{fold, same_name};
 pub use readings::{BadMoment, Reading, read_moment};

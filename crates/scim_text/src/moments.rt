@@ -1,10 +1,12 @@
 //! Moments in whole seconds, and their text.
-ghost use Rattle.std.specs.Prelude.{◌≡◌, ◌≤◌, ◌<◌, ◌/◌, ◌%◌, ◌↔◌, IsSome, IfSome, IfOk, pos, ◌++◌, ◌≤ℤ◌, string_bytes};
+ghost use Rattle.std.specs.Prelude.{◌≡◌, ◌≤◌, ◌<◌, ◌/◌, ◌%◌, ◌↔◌, ℕ, false, Some, IsSome, IfSome, IfOk, pos, ◌++◌, ◌≤ℤ◌, string_bytes};
 ghost use Rattle.jiff.specs.Words.{epoch_day, iso_datetime_text};
 ghost use Rattle.scim_text.specs.Spelling.{date_text, clock_text};
-ghost use Rattle.scim_text.specs.Moments.{last_moment, date_of_day, clock_at, moment_text};
+ghost use Rattle.scim_text.specs.Moments.{last_moment, date_of_day, clock_at, moment_text, moment_of};
+ghost use Rattle.scim_text.specs.Readings.{Spells};
 
 use crate::memory::NoMemory;
+use crate::readings::read_moment;
 use jiff::civil::{DateTime, datetime};
 use jiff_core::civil::Date;
 use std::alloc::Global;
@@ -89,7 +91,7 @@ fn civil(seconds: u64) -> DateTime
 }
 
 /// The text of a moment, as `2024-01-01T00:00:00Z`: in UTC, in whole seconds (RFC 7643 section 2.3.5).
-/// [`crate::read_moment`] reads it back.
+/// [`crate::read_moment`] and [`read_printed_moment`] read it back.
 ///
 /// The only error is [`NoMemory`].
 #[tactic(auto, unfolding(crate::specs::Moments::moment_text))]
@@ -98,4 +100,31 @@ pub fn print_moment(alloc: Global, moment: Moment) -> Result<String, NoMemory>
 {
     let shown = civil(moment.seconds());
     Ok(format!(in alloc; "{shown}Z")?)
+}
+
+/// The moment that the text stands for, in whichever way, where no fraction is left.
+fn moment_meant(text: &str) -> Option<Moment>
+    ensures found { IfSome result (λ n. Spells text.now (record { second = pos n; later = false })) }
+    ensures complete { (n : ℕ) → n ≤ last_moment → Spells text.now (record { second = pos n; later = false })
+        → result ≡ Some n }
+{
+    let reading = read_moment(text).ok()?;
+    if reading.later {
+        return None;
+    }
+    Moment::new(reading.second)
+}
+
+/// The moment whose text this is, as [`print_moment`] prints it, and `None` for any other text, also one
+/// that stands for a moment in another way, as with an offset or a fraction.
+///
+/// The only error is [`NoMemory`].
+pub fn read_printed_moment(alloc: Global, text: &str) -> Result<Option<Moment>, NoMemory>
+    ensures { IfOk result (λ found. found ≡ moment_of text.now) }
+{
+    let Some(moment) = moment_meant(text) else {
+        return Ok(None);
+    };
+    let printed = print_moment(alloc, moment)?;
+    Ok((printed.as_str() == text).then_some(moment))
 }

@@ -1,7 +1,7 @@
 //! The expected seconds are those that `date -u -d TEXT +%s` of GNU coreutils gives.
 use crate::{
-    BadMoment, Moment, Reading, fold, one_reading, print_moment, printed_reads_back, read_moment,
-    same_name,
+    BadMoment, Moment, Reading, fold, one_reading, print_moment, printed_moments_are_read,
+    printed_reads_back, read_moment, read_printed_moment, same_name,
 };
 use std::alloc::AllocError;
 use std::test::Fail;
@@ -52,6 +52,25 @@ fn prints_and_reads_back(rt: HostRuntime) -> Result<(), Fail> {
             later: false,
         };
         assert_eq!(rt; read_moment(printed.as_str()), Ok(reading));
+        assert_eq!(rt; read_printed_moment(rt.alloc(), text)?, Some(moment));
+    }
+    Ok(())
+}
+
+#[test]
+fn reads_printed_texts_alone(rt: HostRuntime) -> Result<(), Fail> {
+    let found = read_printed_moment(rt.alloc(), "2024-01-01T00:00:00Z")?;
+    assert_eq!(rt; found.map(|moment| moment.seconds()), Some(1_704_067_200));
+    for text in [
+        "",
+        "2024-01-01T00:00:00+00:00",
+        "2024-01-01T00:00:00",
+        "2024-01-01T00:00:00.0Z",
+        "2024-01-01t00:00:00Z",
+        "10000-01-01T00:00:00Z",
+        "1969-12-31T23:59:59Z",
+    ] {
+        assert_eq!(rt; read_printed_moment(rt.alloc(), text)?, None, "at {text}");
     }
     Ok(())
 }
@@ -154,4 +173,5 @@ fn tells_errors(rt: HostRuntime) -> Result<(), Fail> {
 fn states_laws() {
     one_reading();
     printed_reads_back();
+    printed_moments_are_read();
 }

@@ -46,7 +46,7 @@ of_kind-chain kind last (e ∷ es) c = All-cons (IsOfKind kind) e es c.0 (of_kin
 abbrev pub NotAfter : Place → Place → Type 0
 NotAfter x y = is_gt (place_cmp x y) ≡ false
 
-first_le : (p q : ℕ) (r s : Ordering) → r ≡ nat_cmp p q → is_gt (ordering_then r s) ≡ false → p ≤ q
+pub first_le : (p q : ℕ) (r s : Ordering) → r ≡ nat_cmp p q → is_gt (ordering_then r s) ≡ false → p ≤ q
 first_le p q Less s e h = let m : p < q = ranked p q Less e in omega arith
 first_le p q Equal s e h = let m : p ≡ q = ranked p q Equal e in omega arith
 first_le p q Greater s e h = cc

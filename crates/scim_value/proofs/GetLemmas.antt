@@ -84,7 +84,7 @@ unit_differs u v n e =
     let t : is_eq (unit_cmp v u) ≡ true = ap is_eq (ap (unit_cmp v) e ∙ tied_itself unit_total v) in
     cc
 
-differs_tie : (u v : AttributeUnit) → u ≢ v → is_eq (unit_cmp v u) ≡ false
+pub differs_tie : (u v : AttributeUnit) → u ≢ v → is_eq (unit_cmp v u) ≡ false
 differs_tie u v d = elim (cases_Bool (is_eq (unit_cmp v u))) [ inl t ↦ absurd (d (sym (unit_same v u t))) | inr n ↦ n ]
 
 flat : (o : Ordering) → is_gt o ≡ false → is_gt (ordering_reverse o) ≡ false → is_eq o ≡ true
@@ -95,7 +95,7 @@ flat Greater g h = cc
 pub both_ways : (u v : AttributeUnit) → Precedes u v → Precedes v u → is_eq (unit_cmp v u) ≡ true
 both_ways u v a b = flat _ b.0 (ap is_gt (sym (unit_total.antisymm u v)) ∙ a.0)
 
-values_none : (u : AttributeUnit) (rs : List Row) → All (λ (s : Row). u ≢ s.unit) rs → values u rs ≡ []
+pub values_none : (u : AttributeUnit) (rs : List Row) → All (λ (s : Row). u ≢ s.unit) rs → values u rs ≡ []
 values_none u [] d = refl
 values_none u (r ∷ rs) d =
     let n : is_eq (unit_cmp r.unit u) ≡ false = differs_tie u r.unit (All-head (λ (s : Row). u ≢ s.unit) r rs d) in
@@ -119,14 +119,14 @@ pub head_sound : (kind : Kind) (r : Row) (rs : List Row) → AreSound kind (r �
 head_sound kind r rs h i d m = h.in_order zero (suc i) d (omega arith) (omega arith)
 
 -- after another unit's row there is none of this unit
-none_later : (kind : Kind) (u : AttributeUnit) (r : Row) (rs : List Row) → AreSound kind (r ∷ rs) → Precedes u r.unit → is_eq (unit_cmp r.unit u) ≡ false → All (λ (s : Row). u ≢ s.unit) (r ∷ rs)
+pub none_later : (kind : Kind) (u : AttributeUnit) (r : Row) (rs : List Row) → AreSound kind (r ∷ rs) → Precedes u r.unit → is_eq (unit_cmp r.unit u) ≡ false → All (λ (s : Row). u ≢ s.unit) (r ∷ rs)
 none_later kind u r rs h b n zero d m = unit_differs u r.unit n
 none_later kind u r rs h b n (suc i) d m = λ e.
     (let back : Precedes r.unit u = subst (λ (v : AttributeUnit). Precedes r.unit v) (sym e) (head_sound kind r rs h i d (omega arith)) in
     let t : is_eq (unit_cmp r.unit u) ≡ true = both_ways u r.unit b back in
     cc)
 
-next_same : (u v : AttributeUnit) (m : ℕ) → v ≡ u → is_multi_valued u.attribute ≡ true → next_position (Some (u, m)) v ≡ m + 1
+pub next_same : (u v : AttributeUnit) (m : ℕ) → v ≡ u → is_multi_valued u.attribute ≡ true → next_position (Some (u, m)) v ≡ m + 1
 next_same u v m e many =
     let s : sameb the_attribute u.attribute v.attribute ≡ true = true_same the_attribute u.attribute v.attribute (ap (λ (w : AttributeUnit). w.attribute) (sym e)) in
     let t : is_multi_valued v.attribute ≡ true = ap (λ (w : AttributeUnit). is_multi_valued w.attribute) e ∙ many in

@@ -19,3 +19,6 @@ pub mod IdOrderLemmas
 pub mod FieldLemmas
 pub mod EqualityLemmas
 pub mod ValidityLemmas
+pub mod KeyLemmas
+pub mod CellLemmas
+pub mod ListingLemmas

@@ -166,7 +166,7 @@ lt_not_eq Less b l e = cc
 lt_not_eq Equal b l e = cc
 lt_not_eq Greater b l e = cc
 
-precedes_less : (u v : AttributeUnit) → is_lt (unit_cmp u v) ≡ true → Precedes u v
+pub precedes_less : (u v : AttributeUnit) → is_lt (unit_cmp u v) ≡ true → Precedes u v
 precedes_less u v l = (lt_not_gt _ l, λ e. lt_not_eq _ _ l e)
 
 -- values of a unit put in are sound

@@ -60,7 +60,7 @@ apart_rows l q u v k a b =
     (λ i. is_multi_valued (a i) && (sameb the_attribute (a i) (b i) && eqb k (if sameb the_attribute u.attribute v.attribute && is_multi_valued v.attribute then k + 1 else 0)))
     ∙ asub_attribute_numbers u.attribute v.attribute k
 
-attribute_of : (l : Leaf) (u : AttributeUnit) → unit_of l ≡ u → l.attribute ≡ u.attribute
+pub attribute_of : (l : Leaf) (u : AttributeUnit) → unit_of l ≡ u → l.attribute ≡ u.attribute
 attribute_of l u e = ap (λ (u : AttributeUnit). u.attribute) e
 
 none_row : (kind : Kind) (l : Leaf) (u v : AttributeUnit) (k : ℕ) (hs : List Field) (rest : List Entry) → l.attribute ≡ u.attribute → has_fields (record { unit = v; fields = hs }) ≡ true → All (IsSoundField kind v) hs
@@ -78,7 +78,7 @@ none_next kind l u k [] a f o = (refl, refl)
 none_next kind l u k (r ∷ rs) a f o = none_row kind l u r.unit k r.fields _ a (All-head (λ r. has_fields r ≡ true) r rs f) (All-head (IsSoundRow kind) r rs o).own
 
 -- two cells of one value are of an attribute with many
-many_of_two : (h g : Leaf) → unit_of h ≡ unit_of g → sub_attribute_number h.sub_attribute < sub_attribute_number g.sub_attribute → is_multi_valued h.attribute ≡ true
+pub many_of_two : (h g : Leaf) → unit_of h ≡ unit_of g → sub_attribute_number h.sub_attribute < sub_attribute_number g.sub_attribute → is_multi_valued h.attribute ≡ true
 many_of_two h g e l = elim (cases_Bool (is_multi_valued h.attribute)) [
   | inl m ↦ m
   | inr n ↦
@@ -201,7 +201,7 @@ chain_step kind last v n (h ∷ hs) tail f s here next =
     let own = All-head (IsSoundField kind v) h hs s.own in
     ((own.1, own.2), here h.leaf own.0, chain_row kind v n h hs tail s.own s.in_order next)
 
-zero_next : (last : Option (AttributeUnit × ℕ)) (v : AttributeUnit) → is_multi_valued v.attribute ≡ false → next_position last v ≡ 0
+pub zero_next : (last : Option (AttributeUnit × ℕ)) (v : AttributeUnit) → is_multi_valued v.attribute ≡ false → next_position last v ≡ 0
 zero_next None v m = refl
 zero_next (Some last) v m = elim (cases_Bool (sameb the_attribute last.0.attribute v.attribute)) [
   | inl s ↦ rw (s, m) refl

@@ -34,8 +34,8 @@ text_one : (a b : List ℕ) → Some (Text a) ≡ Some (Text b) → a ≡ b
 text_one a b e = cc
 
 -- the base of the location that stands in a part
-pub base_found : (c : Content) (l : List ℕ) (r : Option (List ℕ)) → first_at (leaf_at Meta Location) c ≡ Some (Text l) → ((base : List ℕ) → (r ≡ Some base) ↔ (l ≡ location base c)) → (base : List ℕ) → (r ≡ Some base) ↔ HasBase base c
+pub base_found : (c : Content) (l : List ℕ) (r : Option (List ℕ)) → first_at (leaf_at Meta Location) c ≡ Some (Text l) → ((base : List ℕ) → (r ≡ Some base) ↔ (l ≡ location base c.kind c.id)) → (base : List ℕ) → (r ≡ Some base) ↔ HasBase base c
 base_found c l r e h base = (
   λ s. e ∙ ap (λ (t : List ℕ). Some (Text t)) ((h base).0 s),
-  λ t. (h base).1 (text_one l (location base c) (sym e ∙ t)),
+  λ t. (h base).1 (text_one l (location base c.kind c.id) (sym e ∙ t)),
 )

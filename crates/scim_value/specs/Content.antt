@@ -1,5 +1,5 @@
 -- What contracts see of a part or a resource: a kind, an id and cells (RFC 7643 section 2).
-use Rattle.std.specs.Prelude.{◌≡◌, ℕ, ◌+◌, ◌⊎◌, true, List, map, All, Any}
+use Rattle.std.specs.Prelude.{◌≡◌, ◌≤◌, ℕ, ◌+◌, ◌⊎◌, true, List, map, All, Any}
 use Rattle.std.specs.List.Sorted.{IsPermutation}
 use Rattle.std.specs.FinMap.{FinMap, entries, is_sorted}
 use Rattle.scim_schema.specs.declared.Kind.{Kind}
@@ -7,6 +7,7 @@ use Rattle.scim_schema.specs.declared.characteristics.AttributeType.{AttributeTy
 use Rattle.scim_schema.specs.declared.characteristics.AttributeType.TheVariants.{String, Boolean, DateTime, Reference, Binary}
 use Rattle.scim_schema.specs.Table.{HasLeaf}
 use Rattle.scim_schema.specs.Characteristics.{characteristics_of, is_multi_valued}
+use Rattle.scim_text.specs.Moments.{last_moment}
 use Rattle.scim_value.specs.declared.places.Place.{Place}
 use Rattle.scim_value.specs.declared.cells.Cell.{Cell}
 use Rattle.scim_value.specs.declared.atoms.Atom.{Atom}
@@ -37,7 +38,7 @@ entries_of cells = map entry_of cells
 -- the atom has the type (RFC 7643 section 2.3)
 abbrev pub HasType : AttributeType → Atom → Type 0
 HasType Boolean (Truth b) = Unit {0}
-HasType DateTime (Moment m) = Unit {0}
+HasType DateTime (Moment m) = m ≤ last_moment
 HasType String (Text t) = Unit {0}
 HasType Reference (Text t) = Unit {0}
 HasType Binary (Text t) = Unit {0}

@@ -1,6 +1,6 @@
 pub mod Atoms
-pub mod Changes
 pub mod Chain
+pub mod Changes
 pub mod Content
 pub mod Equality
 pub mod Fields
@@ -8,6 +8,9 @@ pub mod Grouping
 pub mod Ids
 pub mod Inside
 pub mod Laws
+pub mod Listing
+pub mod NamesInside
 pub mod Place
 pub mod Resource
 pub mod Rows
+pub mod UniqueNames

@@ -12,7 +12,7 @@ use Rattle.scim_schema.specs.Characteristics.{characteristics_of}
 use Rattle.scim_schema.specs.Names.{kind_name, endpoint}
 use Rattle.scim_schema.specs.Table.{attributes}
 use Rattle.scim_schema.specs.Units.{simple, leaf_at, whole}
-use Rattle.scim_value.specs.Ids.{id_text}
+use Rattle.scim_value.specs.Ids.{IsId, id_text}
 use Rattle.scim_value.specs.declared.atoms.Atom.{Atom}
 use Rattle.scim_value.specs.declared.atoms.Atom.TheVariants.{Text, Truth}
 use Rattle.scim_value.specs.declared.rows.Field.{Field}
@@ -24,9 +24,9 @@ use Rattle.scim_value.specs.Rows.{Row, rows, values, atom_in}
 abbrev pub first_at : Leaf → Content → Option Atom
 first_at l c = get c.cells (place_at l 0)
 
--- `id` is there and is the id's text (RFC 7643 section 3.1)
+-- it has an id, and `id` is there and is its text (RFC 7643 section 3.1)
 abbrev pub IsIdentified : Content → Type 0
-IsIdentified c = first_at (simple Id) c ≡ Some (Text (id_text c.id))
+IsIdentified c = IsId c.id × (first_at (simple Id) c ≡ Some (Text (id_text c.id)))
 
 -- `meta.resourceType` is the kind's name, and `meta.created` and `meta.lastModified` are there (RFC 7643 section 3.1)
 abbrev pub HasMeta : Content → Type 0
@@ -34,13 +34,13 @@ HasMeta c =
     (first_at (leaf_at Meta ResourceType) c ≡ Some (Text (kind_name c.kind)))
     × IsSome (first_at (leaf_at Meta Created) c) × IsSome (first_at (leaf_at Meta LastModified) c)
 
--- where a resource is found below a base (RFC 7644 section 3.2)
-abbrev pub location : List ℕ → Content → List ℕ
-location base c = base ++ (endpoint c.kind ++ (codes "/" ++ id_text c.id))
+-- where the resource of a kind and an id is found below a base (RFC 7644 section 3.2)
+abbrev pub location : List ℕ → Kind → List ℕ → List ℕ
+location base kind id = base ++ (endpoint kind ++ (codes "/" ++ id_text id))
 
 -- `meta.location` is where the resource is found below this base (RFC 7643 section 3.1)
 abbrev pub HasBase : List ℕ → Content → Type 0
-HasBase base c = first_at (leaf_at Meta Location) c ≡ Some (Text (location base c))
+HasBase base c = first_at (leaf_at Meta Location) c ≡ Some (Text (location base c.kind c.id))
 
 -- a text that isn't empty
 abbrev pub IsFilled : Option Atom → Type 0

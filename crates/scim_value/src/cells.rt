@@ -8,6 +8,7 @@ use crate::places::Place;
 use scim_schema::characteristics::{AttributeType, characteristics_of, is_multi_valued};
 use scim_schema::table::has_leaf;
 use scim_schema::{Kind, Leaf};
+use scim_text::Moment;
 
 /// A cell of a part or a resource: what stands at a position of a leaf.
 #[derive(Debug, Drop)]
@@ -38,7 +39,7 @@ pub fn has_type(attribute_type: AttributeType, atom: &Atom) -> bool
 {
     match (attribute_type, atom) {
         (AttributeType::Boolean, Atom::Truth(_)) => true,
-        (AttributeType::DateTime, Atom::Moment(_)) => true,
+        (AttributeType::DateTime, Atom::Moment(moment)) => moment.seconds() <= Moment::LAST as u64,
         (AttributeType::String | AttributeType::Reference | AttributeType::Binary, Atom::Text(_)) =>
             true,
         _ => false,

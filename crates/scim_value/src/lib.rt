@@ -17,4 +17,5 @@ pub mod row_checks;
 pub mod rows;
 #[cfg(test)]
 mod tests;
+pub mod unique_names;
 pub mod validity;

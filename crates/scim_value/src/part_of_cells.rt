@@ -35,13 +35,11 @@ impl Part {
         Part::of_sorted(alloc, kind, id, cells)
     }
 
-    /// The part of these cells, which stand in order of place.
-    pub(crate) fn of_sorted(
-        alloc: Global,
-        kind: Kind,
-        id: Id,
-        cells: Vec<Cell>,
-    ) -> Result<Part, Fault>
+    /// The part of these cells, which stand in order of place: by attribute in the order of the
+    /// table, by position, by sub-attribute.
+    ///
+    /// Invalid where they don't, and where [`Part::of`] says it. NoMemory where none was to be had.
+    pub fn of_sorted(alloc: Global, kind: Kind, id: Id, cells: Vec<Cell>) -> Result<Part, Fault>
         ensures kind { IfOk result (λ p. p.kind ≡ kind) }
         ensures id { IfOk result (λ p. p.id ≡ id) }
         ensures cells { IfOk result (λ p. entries p.cells ≡ entries_of cells.items) }

@@ -1,7 +1,9 @@
 //! Where a cell stands, and the order of places and units.
 ghost use Rattle.std.specs.Prelude.{◌≡◌};
 ghost use Rattle.scim_value.specs.Place.{place_cmp, unit_cmp, sub_attribute_number, leaf_of};
+ghost use Rattle.scim_value.specs.Listing as spec;
 
+use scim_schema::table::sub_attributes;
 use scim_schema::{Attribute, Leaf, SubAttribute, Unit};
 use std::cmp::Ordering;
 
@@ -51,5 +53,32 @@ pub(crate) fn number_of(sub_attribute: Option<SubAttribute>) -> u8
     match sub_attribute {
         None => 0,
         Some(sub_attribute) => sub_attribute as u8 + 1,
+    }
+}
+
+/// The sub-attributes of an attribute, in the order in which the cells of one value stand; a simple
+/// attribute has none.
+#[tactic(auto, unfolding(crate::specs::Listing::sub_attributes_by_place))]
+pub fn sub_attributes_by_place(attribute: Attribute) -> &'static [SubAttribute]
+    ensures { result.now ≡ spec.sub_attributes_by_place attribute }
+{
+    match attribute {
+        Attribute::Addresses => &[
+            SubAttribute::Formatted,
+            SubAttribute::TypeName,
+            SubAttribute::Primary,
+            SubAttribute::StreetAddress,
+            SubAttribute::Locality,
+            SubAttribute::Region,
+            SubAttribute::PostalCode,
+            SubAttribute::Country,
+        ],
+        Attribute::Members => &[
+            SubAttribute::Value,
+            SubAttribute::Reference,
+            SubAttribute::Display,
+            SubAttribute::TypeName,
+        ],
+        _ => sub_attributes(attribute),
     }
 }

@@ -4,9 +4,10 @@ ghost use Rattle.std.specs.Option.{option_copied};
 ghost use Rattle.std.specs.FinMap.{get};
 ghost use Rattle.scim_value.specs.Place.{place_at};
 ghost use Rattle.scim_value.specs.Rows.{positions, rows};
+ghost use Rattle.scim_value.specs.Resource as spec;
 ghost use Rattle.scim_value.specs.Resource.{IsResource, HasBase};
 
-use crate::atoms::Atom;
+use crate::atoms::{Atom, Text};
 use crate::faults::Invalid;
 use crate::ids::Id;
 use crate::parts::Part;
@@ -23,6 +24,18 @@ use std::marker::Model;
 #[derive(Debug, Drop)]
 pub struct Resource {
     part: Part,
+}
+
+/// Where the resource of a kind and an id is found below a base, as
+/// `http://127.0.0.1:8080/Users/2819c223-7f76-453a-919d-413861904646`: what `meta.location` has to be
+/// (RFC 7643 section 3.1). NoMemory where none was to be had.
+pub fn location(alloc: Global, base: &str, kind: Kind, id: Id) -> Result<Text, NoMemory>
+    ensures { IfOk result (λ t. t ≡ spec.location base.now kind id) }
+{
+    let mut buffer = [0; Id::TEXT_LENGTH];
+    let id = id.write(&mut buffer);
+    let endpoint = kind.endpoint();
+    Ok(Text::new(format!(in alloc; "{base}{endpoint}/{id}")?))
 }
 
 impl Model for Resource {

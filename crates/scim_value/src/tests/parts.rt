@@ -1,5 +1,8 @@
 use super::lines::{atom_text, cells, id, leaf_at, made_text, part_text, rows_text, user};
-use crate::laws::{cells_stand_in_rows, parts_are_sound_rows, rows_determine_cells};
+use crate::faults::Fault;
+use crate::laws::{
+    cells_are_listed, cells_stand_in_rows, parts_are_sound_rows, rows_determine_cells,
+};
 use crate::parts::Part;
 use scim_schema::Kind;
 use scim_schema::units::unit_of;
@@ -25,6 +28,18 @@ fn cells_in_any_order_make_one_part(rt: HostRuntime) -> Result<(), Fail> {
             part_text(rt.alloc(), &user(rt.alloc(), text)?)?.as_str(),
             BABS
         );
+    }
+    Ok(())
+}
+
+#[test]
+fn cells_in_order_make_a_part(rt: HostRuntime) -> Result<(), Fail> {
+    let alloc = rt.alloc();
+    let part = Part::of_sorted(alloc, Kind::User, id()?, cells(alloc, BABS)?)?;
+    assert_eq!(rt; part_text(alloc, &part)?.as_str(), BABS);
+    for text in ["active=#true userName=babs", "title=a title=b"] {
+        let fault = Part::of_sorted(alloc, Kind::User, id()?, cells(alloc, text)?).err();
+        assert_eq!(rt; fault, Some(Fault::Invalid), "{text}");
     }
     Ok(())
 }
@@ -142,4 +157,5 @@ fn states_laws() {
     parts_are_sound_rows();
     rows_determine_cells();
     cells_stand_in_rows();
+    cells_are_listed();
 }

@@ -1,9 +1,10 @@
 use super::lines::{atom_of, cell, leaf_at};
 use crate::cells::has_type;
 use crate::faults::Fault;
-use crate::places::compare_units;
+use crate::places::{compare_units, sub_attributes_by_place};
 use scim_schema::characteristics::AttributeType;
 use scim_schema::units::unit_of;
+use scim_schema::{Attribute, SubAttribute};
 use scim_text::NoMemory;
 use std::cmp::Ordering;
 use std::test::Fail;
@@ -47,6 +48,43 @@ fn units_are_ordered_by_attribute_and_sub_attribute(rt: HostRuntime) -> Result<(
         );
     }
     Ok(())
+}
+
+// The schema declares `type` and `primary` before `streetAddress`, and `display` before `type`.
+#[test]
+fn sub_attributes_stand_in_the_order_of_places(rt: HostRuntime) {
+    let addresses: &[SubAttribute] = &[
+        SubAttribute::Formatted,
+        SubAttribute::TypeName,
+        SubAttribute::Primary,
+        SubAttribute::StreetAddress,
+        SubAttribute::Locality,
+        SubAttribute::Region,
+        SubAttribute::PostalCode,
+        SubAttribute::Country,
+    ];
+    let members: &[SubAttribute] = &[
+        SubAttribute::Value,
+        SubAttribute::Reference,
+        SubAttribute::Display,
+        SubAttribute::TypeName,
+    ];
+    let emails: &[SubAttribute] = &[
+        SubAttribute::Value,
+        SubAttribute::Display,
+        SubAttribute::TypeName,
+        SubAttribute::Primary,
+    ];
+    let none: &[SubAttribute] = &[];
+    for (attribute, expected) in [
+        (Attribute::Addresses, addresses),
+        (Attribute::Members, members),
+        (Attribute::Emails, emails),
+        (Attribute::UserName, none),
+    ] {
+        let found = sub_attributes_by_place(attribute);
+        assert_eq!(rt; found, expected, "at {attribute:?}");
+    }
 }
 
 // RFC 7643 section 2.3.

@@ -7,7 +7,7 @@ use Rattle.scim_value.proofs.validity.location_base.Goals as goal
 pub returns-in_err-location : goal.returns-in_err-location
 returns-in_err-location c base = (
   λ s. cc (ap option_copied c.from_residual.ensures),
-  λ h. cc ((c.in_err-location.ensures (location base c.args.part.now)).1 (rw c.of.ensures h)),
+  λ h. cc ((c.in_err-location.ensures (location base c.args.part.now.kind c.args.part.now.id)).1 (rw c.of.ensures h)),
 )
 
 pub returns : goal.returns

@@ -1,0 +1,98 @@
+//! The JSON of a user of 15 cells, beside what serde_json takes for the same texts.
+use anyhow::{Result, bail};
+use scim_json::{read_stored, stored_text, to_json};
+use scim_value::resources::Resource;
+use serde_json::Value;
+use std::alloc::Global;
+use std::io::Print;
+use std::time::{Clock, Duration, Instant};
+
+/// How often each call is made.
+const ROUNDS: usize = 20_000;
+
+const BASE: &str = "http://127.0.0.1:8080";
+
+/// The stored document, with 14 cells; `meta.location` is the fifteenth.
+const STORED: &str =
+    "{\"active\":true,\"displayName\":\"Barbara Jensen\",\"emails\":[{\"primary\":true,\"type\":\"work\",\"value\":\"bjensen@example.com\"}],\"id\":\"2819c223-7f76-453a-919d-413861904646\",\"meta\":{\"created\":\"2024-01-01T00:00:00Z\",\"lastModified\":\"2024-01-01T00:00:00Z\",\"resourceType\":\"User\"},\"name\":{\"familyName\":\"Jensen\",\"givenName\":\"Barbara\"},\"title\":\"Tour Guide\",\"urn:ietf:params:scim:schemas:extension:enterprise:2.0:User\":{\"department\":\"Tours\"},\"userName\":\"bjensen\"}";
+
+/// How long all rounds of a call took.
+#[derive(Drop)]
+struct Figures {
+    show: Duration,
+    show_value: Duration,
+    store: Duration,
+    read: Duration,
+    read_value: Duration,
+}
+
+fn measure(rt: &impl Clock, alloc: Global, user: &Resource) -> Result<Figures> {
+    let mut figures = Figures {
+        show: Duration::ZERO,
+        show_value: Duration::ZERO,
+        store: Duration::ZERO,
+        read: Duration::ZERO,
+        read_value: Duration::ZERO,
+    };
+    let shown = to_json(alloc, user.part())?;
+    let value = Value::from_str(alloc, shown.as_str())?;
+    for _ in 0..ROUNDS {
+        measure_once(rt, alloc, user, &value, &mut figures)?;
+    }
+    Ok(figures)
+}
+
+fn measure_once(
+    rt: &impl Clock,
+    alloc: Global,
+    user: &Resource,
+    value: &Value,
+    figures: &mut Figures,
+) -> Result<()> {
+    let start = Instant::now(rt)?;
+    to_json(alloc, user.part())?;
+    figures.show = figures.show.saturating_add(start.elapsed(rt)?);
+
+    let start = Instant::now(rt)?;
+    value.to_string(alloc)?;
+    figures.show_value = figures.show_value.saturating_add(start.elapsed(rt)?);
+
+    let start = Instant::now(rt)?;
+    stored_text(alloc, user)?;
+    figures.store = figures.store.saturating_add(start.elapsed(rt)?);
+
+    let start = Instant::now(rt)?;
+    read_stored(alloc, BASE, STORED)?;
+    figures.read = figures.read.saturating_add(start.elapsed(rt)?);
+
+    let start = Instant::now(rt)?;
+    Value::from_str(alloc, STORED)?;
+    figures.read_value = figures.read_value.saturating_add(start.elapsed(rt)?);
+    Ok(())
+}
+
+/// Nanoseconds a round.
+fn each(duration: &Duration) -> u128 {
+    duration.as_nanos() / ROUNDS as u128
+}
+
+/// Prints the figures of writing and reading, in nanoseconds a call.
+pub fn run(rt: &(impl Clock + Print), alloc: Global) -> Result<()> {
+    let Ok(user) = read_stored(alloc, BASE, STORED) else {
+        bail!("the document was refused")
+    };
+    let figures = measure(rt, alloc, &user)?;
+    println!(rt; "nanoseconds a call, for a user of 15 cells")?;
+    println!(rt;
+        "to_json {}, Value::to_string {}",
+        each(&figures.show),
+        each(&figures.show_value)
+    )?;
+    println!(rt; "stored_text {}", each(&figures.store))?;
+    println!(rt;
+        "read_stored {}, Value::from_str {}",
+        each(&figures.read),
+        each(&figures.read_value)
+    )?;
+    Ok(())
+}

@@ -1,0 +1,95 @@
+-- The cells that stand in the JSON of a resource, by look-ups in order of place.
+use Rattle.std.specs.Prelude.{ℕ, ◌+◌, Option, None, Some, option_map, option_and_then, List, [], ◌∷◌, ◌++◌}
+use Rattle.std.specs.List.{flat_map}
+use Rattle.serde_json.specs.Data.{Data, Items, no_items, item}
+use Rattle.serde_json.specs.Find.{get, as_str, as_bool, as_array}
+use Rattle.scim_text.specs.Moments.{moment_of}
+use Rattle.scim_schema.specs.declared.Kind.{Kind}
+use Rattle.scim_schema.specs.declared.Attribute.{Attribute}
+use Rattle.scim_schema.specs.declared.Attribute.TheVariants as attribute
+use Rattle.scim_schema.specs.declared.SubAttribute.{SubAttribute}
+use Rattle.scim_schema.specs.declared.SubAttribute.TheVariants as sub_attribute
+use Rattle.scim_schema.specs.declared.Leaf.{Leaf}
+use Rattle.scim_schema.specs.declared.schemas.Schema.{Schema}
+use Rattle.scim_schema.specs.declared.characteristics.AttributeType.{AttributeType}
+use Rattle.scim_schema.specs.declared.characteristics.AttributeType.TheVariants.{String, Boolean, DateTime, Reference, Binary, Complex as ComplexType}
+use Rattle.scim_schema.specs.Names.{attribute_name, sub_attribute_name}
+use Rattle.scim_schema.specs.Schemas.{urn, extension_of}
+use Rattle.scim_schema.specs.Table.{attributes}
+use Rattle.scim_schema.specs.Characteristics.{characteristics_of}
+use Rattle.scim_schema.specs.Units.{simple, leaf_at}
+use Rattle.scim_value.specs.declared.atoms.Atom.{Atom}
+use Rattle.scim_value.specs.declared.atoms.Atom.TheVariants.{Text, Truth, Moment}
+use Rattle.scim_value.specs.Place.{place_at}
+use Rattle.scim_value.specs.Resource.{location}
+use Rattle.scim_value.specs.Content.{Entry}
+use Rattle.scim_value.specs.Listing.{cell_with, sub_attributes_by_place}
+use Rattle.scim_json.specs.declared.keys.Shape.{Shape}
+use Rattle.scim_json.specs.declared.keys.Shape.TheVariants.{Simple, Complex, MultiValued}
+use Rattle.scim_json.specs.Keys.{shape_of}
+
+-- the value as an atom of a type, where it is one (RFC 7643 section 2.3)
+abbrev pub atom_of : AttributeType → Data → Option Atom
+atom_of Boolean d = option_map Truth (as_bool d)
+atom_of DateTime d = option_map Moment (option_and_then moment_of (as_str d))
+atom_of String d = option_map Text (as_str d)
+atom_of Reference d = option_map Text (as_str d)
+atom_of Binary d = option_map Text (as_str d)
+atom_of ComplexType d = None
+
+-- nothing, where there is no value
+abbrev pub if_there : {A : Type 0} → (A → List Entry) → Option A → List Entry
+if_there f None = []
+if_there f (Some a) = f a
+
+-- the cell of a leaf that a value stands for
+abbrev pub found_value : Kind → Leaf → ℕ → Data → List Entry
+found_value kind l k d = cell_with l k (atom_of (characteristics_of kind l).attribute_type d)
+
+-- the cell of a sub-attribute
+abbrev pub found_sub_attribute : Kind → Attribute → ℕ → Data → SubAttribute → List Entry
+found_sub_attribute kind a k d b = if_there (found_value kind (leaf_at a b) k) (get (sub_attribute_name b) d)
+
+-- the cells of the object that is a value of a complex attribute
+abbrev pub found_object : Kind → Attribute → ℕ → Data → List Entry
+found_object kind a k d = flat_map (found_sub_attribute kind a k d) (sub_attributes_by_place a)
+
+-- the cells of such objects, at this position and the ones after it
+abbrev pub found_items : Kind → Attribute → ℕ → Items → List Entry
+found_items kind a k no_items = []
+found_items kind a k (item d ds) = found_object kind a k d ++ found_items kind a (k + 1) ds
+
+-- the cells of a value of that shape
+abbrev pub found_shaped : Kind → Attribute → Shape → Data → List Entry
+found_shaped kind a Simple d = found_value kind (simple a) 0 d
+found_shaped kind a Complex d = found_object kind a 0 d
+found_shaped kind a MultiValued d = if_there (found_items kind a 0) (as_array d)
+
+-- the object in which the attributes of a schema stand: that of the resource, or that of an extension (RFC 7643 section 3.3)
+abbrev pub object_with : Option Schema → Data → Option Data
+object_with None d = Some d
+object_with (Some s) d = get (urn s) d
+
+-- the value of an attribute
+abbrev pub attribute_in : Attribute → Data → Option Data
+attribute_in a d = option_and_then (get (attribute_name a)) (object_with (extension_of a) d)
+
+-- the cells of an attribute
+abbrev pub found_attribute : Kind → Data → Attribute → List Entry
+found_attribute kind d a = if_there (found_shaped kind a (shape_of a)) (attribute_in a d)
+
+-- the cells of a resource of the kind
+unfoldable pub found_cells : Kind → Data → List Entry
+found_cells kind d = flat_map (found_attribute kind d) (attributes kind)
+
+-- the cells of the resource of that kind and id below the base: those, and `meta.location`, which isn't kept
+abbrev pub cells_below : List ℕ → Kind → List ℕ → Data → List Entry
+cells_below base kind id d = found_cells kind d ++ (place_at (leaf_at attribute.Meta sub_attribute.Location) 0, Text (location base kind id)) ∷ []
+
+-- the text of `id`
+abbrev pub id_in : Data → Option (List ℕ)
+id_in d = option_and_then as_str (attribute_in attribute.Id d)
+
+-- the text of `meta.resourceType`
+abbrev pub resource_type_in : Data → Option (List ℕ)
+resource_type_in d = option_and_then as_str (option_and_then (get (sub_attribute_name sub_attribute.ResourceType)) (attribute_in attribute.Meta d))

@@ -1,0 +1,16 @@
+-- The JSON of a part has its cells, and the JSON that is kept of it is read back.
+use Rattle.std.specs.Prelude.{◌≡◌, Some}
+use Rattle.std.specs.FinMap.{entries}
+use Rattle.serde_json.specs.Read.{read}
+use Rattle.serde_json.specs.Written.{compact_text}
+use Rattle.scim_value.specs.Content.{Content, IsPart}
+use Rattle.scim_json.specs.PartData.{part_data, stored_data}
+use Rattle.scim_json.specs.Found.{found_cells}
+
+-- the JSON of a part has each of its cells at its place, and no other
+abbrev pub PartsAreShownWhole : Type 0
+PartsAreShownWhole = (c : Content) → IsPart c → found_cells c.kind (part_data c) ≡ entries c.cells
+
+-- the text that is kept is read back as the JSON that it was written of
+abbrev pub KeptReadsBack : Type 0
+KeptReadsBack = (c : Content) → read (compact_text (stored_data c)) ≡ Some (stored_data c)

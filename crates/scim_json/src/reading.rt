@@ -1,0 +1,331 @@
+//! Reading a stored document: the resource that it is kept of.
+ghost use Rattle.std.specs.Prelude.{◌≡◌, ◌≤◌, ◌↔◌, ◌++◌, List, ℕ, IsTrue, IfOk, IfSome, OnOk, None, Some, Err, option_map};
+ghost use Rattle.std.specs.List.{flat_map};
+ghost use Rattle.serde_json.specs.Data.{depth};
+ghost use Rattle.serde_json.specs.Read.{read, max_depth};
+ghost use Rattle.serde_json.specs.View.{view, items_view};
+ghost use Rattle.scim_schema.specs.declared.Kind.{Kind};
+ghost use Rattle.scim_schema.specs.Names.{kind_name};
+ghost use Rattle.scim_value.specs.Ids.{IsId, id_text};
+ghost use Rattle.std.specs.FinMap.{entries};
+ghost use Rattle.scim_value.specs.Content.{Content, entries_of, AreSortedPartCells};
+ghost use Rattle.scim_value.specs.Resource.{HasBase};
+ghost use Rattle.scim_json.specs.PartData.{stored_data};
+ghost use Rattle.scim_json.specs.Found as spec;
+ghost use Rattle.scim_json.specs.Stored.{IsDocument, IsDocumentText};
+
+use crate::faults::StoredFault;
+use crate::keys::{Shape, shape_of};
+use crate::writing::stored_text;
+use scim_schema::characteristics::{AttributeType, characteristics_of};
+use scim_schema::schemas::extension_of;
+use scim_schema::table::attributes;
+use scim_schema::{Attribute, Kind, Leaf, SubAttribute};
+use scim_text::{NoMemory, read_printed_moment};
+use scim_value::atoms::{Atom, Text};
+use scim_value::cells::Cell;
+use scim_value::ids::Id;
+use scim_value::parts::Part;
+use scim_value::places::sub_attributes_by_place;
+use scim_value::resources::{Resource, location};
+use serde_json::Value;
+use std::alloc::Global;
+
+/// The resource that the text is a stored document of: JSON with the value that `stored_text` writes
+/// of it, where spaces and the order of keys are free. `meta.location`, which isn't stored, is put
+/// back; it stands below `base`, as `http://127.0.0.1:8080`.
+///
+/// Damaged where the text is no such document. So are keys that are spelled in another way or aren't
+/// stored, null, empty lists and objects, values of another type, moments that aren't as printed, and
+/// what isn't a resource. NoMemory where none was to be had.
+pub fn read_stored(alloc: Global, base: &str, text: &str) -> Result<Resource, StoredFault>
+    ensures document { IfOk result (IsDocumentText base.now text.now) }
+    ensures damaged { result ≡ Err StoredFault.Damaged
+        → (c : Content) → ¬ IsDocumentText base.now text.now c }
+{
+    let value = parse(alloc, text)?;
+    let resource = resource_in(alloc, base, &value)?;
+    if is_stored_text(alloc, &resource, text)? || is_kept_of(alloc, &resource, &value)? {
+        Ok(resource)
+    } else {
+        Err(StoredFault::Damaged)
+    }
+}
+
+/// The JSON value of a text.
+pub(crate) fn parse(alloc: Global, text: &str) -> Result<Value, StoredFault>
+    ensures value { IfOk result (λ v. read text.now ≡ Some (view v)) }
+    ensures nests { IfOk result (λ v. depth (view v) ≤ max_depth) }
+    ensures damaged { result ≡ Err StoredFault.Damaged → read text.now ≡ None }
+{
+    match Value::from_str(alloc, text) {
+        Ok(value) => Ok(value),
+        Err(error) => {
+            if error.is_memory() {
+                Err(StoredFault::NoMemory)
+            } else {
+                Err(StoredFault::Damaged)
+            }
+        }
+    }
+}
+
+/// The resource that the value is kept of, as `read_stored` answers.
+///
+/// Errors: as there.
+pub(crate) fn read_document(
+    alloc: Global,
+    base: &str,
+    value: &Value,
+) -> Result<Resource, StoredFault>
+    requires { depth (view value.now) ≤ max_depth }
+    ensures document { IfOk result (IsDocument base.now (view value.now)) }
+    ensures damaged { result ≡ Err StoredFault.Damaged
+        → (c : Content) → ¬ IsDocument base.now (view value.now) c }
+{
+    let resource = resource_in(alloc, base, value)?;
+    if is_kept_of(alloc, &resource, value)? {
+        Ok(resource)
+    } else {
+        Err(StoredFault::Damaged)
+    }
+}
+
+/// Whether the text is the one that `stored_text` writes, as it mostly is where it comes from a
+/// database: its value needn't be written then.
+fn is_stored_text(alloc: Global, resource: &Resource, text: &str) -> Result<bool, NoMemory>
+    ensures { IfOk result (λ b. IsTrue b → read text.now ≡ Some (stored_data resource.now)) }
+{
+    Ok(stored_text(alloc, resource)?.as_str() == text)
+}
+
+/// Whether the value is the one that is kept of the resource.
+fn is_kept_of(alloc: Global, resource: &Resource, value: &Value) -> Result<bool, NoMemory>
+    requires { depth (view value.now) ≤ max_depth }
+    ensures { IfOk result (λ b. IsTrue b ↔ (view value.now ≡ stored_data resource.now)) }
+{
+    let kept = stored_text(alloc, resource)?;
+    let written = value.to_string(alloc)?;
+    Ok(kept.as_str() == written.as_str())
+}
+
+/// The one resource below the base of which the value can be kept, if there is one.
+pub(crate) fn resource_in(alloc: Global, base: &str, value: &Value) -> Result<Resource, StoredFault>
+    ensures below { IfOk result (HasBase base.now) }
+    ensures only { IfOk result
+        (λ r. (c : Content) → IsDocument base.now (view value.now) c → r ≡ c) }
+    ensures damaged { result ≡ Err StoredFault.Damaged
+        → (c : Content) → ¬ IsDocument base.now (view value.now) c }
+{
+    let Some(kind) = kind_in(value) else {
+        return Err(StoredFault::Damaged);
+    };
+    let Some(id) = id_in(value) else {
+        return Err(StoredFault::Damaged);
+    };
+    let part = part_in(alloc, base, kind, id, value)?;
+    Ok(Resource::of(part, base)?)
+}
+
+/// The kind that `meta.resourceType` names.
+fn kind_in(value: &Value) -> Option<Kind>
+    ensures { (kind : Kind) → (result ≡ Some kind)
+        ↔ (spec.resource_type_in (view value.now) ≡ Some (kind_name kind)) }
+{
+    let meta = attribute_in(value, Attribute::Meta)?;
+    kind_named(meta.get(SubAttribute::ResourceType.name())?.as_str()?)
+}
+
+fn kind_named(name: &str) -> Option<Kind>
+    ensures { (kind : Kind) → (result ≡ Some kind) ↔ (name.now ≡ kind_name kind) }
+{
+    if name == Kind::User.name() {
+        Some(Kind::User)
+    } else if name == Kind::Group.name() {
+        Some(Kind::Group)
+    } else {
+        None
+    }
+}
+
+/// The id that `id` is the text of.
+fn id_in(value: &Value) -> Option<Id>
+    ensures { (id : List ℕ) → IsId id → (result ≡ Some id)
+        ↔ (spec.id_in (view value.now) ≡ Some (id_text id)) }
+{
+    Id::read(attribute_in(value, Attribute::Id)?.as_str()?)
+}
+
+/// The part of the cells that stand in the value, with `meta.location`, which comes after all others.
+#[tactic(auto, unfolding(crate::specs::Found::found_cells))]
+fn part_in(
+    alloc: Global,
+    base: &str,
+    kind: Kind,
+    id: Id,
+    value: &Value,
+) -> Result<Part, StoredFault>
+    ensures kind { IfOk result (λ p. p.kind ≡ kind) }
+    ensures id { IfOk result (λ p. p.id ≡ id) }
+    ensures cells { IfOk result
+        (λ p. entries p.cells ≡ spec.cells_below base.now kind id (view value.now)) }
+    ensures damaged { result ≡ Err StoredFault.Damaged
+        → ¬ AreSortedPartCells kind (spec.cells_below base.now kind id (view value.now)) }
+{
+    let mut cells = Vec::new(alloc);
+    read_attributes(alloc, value, kind, attributes(kind), &mut cells)?;
+    cells.push(Cell {
+        leaf: Leaf::of(Attribute::Meta, SubAttribute::Location),
+        position: 0,
+        atom: Atom::Text(location(alloc, base, kind, id)?),
+    })?;
+    Ok(Part::of_sorted(alloc, kind, id, cells)?)
+}
+
+/// The cells of these attributes.
+fn read_attributes(
+    alloc: Global,
+    value: &Value,
+    kind: Kind,
+    attributes: &[Attribute],
+    cells: &mut Vec<Cell>,
+) -> Result<(), NoMemory>
+    ensures { OnOk result (entries_of cells.new.items
+        ≡ entries_of cells.old.items ++ flat_map (spec.found_attribute kind (view value.now)) attributes.now) }
+{
+    for attribute in attributes {
+        read_attribute(alloc, value, kind, *attribute, cells)?;
+    }
+    Ok(())
+}
+
+/// The value of an attribute, in the object of the resource or in that of its extension.
+fn attribute_in(value: &Value, attribute: Attribute) -> Option<&Value>
+    ensures { option_map (λ v. view v.now) result ≡ spec.attribute_in attribute (view value.now) }
+{
+    let object = match extension_of(attribute) {
+        Some(schema) => value.get(schema.urn())?,
+        None => value,
+    };
+    object.get(attribute.name())
+}
+
+fn read_attribute(
+    alloc: Global,
+    value: &Value,
+    kind: Kind,
+    attribute: Attribute,
+    cells: &mut Vec<Cell>,
+) -> Result<(), NoMemory>
+    ensures { OnOk result (entries_of cells.new.items
+        ≡ entries_of cells.old.items ++ spec.found_attribute kind (view value.now) attribute) }
+{
+    let Some(found) = attribute_in(value, attribute) else {
+        return Ok(());
+    };
+    match shape_of(attribute) {
+        Shape::Simple => read_cell(alloc, found, kind, Leaf::simple(attribute), 0, cells),
+        Shape::Complex => read_object(alloc, found, kind, attribute, 0, cells),
+        Shape::MultiValued => match found.as_array() {
+            Some(items) => read_items(alloc, items, kind, attribute, cells),
+            None => Ok(()),
+        },
+    }
+}
+
+/// The values of a multi-valued attribute, by position.
+fn read_items(
+    alloc: Global,
+    items: &[Value],
+    kind: Kind,
+    attribute: Attribute,
+    cells: &mut Vec<Cell>,
+) -> Result<(), NoMemory>
+    ensures { OnOk result (entries_of cells.new.items
+        ≡ entries_of cells.old.items ++ spec.found_items kind attribute 0 (items_view items.now)) }
+{
+    for (position, item) in items.iter().enumerate() {
+        read_object(alloc, item, kind, attribute, position, cells)?;
+    }
+    Ok(())
+}
+
+/// The sub-attributes of one value of a complex attribute.
+fn read_object(
+    alloc: Global,
+    value: &Value,
+    kind: Kind,
+    attribute: Attribute,
+    position: usize,
+    cells: &mut Vec<Cell>,
+) -> Result<(), NoMemory>
+    ensures { OnOk result (entries_of cells.new.items
+        ≡ entries_of cells.old.items ++ spec.found_object kind attribute position (view value.now)) }
+{
+    for sub_attribute in sub_attributes_by_place(attribute) {
+        if let Some(found) = value.get(sub_attribute.name()) {
+            let leaf = Leaf::of(attribute, *sub_attribute);
+            read_cell(alloc, found, kind, leaf, position, cells)?;
+        }
+    }
+    Ok(())
+}
+
+/// The cell of a leaf; none where the value isn't of its type.
+fn read_cell(
+    alloc: Global,
+    value: &Value,
+    kind: Kind,
+    leaf: Leaf,
+    position: usize,
+    cells: &mut Vec<Cell>,
+) -> Result<(), NoMemory>
+    ensures { OnOk result (entries_of cells.new.items
+        ≡ entries_of cells.old.items ++ spec.found_value kind leaf position (view value.now)) }
+{
+    let attribute_type = characteristics_of(kind, leaf).attribute_type;
+    if let Some(atom) = atom_of(alloc, value, attribute_type)? {
+        cells.push(Cell {
+            leaf,
+            position,
+            atom,
+        })?;
+    }
+    Ok(())
+}
+
+/// The value as an atom of a type, where it is one (RFC 7643 section 2.3).
+fn atom_of(
+    alloc: Global,
+    value: &Value,
+    attribute_type: AttributeType,
+) -> Result<Option<Atom>, NoMemory>
+    ensures { IfOk result (λ o. o ≡ spec.atom_of attribute_type (view value.now)) }
+{
+    match attribute_type {
+        AttributeType::Boolean => Ok(value.as_bool().map(Atom::Truth)),
+        AttributeType::DateTime => moment_atom(alloc, value),
+        AttributeType::String | AttributeType::Reference | AttributeType::Binary => {
+            text_atom(alloc, value)
+        }
+        AttributeType::Complex => Ok(None),
+    }
+}
+
+fn moment_atom(alloc: Global, value: &Value) -> Result<Option<Atom>, NoMemory>
+    ensures { IfOk result (λ o. o ≡ spec.atom_of AttributeType.DateTime (view value.now)) }
+{
+    match value.as_str() {
+        Some(text) => Ok(read_printed_moment(alloc, text)?.map(Atom::Moment)),
+        None => Ok(None),
+    }
+}
+
+fn text_atom(alloc: Global, value: &Value) -> Result<Option<Atom>, NoMemory>
+    ensures { IfOk result (λ o. o ≡ spec.atom_of AttributeType.String (view value.now)) }
+{
+    match value.as_str() {
+        Some(text) => Ok(Some(Atom::Text(Text::copy_of(alloc, text)?))),
+        None => Ok(None),
+    }
+}

@@ -1,0 +1,48 @@
+-- The cells of a part by attribute, each value's in order of place.
+use Rattle.std.specs.Prelude.{◌≡◌, ℕ, ◌+◌, Option, None, Some, List, [], ◌∷◌, ◌++◌, if◌then◌else◌}
+use Rattle.std.specs.List.{flat_map}
+use Rattle.std.specs.FinMap.{entries}
+use Rattle.scim_schema.specs.declared.Attribute.{Attribute}
+use Rattle.scim_schema.specs.declared.Attribute.TheVariants.{Addresses, Members}
+use Rattle.scim_schema.specs.declared.Leaf.{Leaf}
+use Rattle.scim_schema.specs.declared.SubAttribute.{SubAttribute}
+use Rattle.scim_schema.specs.declared.SubAttribute.TheVariants.{Formatted, Value, Reference, Display, TypeName, Primary, StreetAddress, Locality, Region, PostalCode, Country}
+use Rattle.scim_schema.specs.Table.{attributes, sub_attributes, leaves_with}
+use Rattle.scim_schema.specs.Characteristics.{is_multi_valued}
+use Rattle.scim_schema.specs.Units.{leaf_at, whole}
+use Rattle.scim_value.specs.declared.atoms.Atom.{Atom}
+use Rattle.scim_value.specs.Place.{place_at}
+use Rattle.scim_value.specs.Content.{Content, Entry, IsPart}
+use Rattle.scim_value.specs.Rows.{Row, rows, values, atom_in, cell_at}
+
+-- the sub-attributes of an attribute in order of place, which for two attributes isn't that of the table
+unfoldable pub sub_attributes_by_place : Attribute → List SubAttribute
+sub_attributes_by_place Addresses = Formatted ∷ TypeName ∷ Primary ∷ StreetAddress ∷ Locality ∷ Region ∷ PostalCode ∷ Country ∷ []
+sub_attributes_by_place Members = Value ∷ Reference ∷ Display ∷ TypeName ∷ []
+sub_attributes_by_place a = sub_attributes a
+
+-- the cell of a leaf at a position, where there is an atom
+abbrev pub cell_with : Leaf → ℕ → Option Atom → List Entry
+cell_with l k None = []
+cell_with l k (Some a) = (place_at l k, a) ∷ []
+
+-- the cells of one value of a multi-valued attribute
+abbrev pub value_cells : Attribute → ℕ → Row → List Entry
+value_cells a k r = flat_map (λ b. cell_with (leaf_at a b) k (atom_in (leaf_at a b) r.fields)) (sub_attributes_by_place a)
+
+-- the cells of values that stand at this position and the ones after it
+abbrev pub values_cells : Attribute → ℕ → List Row → List Entry
+values_cells a k [] = []
+values_cells a k (r ∷ rs) = value_cells a k r ++ values_cells a (k + 1) rs
+
+-- the cells of a single-valued attribute
+abbrev pub single_cells : Attribute → List Row → List Entry
+single_cells a rs = flat_map (λ l. cell_with l 0 (cell_at l 0 rs)) (leaves_with a (sub_attributes_by_place a))
+
+-- the cells of an attribute
+abbrev pub attribute_cells : List Row → Attribute → List Entry
+attribute_cells rs a = if is_multi_valued a then values_cells a 0 (values (whole a) rs) else single_cells a rs
+
+-- the cells of a part, in order of place, are those of each attribute of its kind, attribute by attribute
+abbrev pub CellsAreListed : Type 0
+CellsAreListed = (c : Content) → IsPart c → entries c.cells ≡ flat_map (attribute_cells (rows c)) (attributes c.kind)
