@@ -11,3 +11,5 @@ pub mod KeyedLookups
 pub mod PartCells
 pub mod Back
 pub mod ReadingLemmas
+pub mod TakenLemmas
+pub mod DocumentLemmas

@@ -1,6 +1,8 @@
+pub mod Documents
 pub mod Found
 pub mod Keys
-pub mod PartData
 pub mod Laws
+pub mod PartData
 pub mod Stored
+pub mod Taken
 pub mod Tokens

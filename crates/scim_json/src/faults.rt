@@ -1,7 +1,9 @@
-//! Why a stored document wasn't read.
+//! Why a stored document, or a users file, wasn't read.
 use scim_text::NoMemory;
 use scim_value::faults::{Fault, Invalid};
-use std::alloc::{AllocError, AllocFailed};
+use std::alloc::AllocFailed;
+use std::error::Error as StdError;
+use std::fmt;
 use thiserror::Error;
 
 /// Why a stored document wasn't read.
@@ -15,6 +17,31 @@ pub enum StoredFault {
     NoMemory,
 }
 
+/// Why a users file wasn't read.
+#[derive(Clone, Copy, Debug, PartialEq, Eq)]
+pub enum DocumentFault {
+    /// The item with this number, from 1, is no document of a resource below the base, or has the id
+    /// or a unique name of one before it; 0 where the text is no JSON list.
+    Damaged(usize),
+    /// No memory was to be had.
+    NoMemory,
+}
+
+impl fmt::Display for DocumentFault {
+    fn fmt<W: fmt::Write>(&self, f: &mut fmt::Formatter<W>) -> fmt::Result {
+        match self {
+            DocumentFault::Damaged(0) => write!(f, "not a JSON list"),
+            DocumentFault::Damaged(number) => write!(
+                f,
+                "item {number} is not the stored document of a resource, or repeats an id or a name"
+            ),
+            DocumentFault::NoMemory => write!(f, "out of memory"),
+        }
+    }
+}
+
+impl StdError for DocumentFault {}
+
 impl From<NoMemory> for StoredFault {
     ghost use Rattle.std.specs.Prelude.{◌≡◌};
     ghost use Rattle.scim_json.specs.declared.faults.StoredFault.{StoredFault};
@@ -22,7 +49,7 @@ impl From<NoMemory> for StoredFault {
     ghost from_gives = { λ _ f. f ≡ StoredFault.NoMemory };
 
     fn from(_: NoMemory) -> StoredFault {
-        Self::NoMemory
+        StoredFault::NoMemory
     }
 }
 
@@ -59,5 +86,27 @@ impl From<Fault> for StoredFault {
             Fault::Invalid => Self::Damaged,
             Fault::NoMemory => Self::NoMemory,
         }
+    }
+}
+
+impl From<NoMemory> for DocumentFault {
+    ghost use Rattle.std.specs.Prelude.{◌≡◌};
+    ghost use Rattle.scim_json.specs.declared.faults.DocumentFault.{DocumentFault};
+
+    ghost from_gives = { λ _ f. f ≡ DocumentFault.NoMemory };
+
+    fn from(_: NoMemory) -> DocumentFault {
+        Self::NoMemory
+    }
+}
+
+impl<T: Drop> From<AllocFailed<T>> for DocumentFault {
+    ghost use Rattle.std.specs.Prelude.{◌≡◌};
+    ghost use Rattle.scim_json.specs.declared.faults.DocumentFault.{DocumentFault};
+
+    ghost from_gives = { λ _ f. f ≡ DocumentFault.NoMemory };
+
+    fn from(error: AllocFailed<T>) -> DocumentFault {
+        DocumentFault::from(NoMemory::from(error))
     }
 }

@@ -2,6 +2,7 @@
 //! 3 and 8, RFC 7644 section 3).
 #![tactic(auto)]
 
+mod documents;
 mod faults;
 mod keys;
 mod laws;
@@ -10,7 +11,8 @@ mod reading;
 mod tests;
 mod writing;
 
-pub use faults::StoredFault;
+pub use documents::read_documents;
+pub use faults::{DocumentFault, StoredFault};
 pub use keys::{keys_ascend, keys_have_all_attributes};
 pub use laws::{documents_are_apart, documents_read_back, parts_are_shown_whole};
 pub use reading::read_stored;

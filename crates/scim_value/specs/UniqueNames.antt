@@ -1,5 +1,5 @@
 -- The names that no two resources share.
-use Rattle.std.specs.Prelude.{◌≢◌, ℕ, Bool, List, [], ◌∷◌, Option, Some, filter, map, string_bytes, Contains, if◌then◌else◌}
+use Rattle.std.specs.Prelude.{◌≢◌, ℕ, Bool, List, [], ◌∷◌, Option, Some, filter, Contains, if◌then◌else◌}
 use Rattle.std.specs.List.{flat_map}
 use denote.Enum.Bare.{sameb}
 use Rattle.scim_text.specs.Names.{folded}
