@@ -1,14 +1,19 @@
-//! The JSON of a user of 15 cells, beside what serde_json takes for the same texts.
+//! The JSON of a user of 15 cells, beside what serde_json takes for the same texts, and users files.
 use anyhow::{Result, bail};
-use scim_json::{read_stored, stored_text, to_json};
+use scim_json::{read_documents, read_stored, stored_text, to_json};
+use scim_value::ids::Id;
 use scim_value::resources::Resource;
 use serde_json::Value;
 use std::alloc::Global;
 use std::io::Print;
 use std::time::{Clock, Duration, Instant};
+use uuid::Uuid;
 
 /// How often each call is made.
 const ROUNDS: usize = 20_000;
+
+/// How many users the files have.
+const USERS: [usize; 2] = [1_000, 10_000];
 
 const BASE: &str = "http://127.0.0.1:8080";
 
@@ -74,6 +79,34 @@ fn measure_once(
 /// Nanoseconds a round.
 fn each(duration: &Duration) -> u128 {
     duration.as_nanos() / ROUNDS as u128
+}
+
+/// A users file of so many users.
+fn users_file(alloc: Global, users: usize) -> Result<String> {
+    let mut text = String::new(alloc);
+    text.push('[')?;
+    for number in 0..users {
+        if number > 0 {
+            text.push(',')?;
+        }
+        let id = Id::of(Uuid::from_u128(number as u128)).text(alloc)?;
+        let id = id.as_str();
+        let user = format!(in alloc;
+            "{{\"emails\":[{{\"value\":\"user{number}@example.com\"}}],\"id\":\"{id}\",\"meta\":{{\"created\":\"2024-01-01T00:00:00Z\",\"lastModified\":\"2024-01-01T00:00:00Z\",\"resourceType\":\"User\"}},\"userName\":\"user{number}\"}}"
+        )?;
+        text.push_str(user.as_str())?;
+    }
+    text.push(']')?;
+    Ok(text)
+}
+
+/// Nanoseconds for each user of a file of so many.
+fn measure_file(rt: &impl Clock, alloc: Global, users: usize) -> Result<u128> {
+    let text = users_file(alloc, users)?;
+    let start = Instant::now(rt)?;
+    let resources = read_documents(alloc, BASE, text.as_str())?;
+    let took = start.elapsed(rt)?;
+    Ok(took.as_nanos() / resources.len().max(1) as u128)
 }
 
 /// Prints the figures of writing and reading, in nanoseconds a call.

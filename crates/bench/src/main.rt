@@ -18,7 +18,7 @@ fn main(rt: HostRuntime) -> Result<()> {
     match scenario {
         None => {
             println!(rt;
-                "bench documents: writing and reading the JSON of a user, beside serde_json\nbench parts: making, copying, restricting and looking up parts of 10, 1,000 and 40,000 cells"
+                "bench documents: writing and reading the JSON of a user, beside serde_json, and users files\nbench parts: making, copying, restricting and looking up parts of 10, 1,000 and 40,000 cells"
             )?;
             Ok(())
         }
