@@ -13,3 +13,4 @@ pub mod Back
 pub mod ReadingLemmas
 pub mod TakenLemmas
 pub mod DocumentLemmas
+pub mod OwnRows

@@ -44,7 +44,7 @@ fits Complex many (b ∷ bs) = not many
 fits MultiValued many bs = many
 
 -- so does that of each attribute
-shape_fits : (a : Attribute) → fits (shape_of a) (is_multi_valued a) (sub_attributes_by_place a) ≡ true
+pub shape_fits : (a : Attribute) → fits (shape_of a) (is_multi_valued a) (sub_attributes_by_place a) ≡ true
 unfolding shape_of sub_attributes_by_place
 shape_fits Id = refl
 shape_fits _ = refl

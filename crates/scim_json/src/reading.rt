@@ -110,7 +110,7 @@ fn is_kept_of(alloc: Global, resource: &Resource, value: &Value) -> Result<bool,
 }
 
 /// The one resource below the base of which the value can be kept, if there is one.
-pub(crate) fn resource_in(alloc: Global, base: &str, value: &Value) -> Result<Resource, StoredFault>
+fn resource_in(alloc: Global, base: &str, value: &Value) -> Result<Resource, StoredFault>
     ensures below { IfOk result (HasBase base.now) }
     ensures only { IfOk result
         (λ r. (c : Content) → IsDocument base.now (view value.now) c → r ≡ c) }

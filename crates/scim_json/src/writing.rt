@@ -7,8 +7,7 @@ ghost use Rattle.serde_json.specs.Read.{read};
 ghost use Rattle.serde_json.specs.Written.{compact_text};
 ghost use Rattle.scim_schema.specs.Names.{attribute_name, sub_attribute_name};
 ghost use Rattle.scim_schema.specs.Schemas.{urn};
-ghost use Rattle.scim_schema.specs.Units.{whole};
-ghost use Rattle.scim_value.specs.Rows.{rows, values, cell_at};
+ghost use Rattle.scim_value.specs.Rows.{rows, cell_at};
 ghost use Rattle.scim_json.specs.Keys.{key_text};
 ghost use Rattle.scim_json.specs.PartData as spec;
 ghost use Rattle.scim_json.specs.PartData.{members_where, items_of};
@@ -18,10 +17,11 @@ use crate::keys::{Form, Key, Shape, extension_keys, keys, ordered_sub_attributes
 use json::Writer;
 use scim_schema::schemas::{Schema, core_schema, extension_of, extensions};
 use scim_schema::units::unit_of;
-use scim_schema::{Attribute, Leaf, SubAttribute, Unit};
+use scim_schema::{Attribute, Leaf, SubAttribute};
 use scim_text::{NoMemory, print_moment};
 use scim_value::atoms::Atom;
 use scim_value::parts::Part;
+use scim_value::places::compare_units;
 use scim_value::resources::Resource;
 use scim_value::rows::Row;
 use std::alloc::Global;
@@ -57,7 +57,7 @@ fn text_of(alloc: Global, part: &Part, form: Form) -> Result<String, NoMemory>
     ensures text { IfOk result (λ t. string_bytes t ≡ compact_text (spec.data_of form part.now)) }
     ensures reads { IfOk result (λ t. read (string_bytes t) ≡ Some (spec.data_of form part.now)) }
 {
-    let mut out = Writer::new(Vec::with_capacity(alloc, 512)?);
+    let mut out = Writer::new(Vec::with_capacity(alloc, 1024)?);
     write_part(alloc, &mut out, part, form)?;
     Ok(unsafe { String::from_utf8_unchecked(out.into_inner()) })
 }
@@ -202,86 +202,95 @@ fn write_attribute(
     ensures { OnOk result (Adds out.old out.new
         (member_tokens (attribute_name attribute) (spec.attribute_data form (rows part.now) attribute))) }
 {
+    let own = part.attribute_rows(attribute);
+    if own.is_empty() {
+        return Ok(());
+    }
     match shape_of(attribute) {
-        Shape::Simple => {
-            let atom = single_atom(part, Leaf::simple(attribute));
-            write_member(alloc, out, attribute.name(), atom)
-        }
+        Shape::Simple => write_simple(alloc, out, own, attribute),
         Shape::Complex => {
             let sub_attributes = ordered_sub_attributes(form, attribute);
-            write_complex(alloc, out, part, attribute, sub_attributes)
+            write_complex(alloc, out, own, attribute, sub_attributes)
         }
-        Shape::MultiValued => {
-            write_values(alloc, out, values_of(part, attribute), form, attribute)
-        }
+        Shape::MultiValued => write_values(alloc, out, own, form, attribute),
     }
 }
 
-/// The atom of a leaf of a single-valued attribute.
-fn single_atom(part: &Part, leaf: Leaf) -> Option<&Atom>
-    ensures { option_copied result ≡ cell_at leaf 0 (rows part.now) }
+/// The atom of a leaf of a single-valued attribute, of which these are the rows.
+fn single_atom(own: &[Row], leaf: Leaf) -> Option<&Atom>
+    ensures { option_copied result ≡ cell_at leaf 0 own.now }
 {
-    match part.values(unit_of(leaf)) {
-        [row, ..] => row.get(leaf),
-        [] => None,
+    let unit = unit_of(leaf);
+    for row in own {
+        if compare_units(row.unit(), unit).is_eq() {
+            return row.get(leaf);
+        }
     }
+    None
+}
+
+/// The member of a simple attribute, if it has a cell.
+fn write_simple(
+    alloc: Global,
+    out: &mut Writer,
+    own: &[Row],
+    attribute: Attribute,
+) -> Result<(), NoMemory>
+    ensures { OnOk result (Adds out.old out.new
+        (member_tokens (attribute_name attribute) (spec.simple_data own.now attribute))) }
+{
+    let atom = single_atom(own, Leaf::simple(attribute));
+    write_member(alloc, out, attribute.name(), atom)
 }
 
 /// The member of a single complex attribute, if one of these sub-attributes has a cell.
 fn write_complex(
     alloc: Global,
     out: &mut Writer,
-    part: &Part,
+    own: &[Row],
     attribute: Attribute,
     sub_attributes: &[SubAttribute],
 ) -> Result<(), NoMemory>
     ensures { OnOk result (Adds out.old out.new (member_tokens (attribute_name attribute)
         (spec.object_of (members_where sub_attribute_name
-        (spec.sub_data (rows part.now) attribute) sub_attributes.now)))) }
+        (spec.sub_data own.now attribute) sub_attributes.now)))) }
 {
-    if !has_sub_attribute(part, attribute, sub_attributes) {
+    if !has_sub_attribute(own, attribute, sub_attributes) {
         return Ok(());
     }
     out.key(attribute.name())?;
     out.begin_object()?;
-    write_sub_attributes(alloc, out, part, attribute, sub_attributes)
+    write_sub_attributes(alloc, out, own, attribute, sub_attributes)
 }
 
-/// Whether the part has a cell of one of these sub-attributes of a single-valued attribute.
-fn has_sub_attribute(part: &Part, attribute: Attribute, sub_attributes: &[SubAttribute]) -> bool
+/// Whether these rows have a cell of one of these sub-attributes of a single-valued attribute.
+fn has_sub_attribute(own: &[Row], attribute: Attribute, sub_attributes: &[SubAttribute]) -> bool
     ensures { result
-        ≡ list_any (λ b. is_some (spec.sub_data (rows part.now) attribute b)) sub_attributes.now }
+        ≡ list_any (λ b. is_some (spec.sub_data own.now attribute b)) sub_attributes.now }
 {
     sub_attributes
         .iter()
-        .any(|b| single_atom(part, Leaf::of(attribute, *b)).is_some())
+        .any(|b| single_atom(own, Leaf::of(attribute, *b)).is_some())
 }
 
 /// The members of these sub-attributes, and the object's end.
 fn write_sub_attributes(
     alloc: Global,
     out: &mut Writer,
-    part: &Part,
+    own: &[Row],
     attribute: Attribute,
     sub_attributes: &[SubAttribute],
 ) -> Result<(), NoMemory>
     ensures { OnOk result (Adds out.old out.new
         (members_tokens (members_where sub_attribute_name
-        (spec.sub_data (rows part.now) attribute) sub_attributes.now))) }
+        (spec.sub_data own.now attribute) sub_attributes.now))) }
 {
     for sub_attribute in sub_attributes {
-        let atom = single_atom(part, Leaf::of(attribute, *sub_attribute));
+        let atom = single_atom(own, Leaf::of(attribute, *sub_attribute));
         write_member(alloc, out, sub_attribute.name(), atom)?;
     }
     out.end_object()?;
     Ok(())
-}
-
-/// The values of a multi-valued attribute, by position.
-fn values_of(part: &Part, attribute: Attribute) -> &[Row]
-    ensures { result.now ≡ values (whole attribute) (rows part.now) }
-{
-    part.values(Unit::whole(attribute))
 }
 
 /// The member of a multi-valued attribute, if it has a value.

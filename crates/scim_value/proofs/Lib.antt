@@ -22,3 +22,4 @@ pub mod ValidityLemmas
 pub mod KeyLemmas
 pub mod CellLemmas
 pub mod ListingLemmas
+pub mod AttributeLemmas

@@ -105,7 +105,7 @@ field_in kind u c h = subst (λ a. In a (attributes kind) × In c.leaf (leaves_b
 fields_in : (kind : Kind) (r : Row) → IsSoundRow kind r → All (λ (c : Field). In c.leaf (leaves_by_place r.unit.attribute)) r.fields
 fields_in kind r h = All-weaker (IsSoundField kind r.unit) (λ (c : Field). In c.leaf (leaves_by_place r.unit.attribute)) (λ c s. (field_in kind r.unit c s).1) r.fields h.own
 
-row_in : (kind : Kind) (u : AttributeUnit) (cs : List Field) → has_fields (record { unit = u; fields = cs }) ≡ true → All (IsSoundField kind u) cs
+pub row_in : (kind : Kind) (u : AttributeUnit) (cs : List Field) → has_fields (record { unit = u; fields = cs }) ≡ true → All (IsSoundField kind u) cs
     → In u.attribute (attributes kind) × (is_multi_valued u.attribute ≡ true → whole u.attribute ≡ u)
 row_in kind u [] f o = cc
 row_in kind u (c ∷ cs) f o =

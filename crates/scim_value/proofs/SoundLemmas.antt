@@ -1,6 +1,7 @@
 -- Rows in order of unit.
-use Rattle.std.proofs.Common.{◌≡◌, ℕ, zero, suc, ◌+◌, ◌≤◌, ◌<◌, refl, sym, ◌∙◌, ap, subst, Bool, true, false, ◌&&◌, arith, List, [], ◌∷◌, ◌++◌, append_assoc, map, filter, inl, inr, length, length-drop, get_or, drop, take}
+use Rattle.std.proofs.Common.{◌≡◌, ℕ, zero, suc, ◌+◌, ◌≤◌, ◌<◌, refl, sym, ◌∙◌, ap, subst, Bool, true, false, ◌&&◌, ◌||◌, arith, List, [], ◌∷◌, ◌++◌, append_assoc, map, filter, inl, inr, length, length-drop, get_or, drop, take}
 use Rattle.std.specs.Prelude.{All, AllPairs, not}
+use Rattle.std.specs.List.{list_any}
 use Rattle.std.specs.List.Sorted.{IsPartitionedBy, IsPartitionPoint}
 use Rattle.std.proofs.lemmas.Bool.{cases_Bool}
 use Rattle.std.proofs.lemmas.List.{get_or-drop}
@@ -55,7 +56,7 @@ restricted_sound kind keep rs h =
       in_order = AllPairs-filter Before has_fields (map (restricted_row keep) rs) (map_pairs keep rs h.in_order);
     }
 
-rises : (rs : List Row) → AllPairs NotAfter rs → (i j : ℕ) (d : Row) → i ≤ j → j < length rs → NotAfter (get_or rs i d) (get_or rs j d)
+pub rises : (rs : List Row) → AllPairs NotAfter rs → (i j : ℕ) (d : Row) → i ≤ j → j < length rs → NotAfter (get_or rs i d) (get_or rs j d)
 rises [] h i j d le l = absurd (omega arith)
 rises (r ∷ rs) h zero zero d le l = ap is_gt (tied_itself unit_total r.unit)
 rises (r ∷ rs) h zero (suc j) d le l = h zero (suc j) d (omega arith) l
@@ -72,7 +73,7 @@ lt_back a b u Less e n l = ap is_lt (unit_total.trans a b u e (less _ l))
 lt_back a b u Equal e n l = ap is_lt (unit_total.congr a b u e) ∙ l
 lt_back a b u Greater e n l = cc
 
-not_flip : (b : Bool) → not b ≡ true → b ≡ false
+pub not_flip : (b : Bool) → not b ≡ true → b ≡ false
 not_flip true e = cc
 not_flip false e = refl
 
@@ -101,7 +102,35 @@ parted p (c ∷ cs) (suc i) l h =
     let rest = parted p cs i (omega arith) ((λ k d a b. h.0 (suc k) d (omega arith) (omega arith)), (λ k d a b. h.1 (suc k) d (omega arith) (omega arith))) in
     rw own (ap (λ ys. c ∷ ys) rest.0, rest.1)
 
-filter_filter : {X : Type 0} (p q r : X → Bool) → ((c : X) → r c ≡ p c && q c) → (xs : List X) → filter q (filter p xs) ≡ filter r xs
+back_false : (b c : Bool) → (b ≡ true → c ≡ true) → c ≡ false → b ≡ false
+back_false true c f n = let t : c ≡ true = f refl in cc
+back_false false c f n = refl
+
+-- where the first fails, none passes
+pub point_zero : {X : Type 0} (p : X → Bool) (xs : List X) → IsPartitionedBy p xs → ((d : X) → 0 < length xs → p (get_or xs 0 d) ≡ false) → IsPartitionPoint (λ y. p y ≡ true) (λ y. p y ≡ false) xs 0
+point_zero p xs h n = ((λ k d x y. absurd (omega arith)), (λ k d x y. back_false (p (get_or xs k d)) (p (get_or xs 0 d)) (h zero k d (omega arith) y) (n d (omega (arith, y)))))
+
+-- `x || false` is false
+pub no_other : (b : Bool) → b || false ≡ false → b ≡ false
+no_other true e = e
+no_other false e = refl
+
+beyond : (o : Ordering) → not (is_lt o) ≡ true → is_eq o ≡ false → not (is_gt o) ≡ false
+beyond Less l e = cc
+beyond Equal l e = cc
+beyond Greater l e = refl
+
+-- the first row that is left, of another unit, stands after the unit
+pub first_after : (u : AttributeUnit) (rs rest : List Row) (i : ℕ) → rest ≡ drop i rs → i ≤ length rs
+    → IsPartitionPoint (λ (y : Row). is_lt (unit_cmp y.unit u) ≡ true) (λ (y : Row). is_lt (unit_cmp y.unit u) ≡ false) rs i
+    → list_any (λ (r : Row). is_eq (unit_cmp r.unit u)) (take 1 rest) ≡ false → (d : Row) → 0 < length rest → not (is_gt (unit_cmp (get_or rest 0 d).unit u)) ≡ false
+first_after u rs [] i e l p n d m = absurd (omega (arith, m))
+first_after u rs (r ∷ rest) i e l p n d m =
+    let kept : All (λ (y : Row). not (is_lt (unit_cmp y.unit u)) ≡ true) (r ∷ rest)
+    = subst (All (λ (y : Row). not (is_lt (unit_cmp y.unit u)) ≡ true)) (sym (e ∙ (parted (λ (y : Row). is_lt (unit_cmp y.unit u)) rs i l p).1)) (filter_passes (λ (y : Row). not (is_lt (unit_cmp y.unit u))) rs) in
+    beyond (unit_cmp r.unit u) (All-head (λ (y : Row). not (is_lt (unit_cmp y.unit u)) ≡ true) r rest kept) (no_other _ n)
+
+pub filter_filter : {X : Type 0} (p q r : X → Bool) → ((c : X) → r c ≡ p c && q c) → (xs : List X) → filter q (filter p xs) ≡ filter r xs
 filter_filter p q r h [] = refl
 filter_filter p q r h (c ∷ cs) =
     let ih = filter_filter p q r h cs in

@@ -79,6 +79,10 @@ content kind id rs = record { kind = kind; id = id; cells = from_sorted (numbere
 abbrev pub values : AttributeUnit → List Row → List Row
 values u rs = filter (λ (r : Row). is_eq (unit_cmp r.unit u)) rs
 
+-- the rows of an attribute, in order of unit
+abbrev pub attribute_rows : Attribute → List Row → List Row
+attribute_rows a rs = filter (λ (r : Row). sameb the_attribute r.unit.attribute a) rs
+
 -- rows with other values for a unit
 abbrev pub put_values : AttributeUnit → List Row → List Row → List Row
 put_values u vs rs = filter (λ (r : Row). is_lt (unit_cmp r.unit u)) rs ++ (vs ++ filter (λ (r : Row). is_gt (unit_cmp r.unit u)) rs)

@@ -1,5 +1,5 @@
 //! Parts: a kind, an id and the cells of a resource or of what is visible or shown of one.
-ghost use Rattle.std.specs.Prelude.{◌≡◌, ◌++◌, IfOk, filter};
+ghost use Rattle.std.specs.Prelude.{◌≡◌, ◌++◌, IfOk, filter, take};
 ghost use Rattle.std.specs.List.{list_any};
 ghost use denote.Enum.Bare.{sameb};
 ghost use Rattle.scim_schema.specs.contracts.Attribute.{the_type as the_attribute};
@@ -111,6 +111,9 @@ impl Part {
         let rows = self.rows();
         let start = rows.partition_point(|row| compare_units(row.unit(), unit).is_lt());
         let (before, rest) = rows.split_at(start);
+        if !begins_with_unit(rest, unit) {
+            return (before, &[], rest);
+        }
         let end = rest.partition_point(|row| !compare_units(row.unit(), unit).is_gt());
         let (own, after) = rest.split_at(end);
         (before, own, after)
@@ -122,6 +125,24 @@ impl Part {
         ensures valid { IsPart self.now }
     {
         self.split(unit).1
+    }
+
+    /// The rows of an attribute, in order of unit: the values of a multi-valued attribute, and
+    /// what a single-valued one has of its leaves.
+    ///
+    /// One search finds them all, so this is the way to go over many attributes of a part.
+    pub fn attribute_rows(&self, attribute: Attribute) -> &[Row]
+        ensures rows { result.now ≡ spec.attribute_rows attribute (spec.rows self.now) }
+        ensures valid { IsPart self.now }
+    {
+        let rows = self.rows();
+        let start = rows.partition_point(|row| (row.unit().attribute as u8) < attribute as u8);
+        let (_, rest) = rows.split_at(start);
+        if !begins_with(rest, attribute) {
+            return &[];
+        }
+        let end = rest.partition_point(|row| row.unit().attribute as u8 <= attribute as u8);
+        rest.split_at(end).0
     }
 
     /// The part with these values of a unit in place of its own; NoMemory where none was to be had.
@@ -183,6 +204,26 @@ impl Part {
     {
         let rows = kept_rows(alloc, self.rows(), test)?;
         Ok(Part::of_rows(self.kind(), self.id(), rows))
+    }
+}
+
+// Whether there is a first row, and it is of the attribute.
+fn begins_with(rows: &[Row], attribute: Attribute) -> bool
+    ensures { result ≡ list_any (λ r. sameb the_attribute r.unit.attribute attribute) (take 1 rows.now) }
+{
+    match rows {
+        [first, ..] => first.unit().attribute == attribute,
+        [] => false,
+    }
+}
+
+// Whether there is a first row, and it is of the unit.
+fn begins_with_unit(rows: &[Row], unit: Unit) -> bool
+    ensures { result ≡ list_any (λ r. is_eq (unit_cmp r.unit unit)) (take 1 rows.now) }
+{
+    match rows {
+        [first, ..] => compare_units(first.unit(), unit).is_eq(),
+        [] => false,
     }
 }
 

@@ -95,6 +95,30 @@ fn positions_and_values_are_counted(rt: HostRuntime) -> Result<(), Fail> {
     Ok(())
 }
 
+#[test]
+fn rows_of_an_attribute_are_found(rt: HostRuntime) -> Result<(), Fail> {
+    let part = user(rt.alloc(), BABS)?;
+    for (path, rows) in [
+        ("userName", "userName=babs|"),
+        (
+            "name.givenName",
+            "name.familyName=Jensen|name.givenName=Barbara|",
+        ),
+        ("active", "active=#true|"),
+        (
+            "emails.type",
+            "emails.value=bjensen@example.com.type=work.primary=#true|emails.value=babs@jensen.org|emails.type=other|",
+        ),
+        ("externalId", ""),
+        ("title", ""),
+        ("roles.value", ""),
+    ] {
+        let own = part.attribute_rows(leaf_at(path)?.attribute);
+        assert_eq!(rt; rows_text(rt.alloc(), own)?.as_str(), rows, "at {path}");
+    }
+    Ok(())
+}
+
 fn made(alloc: Global, kind: Kind, text: &str) -> Result<String, Fail> {
     made_text(alloc, Part::of(alloc, kind, id()?, cells(alloc, text)?))
 }
