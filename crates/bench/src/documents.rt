@@ -127,5 +127,10 @@ pub fn run(rt: &(impl Clock + Print), alloc: Global) -> Result<()> {
         each(&figures.read),
         each(&figures.read_value)
     )?;
+    println!(rt; "nanoseconds for each user of a users file")?;
+    for users in USERS {
+        let each = measure_file(rt, alloc, users)?;
+        println!(rt; "read_documents of {users} users {each}")?;
+    }
     Ok(())
 }
