@@ -1,0 +1,163 @@
+-- What a policy file says, or where and why it is faulty.
+use Rattle.std.specs.Prelude.{ℕ, ◌+◌, Bool, true, false, ◌&&◌, ◌||◌, ◌==◌, nat_lt, List, [], ◌∷◌, length, codes, Option, None, Some, option_map, option_and_then, is_some, Result, Ok, Err, if◌then◌else◌}
+use Rattle.std.specs.List.{list_any}
+use Rattle.serde_json.specs.Data.{Data, Num, Items, no_items, item, Members, no_members, member}
+use Rattle.serde_json.specs.Find.{get, as_bool, as_str, as_array, as_object, as_number, as_i64, as_u64}
+use Rattle.serde_json.specs.Read.{read}
+use Rattle.scim_policy.specs.declared.faults.Cause.{Cause}
+use Rattle.scim_policy.specs.declared.faults.Cause.TheVariants.{Json, Shape, Version, TooManyRules, Name}
+use Rattle.scim_policy.specs.Rules.{Rule}
+use Rattle.scim_policy.specs.Paths.{same_text, client_named, op_named, kind_named, path_named}
+
+-- the number of the faulty rule, 0 for the file, and why it is faulty
+pub record Fault : Type 0 where
+  pub rule : ℕ
+  pub cause : Cause
+
+abbrev pub Says : Type 0 → Type 0
+Says X = Result X Fault
+
+-- ---- shapes
+
+-- each key of an object is one of these words
+abbrev pub has_only : List (List ℕ) → Members → Bool
+has_only words no_members = true
+has_only words (member k d ms) = list_any (same_text k) words && has_only words ms
+
+-- the items of an array
+abbrev pub listed : Items → List Data
+listed no_items = []
+listed (item d ds) = d ∷ listed ds
+
+-- a list that isn't empty
+abbrev pub filled : {X : Type 0} → List X → Option (List X)
+filled [] = None
+filled (x ∷ xs) = Some (x ∷ xs)
+
+-- what each of a list gives; none where one gives none
+abbrev pub each : {X Y : Type 0} → (X → Option Y) → List X → Option (List Y)
+each f [] = Some []
+each f (x ∷ xs) = option_and_then (λ y. option_map (λ ys. y ∷ ys) (each f xs)) (f x)
+
+-- the values of an array that isn't empty
+abbrev pub items_in : Data → Option (List Data)
+items_in d = option_and_then (λ ds. filled (listed ds)) (as_array d)
+
+-- the texts of an array of texts that isn't empty
+abbrev pub texts_in : Data → Option (List (List ℕ))
+texts_in d = option_and_then (each as_str) (items_in d)
+
+-- an object that has no other keys than these
+abbrev pub object_of_only : List (List ℕ) → Data → Option Data
+object_of_only words d = option_and_then (λ ms. if has_only words ms then Some d else None) (as_object d)
+
+-- ---- rules
+
+-- a rule as it is written
+pub record RuleTexts : Type 0 where
+  pub allow : Bool
+  pub clients : List (List ℕ)
+  pub ops : List (List ℕ)
+  pub types : List (List ℕ)
+  pub paths : List (List ℕ)
+
+abbrev pub rule_keys : List (List ℕ)
+rule_keys = codes "allow" ∷ codes "clients" ∷ codes "ops" ∷ codes "types" ∷ codes "paths" ∷ []
+
+abbrev pub allow_in : Data → Option Bool
+allow_in d = option_and_then as_bool (get (codes "allow") d)
+
+abbrev pub texts_at : List ℕ → Data → Option (List (List ℕ))
+texts_at key d = option_and_then texts_in (get key d)
+
+abbrev pub rule_fields : Data → Option RuleTexts
+rule_fields d =
+    option_and_then (λ allow. option_and_then (λ clients. option_and_then (λ ops. option_and_then (λ types. option_map (λ paths.
+    record { allow = allow; clients = clients; ops = ops; types = types; paths = paths })
+    (texts_at (codes "paths") d)) (texts_at (codes "types") d)) (texts_at (codes "ops") d)) (texts_at (codes "clients") d)) (allow_in d)
+
+-- the object of a rule: all of its keys are there and no other, with values of their types
+unfoldable pub rule_texts : Data → Option RuleTexts
+rule_texts d = option_and_then rule_fields (object_of_only rule_keys d)
+
+-- the rule that is written so, where each word is a name
+unfoldable pub rule_named : RuleTexts → Option Rule
+rule_named t =
+    option_and_then (λ clients. option_and_then (λ ops. option_and_then (λ kinds. option_map (λ paths.
+    record { allow = t.allow; clients = clients; ops = ops; kinds = kinds; paths = paths })
+    (each (path_named kinds) t.paths)) (each kind_named t.types)) (each op_named t.ops)) (each client_named t.clients)
+
+-- the rule, or its fault
+abbrev pub named_or_fault : ℕ → Option Rule → Says Rule
+named_or_fault n None = Err (record { rule = n; cause = Name })
+named_or_fault n (Some r) = Ok r
+
+abbrev pub shaped_or_fault : ℕ → Option RuleTexts → Says Rule
+shaped_or_fault n None = Err (record { rule = n; cause = Shape })
+shaped_or_fault n (Some t) = named_or_fault n (rule_named t)
+
+-- what the n-th rule says
+abbrev pub rule_of : ℕ → Data → Says Rule
+rule_of n d = shaped_or_fault n (rule_texts d)
+
+abbrev pub and_then : Says Rule → Says (List Rule) → Says (List Rule)
+and_then (Err f) rest = Err f
+and_then (Ok r) (Err f) = Err f
+and_then (Ok r) (Ok rs) = Ok (r ∷ rs)
+
+-- what the rules say from the n-th on, or the fault of the first that has one
+abbrev pub rules_from : ℕ → List Data → Says (List Rule)
+rules_from n [] = Ok []
+rules_from n (d ∷ ds) = and_then (rule_of n d) (rules_from (n + 1) ds)
+
+-- ---- files
+
+-- the version and the rules of a file
+pub record Parts : Type 0 where
+  pub version : Num
+  pub rules : List Data
+
+abbrev pub file_keys : List (List ℕ)
+file_keys = codes "version" ∷ codes "rules" ∷ []
+
+abbrev pub is_integer : Num → Bool
+is_integer n = is_some (as_i64 n) || is_some (as_u64 n)
+
+abbrev pub integer_in : Data → Option Num
+integer_in d = option_and_then (λ n. if is_integer n then Some n else None) (as_number d)
+
+abbrev pub parts_in : Data → Option Parts
+parts_in d =
+    option_and_then (λ version. option_map (λ rules. record { version = version; rules = rules })
+    (option_and_then items_in (get (codes "rules") d))) (option_and_then integer_in (get (codes "version") d))
+
+-- the object of a file: its two keys are there and no other, with an integer and a list that isn't empty
+unfoldable pub file_parts : Data → Option Parts
+file_parts d = option_and_then parts_in (object_of_only file_keys d)
+
+abbrev pub is_one : Option ℕ → Bool
+is_one None = false
+is_one (Some n) = n == 1
+
+-- the version is 1, and there are at most 1,000 rules
+abbrev pub rules_or_fault : Parts → Says (List Rule)
+rules_or_fault p =
+    if is_one (as_u64 p.version)
+    then (if nat_lt 1000 (length p.rules) then Err (record { rule = 0; cause = TooManyRules }) else rules_from 1 p.rules)
+    else Err (record { rule = 0; cause = Version })
+
+abbrev pub parts_or_fault : Option Parts → Says (List Rule)
+parts_or_fault None = Err (record { rule = 0; cause = Shape })
+parts_or_fault (Some p) = rules_or_fault p
+
+-- what a JSON value says as a policy file
+abbrev pub policy_in : Data → Says (List Rule)
+policy_in d = parts_or_fault (file_parts d)
+
+abbrev pub value_or_fault : Option Data → Says (List Rule)
+value_or_fault None = Err (record { rule = 0; cause = Json })
+value_or_fault (Some d) = policy_in d
+
+-- what a text says as a policy file: the rules, or the first fault, of the file before those of its rules in turn
+unfoldable pub policy_of : List ℕ → Says (List Rule)
+policy_of text = value_or_fault (read text)

@@ -1,0 +1,13 @@
+-- How rules and decisions are kept.
+use Rattle.std.specs.Prelude.{◌≤◌, length}
+use Rattle.scim_policy.specs.declared.rules.Rule.TheInside.{Inside as RuleInside}
+use Rattle.scim_policy.specs.declared.rules.Policy.TheInside.{Inside as PolicyInside}
+use Rattle.scim_policy.specs.Rules.{Rule}
+
+-- a rule by what it covers
+abbrev pub rule_of : RuleInside → Rule
+rule_of r = record { allow = r.allow; clients = r.clients.items; ops = r.ops.items; kinds = r.kinds.items; paths = r.paths.items }
+
+-- a policy has at most 1,000 rules
+abbrev pub IsSmall : PolicyInside → Type 0
+IsSmall p = length p.rules.items ≤ 1000

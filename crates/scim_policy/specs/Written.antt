@@ -1,0 +1,24 @@
+-- What a file says in the words of the code that reads it.
+use Rattle.std.specs.Prelude.{ℕ, List, map, Vec}
+use Rattle.std.specs.declared.alloc.Global.{Global}
+use Rattle.serde_json.specs.View.{view, number_view}
+use denote.Ref.{Bor}
+use Rattle.scim_policy.specs.declared.reading.FileParts.{FileParts}
+use Rattle.scim_policy.specs.declared.reading.WrittenRule.{WrittenRule}
+use Rattle.scim_policy.specs.File.{Parts, RuleTexts}
+
+-- a text that is borrowed
+abbrev pub text_at : Bor (List ℕ) → List ℕ
+text_at t = t.now
+
+-- texts that are borrowed
+abbrev pub texts_view : Vec (Bor (List ℕ)) Global → List (List ℕ)
+texts_view v = map text_at v.items
+
+-- a rule as it is written
+abbrev pub rule_view : WrittenRule → RuleTexts
+rule_view w = record { allow = w.allow; clients = texts_view w.clients; ops = texts_view w.ops; types = texts_view w.types; paths = texts_view w.paths }
+
+-- the version and the rules of a file
+abbrev pub parts_view : FileParts → Parts
+parts_view p = record { version = number_view p.version.now; rules = map view p.rules.now }

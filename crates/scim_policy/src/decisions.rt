@@ -1,0 +1,349 @@
+//! What a policy decides.
+ghost use Rattle.std.specs.Prelude.{◌≡◌, ◌<◌, ◌≤◌, ℕ, length, None, Some, Option, IfOk, OnOk};
+ghost use Rattle.std.specs.List.{list_any};
+ghost use denote.Enum.Bare.{sameb};
+ghost use Rattle.scim_schema.specs.contracts.Kind.{the_type as the_kind};
+ghost use Rattle.scim_schema.specs.contracts.Op.{the_type as the_op};
+ghost use Rattle.scim_schema.specs.declared.Leaf.{Leaf};
+ghost use Rattle.scim_schema.specs.declared.SubAttribute.{SubAttribute};
+ghost use Rattle.scim_policy.specs.Decide as spec;
+ghost use Rattle.scim_policy.specs.Paths.{or_else};
+ghost use Rattle.scim_policy.specs.Table as table;
+ghost use Rattle.scim_policy.specs.declared.rules.PolicyPath.{PolicyPath};
+
+use crate::rules::{ClientName, Decision, Policy, PolicyPath, Rule};
+use scim_schema::{Attribute, Kind, Leaf, Op, SubAttribute};
+use scim_text::NoMemory;
+use scim_value::resources::Resource;
+use std::alloc::Global;
+
+/// What a policy decides of a client's operation on one resource, leaf by leaf.
+///
+/// It is made at once for all leaves, since a rule that fits the client, the operation and the
+/// resource fits them for each leaf that it covers.
+#[derive(Debug, Drop)]
+pub struct Decisions {
+    attributes: Vec<AttributeDecisions>,
+    rest: Option<Decision>,
+}
+
+/// What is decided of an attribute: of sub-attributes alone, and after them of the whole.
+#[derive(Debug, Drop)]
+struct AttributeDecisions {
+    sub_attributes: Vec<(SubAttribute, Decision)>,
+    whole: Option<Decision>,
+}
+
+impl Policy {
+    /// What the policy decides of the client's operation on the resource, at each leaf: the first rule
+    /// that fits decides, and where none fits rule 0 denies. NoMemory where none was to be had.
+    pub fn decisions(
+        &self,
+        alloc: Global,
+        client: &str,
+        op: Op,
+        resource: &Resource,
+    ) -> Result<Decisions, NoMemory>
+        ensures { IfOk result (λ ds. (l : Leaf)
+            → table.decision ds l ≡ spec.decide self.now client.now op resource.now l) }
+    {
+        let mut decisions = Decisions::none(alloc);
+        decisions.add_rules(alloc, client, op, resource, self.listed())?;
+        Ok(decisions)
+    }
+
+    /// What the policy decides of the client's operation on one leaf of the resource. To ask of more
+    /// than one leaf, take `decisions`. NoMemory where none was to be had.
+    pub fn decide(
+        &self,
+        alloc: Global,
+        client: &str,
+        op: Op,
+        resource: &Resource,
+        leaf: Leaf,
+    ) -> Result<Decision, NoMemory>
+        ensures { IfOk result (λ d. d ≡ spec.decide self.now client.now op resource.now leaf) }
+    {
+        Ok(self.decisions(alloc, client, op, resource)?.of(leaf))
+    }
+}
+
+impl Decisions {
+    /// The decision on a leaf.
+    #[tactic(auto, unfolding(crate::specs::Table::decision))]
+    pub fn of(&self, leaf: Leaf) -> Decision
+        ensures { result ≡ table.decision self.now leaf }
+    {
+        match self.decided(leaf) {
+            Some(decision) => decision,
+            None => Decision {
+                rule: 0,
+                allow: false,
+            },
+        }
+    }
+
+    /// Nothing is decided yet.
+    #[tactic(auto, unfolding(crate::specs::Table::decided))]
+    fn none(alloc: Global) -> Decisions
+        ensures { (l : Leaf) → table.decided result l ≡ None }
+    {
+        Decisions {
+            attributes: Vec::new(alloc),
+            rest: None,
+        }
+    }
+
+    /// What is decided of a leaf so far.
+    fn decided(&self, leaf: Leaf) -> Option<Decision>
+        ensures { result ≡ table.decided self.now leaf }
+    {
+        match at_number(
+            self.attributes.as_slice(),
+            leaf.attribute as usize,
+            leaf.sub_attribute,
+        ) {
+            Some(decision) => Some(decision),
+            None => self.rest,
+        }
+    }
+
+    /// Decides by each of the rules in turn, numbered from 1, what it covers and isn't decided yet.
+    /// NoMemory where none was to be had.
+    fn add_rules(
+        &mut self,
+        alloc: Global,
+        client: &str,
+        op: Op,
+        resource: &Resource,
+        rules: &[Rule],
+    ) -> Result<(), NoMemory>
+        requires { length rules.now ≤ 1000 }
+        ensures { OnOk result ((l : Leaf) → table.decided self.new l ≡ or_else (table.decided self.old l)
+            (table.by_rules client.now op resource.now l 1 rules.now)) }
+    {
+        let mut number = 0;
+        for rule in rules {
+            number += 1;
+            if rule.speaks_of(client, op, resource) {
+                self.add_rule(alloc, rule, number)?;
+                if self.rest.is_some() {
+                    return Ok(());
+                }
+            }
+        }
+        Ok(())
+    }
+
+    /// Decides by the rule what it covers and isn't decided yet. NoMemory where none was to be had.
+    fn add_rule(&mut self, alloc: Global, rule: &Rule, number: u32) -> Result<(), NoMemory>
+        ensures { OnOk result ((l : Leaf) → table.decided self.new l ≡ or_else (table.decided self.old l)
+            (table.by_paths rule.now.paths (record { rule = number; allow = rule.now.allow }) l)) }
+    {
+        let decision = Decision {
+            rule: number,
+            allow: rule.allows(),
+        };
+        self.add_paths(alloc, rule.paths(), decision)
+    }
+
+    /// Decides what the paths cover and isn't decided yet. NoMemory where none was to be had.
+    fn add_paths(
+        &mut self,
+        alloc: Global,
+        paths: &[PolicyPath],
+        decision: Decision,
+    ) -> Result<(), NoMemory>
+        ensures { OnOk result ((l : Leaf) → table.decided self.new l
+            ≡ or_else (table.decided self.old l) (table.by_paths paths.now decision l)) }
+    {
+        for path in paths {
+            self.add_path(alloc, *path, decision)?;
+        }
+        Ok(())
+    }
+
+    /// Decides what the path covers and isn't decided yet. NoMemory where none was to be had.
+    fn add_path(
+        &mut self,
+        alloc: Global,
+        path: PolicyPath,
+        decision: Decision,
+    ) -> Result<(), NoMemory>
+        ensures { OnOk result ((l : Leaf) → table.decided self.new l
+            ≡ or_else (table.decided self.old l) (table.by_path path decision l)) }
+    {
+        if self.rest.is_some() {
+            return Ok(());
+        }
+        match path {
+            PolicyPath::Everything => self.rest = Some(decision),
+            PolicyPath::Attribute(attribute) => self.add_attribute(alloc, attribute, decision)?,
+            PolicyPath::SubAttribute(attribute, sub_attribute) => {
+                self.add_sub_attribute(alloc, attribute, sub_attribute, decision)?
+            }
+        }
+        Ok(())
+    }
+
+    /// Decides a whole attribute, where it isn't decided yet. NoMemory where none was to be had.
+    fn add_attribute(
+        &mut self,
+        alloc: Global,
+        attribute: Attribute,
+        decision: Decision,
+    ) -> Result<(), NoMemory>
+        requires { self.old.rest ≡ None }
+        ensures { OnOk result ((l : Leaf) → table.decided self.new l
+            ≡ or_else (table.decided self.old l) (table.by_path (PolicyPath.Attribute attribute) decision l)) }
+    {
+        let number = attribute as usize;
+        grow(alloc, &mut self.attributes, number)?;
+        self.attributes[number].add_whole(decision);
+        Ok(())
+    }
+
+    /// Decides a sub-attribute, where neither it nor the whole attribute is decided yet. NoMemory
+    /// where none was to be had.
+    fn add_sub_attribute(
+        &mut self,
+        alloc: Global,
+        attribute: Attribute,
+        sub_attribute: SubAttribute,
+        decision: Decision,
+    ) -> Result<(), NoMemory>
+        requires { self.old.rest ≡ None }
+        ensures { OnOk result ((l : Leaf) → table.decided self.new l
+            ≡ or_else (table.decided self.old l) (table.by_path (PolicyPath.SubAttribute attribute sub_attribute) decision l)) }
+    {
+        let number = attribute as usize;
+        grow(alloc, &mut self.attributes, number)?;
+        self.attributes[number].add_alone(sub_attribute, decision)
+    }
+}
+
+/// What the entry at a number decides of a leaf of its attribute.
+fn at_number(
+    entries: &[AttributeDecisions],
+    number: usize,
+    sub_attribute: Option<SubAttribute>,
+) -> Option<Decision>
+    ensures { result ≡ table.in_attributes number sub_attribute entries.now }
+{
+    if number < entries.len() {
+        entries[number].decided(sub_attribute)
+    } else {
+        None
+    }
+}
+
+/// Makes entries that decide nothing, until there is one at the number. NoMemory where none was to
+/// be had.
+fn grow(alloc: Global, entries: &mut Vec<AttributeDecisions>, number: usize) -> Result<(), NoMemory>
+    ensures long { OnOk result (number < length entries.new.items) }
+    ensures same { OnOk result ((n : ℕ) (sub : Option SubAttribute)
+        → table.in_attributes n sub entries.new.items ≡ table.in_attributes n sub entries.old.items) }
+{
+    while entries.len() <= number {
+        entries.push(AttributeDecisions {
+            sub_attributes: Vec::new(alloc),
+            whole: None,
+        })?;
+    }
+    Ok(())
+}
+
+impl AttributeDecisions {
+    /// What is decided of a leaf of the attribute so far.
+    fn decided(&self, sub_attribute: Option<SubAttribute>) -> Option<Decision>
+        ensures { result ≡ table.in_attribute sub_attribute self.now }
+    {
+        let alone = match sub_attribute {
+            Some(sub_attribute) => alone(self.sub_attributes.as_slice(), sub_attribute),
+            None => None,
+        };
+        match alone {
+            Some(decision) => Some(decision),
+            None => self.whole,
+        }
+    }
+
+    /// Decides the whole attribute, where it isn't decided yet.
+    fn add_whole(&mut self, decision: Decision)
+        ensures { (sub : Option SubAttribute) → table.in_attribute sub self.new
+            ≡ or_else (table.in_attribute sub self.old) (Some decision) }
+    {
+        if self.whole.is_none() {
+            self.whole = Some(decision);
+        }
+    }
+
+    /// Decides a sub-attribute, where neither it nor the whole attribute is decided yet. NoMemory
+    /// where none was to be had.
+    fn add_alone(&mut self, sub_attribute: SubAttribute, decision: Decision) -> Result<(), NoMemory>
+        ensures { OnOk result ((sub : Option SubAttribute) → table.in_attribute sub self.new
+            ≡ or_else (table.in_attribute sub self.old) (table.by_name sub_attribute decision sub)) }
+    {
+        if self.decided(Some(sub_attribute)).is_none() {
+            self.sub_attributes.push((sub_attribute, decision))?;
+        }
+        Ok(())
+    }
+}
+
+/// What is decided of a sub-attribute alone.
+fn alone(pairs: &[(SubAttribute, Decision)], sub_attribute: SubAttribute) -> Option<Decision>
+    ensures { result ≡ table.at_sub_attribute sub_attribute pairs.now }
+{
+    for pair in pairs {
+        if pair.0 == sub_attribute {
+            return Some(pair.1);
+        }
+    }
+    None
+}
+
+impl Rule {
+    /// Whether it speaks of the client, the operation and the resource.
+    #[tactic(auto, unfolding(crate::specs::Decide::speaks_of))]
+    fn speaks_of(&self, client: &str, op: Op, resource: &Resource) -> bool
+        ensures { result ≡ spec.speaks_of client.now op resource.now self.now }
+    {
+        is_named(self.clients(), client)
+            && is_op(self.ops(), op)
+            && is_kind(self.kinds(), resource.kind())
+    }
+}
+
+/// Whether a name is that of the client.
+fn is_named(names: &[ClientName], client: &str) -> bool
+    ensures { result ≡ list_any (spec.names client.now) names.now }
+{
+    names.iter().any(|name| name.names(client))
+}
+
+/// Whether the operation is among them.
+fn is_op(ops: &[Op], op: Op) -> bool
+    ensures { result ≡ list_any (sameb the_op op) ops.now }
+{
+    ops.iter().any(|own| op == *own)
+}
+
+/// Whether the kind is among them.
+fn is_kind(kinds: &[Kind], kind: Kind) -> bool
+    ensures { result ≡ list_any (sameb the_kind kind) kinds.now }
+{
+    kinds.iter().any(|own| kind == *own)
+}
+
+impl ClientName {
+    /// Whether it is that of the client.
+    fn names(&self, client: &str) -> bool
+        ensures { result ≡ spec.names client.now self.now }
+    {
+        match self {
+            ClientName::Everyone => true,
+            ClientName::Named(name) => name.as_str() == client,
+        }
+    }
+}

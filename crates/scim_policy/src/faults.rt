@@ -1,0 +1,87 @@
+//! Why a policy file is refused.
+use scim_text::NoMemory;
+use std::alloc::{AllocError, AllocFailed};
+use std::error::Error;
+use std::fmt;
+
+/// Why a policy file is refused, or a rule of it.
+#[derive(Clone, Copy, Debug, PartialEq, Eq)]
+pub enum Cause {
+    /// The file is no JSON.
+    Json,
+    /// A value of another type than is due, an empty list, a key that is missing or isn't known.
+    Shape,
+    /// The version isn't 1.
+    Version,
+    /// There are more than 1,000 rules.
+    TooManyRules,
+    /// A client, an operation, a type or a path that isn't one.
+    Name,
+}
+
+/// Why a policy wasn't read.
+#[derive(Clone, Copy, Debug, PartialEq, Eq)]
+pub enum PolicyFault {
+    /// The file is faulty: `rule` is the number of the faulty rule, from 1, or 0 where the fault is the
+    /// file's.
+    Faulty { rule: u32, cause: Cause },
+    /// No memory was to be had.
+    NoMemory,
+}
+
+impl fmt::Display for Cause {
+    fn fmt<W: fmt::Write>(&self, f: &mut fmt::Formatter<W>) -> fmt::Result {
+        let word = match self {
+            Cause::Json => "json",
+            Cause::Shape => "shape",
+            Cause::Version => "version",
+            Cause::TooManyRules => "too many rules",
+            Cause::Name => "name",
+        };
+        write!(f, "{word}")
+    }
+}
+
+impl fmt::Display for PolicyFault {
+    fn fmt<W: fmt::Write>(&self, f: &mut fmt::Formatter<W>) -> fmt::Result {
+        match self {
+            PolicyFault::Faulty { rule, cause } => write!(f, "rule {rule}: {cause}"),
+            PolicyFault::NoMemory => write!(f, "out of memory"),
+        }
+    }
+}
+
+impl Error for PolicyFault {}
+
+impl From<NoMemory> for PolicyFault {
+    ghost use Rattle.std.specs.Prelude.{◌≡◌};
+    ghost use Rattle.scim_policy.specs.declared.faults.PolicyFault.{PolicyFault};
+
+    ghost from_gives = { λ _ f. f ≡ PolicyFault.NoMemory };
+
+    fn from(_: NoMemory) -> PolicyFault {
+        PolicyFault::NoMemory
+    }
+}
+
+impl From<AllocError> for PolicyFault {
+    ghost use Rattle.std.specs.Prelude.{◌≡◌};
+    ghost use Rattle.scim_policy.specs.declared.faults.PolicyFault.{PolicyFault};
+
+    ghost from_gives = { λ _ f. f ≡ PolicyFault.NoMemory };
+
+    fn from(error: AllocError) -> PolicyFault {
+        NoMemory::from(error).into()
+    }
+}
+
+impl<T: Drop> From<AllocFailed<T>> for PolicyFault {
+    ghost use Rattle.std.specs.Prelude.{◌≡◌};
+    ghost use Rattle.scim_policy.specs.declared.faults.PolicyFault.{PolicyFault};
+
+    ghost from_gives = { λ _ f. f ≡ PolicyFault.NoMemory };
+
+    fn from(error: AllocFailed<T>) -> PolicyFault {
+        NoMemory::from(error).into()
+    }
+}

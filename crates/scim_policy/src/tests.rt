@@ -1,0 +1,4 @@
+//! Worked examples of policies, their files and their decisions.
+mod decisions;
+mod faults;
+mod reading;
