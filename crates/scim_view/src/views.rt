@@ -1,0 +1,114 @@
+//! What a client may see of a resource.
+ghost use Rattle.std.specs.Prelude.{◌≡◌, IfOk};
+ghost use Rattle.scim_schema.specs.declared.Leaf.{Leaf};
+ghost use Rattle.scim_schema.specs.declared.Kind.{Kind};
+ghost use Rattle.scim_value.specs.Rows.{rows, restricted};
+ghost use Rattle.scim_policy.specs.Table.{decision};
+ghost use Rattle.scim_view.specs.View as spec;
+
+use crate::restrictions::restricted;
+use scim_policy::{Decisions, Policy};
+use scim_schema::characteristics::{Mutability, characteristics_of};
+use scim_schema::{Attribute, Kind, Leaf, Op};
+use scim_text::NoMemory;
+use scim_value::parts::Part;
+use scim_value::resources::Resource;
+use scim_value::rows::{Row, RowTest};
+use std::alloc::Global;
+
+/// The leaves of a kind that may be seen by these decisions on reading.
+#[derive(Clone, Copy)]
+struct MayBeSeen<'d> {
+    kind: Kind,
+    decisions: &'d Decisions,
+}
+
+impl RowTest for MayBeSeen<'_> {
+    ghost use Rattle.std.specs.Prelude.{◌&&◌, not};
+    ghost use Rattle.scim_policy.specs.Table.{decision};
+    ghost use Rattle.scim_view.specs.View.{is_write_only};
+
+    ghost keeps = { λ self _ leaf. not (is_write_only self.kind leaf) && (decision self.decisions.now leaf).allow };
+
+    fn is_kept(&self, _row: &Row, leaf: Leaf) -> bool {
+        characteristics_of(self.kind, leaf).mutability != Mutability::WriteOnly
+            && self.decisions.of(leaf).allow
+    }
+}
+
+/// Whether the client sees that the resource is there: the policy lets it read the `id`. NoMemory where
+/// none was to be had.
+#[tactic(auto, unfolding(crate::specs::View::sees))]
+pub fn sees(
+    alloc: Global,
+    policy: &Policy,
+    client: &str,
+    resource: &Resource,
+) -> Result<bool, NoMemory>
+    ensures { IfOk result (λ b. b ≡ spec.sees policy.now client.now resource.now) }
+{
+    let decision = policy.decide(
+        alloc,
+        client,
+        Op::Read,
+        resource,
+        Leaf::simple(Attribute::Id),
+    )?;
+    Ok(decision.allow)
+}
+
+/// What the client may see of the resource: the cells that the policy lets it read, but for those of
+/// writeOnly attributes (RFC 7643 section 7). Values of which it may see nothing are left out, and
+/// positions close up. NoMemory where none was to be had.
+pub fn visible(
+    alloc: Global,
+    policy: &Policy,
+    client: &str,
+    resource: &Resource,
+) -> Result<Part, NoMemory>
+    ensures { IfOk result (λ p. p ≡ spec.visible policy.now client.now resource.now) }
+{
+    let decisions = policy.decisions(alloc, client, Op::Read, resource)?;
+    visible_by(alloc, &decisions, resource)
+}
+
+/// What the client may see of the resource, as [`visible`]; None where it doesn't see that the resource
+/// is there, as [`sees`]. The policy is asked once. NoMemory where none was to be had.
+pub fn view(
+    alloc: Global,
+    policy: &Policy,
+    client: &str,
+    resource: &Resource,
+) -> Result<Option<Part>, NoMemory>
+    ensures { IfOk result (λ o. o ≡ spec.view policy.now client.now resource.now) }
+{
+    let decisions = policy.decisions(alloc, client, Op::Read, resource)?;
+    view_by(alloc, &decisions, resource)
+}
+
+/// What may be seen of the resource by these decisions on reading it, where they let its `id` be read.
+#[tactic(auto, unfolding(crate::specs::View::view_by))]
+fn view_by(
+    alloc: Global,
+    decisions: &Decisions,
+    resource: &Resource,
+) -> Result<Option<Part>, NoMemory>
+    ensures { IfOk result (λ o. o ≡ spec.view_by (decision decisions.now) resource.now) }
+{
+    if decisions.of(Leaf::simple(Attribute::Id)).allow {
+        Ok(Some(visible_by(alloc, decisions, resource)?))
+    } else {
+        Ok(None)
+    }
+}
+
+/// What may be seen of the resource by these decisions on reading it.
+fn visible_by(alloc: Global, decisions: &Decisions, resource: &Resource) -> Result<Part, NoMemory>
+    ensures { IfOk result (λ p. p ≡ spec.visible_by (decision decisions.now) resource.now) }
+{
+    let test = MayBeSeen {
+        kind: resource.kind(),
+        decisions,
+    };
+    restricted(alloc, resource.part(), &test)
+}
