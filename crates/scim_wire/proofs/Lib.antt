@@ -1,0 +1,4 @@
+pub mod LawLemmas
+pub mod PartLemmas
+pub mod StepLemmas
+pub mod ReplyLemmas

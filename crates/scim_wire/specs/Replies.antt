@@ -1,0 +1,60 @@
+-- The text of a reply.
+use Rattle.std.specs.Prelude.{ℕ, Bool, not, List, [], ◌∷◌, ◌++◌, length, Option, Some, None, unwrap_or, codes, if◌then◌else◌, ◌==◌, is_some}
+use Rattle.std.specs.Option.{option_copied}
+use Rattle.std.specs.Fmt.{decimal}
+use Rattle.http.specs.StatusCode.{reason_phrase}
+use Rattle.scim_wire.specs.declared.replies.Reply.{Reply}
+
+abbrev pub crlf : List ℕ
+crlf = 13 ∷ 10 ∷ []
+
+-- a header line
+abbrev pub line : List ℕ → List ℕ → List ℕ
+line name value = name ++ codes ": " ++ value ++ crlf
+
+-- a header line where there is a value
+abbrev pub option_line : List ℕ → Option (List ℕ) → List ℕ
+option_line name None = []
+option_line name (Some value) = line name value
+
+-- a header line where it is due
+abbrev pub line_if : Bool → List ℕ → List ℕ → List ℕ
+line_if due name value = if due then line name value else []
+
+-- the code and its phrase
+abbrev pub status_line : ℕ → List ℕ
+status_line code = codes "HTTP/1.1 " ++ decimal code ++ codes " " ++ unwrap_or (reason_phrase code) [] ++ crlf
+
+-- what a reply says
+pub record Said : Type 0 where
+  pub status : ℕ
+  pub body : Option (List ℕ)
+  pub location : Option (List ℕ)
+  pub allow : Option (List ℕ)
+  pub asks_for_token : Bool
+
+-- the body, which is empty where there is none
+abbrev pub body_text : Said → List ℕ
+body_text said = unwrap_or said.body []
+
+-- the status line, the headers that apply, an empty line and the body (RFC 9112 section 4)
+unfoldable pub text_of : Said → Bool → List ℕ
+text_of said close =
+    status_line said.status
+    ++ line_if (is_some said.body) (codes "Content-Type") (codes "application/scim+json")
+    ++ line_if (not (said.status == 204)) (codes "Content-Length") (decimal (length (body_text said)))
+    ++ option_line (codes "Location") said.location
+    ++ option_line (codes "Allow") said.allow
+    ++ line_if said.asks_for_token (codes "WWW-Authenticate") (codes "Bearer")
+    ++ line_if close (codes "Connection") (codes "close")
+    ++ crlf
+    ++ body_text said
+
+-- what a reply says, as its texts
+abbrev pub said_by : Reply → Said
+said_by reply =
+    record { status = reply.status; body = option_copied reply.body; location = option_copied reply.location; allow = option_copied reply.allow; asks_for_token = reply.asks_for_token }
+
+-- the text of a reply
+abbrev pub reply_text : Reply → Bool → List ℕ
+reply_text reply close = text_of (said_by reply) close

@@ -1,0 +1,37 @@
+//! Bytes that contracts see as a list.
+ghost use Rattle.std.specs.Prelude.{◌≡◌, ℕ, List, IfOk};
+
+use scim_text::NoMemory;
+use std::alloc::Global;
+use std::marker::Model;
+
+/// Bytes that are owned.
+#[derive(Drop)]
+pub struct Octets {
+    bytes: Vec<u8>,
+}
+
+impl Model for Octets {
+    ghost Value = { List ℕ };
+
+    ghost view = { λ o. o.bytes.items };
+}
+
+impl Octets {
+    /// A copy of the bytes.
+    ///
+    /// The only error is [`NoMemory`].
+    pub fn copied(alloc: Global, bytes: &[u8]) -> Result<Octets, NoMemory>
+        ensures { IfOk result (λ o. o ≡ bytes.now) }
+    {
+        let bytes = Vec::from_slice(alloc, bytes)?;
+        Ok(Octets { bytes })
+    }
+
+    /// The bytes.
+    pub fn as_slice(&self) -> &[u8]
+        ensures { result.now ≡ self.now }
+    {
+        self.bytes.as_slice()
+    }
+}

@@ -1,0 +1,110 @@
+//! The text of a reply.
+ghost use Rattle.std.specs.Prelude.{◌≡◌, [], ◌++◌, unwrap_or, IfOk, OnOk, string_bytes};
+ghost use Rattle.std.specs.Option.{option_copied};
+ghost use Rattle.scim_wire.specs.Replies.{line, option_line, line_if, status_line, reply_text};
+
+use http::StatusCode;
+use scim_text::NoMemory;
+use std::alloc::Global;
+
+/// What is answered to a request.
+#[derive(Clone, Copy, Debug)]
+pub struct Reply<'a> {
+    /// The status code. With 204 no length is told, as there is no body then.
+    pub status: StatusCode,
+    /// The body, in JSON (RFC 7644 section 3.1).
+    pub body: Option<&'a str>,
+    /// Where the resource is, for `Location`.
+    pub location: Option<&'a str>,
+    /// The methods that there are, for `Allow`.
+    pub allow: Option<&'a str>,
+    /// Whether a token is asked for, with `WWW-Authenticate` (RFC 6750 section 3).
+    pub asks_for_token: bool,
+}
+
+/// Adds a header line.
+fn push_line(text: &mut String, name: &str, value: &str) -> Result<(), NoMemory>
+    ensures { OnOk result (string_bytes text.new ≡ string_bytes text.old ++ line name.now value.now) }
+{
+    text.push_str(name)?;
+    text.push_str(": ")?;
+    text.push_str(value)?;
+    Ok(text.push_str("\r\n")?)
+}
+
+/// Adds a header line where there is a value.
+fn push_option(text: &mut String, name: &str, value: Option<&str>) -> Result<(), NoMemory>
+    ensures { OnOk result (string_bytes text.new ≡ string_bytes text.old ++ option_line name.now (option_copied value.entry)) }
+{
+    match value {
+        Some(value) => push_line(text, name, value),
+        None => Ok(()),
+    }
+}
+
+/// Adds a header line where it is due.
+fn push_if(text: &mut String, due: bool, name: &str, value: &str) -> Result<(), NoMemory>
+    ensures { OnOk result (string_bytes text.new ≡ string_bytes text.old ++ line_if due name.now value.now) }
+{
+    if due {
+        push_line(text, name, value)
+    } else {
+        Ok(())
+    }
+}
+
+/// The text, and the empty one where there is none.
+fn or_empty<'a>(text: Option<&'a str>) -> &'a str
+    ensures { result.now ≡ unwrap_or (option_copied text.entry) [] }
+{
+    match text {
+        Some(text) => text,
+        None => "",
+    }
+}
+
+/// The code and its phrase.
+fn status_line(alloc: Global, status: StatusCode) -> Result<String, NoMemory>
+    ensures { IfOk result (λ text. string_bytes text ≡ status_line status) }
+{
+    let code = status.as_u16();
+    let phrase = or_empty(status.canonical_reason());
+    let text = format!(in alloc; "HTTP/1.1 {code} {phrase}\r\n")?;
+    Ok(text)
+}
+
+/// The text of a reply (RFC 9112 section 4): the status line, the headers that apply, an empty line and
+/// the body. With `close` it says that the connection is closed after it.
+///
+/// The only error is [`NoMemory`].
+pub fn print_reply(alloc: Global, reply: &Reply<'_>, close: bool) -> Result<String, NoMemory>
+    ensures { IfOk result (λ text. string_bytes text ≡ reply_text reply.now close) }
+{
+    let body = or_empty(reply.body);
+    let length = format!(in alloc; "{}", body.len())?;
+    let mut text = status_line(alloc, reply.status)?;
+    push_if(
+        &mut text,
+        reply.body.is_some(),
+        "Content-Type",
+        "application/scim+json",
+    )?;
+    push_if(
+        &mut text,
+        reply.status.as_u16() != 204,
+        "Content-Length",
+        length.as_str(),
+    )?;
+    push_option(&mut text, "Location", reply.location)?;
+    push_option(&mut text, "Allow", reply.allow)?;
+    push_if(
+        &mut text,
+        reply.asks_for_token,
+        "WWW-Authenticate",
+        "Bearer",
+    )?;
+    push_if(&mut text, close, "Connection", "close")?;
+    text.push_str("\r\n")?;
+    text.push_str(body)?;
+    Ok(text)
+}
