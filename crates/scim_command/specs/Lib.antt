@@ -1,0 +1,5 @@
+pub mod Requests
+pub mod Refusals
+pub mod Replies
+pub mod Once
+pub mod Faults

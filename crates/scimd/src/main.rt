@@ -1,0 +1,61 @@
+//! `scimd`: a SCIM 2.0 service provider (RFC 7643, RFC 7644) whose access policy is proved to be kept.
+//!
+//! The exit status is 0, 1 for a fault of a file, of the input or of memory, and 2 for the command line.
+#![tactic(auto)]
+
+mod faults;
+mod files;
+mod options;
+#[cfg(test)]
+mod tests;
+
+use crate::faults::Fault;
+use crate::options::{OnceOptions, command};
+use anyhow::Result;
+use clap::ArgMatches;
+use scim_command::{OnceFault, once};
+use std::env;
+use std::process::ExitCode;
+
+fn main(rt: HostRuntime) -> ExitCode {
+    match run(&rt) {
+        Ok(code) => code,
+        Err(_) => ExitCode::FAILURE,
+    }
+}
+
+/// Carries out the command line. An error is one of printing, or want of memory.
+fn run(rt: &HostRuntime) -> Result<ExitCode> {
+    let alloc = rt.alloc();
+    let words: Vec<String> = env::args(rt)?.collect(alloc)?;
+    let matches = match command(alloc)?.try_get_matches_from(words.as_slice()) {
+        Ok(matches) => matches,
+        Err(error) => {
+            error.print(rt)?;
+            return Ok(ExitCode::from(error.exit_code() as u8));
+        }
+    };
+    let done = match matches.subcommand() {
+        Some(("once", matches)) => run_once(rt, matches),
+        _ => Err(Fault::BadOption),
+    };
+    match done {
+        Ok(()) => Ok(ExitCode::SUCCESS),
+        // Where standard output fails there may be nobody who reads.
+        Err(Fault::Once(OnceFault::Output)) => Ok(ExitCode::FAILURE),
+        Err(fault) => {
+            eprintln!(rt; "scimd: {fault}")?;
+            Ok(ExitCode::from(fault.exit_status()))
+        }
+    }
+}
+
+/// `once`: answers one request from standard input.
+fn run_once(rt: &HostRuntime, matches: &ArgMatches<'_>) -> Result<(), Fault> {
+    let alloc = rt.alloc();
+    let options = OnceOptions::of(matches)?;
+    let texts = files::read_texts(rt, alloc, options.policy, options.users)?;
+    let setting = texts.setting(options.client, options.base);
+    once(alloc, &setting, &mut rt.stdin(), &mut rt.stdout())?;
+    Ok(())
+}
