@@ -1,4 +1,5 @@
 //! The JSON of a user of 15 cells, beside what serde_json takes for the same texts, and users files.
+use crate::values::value_of;
 use anyhow::{Result, bail};
 use scim_json::{read_documents, read_stored, stored_text, to_json};
 use scim_value::ids::Id;
@@ -15,16 +16,25 @@ const ROUNDS: usize = 20_000;
 /// How many users the files have.
 const USERS: [usize; 2] = [1_000, 10_000];
 
-const BASE: &str = "http://127.0.0.1:8080";
+pub const BASE: &str = "http://127.0.0.1:8080";
 
 /// The stored document, with 14 cells; `meta.location` is the fifteenth.
 const STORED: &str =
     "{\"active\":true,\"displayName\":\"Barbara Jensen\",\"emails\":[{\"primary\":true,\"type\":\"work\",\"value\":\"bjensen@example.com\"}],\"id\":\"2819c223-7f76-453a-919d-413861904646\",\"meta\":{\"created\":\"2024-01-01T00:00:00Z\",\"lastModified\":\"2024-01-01T00:00:00Z\",\"resourceType\":\"User\"},\"name\":{\"familyName\":\"Jensen\",\"givenName\":\"Barbara\"},\"title\":\"Tour Guide\",\"urn:ietf:params:scim:schemas:extension:enterprise:2.0:User\":{\"department\":\"Tours\"},\"userName\":\"bjensen\"}";
 
+/// The user of the stored document.
+pub fn sample_user(alloc: Global) -> Result<Resource> {
+    let Ok(user) = read_stored(alloc, BASE, STORED) else {
+        bail!("the document was refused")
+    };
+    Ok(user)
+}
+
 /// How long all rounds of a call took.
 #[derive(Drop)]
 struct Figures {
     show: Duration,
+    show_made: Duration,
     show_value: Duration,
     store: Duration,
     read: Duration,
@@ -34,12 +44,17 @@ struct Figures {
 fn measure(rt: &impl Clock, alloc: Global, user: &Resource) -> Result<Figures> {
     let mut figures = Figures {
         show: Duration::ZERO,
+        show_made: Duration::ZERO,
         show_value: Duration::ZERO,
         store: Duration::ZERO,
         read: Duration::ZERO,
         read_value: Duration::ZERO,
     };
     let shown = to_json(alloc, user.part())?;
+    let made = value_of(alloc, user.part())?.to_string(alloc)?;
+    if made.as_str() != shown.as_str() {
+        bail!("the two texts differ");
+    }
     let value = Value::from_str(alloc, shown.as_str())?;
     for _ in 0..ROUNDS {
         measure_once(rt, alloc, user, &value, &mut figures)?;
@@ -57,6 +72,10 @@ fn measure_once(
     let start = Instant::now(rt)?;
     to_json(alloc, user.part())?;
     figures.show = figures.show.saturating_add(start.elapsed(rt)?);
+
+    let start = Instant::now(rt)?;
+    value_of(alloc, user.part())?.to_string(alloc)?;
+    figures.show_made = figures.show_made.saturating_add(start.elapsed(rt)?);
 
     let start = Instant::now(rt)?;
     value.to_string(alloc)?;
@@ -82,7 +101,7 @@ fn each(duration: &Duration) -> u128 {
 }
 
 /// A users file of so many users.
-fn users_file(alloc: Global, users: usize) -> Result<String> {
+pub fn users_file(alloc: Global, users: usize) -> Result<String> {
     let mut text = String::new(alloc);
     text.push('[')?;
     for number in 0..users {
@@ -100,25 +119,28 @@ fn users_file(alloc: Global, users: usize) -> Result<String> {
     Ok(text)
 }
 
-/// Nanoseconds for each user of a file of so many.
-fn measure_file(rt: &impl Clock, alloc: Global, users: usize) -> Result<u128> {
+/// Nanoseconds for each user of a file of so many: of `read_documents`, and of `Value::from_str`.
+fn measure_file(rt: &impl Clock, alloc: Global, users: usize) -> Result<(u128, u128)> {
     let text = users_file(alloc, users)?;
     let start = Instant::now(rt)?;
     let resources = read_documents(alloc, BASE, text.as_str())?;
     let took = start.elapsed(rt)?;
-    Ok(took.as_nanos() / resources.len().max(1) as u128)
+    let start = Instant::now(rt)?;
+    Value::from_str(alloc, text.as_str())?;
+    let value_took = start.elapsed(rt)?;
+    let users = resources.len().max(1) as u128;
+    Ok((took.as_nanos() / users, value_took.as_nanos() / users))
 }
 
 /// Prints the figures of writing and reading, in nanoseconds a call.
 pub fn run(rt: &(impl Clock + Print), alloc: Global) -> Result<()> {
-    let Ok(user) = read_stored(alloc, BASE, STORED) else {
-        bail!("the document was refused")
-    };
+    let user = sample_user(alloc)?;
     let figures = measure(rt, alloc, &user)?;
     println!(rt; "nanoseconds a call, for a user of 15 cells")?;
     println!(rt;
-        "to_json {}, Value::to_string {}",
+        "to_json {}, a Value made and printed {}, Value::to_string alone {}",
         each(&figures.show),
+        each(&figures.show_made),
         each(&figures.show_value)
     )?;
     println!(rt; "stored_text {}", each(&figures.store))?;
@@ -129,8 +151,8 @@ pub fn run(rt: &(impl Clock + Print), alloc: Global) -> Result<()> {
     )?;
     println!(rt; "nanoseconds for each user of a users file")?;
     for users in USERS {
-        let each = measure_file(rt, alloc, users)?;
-        println!(rt; "read_documents of {users} users {each}")?;
+        let (each, each_value) = measure_file(rt, alloc, users)?;
+        println!(rt; "of {users} users: read_documents {each}, Value::from_str {each_value}")?;
     }
     Ok(())
 }

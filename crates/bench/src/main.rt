@@ -4,8 +4,12 @@
 //! compare with each other alone, since machines and runs differ.
 #![tactic(auto)]
 
+mod decisions;
 mod documents;
+mod once_runs;
 mod parts;
+mod timing;
+mod values;
 
 use anyhow::{Result, bail};
 use std::env;
@@ -18,11 +22,13 @@ fn main(rt: HostRuntime) -> Result<()> {
     match scenario {
         None => {
             println!(rt;
-                "bench documents: writing and reading the JSON of a user, beside serde_json, and users files\nbench parts: making, copying, restricting and looking up parts of 10, 1,000 and 40,000 cells"
+                "bench documents: writing and reading the JSON of a user, beside serde_json, and users files\nbench parts: making, copying, restricting and looking up parts of 10, 1,000 and 40,000 cells\nbench decisions: what policies of 10 and of 1,000 rules decide of a user, and what a client sees by them\nbench once: one GET over a users file of 10,000 users, beside serde_json's reading of the file"
             )?;
             Ok(())
         }
         Some(name) if name.as_str() == "documents" => documents::run(&rt, rt.alloc()),
+        Some(name) if name.as_str() == "decisions" => decisions::run(&rt, rt.alloc()),
+        Some(name) if name.as_str() == "once" => once_runs::run(&rt, rt.alloc()),
         Some(name) if name.as_str() == "parts" => parts::run(&rt, rt.alloc()),
         Some(name) => bail!("there is no scenario {name}"),
     }

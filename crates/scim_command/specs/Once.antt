@@ -1,5 +1,5 @@
 -- What `once` writes for what it reads.
-use Rattle.std.specs.Prelude.{◌≡◌, ◌⊎◌, ℕ, ◌+◌, Bool, not, List, [], ◌∷◌, Option, None, Some, Result, Ok, Err, String, string_bytes, if◌then◌else◌}
+use Rattle.std.specs.Prelude.{◌≡◌, ◌⊎◌, ℕ, ◌+◌, Bool, not, List, [], ◌∷◌, Option, None, Some, Result, Ok, Err, IsOk, String, string_bytes, if◌then◌else◌}
 use Rattle.std.specs.declared.alloc.Global.{Global}
 use denote.Enum.Bare.{sameb}
 use Rattle.scim_schema.specs.contracts.Kind.{the_type as the_kind}
@@ -28,6 +28,10 @@ first_group_from n (c ∷ cs) = if is_group c then Some n else first_group_from 
 pub record AreUsersOf (base text : List ℕ) (cs : List Content) : Type 0 where
   pub documents : IsDocumentsText base text cs
   pub users : first_group_from 1 cs ≡ None
+
+-- the texts are a policy file, and a users file of users below the base
+abbrev pub AreFiles : List ℕ → List ℕ → List ℕ → Type 0
+AreFiles policy_text users_text base = IsOk (policy_of policy_text) × ((cs : List Content) × AreUsersOf base users_text cs)
 
 -- item n is the first of a list of documents that is no user's
 pub record IsGroupAt (base text : List ℕ) (n : ℕ) : Type 0 where

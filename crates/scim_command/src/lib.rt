@@ -6,6 +6,8 @@ mod faults;
 mod refusals;
 mod requests;
 mod run_once;
+#[cfg(test)]
+mod tests;
 
 pub use faults::OnceFault;
 pub use run_once::{Setting, once};

@@ -1,5 +1,5 @@
 //! `once`: one request, answered over a users file in memory.
-ghost use Rattle.std.specs.Prelude.{◌≡◌, ℕ, List, Err, IfOk, IfErr, IfSome, OnOk};
+ghost use Rattle.std.specs.Prelude.{◌≡◌, ◌≢◌, ℕ, List, Err, IsOk, IfOk, IfErr, IfSome, OnOk};
 ghost use Rattle.std.specs.Io.KnownBytes.{Appends};
 ghost use Rattle.scim_policy.specs.File.{policy_of};
 ghost use Rattle.scim_policy.specs.declared.faults.Cause.{Cause};
@@ -8,7 +8,7 @@ ghost use Rattle.scim_command.specs.declared.faults.OnceFault.{OnceFault};
 ghost use Rattle.scim_command.specs.declared.refusals.Refusal.{Refusal};
 ghost use Rattle.scim_command.specs.Refusals.{refusal_text};
 ghost use Rattle.scim_command.specs.Faults.{IsOfUsers, IsOfInput};
-ghost use Rattle.scim_command.specs.Once.{Answers, AreUsersOf, IsFaultyAt, IsAnswer, first_group_from, is_group, text_or_store};
+ghost use Rattle.scim_command.specs.Once.{Answers, AreFiles, AreUsersOf, IsFaultyAt, IsAnswer, first_group_from, is_group, text_or_store};
 
 use crate::answers::answer;
 use crate::faults::OnceFault;
@@ -58,8 +58,11 @@ pub fn once<R: Read, W: Write>(
     ensures policy { (rule : ℕ) (cause : Cause) → result ≡ Err (OnceFault.Policy rule cause)
         → policy_of setting.now.policy.now ≡ Err (record { rule = rule; cause = cause }) }
     ensures users { (n : ℕ) → result ≡ Err (OnceFault.Users n)
-        → IsFaultyAt setting.now.base.now setting.now.users.now n }
-    ensures ended { result ≡ Err OnceFault.InputEnded → IfSome (R.remaining reader.old) IsUnended }
+        → IsOk (policy_of setting.now.policy.now) × IsFaultyAt setting.now.base.now setting.now.users.now n }
+    ensures ended { result ≡ Err OnceFault.InputEnded
+        → AreFiles setting.now.policy.now setting.now.users.now setting.now.base.now
+        × IfSome (R.remaining reader.old) IsUnended }
+    ensures silent { IfErr result (λ f. f ≢ OnceFault.Output → writer.new ≡ writer.old) }
 {
     let policy = read_policy(alloc, setting.policy)?;
     let users = read_users(alloc, setting.base, setting.users)?;

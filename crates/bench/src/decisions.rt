@@ -1,0 +1,142 @@
+//! What policies of few and of many rules decide of a user of 15 cells, and what a client sees by them.
+use crate::documents::sample_user;
+use crate::timing::{fastest, ratio};
+use anyhow::{Result, bail};
+use scim_policy::{Policy, read_policy};
+use scim_schema::Op;
+use scim_value::resources::Resource;
+use scim_view::view;
+use std::alloc::Global;
+use std::io::Print;
+use std::time::Clock;
+
+const CLIENT: &str = "reader";
+
+const OTHER_CLIENT: &str = "writer";
+
+/// The numbers of rules that are compared.
+const FEW: usize = 10;
+
+const MANY: usize = 1_000;
+
+const PASSES: usize = 7;
+
+const CALLS: usize = 2_000;
+
+/// What the rules before the last are for, in turn. The first nine cover each cell of the user but `id`,
+/// so that few rules show as much of it as many.
+const PATHS: [&str; 20] = [
+    "active",
+    "displayName",
+    "emails",
+    "meta",
+    "name.familyName",
+    "name.givenName",
+    "title",
+    "department",
+    "userName",
+    "nickName",
+    "timezone",
+    "name.middleName",
+    "addresses.streetAddress",
+    "addresses.locality",
+    "addresses.region",
+    "addresses.postalCode",
+    "addresses.country",
+    "phoneNumbers.value",
+    "phoneNumbers.type",
+    "manager.value",
+];
+
+/// A policy file of so many rules that let clients read users: the last rule the client `id`, and those
+/// before it another one or the same what `PATHS` has in turn.
+fn policy_text(alloc: Global, rules: usize, client_before: &str) -> Result<String> {
+    let mut text = String::new(alloc);
+    text.push_str("{\"version\":1,\"rules\":[")?;
+    for path in PATHS.iter().cycle().take(rules.saturating_sub(1)) {
+        push_rule(alloc, &mut text, client_before, path)?;
+        text.push(',')?;
+    }
+    push_rule(alloc, &mut text, CLIENT, "id")?;
+    text.push_str("]}")?;
+    Ok(text)
+}
+
+fn push_rule(alloc: Global, text: &mut String, client: &str, path: &str) -> Result<()> {
+    let rule = format!(in alloc;
+        "{{\"allow\":true,\"clients\":[\"{client}\"],\"ops\":[\"read\"],\"types\":[\"User\"],\"paths\":[\"{path}\"]}}"
+    )?;
+    text.push_str(rule.as_str())?;
+    Ok(())
+}
+
+/// Nanoseconds a call.
+#[derive(Clone, Copy)]
+struct Figures {
+    decisions: u128,
+    view: u128,
+}
+
+fn measure(
+    rt: &impl Clock,
+    alloc: Global,
+    user: &Resource,
+    rules: usize,
+    client_before: &str,
+) -> Result<Figures> {
+    let text = policy_text(alloc, rules, client_before)?;
+    let policy = read_policy(alloc, text.as_str())?;
+    check_view(alloc, user, &policy, client_before)?;
+    let decisions = fastest(rt, PASSES, CALLS, || {
+        policy.decisions(alloc, CLIENT, Op::Read, user)?;
+        Ok(())
+    })?;
+    let view = fastest(rt, PASSES, CALLS, || {
+        view(alloc, &policy, CLIENT, user)?;
+        Ok(())
+    })?;
+    Ok(Figures { decisions, view })
+}
+
+/// Checks that the client sees all of the user where all rules are for it, and `id` alone else.
+fn check_view(alloc: Global, user: &Resource, policy: &Policy, client_before: &str) -> Result<()> {
+    let Some(seen) = view(alloc, policy, CLIENT, user)? else {
+        bail!("the user is not seen")
+    };
+    let wanted = if client_before == CLIENT {
+        user.part().rows().len()
+    } else {
+        1
+    };
+    if seen.rows().len() != wanted {
+        bail!("{} of {wanted} rows are seen", seen.rows().len());
+    }
+    Ok(())
+}
+
+fn compare(
+    rt: &(impl Clock + Print),
+    alloc: Global,
+    user: &Resource,
+    client_before: &str,
+) -> Result<()> {
+    let few = measure(rt, alloc, user, FEW, client_before)?;
+    let many = measure(rt, alloc, user, MANY, client_before)?;
+    print_line(rt, "decisions", few.decisions, many.decisions)?;
+    print_line(rt, "view", few.view, many.view)
+}
+
+fn print_line(rt: &impl Print, call: &str, few: u128, many: u128) -> Result<()> {
+    let ratio = ratio(many, few);
+    println!(rt; "{call}: {FEW} rules {few}, {MANY} rules {many}, {many}/{few} = {ratio:.1}")?;
+    Ok(())
+}
+
+/// Prints what a call takes where all rules fit, and where the last alone does.
+pub fn run(rt: &(impl Clock + Print), alloc: Global) -> Result<()> {
+    let user = sample_user(alloc)?;
+    println!(rt; "nanoseconds a call, for a user of 15 cells, where all rules fit")?;
+    compare(rt, alloc, &user, CLIENT)?;
+    println!(rt; "where the last rule alone is for the client")?;
+    compare(rt, alloc, &user, OTHER_CLIENT)
+}

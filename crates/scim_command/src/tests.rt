@@ -1,0 +1,5 @@
+//! Tests of `once`. Expected replies are written by hand.
+mod faults;
+mod replies;
+mod setting;
+mod streams;
