@@ -1,4 +1,5 @@
 pub mod Calendar
 pub mod Fractions
+pub mod MomentInLemmas
 pub mod Printed
 pub mod Spellings

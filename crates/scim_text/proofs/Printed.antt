@@ -6,16 +6,10 @@ use Rattle.std.proofs.lemmas.Bool.{cases_lt}
 use Rattle.std.proofs.lemmas.Slice.Eq.{bytes_eq-Decides}
 use Rattle.jiff_core.proofs.SignedLemmas.{signed_arith}
 use Rattle.scim_text.specs.Moments.{last_moment, moment_text, moment_spelling, clock_at, last_below, moment_of, PrintedIsRead}
-use Rattle.scim_text.specs.Readings.{clock_seconds, Spells, HasOneReading, PrintedReadsBack}
+use Rattle.scim_text.specs.Readings.{clock_seconds, Spells, PrintedReadsBack}
 use Rattle.scim_text.proofs.Calendar.{IsDate-date_of_day}
-use Rattle.scim_text.proofs.Spellings.{same_reading, reading_of-same}
-
--- a text stands for one reading at most
-pub one_reading : HasOneReading
-one_reading text a b first second =
-    first.meant
-    ∙ reading_of-same first.spelling second.spelling first.is_spelling second.is_spelling (sym first.written ∙ second.written)
-    ∙ sym second.meant
+use Rattle.scim_text.proofs.MomentInLemmas.{one_reading}
+use Rattle.scim_text.proofs.Spellings.{same_reading}
 
 -- the text of a moment stands for that moment
 pub printed_reads_back : PrintedReadsBack

@@ -2,3 +2,4 @@ pub mod Names
 pub mod Spelling
 pub mod Moments
 pub mod Readings
+pub mod MomentIn

@@ -3,9 +3,11 @@
 ghost use Rattle.std.specs.Prelude.{◌≡◌, length, take_while, drop, ◌≤◌, ◌<◌, ◌+◌, ◌*◌, ◌↔◌, ◌++◌, ◌∷◌, ℕ, List, IsOk, IfOk, IsSome, IfSome, IsSomeAnd, SomeIff, pos, string_bytes};
 ghost use Rattle.std.specs.Char.{is_ascii_digit};
 ghost use Rattle.std.specs.List.{prefix_len};
+ghost use Rattle.std.specs.Result.{result_ok};
 ghost use Rattle.jiff_core.specs.Calendar.{IsEpochDay, IsWithin};
 ghost use Rattle.scim_text.specs.Spelling.{CivilDate, Clock, Zone, two_digits, date_text, clock_text, zone_text, IsDate, IsClock, IsZone, IsOffset, IsFraction, fraction_text, offset_text};
 ghost use Rattle.scim_text.specs.Readings.{day_number, clock_seconds, zone_seconds, offset_seconds, is_above_zero, IsMomentForm, Spells};
+ghost use Rattle.scim_text.specs.MomentIn.{moment_in};
 
 use jiff_core::civil::Date;
 use thiserror::Error;
@@ -218,9 +220,11 @@ fn read_bytes(text: &[u8]) -> Option<Reading>
 /// 59, also those of the zone. `T` and `Z` are capital letters, and nothing stands before or after.
 ///
 /// Any other text is a [`BadMoment`].
+#[tactic(auto, using(crate::proofs::MomentInLemmas::is_moment_in))]
 pub fn read_moment(text: &str) -> Result<Reading, BadMoment>
     ensures form { IsOk result ↔ IsMomentForm text.now }
     ensures value { IfOk result (Spells text.now) }
+    ensures shown { result_ok result ≡ moment_in text.now }
 {
     read_bytes(text.as_bytes()).ok_or(BadMoment)
 }
