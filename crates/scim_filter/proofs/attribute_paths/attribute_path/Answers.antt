@@ -1,0 +1,21 @@
+use Rattle.std.proofs.Common.{◌≡◌, List, ℕ, Some, None, sym, ap, subst, ◌∙◌}
+use Rattle.std.specs.Prelude.{option_map}
+use Rattle.scim_filter.specs.Bytes.{lone_word}
+use Rattle.scim_filter.specs.declared.tree.Path.{Path}
+use Rattle.scim_filter.proofs.FunctionLemmas.{path_in-word, path_in-none}
+use Rattle.scim_filter.proofs.WrittenPathLemmas.{NamesAlone, named_alone, not_alone}
+use Rattle.scim_filter.proofs.attribute_paths.attribute_path.Goals as goal
+
+pub returns-in_default : goal.returns-in_default
+returns-in_default c =
+    let none : lone_word c.args.text.now ≡ None = sym c.lone_word.ensures ∙ ap (option_map (λ w. w.now)) c.in_default.is in record {
+      spelled = λ path h. not_alone c.args.kind c.args.text.now path none h;
+      same = ap (option_map (λ (path : Path). path.meant)) (sym (path_in-none c.args.kind c.args.text.now none));
+    }
+
+pub returns : goal.returns
+returns c =
+    let one : lone_word c.args.text.now ≡ Some c.in-Some.word.now = sym c.lone_word.ensures ∙ ap (option_map (λ w. w.now)) c.in-Some.is in record {
+      spelled = subst (NamesAlone c.args.kind c.args.text.now) (sym c.meant.ensures) (named_alone c.args.kind c.args.text.now c.in-Some.word.now one);
+      same = c.meant.ensures ∙ ap (option_map (λ (path : Path). path.meant)) (sym (path_in-word c.args.kind c.args.text.now c.in-Some.word.now one));
+    }

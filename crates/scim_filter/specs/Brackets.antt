@@ -1,0 +1,36 @@
+-- How many brackets are open at a place of a text.
+use Rattle.std.specs.Prelude.{◌≡◌, ◌<◌, ℕ, Bool, suc, pred, ◌||◌, ◌==◌, List, [], ◌∷◌, ◌++◌, if◌then◌else◌}
+
+-- "(" and "["
+abbrev pub is_opening : ℕ → Bool
+is_opening b = b == 40 || b == 91
+
+-- ")" and "]"
+abbrev pub is_closing : ℕ → Bool
+is_closing b = b == 41 || b == 93
+
+-- brackets that are open behind a text, where n are open in front of it; those in a JSON string don't count
+abbrev mutual
+  pub open_behind : ℕ → List ℕ → ℕ
+  open_behind n [] = n
+  open_behind n (b ∷ bs) =
+      if b == 34 then open_string n bs else
+      if is_opening b then open_behind (suc n) bs else
+      if is_closing b then open_behind (pred n) bs else open_behind n bs
+
+  -- where the text begins within a string, which the next quote closes
+  pub open_string : ℕ → List ℕ → ℕ
+  open_string n [] = n
+  open_string n (b ∷ bs) = if b == 34 then open_behind n bs else if b == 92 then open_escaped n bs else open_string n bs
+
+  -- where it begins behind a "\" in a string, which takes the next byte with it
+  pub open_escaped : ℕ → List ℕ → ℕ
+  open_escaped n [] = n
+  open_escaped n (b ∷ bs) = open_string n bs
+
+-- at some place of the text more than so many brackets are open
+pub record IsDeeper (most : ℕ) (text : List ℕ) : Type 0 where
+  pub before : List ℕ
+  pub after : List ℕ
+  pub whole : text ≡ before ++ after
+  pub open_there : most < open_behind 0 before

@@ -1,0 +1,17 @@
+pub mod Bytes
+pub mod Inside
+pub mod Tree
+pub mod Names
+pub mod Literals
+pub mod Grammar
+pub mod Reading
+pub mod WrittenPaths
+pub mod Spelled
+pub mod PathReading
+pub mod Types
+pub mod Relation
+pub mod Truth
+pub mod Mentions
+pub mod Cells
+pub mod Brackets
+pub mod Tokens

@@ -1,0 +1,33 @@
+-- The names in a filter, in the order of the text, and what they name.
+use Rattle.std.specs.Prelude.{Bool, List, [], ◌∷◌, ◌++◌, Option, Some, None}
+use Rattle.scim_schema.specs.declared.Attribute.{Attribute}
+use Rattle.scim_filter.specs.declared.tree.Meant.{Meant}
+use Rattle.scim_filter.specs.declared.tree.Meant.TheVariants as meant
+use Rattle.scim_filter.specs.declared.tree.Path.{Path}
+use Rattle.scim_filter.specs.declared.mentions.Named.{Named}
+use Rattle.scim_filter.specs.Types.{is_some}
+use Rattle.scim_filter.specs.Names.{names_text, path_text}
+use Rattle.scim_filter.specs.Tree.{Tree, Or, And, Not, Present, Compare, Values}
+
+-- the attribute that is named, or whose sub-attribute is
+abbrev pub attribute_named : Meant → Option Attribute
+attribute_named meant.Nothing = None
+attribute_named (meant.Attribute a) = Some a
+attribute_named (meant.SubAttribute a b) = Some a
+
+-- a path as it is written, with its attribute where the kind has what it names
+abbrev pub named : Path → Named
+named path = record { text = path_text path.urn (names_text path.name path.sub_name); attribute = attribute_named path.meant }
+
+-- the names of a filter
+abbrev pub names : Tree → List Named
+names (Or a b) = names a ++ names b
+names (And a b) = names a ++ names b
+names (Not a) = names a
+names (Present path) = named path ∷ []
+names (Compare path op x) = named path ∷ []
+names (Values path inner) = named path ∷ names inner
+
+-- the kind has what is named
+abbrev pub is_known : Named → Bool
+is_known n = is_some n.attribute

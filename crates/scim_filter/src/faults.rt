@@ -1,0 +1,81 @@
+//! Why a filter could not be read.
+ghost use Rattle.std.specs.Prelude.{◌≡◌};
+ghost use Rattle.scim_filter.specs.declared.faults.FilterFault.{FilterFault};
+ghost use Rattle.scim_filter.specs.declared.faults.ReadError.{ReadError};
+
+use scim_text::NoMemory;
+use std::alloc::{AllocError, AllocFailed};
+use std::error::Error;
+use std::fmt;
+
+/// Why a filter could not be read.
+#[derive(Clone, Copy, Debug, PartialEq, Eq)]
+pub enum FilterFault {
+    /// The text is no filter; what can't be read begins at this byte.
+    Syntax(usize),
+    /// A value is compared that is not of the attribute's type.
+    WrongType,
+    /// More than 32 brackets are open at one place.
+    TooDeep,
+    /// The text has more than 4,096 bytes.
+    TooLong,
+    /// No memory was to be had.
+    NoMemory,
+}
+
+impl fmt::Display for FilterFault {
+    fn fmt<W: fmt::Write>(&self, f: &mut fmt::Formatter<W>) -> fmt::Result {
+        match self {
+            FilterFault::Syntax(at) => write!(f, "the text is no filter from byte {at} on"),
+            FilterFault::WrongType => write!(f, "a value is not of the type of its attribute"),
+            FilterFault::TooDeep => write!(f, "the filter has more than 32 open brackets"),
+            FilterFault::TooLong => write!(f, "the filter has more than 4096 bytes"),
+            FilterFault::NoMemory => write!(f, "no memory was to be had"),
+        }
+    }
+}
+
+impl Error for FilterFault {}
+
+impl<T: Drop> From<AllocFailed<T>> for FilterFault {
+    ghost from_gives = { λ _ e. e ≡ FilterFault.NoMemory };
+
+    fn from(_: AllocFailed<T>) -> FilterFault {
+        FilterFault::NoMemory
+    }
+}
+
+/// Why a reader stopped.
+#[derive(Clone, Copy, Debug, PartialEq, Eq)]
+pub(crate) enum ReadError {
+    /// What is left, of this many bytes, is not what is due.
+    Syntax(usize),
+    /// More brackets are open than may be.
+    TooDeep,
+    /// No memory was to be had.
+    NoMemory,
+}
+
+impl From<NoMemory> for ReadError {
+    ghost from_gives = { λ _ e. e ≡ ReadError.NoMemory };
+
+    fn from(_: NoMemory) -> ReadError {
+        ReadError::NoMemory
+    }
+}
+
+impl From<AllocError> for ReadError {
+    ghost from_gives = { λ _ e. e ≡ ReadError.NoMemory };
+
+    fn from(_: AllocError) -> ReadError {
+        ReadError::NoMemory
+    }
+}
+
+impl<T: Drop> From<AllocFailed<T>> for ReadError {
+    ghost from_gives = { λ _ e. e ≡ ReadError.NoMemory };
+
+    fn from(_: AllocFailed<T>) -> ReadError {
+        ReadError::NoMemory
+    }
+}

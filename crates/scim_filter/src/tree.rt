@@ -1,0 +1,112 @@
+//! The tree of a filter.
+ghost use Rattle.std.specs.Prelude.{◌≡◌};
+ghost use Rattle.scim_filter.specs.Tree.{tree_of, view};
+ghost use Rattle.scim_filter.specs.Names.{attribute_meant};
+
+use crate::string_literals::StringLiteral;
+use scim_schema::{Attribute, Kind, SubAttribute};
+use scim_value::atoms::Text;
+
+/// How values are compared (RFC 7644 section 3.4.2.2, table 3).
+#[derive(Clone, Copy, Debug, PartialEq, Eq)]
+pub enum Operator {
+    Eq,
+    Ne,
+    /// Contains.
+    Co,
+    /// Starts with.
+    Sw,
+    /// Ends with.
+    Ew,
+    Gt,
+    Ge,
+    Lt,
+    Le,
+}
+
+/// What values are compared with.
+#[derive(Debug, Drop)]
+pub enum Literal {
+    /// What a JSON string stands for.
+    Text(StringLiteral),
+    Number(i64),
+    Truth(bool),
+    Null,
+}
+
+/// What a path names in the attribute table of a kind.
+#[derive(Clone, Copy, Debug, PartialEq, Eq)]
+pub enum Meant {
+    /// The kind has no such attribute or sub-attribute.
+    Nothing,
+    Attribute(Attribute),
+    SubAttribute(Attribute, SubAttribute),
+}
+
+impl Meant {
+    /// The attribute whose sub-attributes may be named between brackets; None at a sub-attribute.
+    pub fn attribute(self) -> Option<Attribute>
+        ensures { result ≡ attribute_meant self }
+    {
+        match self {
+            Meant::Attribute(attribute) => Some(attribute),
+            Meant::Nothing | Meant::SubAttribute(_, _) => None,
+        }
+    }
+}
+
+/// A path, with its names as they are written.
+#[derive(Debug, Drop)]
+pub struct Path {
+    /// The URN before the last colon.
+    pub urn: Option<Text>,
+    /// The name of an attribute; between the brackets of a value path that of a sub-attribute.
+    pub name: Text,
+    /// The name of a sub-attribute, after a dot.
+    pub sub_name: Option<Text>,
+    pub meant: Meant,
+}
+
+/// Whose names stand in a filter.
+#[derive(Clone, Copy, Debug, PartialEq, Eq)]
+pub(crate) enum Scope {
+    /// The attributes of a kind.
+    Attributes(Kind),
+    /// The sub-attributes of the attribute before a bracket; None where that names no attribute.
+    SubAttributes(Option<Attribute>),
+}
+
+/// A filter, or a part of one.
+#[derive(Drop)]
+pub enum Node {
+    Or(Box<Node>, Box<Node>),
+    And(Box<Node>, Box<Node>),
+    Not(Box<Node>),
+    /// `pr`
+    Present(Path),
+    Compare(Path, Operator, Literal),
+    /// A value path: the filter between its brackets.
+    Values(Path, Box<Node>),
+}
+
+/// A filter that was read.
+#[derive(Drop)]
+pub struct Filter {
+    node: Node,
+}
+
+impl Filter {
+    /// The filter of this tree.
+    pub(crate) fn of(node: Node) -> Filter
+        ensures { tree_of result ≡ view node }
+    {
+        Filter { node }
+    }
+
+    /// The tree of the filter. `or` and `and` nest to the right.
+    pub fn tree(&self) -> &Node
+        ensures { view result.now ≡ tree_of self.now }
+    {
+        &self.node
+    }
+}

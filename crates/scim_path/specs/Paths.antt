@@ -1,0 +1,88 @@
+-- What the text of a path names (RFC 7644 section 3.5.2).
+use Rattle.std.specs.Prelude.{nat_le, ◌≡◌, ◌≤◌, ℕ, Bool, List, length, find, Option, Some, None, option_and_then, MatchOption, Result, Ok, Err, if◌then◌else◌}
+use Rattle.std.specs.List.{list_all}
+use Rattle.scim_schema.specs.declared.Kind.{Kind}
+use Rattle.scim_schema.specs.declared.Attribute.{Attribute}
+use Rattle.scim_schema.specs.declared.SubAttribute.{SubAttribute}
+use Rattle.scim_schema.specs.declared.schemas.Schema.{Schema}
+use Rattle.scim_schema.specs.Characteristics.{is_multi_valued}
+use Rattle.scim_schema.specs.Schemas.{urn, extensions}
+use Rattle.scim_schema.specs.Lookup.{sub_attribute_named}
+use Rattle.scim_filter.specs.declared.tree.Meant.{Meant}
+use Rattle.scim_filter.specs.declared.tree.Meant.TheVariants as meant
+use Rattle.scim_filter.specs.Bytes.{is_word, lone_word}
+use Rattle.scim_filter.specs.Tree.{Tree, Values, tree_of}
+use Rattle.scim_filter.specs.Types.{fits}
+use Rattle.scim_filter.specs.Mentions.{is_known, names}
+use Rattle.scim_filter.specs.WrittenPaths.{Written, Plain, Filtered, IsWritten}
+use Rattle.scim_path.specs.declared.faults.PathFault.{PathFault}
+use Rattle.scim_path.specs.declared.faults.PathFault.TheVariants.{Syntax, Unknown}
+use Rattle.scim_path.specs.declared.paths.Path.{Path}
+use Rattle.scim_path.specs.declared.paths.Path.TheVariants as path
+
+-- what a path names: all of an extension, an attribute, a sub-attribute, or values of a multi-valued attribute, as a
+-- filter that is a value path chooses them, and a sub-attribute of these values or none
+pub data Target : Type 0 where
+  OfExtension : Schema → Target
+  OfAttribute : Attribute → Target
+  OfSubAttribute : Attribute → SubAttribute → Target
+  OfValues : Attribute → Tree → Option SubAttribute → Target
+
+-- a path without where its filter lies in memory
+abbrev pub target_of : Path → Target
+target_of (path.Extension schema) = OfExtension schema
+target_of (path.Attribute a) = OfAttribute a
+target_of (path.SubAttribute a b) = OfSubAttribute a b
+target_of (path.Values v) = OfValues v.attribute (tree_of v.filter) v.sub_attribute
+
+-- what was read, without where it lies in memory
+abbrev pub target_read : Result Path PathFault → Result Target PathFault
+target_read (Ok p) = Ok (target_of p)
+target_read (Err f) = Err f
+
+-- the extension of a kind whose URN stands alone in a text of at most 4,096 bytes
+abbrev pub extension_named : Kind → List ℕ → Option Schema
+extension_named kind text = if nat_le (length text) 4096 then option_and_then (λ word. find (λ s. is_word (urn s) word) (extensions kind)) (lone_word text) else None
+
+-- what a path of names alone names
+abbrev pub names_target : Meant → Result Target PathFault
+names_target meant.Nothing = Err Unknown
+names_target (meant.Attribute a) = Ok (OfAttribute a)
+names_target (meant.SubAttribute a b) = Ok (OfSubAttribute a b)
+
+-- the kind has what each name in a filter names
+abbrev pub knows : Tree → Bool
+knows tree = list_all is_known (names tree)
+
+-- the sub-attribute of the values that a filter chooses, where there is one
+abbrev pub chosen_at : Attribute → Tree → Option SubAttribute → Result Target PathFault
+chosen_at a tree None = Err Unknown
+chosen_at a tree (Some b) = Ok (OfValues a tree (Some b))
+
+-- the values that a filter chooses of an attribute, and the sub-attribute named behind it or none
+abbrev pub chosen : Attribute → Tree → Option (List ℕ) → Result Target PathFault
+chosen a tree None = Ok (OfValues a tree None)
+chosen a tree (Some name) = chosen_at a tree (sub_attribute_named a name)
+
+-- a filter chooses values of an attribute that is multi-valued, by values of the right types and names that there are
+abbrev pub filtered_target : Meant → Tree → Option (List ℕ) → Result Target PathFault
+filtered_target meant.Nothing tree sub = Err Unknown
+filtered_target (meant.SubAttribute a b) tree sub = Err Syntax
+filtered_target (meant.Attribute a) tree sub =
+    if is_multi_valued a then (if fits tree then (if knows tree then chosen a tree sub else Err Unknown) else Err Syntax) else Err Syntax
+
+-- what a written path names, or why it names nothing
+abbrev pub written_target : Written → Result Target PathFault
+written_target (Plain p) = names_target p.meant
+written_target (Filtered (Values p inner) sub) = filtered_target p.meant (Values p inner) sub
+written_target (Filtered _ sub) = Err Syntax
+
+-- what a text names or why it names nothing, where no extension's URN stands in it alone: what the path names that it
+-- spells within 4,096 bytes and 32 open brackets; where it spells none it is no path
+pub data Reads (kind : Kind) (text : List ℕ) : Result Target PathFault → Type 0 where
+  spelled : (w : Written) → length text ≤ 4096 → IsWritten kind 32 text w → Reads kind text (written_target w)
+  unspelled : ((w : Written) → length text ≤ 4096 → ¬ (IsWritten kind 32 text w)) → Reads kind text (Err Syntax)
+
+-- what a text names, or why it names nothing
+abbrev pub Names : Kind → List ℕ → Result Target PathFault → Type 0
+Names kind text r = MatchOption (extension_named kind text) (Reads kind text r) (λ schema. r ≡ Ok (OfExtension schema))

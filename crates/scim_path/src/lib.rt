@@ -1,0 +1,12 @@
+//! The paths of changes (RFC 7644 section 3.5.2): what their texts name.
+#![tactic(auto)]
+
+mod faults;
+mod paths;
+mod reading;
+#[cfg(test)]
+mod tests;
+
+pub use faults::PathFault;
+pub use paths::{Path, ValuePath};
+pub use reading::read_path;

@@ -1,0 +1,114 @@
+//! Reading a path.
+ghost use Rattle.std.specs.Prelude.{◌≡◌, ◌⊎◌, Ok, Err, MatchResult};
+ghost use Rattle.scim_filter.specs.Tree.{tree_of};
+ghost use Rattle.scim_filter.specs.WrittenPaths.{written_of};
+ghost use Rattle.scim_path.specs.Paths as spec;
+
+use crate::faults::PathFault;
+use crate::paths::{Path, ValuePath};
+use scim_filter::attribute_paths::lone_word;
+use scim_filter::mentions::knows_names;
+use scim_filter::tree::{Filter, Meant, Node};
+use scim_filter::written_paths::{WrittenPath, written_path};
+use scim_schema::characteristics::is_multi_valued;
+use scim_schema::lookup::sub_attribute;
+use scim_schema::schemas::{Schema, extensions};
+use scim_schema::{Attribute, Kind};
+use scim_value::atoms::Text;
+use std::alloc::Global;
+
+/// The extension of the kind whose URN stands alone in a text of at most 4,096 bytes.
+fn extension(kind: Kind, text: &str) -> Option<Schema>
+    ensures { result ≡ spec.extension_named kind text.now }
+{
+    if text.len() > 4096 {
+        return None;
+    }
+    let word = lone_word(text)?;
+    extensions(kind)
+        .iter()
+        .copied()
+        .find(|s| word.eq_ignore_ascii_case(s.urn().as_bytes()))
+}
+
+/// What a path of names alone names.
+fn path_of_names(meant: Meant) -> Result<Path, PathFault>
+    ensures { spec.target_read result ≡ spec.names_target meant }
+{
+    match meant {
+        Meant::Nothing => Err(PathFault::Unknown),
+        Meant::Attribute(attribute) => Ok(Path::Attribute(attribute)),
+        Meant::SubAttribute(attribute, sub_attribute) => {
+            Ok(Path::SubAttribute(attribute, sub_attribute))
+        }
+    }
+}
+
+/// The values that a filter chooses of an attribute, or the sub-attribute of these with this name.
+fn chosen(attribute: Attribute, filter: Filter, sub_name: Option<Text>) -> Result<Path, PathFault>
+    ensures { spec.target_read result ≡ spec.chosen attribute (tree_of filter) sub_name }
+{
+    let sub_attribute = match sub_name {
+        None => None,
+        Some(name) => Some(sub_attribute(attribute, name.as_str()).ok_or(PathFault::Unknown)?),
+    };
+    Ok(Path::Values(ValuePath {
+        attribute,
+        filter,
+        sub_attribute,
+    }))
+}
+
+/// What a value path names, where the path before its bracket names this.
+fn filtered(meant: Meant, filter: Filter, sub_name: Option<Text>) -> Result<Path, PathFault>
+    ensures { spec.target_read result ≡ spec.filtered_target meant (tree_of filter) sub_name }
+{
+    let attribute = match meant {
+        Meant::Nothing => return Err(PathFault::Unknown),
+        Meant::SubAttribute(_, _) => return Err(PathFault::Syntax),
+        Meant::Attribute(attribute) => attribute,
+    };
+    if !is_multi_valued(attribute) || !filter.has_right_types() {
+        return Err(PathFault::Syntax);
+    }
+    if !knows_names(filter.tree()) {
+        return Err(PathFault::Unknown);
+    }
+    chosen(attribute, filter, sub_name)
+}
+
+/// What a written path names.
+fn written(path: WrittenPath) -> Result<Path, PathFault>
+    ensures { spec.target_read result ≡ spec.written_target (written_of path) }
+{
+    match path {
+        WrittenPath::Plain(path) => path_of_names(path.meant),
+        WrittenPath::Filtered(filter, sub_name) => {
+            let meant = match filter.tree() {
+                Node::Values(path, _) => path.meant,
+                _ => return Err(PathFault::Syntax),
+            };
+            filtered(meant, filter, sub_name)
+        }
+    }
+}
+
+/// The path that a text names for a kind (RFC 7644 section 3.5.2): `attribute`, `attribute.subAttribute`,
+/// `attribute[filter]` or `attribute[filter].subAttribute`, each with a URN and a colon before it or not,
+/// or the URN of an extension alone; with spaces round it. A filter stands only behind a multi-valued
+/// attribute. Names are read in any ASCII case.
+///
+/// Fails with `Syntax` where the text is no such path, with `Unknown` where it names what the kind
+/// doesn't have, and with `NoMemory`.
+pub fn read_path(alloc: Global, kind: Kind, text: &str) -> Result<Path, PathFault>
+    ensures { MatchResult result (λ p. spec.Names kind text.now (Ok (spec.target_of p)))
+        (λ f. (f ≡ PathFault.NoMemory) ⊎ spec.Names kind text.now (Err f)) }
+{
+    if let Some(schema) = extension(kind, text) {
+        return Ok(Path::Extension(schema));
+    }
+    match written_path(alloc, kind, text)? {
+        Some(path) => written(path),
+        None => Err(PathFault::Syntax),
+    }
+}
