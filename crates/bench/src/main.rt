@@ -6,6 +6,8 @@
 
 mod decisions;
 mod documents;
+mod filter_texts;
+mod filters;
 mod once_runs;
 mod parts;
 mod timing;
@@ -22,12 +24,14 @@ fn main(rt: HostRuntime) -> Result<()> {
     match scenario {
         None => {
             println!(rt;
-                "bench documents: writing and reading the JSON of a user, beside serde_json, and users files\nbench parts: making, copying, restricting and looking up parts of 10, 1,000 and 40,000 cells\nbench decisions: what policies of 10 and of 1,000 rules decide of a user, and what a client sees by them\nbench once: one GET over a users file of 10,000 users, beside serde_json's reading of the file"
+                "bench documents: writing and reading the JSON of a user, beside serde_json, and users files\nbench parts: making, copying, restricting and looking up parts of 10, 1,000 and 40,000 cells\nbench decisions: what policies of 10 and of 1,000 rules decide of a user, and what a client sees by them\nbench filters: reading filters, and holding them on users and on groups of 1,000 and of 10,000 members\nbench filter-texts: 1,000,000 generated texts, each read as a filter, and what is read checked\nbench once: one GET over a users file of 10,000 users, beside serde_json's reading of the file"
             )?;
             Ok(())
         }
         Some(name) if name.as_str() == "documents" => documents::run(&rt, rt.alloc()),
         Some(name) if name.as_str() == "decisions" => decisions::run(&rt, rt.alloc()),
+        Some(name) if name.as_str() == "filters" => filters::run(&rt, rt.alloc()),
+        Some(name) if name.as_str() == "filter-texts" => filter_texts::run(&rt, rt.alloc()),
         Some(name) if name.as_str() == "once" => once_runs::run(&rt, rt.alloc()),
         Some(name) if name.as_str() == "parts" => parts::run(&rt, rt.alloc()),
         Some(name) => bail!("there is no scenario {name}"),

@@ -1,0 +1,165 @@
+//! Texts, most of them near to filters, and whether what the reader answers of each has its cause.
+mod checks;
+mod dice;
+mod literals;
+mod printing;
+mod texts;
+mod trees;
+
+use crate::filter_texts::checks::{has_right_types, is_same_tree, most_open, paths_in};
+use crate::filter_texts::dice::Dice;
+use crate::filter_texts::printing::plain_text;
+use crate::filter_texts::texts::{Sample, Sort, random_sample};
+use anyhow::{Result, bail, ensure};
+use scim_filter::faults::FilterFault;
+use scim_filter::mentions::names;
+use scim_filter::reading::read_filter;
+use scim_filter::tokens::tokens;
+use scim_filter::tree::Node;
+use std::alloc::Global;
+use std::io::Print;
+
+const TEXTS: usize = 1_000_000;
+
+/// The most bytes that a filter may have.
+const LONGEST: usize = 4_096;
+
+/// The most brackets that may be open at one place.
+const DEEPEST: usize = 32;
+
+const SORTS: [(&str, Sort); 4] = [
+    ("printed", Sort::Printed),
+    ("mutated", Sort::Mutated),
+    ("tokens", Sort::Tokens),
+    ("large", Sort::Large),
+];
+
+const SEED: u64 = 0x5c1f_5c1f_2026_0001;
+
+/// How many texts had each outcome.
+#[derive(Drop)]
+struct Counts {
+    read: usize,
+    syntax: usize,
+    wrong_type: usize,
+    too_deep: usize,
+    too_long: usize,
+}
+
+impl Counts {
+    fn new() -> Counts {
+        Counts {
+            read: 0,
+            syntax: 0,
+            wrong_type: 0,
+            too_deep: 0,
+            too_long: 0,
+        }
+    }
+
+    fn add(&mut self, fault: Option<FilterFault>) {
+        let count = match fault {
+            None => &mut self.read,
+            Some(FilterFault::Syntax(_)) => &mut self.syntax,
+            Some(FilterFault::WrongType) => &mut self.wrong_type,
+            Some(FilterFault::TooDeep) => &mut self.too_deep,
+            Some(FilterFault::TooLong) => &mut self.too_long,
+            Some(FilterFault::NoMemory) => return,
+        };
+        *count = count.saturating_add(1);
+    }
+}
+
+/// Checks the tree that was read of a text against the text, and against the tree where it is known.
+fn check_tree(alloc: Global, sample: &Sample, tree: &Node) -> Result<()> {
+    let text = sample.text.as_str();
+    ensure!(text.len() <= LONGEST, "a long text was read");
+    ensure!(most_open(text) <= DEEPEST, "a deep text was read");
+    if let Some(known) = &sample.tree {
+        ensure!(is_same_tree(known, tree), "another tree was read");
+        ensure!(has_right_types(known), "a value of a wrong type was read");
+    }
+    let again = plain_text(alloc, tree)?;
+    let Ok(filter) = read_filter(alloc, sample.kind, again.as_str()) else {
+        bail!("what was read is not read again")
+    };
+    ensure!(
+        is_same_tree(filter.tree(), tree),
+        "another tree was read again"
+    );
+    ensure!(
+        names(alloc, &filter)?.len() == paths_in(tree),
+        "names are missing"
+    );
+    ensure!(tokens(alloc, text).is_ok(), "a filter has no tokens");
+    Ok(())
+}
+
+/// Checks that a fault has its cause in the text.
+fn check_fault(sample: &Sample, fault: FilterFault) -> Result<()> {
+    let text = sample.text.as_str();
+    match fault {
+        FilterFault::Syntax(at) => {
+            ensure!(at <= text.len(), "a fault is behind the text");
+            ensure!(sample.tree.is_none(), "a printed tree is no filter");
+        }
+        FilterFault::WrongType => {
+            if let Some(known) = &sample.tree {
+                ensure!(!has_right_types(known), "a tree of right types is refused");
+            }
+        }
+        FilterFault::TooDeep => ensure!(most_open(text) > DEEPEST, "no text is too deep"),
+        FilterFault::TooLong => ensure!(text.len() > LONGEST, "no text is too long"),
+        FilterFault::NoMemory => bail!("no memory was to be had"),
+    }
+    Ok(())
+}
+
+/// The fault of a text, if it has one, when it is checked.
+fn check(alloc: Global, sample: &Sample) -> Result<Option<FilterFault>> {
+    match read_filter(alloc, sample.kind, sample.text.as_str()) {
+        Ok(filter) => {
+            check_tree(alloc, sample, filter.tree())?;
+            Ok(None)
+        }
+        Err(fault) => {
+            check_fault(sample, fault)?;
+            Ok(Some(fault))
+        }
+    }
+}
+
+/// Makes and checks all texts, of the sorts in turns, and counts the outcomes of each sort. Fails at the
+/// first text whose outcome has no cause, which it prints.
+fn check_all(rt: &impl Print, alloc: Global) -> Result<[Counts; 4]> {
+    let mut dice = Dice::new(SEED);
+    let mut counts = [Counts::new(), Counts::new(), Counts::new(), Counts::new()];
+    for number in 0..TEXTS {
+        let turn = number % SORTS.len();
+        let sample = random_sample(alloc, &mut dice, SORTS[turn].1)?;
+        match check(alloc, &sample) {
+            Ok(fault) => counts[turn].add(fault),
+            Err(cause) => {
+                println!(rt; "{}", sample.text)?;
+                bail!("text {number}: {cause}");
+            }
+        }
+    }
+    Ok(counts)
+}
+
+/// Prints how many texts of each sort had each outcome.
+pub fn run(rt: &impl Print, alloc: Global) -> Result<()> {
+    let counts = check_all(rt, alloc)?;
+    println!(rt;
+        "{:>8} {:>8} {:>8} {:>10} {:>8} {:>8}",
+        "", "read", "syntax", "wrong type", "too deep", "too long"
+    )?;
+    for ((name, _), counts) in SORTS.iter().zip(counts.iter()) {
+        println!(rt;
+            "{name:>8} {:>8} {:>8} {:>10} {:>8} {:>8}",
+            counts.read, counts.syntax, counts.wrong_type, counts.too_deep, counts.too_long
+        )?;
+    }
+    Ok(())
+}

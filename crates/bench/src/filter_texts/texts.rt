@@ -1,0 +1,184 @@
+//! Random texts, of which many are no filters.
+use crate::filter_texts::dice::Dice;
+use crate::filter_texts::printing::playful_text;
+use crate::filter_texts::trees::{random_term, random_tree};
+use scim_filter::tree::Node;
+use scim_schema::Kind;
+use scim_text::NoMemory;
+use std::alloc::Global;
+
+const CHARACTERS: [char; 24] = [
+    '(', ')', '[', ']', '"', '\\', ' ', '.', ':', '$', '-', '+', '0', '9', 'a', 'E', 'u', '\t',
+    '\n', '\u{0}', 'é', 'ſ', 'K', '😀',
+];
+
+const TOKENS: [&str; 40] = [
+    "title",
+    "emails",
+    "userName",
+    "active",
+    "nosuch",
+    "type",
+    "value",
+    "$ref",
+    "name.familyName",
+    "emails[",
+    "members.value",
+    "urn:ietf:params:scim:schemas:core:2.0:User:title",
+    "urn:",
+    ":",
+    ".",
+    "eq",
+    "ne",
+    "co",
+    "Sw",
+    "ew",
+    "GT",
+    "ge",
+    "lt",
+    "le",
+    "pr",
+    "and",
+    "or",
+    "not",
+    "(",
+    ")",
+    "[",
+    "]",
+    "\"",
+    "\"x\"",
+    "\"\\\"",
+    "\\u00e9",
+    "007",
+    "-1",
+    "true",
+    "null",
+];
+
+/// What is generated: the text, and its tree where it is known.
+#[derive(Drop)]
+pub struct Sample {
+    pub kind: Kind,
+    pub text: String,
+    pub tree: Option<Node>,
+}
+
+/// The sorts of texts.
+#[derive(Clone, Copy)]
+pub enum Sort {
+    /// Printed trees.
+    Printed,
+    /// Printed trees with some characters changed, or cut off.
+    Mutated,
+    /// Strings of tokens.
+    Tokens,
+    /// With many brackets, or of about the most bytes that a filter may have.
+    Large,
+}
+
+/// A text of the sort.
+pub fn random_sample(alloc: Global, dice: &mut Dice, sort: Sort) -> Result<Sample, NoMemory> {
+    let kind = if dice.one_in(4) {
+        Kind::Group
+    } else {
+        Kind::User
+    };
+    let (text, tree) = match sort {
+        Sort::Printed => {
+            let tree = random_tree(alloc, dice, kind)?;
+            (playful_text(alloc, &tree, dice)?, Some(tree))
+        }
+        Sort::Mutated => (mutated(alloc, dice, kind)?, None),
+        Sort::Tokens => (of_tokens(alloc, dice)?, None),
+        Sort::Large if dice.one_in(32) => (long(alloc, dice, kind)?, None),
+        Sort::Large => (deep(alloc, dice, kind)?, None),
+    };
+    Ok(Sample { kind, text, tree })
+}
+
+/// A printed tree with one to three characters replaced, put in or taken out, or cut off.
+fn mutated(alloc: Global, dice: &mut Dice, kind: Kind) -> Result<String, NoMemory> {
+    let tree = random_tree(alloc, dice, kind)?;
+    let text = playful_text(alloc, &tree, dice)?;
+    let mut characters: Vec<char> = text.chars().collect(alloc)?;
+    if dice.one_in(4) {
+        let end = dice.below(characters.len());
+        characters.truncate(end);
+    } else {
+        for _ in 0..=dice.below(3) {
+            mutate(dice, &mut characters)?;
+        }
+    }
+    let mut text = String::new(alloc);
+    for character in characters.iter() {
+        text.push(*character)?;
+    }
+    Ok(text)
+}
+
+fn mutate(dice: &mut Dice, characters: &mut Vec<char>) -> Result<(), NoMemory> {
+    let index = dice.below(characters.len());
+    let character = dice.pick(&CHARACTERS).unwrap_or(' ');
+    if index < characters.len() {
+        match dice.below(3) {
+            0 => characters[index] = character,
+            1 => characters.insert(index, character)?,
+            _ => {
+                characters.remove(index);
+            }
+        }
+    }
+    Ok(())
+}
+
+fn of_tokens(alloc: Global, dice: &mut Dice) -> Result<String, NoMemory> {
+    let mut text = String::new(alloc);
+    for _ in 0..dice.below(12) {
+        text.push_str(dice.word(&TOKENS))?;
+        if !dice.one_in(8) {
+            text.push(' ')?;
+        }
+    }
+    Ok(text)
+}
+
+/// A term in up to 40 brackets, which mostly all close.
+fn deep(alloc: Global, dice: &mut Dice, kind: Kind) -> Result<String, NoMemory> {
+    let mut text = String::new(alloc);
+    let brackets = dice.below(17).saturating_add(24);
+    for _ in 0..brackets {
+        text.push_str(dice.word(&["(", "(", "( ", "not(", "NOT (", "title pr or ("]))?;
+    }
+    let term = random_term(alloc, dice, kind)?;
+    text.push_str(playful_text(alloc, &term, dice)?.as_str())?;
+    let closing = if dice.one_in(8) {
+        dice.below(41)
+    } else {
+        brackets
+    };
+    for _ in 0..closing {
+        text.push_str(dice.word(&[")", ")", " )", ") and x eq 1"]))?;
+    }
+    Ok(text)
+}
+
+/// Terms with `and` or `or` between them, of 4,086 to 4,105 bytes with the spaces behind them.
+fn long(alloc: Global, dice: &mut Dice, kind: Kind) -> Result<String, NoMemory> {
+    let end = dice.below(20).saturating_add(4_086);
+    let mut text = String::new(alloc);
+    for _ in 0..end {
+        let term = random_term(alloc, dice, kind)?;
+        let term = playful_text(alloc, &term, dice)?;
+        let join = dice.word(&[" and ", " or ", " OR "]);
+        if text.len().saturating_add(term.len()).saturating_add(16) > end {
+            break;
+        }
+        text.push_str(term.as_str())?;
+        text.push_str(join)?;
+    }
+    text.push_str("title pr")?;
+    for _ in text.len()..end {
+        text.push(' ')?;
+    }
+    Ok(text)
+}

@@ -1,0 +1,241 @@
+//! Random trees of filters.
+use crate::filter_texts::checks::{compared_type, operators};
+use crate::filter_texts::dice::Dice;
+use crate::filter_texts::literals::{any_literal, literal_of};
+use scim_filter::tree::{Meant, Node, Operator, Path};
+use scim_schema::characteristics::AttributeType;
+use scim_schema::schemas::{schema_of, schemas};
+use scim_schema::table::{attributes, sub_attributes};
+use scim_schema::{Attribute, Kind, SubAttribute};
+use scim_text::NoMemory;
+use scim_value::atoms::Text;
+use std::alloc::Global;
+
+/// Names that no kind has, some of which are keywords too.
+const UNKNOWN_NAMES: [&str; 12] = [
+    "nosuch", "x", "a-b_c$9", "not", "and", "or", "pr", "eq", "true", "null", "value", "urn",
+];
+
+const UNKNOWN_SUB_NAMES: [&str; 6] = ["nosuch", "y", "not", "and", "pr", "userName"];
+
+const UNKNOWN_URNS: [&str; 5] = [
+    "urn",
+    "urn:x",
+    "urn:ietf:params:scim:schemas:core:2.0",
+    "urn:example:2.0:User",
+    "urn::-",
+];
+
+/// A word with each letter in one case or the other.
+fn recased(alloc: Global, dice: &mut Dice, word: &str) -> Result<Text, NoMemory> {
+    if dice.one_in(2) {
+        return Text::copy_of(alloc, word);
+    }
+    let mut text = String::new(alloc);
+    for letter in word.chars() {
+        let letter = if dice.one_in(2) {
+            letter.to_ascii_uppercase()
+        } else {
+            letter.to_ascii_lowercase()
+        };
+        text.push(letter)?;
+    }
+    Ok(Text::new(text))
+}
+
+/// The URN of a path, if it has one, and what the path's name names below it, where the name alone
+/// names `known`.
+fn random_urn(
+    alloc: Global,
+    dice: &mut Dice,
+    kind: Kind,
+    known: Option<Attribute>,
+) -> Result<(Option<Text>, Option<Attribute>), NoMemory> {
+    match dice.below(6) {
+        0 => {
+            let urn = dice.word(&UNKNOWN_URNS);
+            Ok((Some(recased(alloc, dice, urn)?), None))
+        }
+        1 | 2 => {
+            let Some(schema) = dice.pick(schemas()) else {
+                return Ok((None, known));
+            };
+            let urn = recased(alloc, dice, schema.urn())?;
+            Ok((Some(urn), known.filter(|a| schema_of(kind, *a) == schema)))
+        }
+        _ => Ok((None, known)),
+    }
+}
+
+/// The name of a sub-attribute, and what it names in an attribute.
+fn random_sub_name(
+    alloc: Global,
+    dice: &mut Dice,
+    written: Option<Attribute>,
+    named: Option<Attribute>,
+) -> Result<(Text, Meant), NoMemory> {
+    let known = match written {
+        Some(attribute) if !sub_attributes(attribute).is_empty() => sub_attributes(attribute),
+        _ => &[SubAttribute::Value, SubAttribute::Reference],
+    };
+    match dice.pick(known) {
+        Some(sub_attribute) if !dice.one_in(6) => {
+            let name = recased(alloc, dice, sub_attribute.name())?;
+            let meant = match named {
+                Some(attribute) if sub_attributes(attribute).contains(&sub_attribute) => {
+                    Meant::SubAttribute(attribute, sub_attribute)
+                }
+                _ => Meant::Nothing,
+            };
+            Ok((name, meant))
+        }
+        _ => {
+            let name = dice.word(&UNKNOWN_SUB_NAMES);
+            Ok((recased(alloc, dice, name)?, Meant::Nothing))
+        }
+    }
+}
+
+/// A path to an attribute of the kind or to one of its sub-attributes, or to nothing.
+fn random_path(alloc: Global, dice: &mut Dice, kind: Kind) -> Result<Path, NoMemory> {
+    let known = if dice.one_in(5) {
+        None
+    } else {
+        dice.pick(attributes(kind))
+    };
+    let name = match known {
+        Some(attribute) => attribute.name(),
+        None => dice.word(&UNKNOWN_NAMES),
+    };
+    let name = recased(alloc, dice, name)?;
+    let (urn, named) = random_urn(alloc, dice, kind, known)?;
+    let (sub_name, meant) = if dice.one_in(3) {
+        let (sub_name, meant) = random_sub_name(alloc, dice, known, named)?;
+        (Some(sub_name), meant)
+    } else {
+        (None, named.map_or(Meant::Nothing, Meant::Attribute))
+    };
+    Ok(Path {
+        urn,
+        name,
+        sub_name,
+        meant,
+    })
+}
+
+/// A path between the brackets of a value path.
+fn inner_path(alloc: Global, dice: &mut Dice, outer: Meant) -> Result<Path, NoMemory> {
+    let attribute = match outer {
+        Meant::Attribute(attribute) => Some(attribute),
+        Meant::Nothing | Meant::SubAttribute(_, _) => None,
+    };
+    let (name, meant) = random_sub_name(alloc, dice, attribute, attribute)?;
+    Ok(Path {
+        urn: None,
+        name,
+        sub_name: None,
+        meant,
+    })
+}
+
+/// An operator and a literal, each mostly such as what the path names is compared by.
+fn comparison(alloc: Global, dice: &mut Dice, path: Path) -> Result<Node, NoMemory> {
+    let known = compared_type(path.meant);
+    let among = match known {
+        Some(of) if !dice.one_in(16) => operators(of),
+        _ => operators(AttributeType::String),
+    };
+    let literal = match known {
+        Some(of) if !dice.one_in(16) => literal_of(alloc, dice, of)?,
+        _ => any_literal(alloc, dice)?,
+    };
+    let operator = dice.pick(among).unwrap_or(Operator::Eq);
+    Ok(Node::Compare(path, operator, literal))
+}
+
+fn plain_term(alloc: Global, dice: &mut Dice, path: Path) -> Result<Node, NoMemory> {
+    if dice.one_in(4) {
+        Ok(Node::Present(path))
+    } else {
+        comparison(alloc, dice, path)
+    }
+}
+
+/// Takes any of the nodes out.
+fn take_any(dice: &mut Dice, nodes: &mut Vec<Node>) -> Option<Node> {
+    let index = dice.below(nodes.len());
+    if index < nodes.len() {
+        Some(nodes.swap_remove(index))
+    } else {
+        None
+    }
+}
+
+/// One tree of all the nodes.
+fn joined(alloc: Global, dice: &mut Dice, mut nodes: Vec<Node>) -> Result<Option<Node>, NoMemory> {
+    for _ in 1..nodes.len() {
+        let (Some(a), Some(b)) = (take_any(dice, &mut nodes), take_any(dice, &mut nodes)) else {
+            break;
+        };
+        let (a, b) = (Box::new(alloc, a)?, Box::new(alloc, b)?);
+        let node = match dice.below(5) {
+            0 | 1 => Node::And(a, b),
+            2 | 3 => Node::Or(a, b),
+            _ => Node::Not(Box::new(alloc, Node::And(a, b))?),
+        };
+        nodes.push(node)?;
+    }
+    Ok(nodes.pop())
+}
+
+/// A value path behind this path.
+fn values(alloc: Global, dice: &mut Dice, path: Path) -> Result<Node, NoMemory> {
+    let mut terms = Vec::new(alloc);
+    let inner = inner_path(alloc, dice, path.meant)?;
+    let last = plain_term(alloc, dice, inner)?;
+    for _ in 0..dice.below(3) {
+        let inner = inner_path(alloc, dice, path.meant)?;
+        terms.push(plain_term(alloc, dice, inner)?)?;
+    }
+    match joined(alloc, dice, terms)? {
+        None => Ok(Node::Values(path, Box::new(alloc, last)?)),
+        Some(others) => {
+            let node = Node::Or(Box::new(alloc, last)?, Box::new(alloc, others)?);
+            Ok(Node::Values(path, Box::new(alloc, node)?))
+        }
+    }
+}
+
+/// A term on resources of a kind: a value path, `pr` or a comparison, with `not` before it at times.
+pub fn random_term(alloc: Global, dice: &mut Dice, kind: Kind) -> Result<Node, NoMemory> {
+    let path = random_path(alloc, dice, kind)?;
+    let takes_values = match path.meant {
+        Meant::Nothing => true,
+        Meant::Attribute(attribute) => !sub_attributes(attribute).is_empty(),
+        Meant::SubAttribute(_, _) => false,
+    };
+    let sides = if takes_values { 2 } else { 64 };
+    let term = if dice.one_in(sides) {
+        values(alloc, dice, path)?
+    } else {
+        plain_term(alloc, dice, path)?
+    };
+    if dice.one_in(8) {
+        return Ok(Node::Not(Box::new(alloc, term)?));
+    }
+    Ok(term)
+}
+
+/// A tree of up to six terms.
+pub fn random_tree(alloc: Global, dice: &mut Dice, kind: Kind) -> Result<Node, NoMemory> {
+    let last = random_term(alloc, dice, kind)?;
+    let mut terms = Vec::new(alloc);
+    for _ in 0..dice.below(6) {
+        terms.push(random_term(alloc, dice, kind)?)?;
+    }
+    terms.push(last)?;
+    match joined(alloc, dice, terms)? {
+        Some(tree) => Ok(tree),
+        None => random_term(alloc, dice, kind),
+    }
+}

@@ -1,0 +1,227 @@
+//! Filters: reading short, long and deep ones, and holding them on users and on groups.
+mod samples;
+
+use crate::filters::samples::{group, id_of, user};
+use crate::timing::{fastest, ratio};
+use anyhow::{Result, bail};
+use scim_filter::reading::read_filter;
+use scim_filter::tree::Filter;
+use scim_filter::truth::holds;
+use scim_schema::Kind;
+use scim_value::parts::Part;
+use std::alloc::Global;
+use std::io::Print;
+use std::time::Clock;
+
+/// A filter of 100 bytes.
+const SHORT: &str =
+    "userName eq \"alice.martinez\" and emails[type eq \"work\" and value co \"example.com\"] or not (title pr)";
+
+const BRACKETS: usize = 32;
+
+/// The most bytes that a filter may have.
+const LONGEST: usize = 4_096;
+
+/// How many bytes the filters have whose readings are compared.
+const LENGTHS: [usize; 2] = [400, 4_000];
+
+const USERS: usize = 10_000;
+
+/// How many members the groups have that are compared.
+const MEMBERS: [usize; 2] = [1_000, 10_000];
+
+const PASSES: usize = 15;
+
+const CALLS: usize = 2_000;
+
+/// Of calls that take long, so many make a pass.
+const FEW_CALLS: usize = 20;
+
+/// Microseconds.
+fn micros(nanoseconds: u128) -> f64 {
+    ratio(nanoseconds, 1_000)
+}
+
+/// A filter of so many bytes: many terms joined by `or`.
+fn long_filter(alloc: Global, bytes: usize) -> Result<String> {
+    let term = "userName eq \"alice\" or ";
+    let last = "title pr";
+    let mut written = String::new(alloc);
+    for _ in 0..bytes.saturating_sub(last.len()) / term.len() {
+        written.push_str(term)?;
+    }
+    written.push_str(last)?;
+    for _ in written.len()..bytes {
+        written.push(' ')?;
+    }
+    Ok(written)
+}
+
+/// `title pr` in so many brackets.
+fn deep_filter(alloc: Global, brackets: usize) -> Result<String> {
+    let mut written = String::new(alloc);
+    for _ in 0..brackets {
+        written.push('(')?;
+    }
+    written.push_str("title pr")?;
+    for _ in 0..brackets {
+        written.push(')')?;
+    }
+    Ok(written)
+}
+
+/// Nanoseconds of reading a filter.
+fn reading(rt: &impl Clock, alloc: Global, calls: usize, written: &str) -> Result<u128> {
+    fastest(rt, PASSES, calls, || {
+        read_filter(alloc, Kind::User, written)?;
+        Ok(())
+    })
+}
+
+/// Nanoseconds of holding a filter on a part, of which it is true.
+fn holding(
+    rt: &impl Clock,
+    alloc: Global,
+    calls: usize,
+    filter: &Filter,
+    part: &Part,
+) -> Result<u128> {
+    if !holds(alloc, filter, part)? {
+        bail!("a filter does not hold");
+    }
+    fastest(rt, PASSES, calls, || {
+        holds(alloc, filter, part)?;
+        Ok(())
+    })
+}
+
+/// How many of the users a filter holds of.
+fn count(alloc: Global, filter: &Filter, users: &[Part]) -> Result<usize> {
+    let mut found = 0usize;
+    for user in users {
+        if holds(alloc, filter, user)? {
+            found = found.saturating_add(1);
+        }
+    }
+    Ok(found)
+}
+
+/// Nanoseconds for each user that is filtered; so many of them are found.
+fn filtering(
+    rt: &impl Clock,
+    alloc: Global,
+    users: &[Part],
+    written: &str,
+    wanted: usize,
+) -> Result<u128> {
+    let filter = read_filter(alloc, Kind::User, written)?;
+    if count(alloc, &filter, users)? != wanted {
+        bail!("other users are found by {written}");
+    }
+    let took = fastest(rt, PASSES, 1, || {
+        count(alloc, &filter, users)?;
+        Ok(())
+    })?;
+    Ok(took / users.len().max(1) as u128)
+}
+
+fn short_filters(rt: &(impl Clock + Print), alloc: Global) -> Result<()> {
+    let read = reading(rt, alloc, CALLS, SHORT)?;
+    let filter = read_filter(alloc, Kind::User, SHORT)?;
+    let untitled =
+        "userName eq \"user7\" and emails[type eq \"work\" and value co \"example.com\"]";
+    let untitled = read_filter(alloc, Kind::User, untitled)?;
+    let user = user(alloc, 7)?;
+    if holds(alloc, &filter, &user)? {
+        bail!("the filter is not to hold");
+    }
+    let all = fastest(rt, PASSES, CALLS, || {
+        holds(alloc, &filter, &user)?;
+        Ok(())
+    })?;
+    let held = holding(rt, alloc, CALLS, &untitled, &user)?;
+    println!(rt;
+        "a filter of {} bytes: read {:.2}, held on a user of 15 cells {:.2}, where each term is true {:.2}",
+        SHORT.len(),
+        micros(read),
+        micros(all),
+        micros(held)
+    )?;
+    Ok(())
+}
+
+fn many_users(rt: &(impl Clock + Print), alloc: Global) -> Result<()> {
+    let mut users = Vec::new(alloc);
+    for number in 0..USERS {
+        users.push(user(alloc, number)?)?;
+    }
+    for (written, wanted) in [
+        ("userName eq \"user9999\"", 1),
+        ("emails[type eq \"work\" and value co \"x\"]", USERS),
+    ] {
+        let each = filtering(rt, alloc, users.as_slice(), written, wanted)?;
+        println!(rt; "for each of {USERS} users, {written}: {:.3}", micros(each))?;
+    }
+    Ok(())
+}
+
+fn long_and_deep(rt: &(impl Clock + Print), alloc: Global) -> Result<()> {
+    let deep = deep_filter(alloc, BRACKETS)?;
+    let deep = reading(rt, alloc, CALLS, deep.as_str())?;
+    let long = long_filter(alloc, LONGEST)?;
+    let long = reading(rt, alloc, FEW_CALLS, long.as_str())?;
+    println!(rt;
+        "title pr in {BRACKETS} brackets: read {:.2}; a filter of {LONGEST} bytes: read {:.1}",
+        micros(deep),
+        micros(long)
+    )?;
+    let [short, long] = LENGTHS;
+    let one = long_filter(alloc, short)?;
+    let one = reading(rt, alloc, CALLS / 10, one.as_str())?;
+    let other = long_filter(alloc, long)?;
+    let other = reading(rt, alloc, FEW_CALLS, other.as_str())?;
+    println!(rt;
+        "reading {long} bytes/{short} bytes = {:.1}",
+        ratio(other, one)
+    )?;
+    Ok(())
+}
+
+/// Nanoseconds of holding a filter that names the last of a group's members.
+fn holding_last(
+    rt: &impl Clock,
+    alloc: Global,
+    members: usize,
+    before: &str,
+    behind: &str,
+) -> Result<u128> {
+    let group = group(alloc, members)?;
+    let last = id_of(members.saturating_sub(1)).text(alloc)?;
+    let written = format!(in alloc; "{before}\"{}\"{behind}", last.as_str())?;
+    let filter = read_filter(alloc, Kind::Group, written.as_str())?;
+    holding(rt, alloc, FEW_CALLS, &filter, &group)
+}
+
+fn groups(rt: &(impl Clock + Print), alloc: Global) -> Result<()> {
+    let [few, many] = MEMBERS;
+    for (before, behind) in [("members[value eq ", "]"), ("members.value eq ", "")] {
+        let one = holding_last(rt, alloc, few, before, behind)?;
+        let other = holding_last(rt, alloc, many, before, behind)?;
+        println!(rt;
+            "{before}LAST{behind}: {few} members {:.1}, {many} members {:.1}, {many}/{few} = {:.1}",
+            micros(one),
+            micros(other),
+            ratio(other, one)
+        )?;
+    }
+    Ok(())
+}
+
+/// Prints what reading and holding filters take, in microseconds, and how they grow.
+pub fn run(rt: &(impl Clock + Print), alloc: Global) -> Result<()> {
+    println!(rt; "microseconds")?;
+    short_filters(rt, alloc)?;
+    many_users(rt, alloc)?;
+    groups(rt, alloc)?;
+    long_and_deep(rt, alloc)
+}

@@ -1,0 +1,3 @@
+pub mod OneOrderLemmas
+pub mod OrderLemmas
+pub mod PageLemmas

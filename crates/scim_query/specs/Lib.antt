@@ -1,0 +1,4 @@
+pub mod Entries
+pub mod Keys
+pub mod Order
+pub mod Pages

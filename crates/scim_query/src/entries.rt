@@ -1,0 +1,86 @@
+//! The parts that match, each with its sort key.
+ghost use Rattle.std.specs.Prelude.{◌≡◌, ◌-◌, IfOk, OnOk, All, take, drop};
+ghost use Rattle.std.specs.List.Sorted.{IsPermutation, IsSorted, IsStable};
+ghost use Rattle.scim_query.specs.Order.{rank_cmp};
+ghost use Rattle.scim_query.specs.Entries as spec;
+ghost use Rattle.scim_query.specs.Pages.{is_match, matching};
+
+use crate::keys::{compare_keys, key_by};
+use crate::queries::Query;
+use scim_filter::truth::holds;
+use scim_text::NoMemory;
+use scim_value::atoms::Atom;
+use scim_value::parts::Part;
+use std::alloc::Global;
+use std::cmp::Ordering;
+
+/// A part and the key that it is sorted by, which is made once.
+#[derive(Drop)]
+pub(crate) struct Entry<'a> {
+    key: Option<Atom>,
+    part: &'a Part,
+}
+
+fn is_matching(alloc: Global, query: &Query, part: &Part) -> Result<bool, NoMemory>
+    ensures { IfOk result (λ b. b ≡ is_match query.now.filter part.now) }
+{
+    match &query.filter {
+        None => Ok(true),
+        Some(filter) => holds(alloc, filter, part),
+    }
+}
+
+/// The parts that match, in the order of the list. NoMemory where none was to be had.
+pub(crate) fn matching_entries<'a>(
+    alloc: Global,
+    parts: &'a [Part],
+    query: &Query,
+) -> Result<Vec<Entry<'a>>, NoMemory>
+    ensures members { IfOk result (λ v. spec.parts_of v.items ≡ matching query.now.filter parts.now) }
+    ensures keys { IfOk result (λ v. All (spec.HasKey query.now.sort_by) v.items) }
+{
+    let mut entries = Vec::new(alloc);
+    for part in parts {
+        if is_matching(alloc, query, part)? {
+            let key = key_by(alloc, query.sort_by, part)?;
+            entries.push(Entry { key, part })?;
+        }
+    }
+    Ok(entries)
+}
+
+fn compare(descending: bool, a: &Entry<'_>, b: &Entry<'_>) -> Ordering
+    ensures { result ≡ rank_cmp descending (spec.entry_rank a.now) (spec.entry_rank b.now) }
+{
+    compare_keys(descending, &a.key, &b.key).then_with(|| a.part.id().cmp(&b.part.id()))
+}
+
+/// Puts entries in order by key, and ties by id. NoMemory where none was to be had.
+pub(crate) fn sort_entries(entries: &mut Vec<Entry<'_>>, descending: bool) -> Result<(), NoMemory>
+    ensures members { IsPermutation entries.old.items entries.new.items }
+    ensures in_order { OnOk result (IsSorted (spec.entry_cmp descending) entries.new.items) }
+    ensures stable { OnOk result (IsStable (spec.entry_cmp descending) entries.old.items entries.new.items) }
+{
+    entries.sort_by(|a, b| compare(descending, a, b))?;
+    Ok(())
+}
+
+/// At most so many items from a position on, from 1; position 0 is 1.
+pub(crate) fn slice_of<T>(items: &[T], start: usize, count: usize) -> &[T]
+    ensures { result.now ≡ take count (drop (start - 1) items.now) }
+{
+    let first = start.saturating_sub(1).min(items.len());
+    let (_, rest) = items.split_at(first);
+    rest.split_at(count.min(rest.len())).0
+}
+
+/// Copies of the parts. NoMemory where none was to be had.
+pub(crate) fn copy_parts(alloc: Global, entries: &[Entry<'_>]) -> Result<Vec<Part>, NoMemory>
+    ensures { IfOk result (λ v. v.items ≡ spec.parts_of entries.now) }
+{
+    let mut copies = Vec::with_capacity(alloc, entries.len())?;
+    for entry in entries {
+        copies.push(entry.part.try_copy(alloc)?)?;
+    }
+    Ok(copies)
+}
