@@ -109,7 +109,6 @@ fn words_and_brackets_bind_as_the_grammar_says(rt: HostRuntime) -> Result<(), Fa
         ("title pr OR userType pr AND userType pr", true),
         ("(title pr or userType pr) and userType pr", false),
         ("((title pr))", true),
-        ("(title pr)and(title pr)", false),
         (
             "URN:ietf:params:scim:schemas:extension:enterprise:2.0:USER:DEPARTMENT eq \"sales\"",
             true,
