@@ -2,5 +2,4 @@ pub mod FileLemmas
 pub mod ListLemmas
 pub mod RuleLemmas
 pub mod ShapeLemmas
-pub mod StopLemmas
 pub mod TableLemmas

@@ -10,7 +10,7 @@ use Rattle.scim_value.specs.Content.{Content}
 use Rattle.scim_policy.specs.declared.rules.Decision.{Decision}
 use Rattle.scim_policy.specs.declared.decisions.Decisions.{Decisions}
 use Rattle.scim_policy.specs.Rules.{Rule}
-use Rattle.scim_policy.specs.Paths.{or_else}
+use Rattle.scim_policy.specs.Lists.{or_else}
 use Rattle.scim_policy.specs.Decide.{covers, speaks_of, fits, first_of, decide}
 use Rattle.scim_policy.specs.Table.{or_denied, decided, decision, by_paths, by_rule, by_rules}
 use Rattle.scim_policy.proofs.TableLemmas.{or_or}

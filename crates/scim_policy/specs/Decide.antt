@@ -1,5 +1,5 @@
 -- Which rule decides.
-use Rattle.std.specs.Prelude.{ℕ, Bool, true, false, ◌&&◌, List, [], ◌∷◌, nat_eq, filter}
+use Rattle.std.specs.Prelude.{ℕ, Bool, true, false, ◌&&◌, ◌||◌, ◌==◌, List, [], ◌∷◌, length, nat_eq, filter, Option, None, Some, if◌then◌else◌}
 use Rattle.std.specs.List.{list_any, enumerate_from}
 use Rattle.std.specs.Cmp.Lexicographic.{pointwise}
 use denote.Enum.Bare.{sameb}
@@ -10,13 +10,16 @@ use Rattle.scim_schema.specs.contracts.Op.{the_type as the_op}
 use Rattle.scim_schema.specs.contracts.Attribute.{the_type as the_attribute}
 use Rattle.scim_schema.specs.Units.{leaf_at}
 use Rattle.scim_value.specs.Content.{Content}
-use Rattle.scim_value.specs.Rows.{is_leaf}
+use Rattle.scim_value.specs.Rows.{rows, is_leaf}
+use Rattle.scim_filter.specs.Truth.{truth}
 use Rattle.scim_policy.specs.declared.rules.ClientName.{ClientName}
 use Rattle.scim_policy.specs.declared.rules.ClientName.TheVariants.{Everyone, Named}
 use Rattle.scim_policy.specs.declared.rules.PolicyPath.{PolicyPath}
 use Rattle.scim_policy.specs.declared.rules.PolicyPath.TheVariants.{Everything, Attribute, SubAttribute}
 use Rattle.scim_policy.specs.declared.rules.Decision.{Decision}
-use Rattle.scim_policy.specs.Rules.{Rule}
+use Rattle.scim_policy.specs.declared.misfits.Misfit.{Misfit}
+use Rattle.scim_policy.specs.declared.misfits.Misfit.TheVariants as misfit
+use Rattle.scim_policy.specs.Rules.{Target, Rule}
 
 -- whether a rule's client name is that of the client
 abbrev pub names : List ℕ → ClientName → Bool
@@ -29,9 +32,14 @@ covers l Everything = true
 covers l (Attribute a) = sameb the_attribute l.attribute a
 covers l (SubAttribute a b) = is_leaf (leaf_at a b) l
 
--- whether the rule's target holds on the resource; rules have no target yet
+-- whether the target for the resource's kind holds on its rows
+abbrev pub holds_on : Content → List Target → Bool
+holds_on c [] = false
+holds_on c (t ∷ ts) = if sameb the_kind c.kind t.kind then truth t.tree (rows c) else holds_on c ts
+
+-- whether the rule has no target, or its target holds on the resource
 abbrev pub is_target_met : Content → Rule → Bool
-is_target_met c r = true
+is_target_met c r = (length r.targets == 0) || holds_on c r.targets
 
 -- whether the rule speaks of the client, the operation and the resource
 unfoldable pub speaks_of : List ℕ → Op → Content → Rule → Bool
@@ -50,3 +58,16 @@ first_of (numbered ∷ more) = record { rule = numbered.0; allow = numbered.1.al
 -- of the rules that fit, each with its number, the first decides
 unfoldable pub decide : List Rule → List ℕ → Op → Content → Leaf → Decision
 decide policy client op c l = first_of (filter (λ (numbered : ℕ × Rule). fits client op c l numbered.1) (enumerate_from 1 policy))
+
+-- what of a rule is the first that doesn't fit: its clients, operations, kinds, paths or target; none where it fits
+abbrev pub misfit_of : List ℕ → Op → Content → Leaf → Rule → Option Misfit
+misfit_of client op c l r =
+    if list_any (names client) r.clients
+    then (if list_any (sameb the_op op) r.ops
+    then (if list_any (sameb the_kind c.kind) r.kinds
+    then (if list_any (covers l) r.paths
+    then (if is_target_met c r then None else Some misfit.Target)
+    else Some misfit.Path)
+    else Some misfit.Kind)
+    else Some misfit.Op)
+    else Some misfit.Client

@@ -5,9 +5,11 @@ use Rattle.serde_json.specs.Data.{Data, Num, Items, no_items, item, Members, no_
 use Rattle.serde_json.specs.Find.{get, as_bool, as_str, as_array, as_object, as_number, as_i64, as_u64}
 use Rattle.serde_json.specs.Read.{read}
 use Rattle.scim_policy.specs.declared.faults.Cause.{Cause}
-use Rattle.scim_policy.specs.declared.faults.Cause.TheVariants.{Json, Shape, Version, TooManyRules, Name}
+use Rattle.scim_policy.specs.declared.faults.Cause.TheVariants.{Json, Shape, Version, TooManyRules}
 use Rattle.scim_policy.specs.Rules.{Rule}
+use Rattle.scim_policy.specs.Lists.{each}
 use Rattle.scim_policy.specs.Paths.{same_text, client_named, op_named, kind_named, path_named}
+use Rattle.scim_policy.specs.Targets.{◌>>=◌, or_name, targets_for}
 
 -- the number of the faulty rule, 0 for the file, and why it is faulty
 pub record Fault : Type 0 where
@@ -34,11 +36,6 @@ abbrev pub filled : {X : Type 0} → List X → Option (List X)
 filled [] = None
 filled (x ∷ xs) = Some (x ∷ xs)
 
--- what each of a list gives; none where one gives none
-abbrev pub each : {X Y : Type 0} → (X → Option Y) → List X → Option (List Y)
-each f [] = Some []
-each f (x ∷ xs) = option_and_then (λ y. option_map (λ ys. y ∷ ys) (each f xs)) (f x)
-
 -- the values of an array that isn't empty
 abbrev pub items_in : Data → Option (List Data)
 items_in d = option_and_then (λ ds. filled (listed ds)) (as_array d)
@@ -59,10 +56,11 @@ pub record RuleTexts : Type 0 where
   pub clients : List (List ℕ)
   pub ops : List (List ℕ)
   pub types : List (List ℕ)
+  pub target : Option (List ℕ)
   pub paths : List (List ℕ)
 
 abbrev pub rule_keys : List (List ℕ)
-rule_keys = codes "allow" ∷ codes "clients" ∷ codes "ops" ∷ codes "types" ∷ codes "paths" ∷ []
+rule_keys = codes "allow" ∷ codes "clients" ∷ codes "ops" ∷ codes "types" ∷ codes "target" ∷ codes "paths" ∷ []
 
 abbrev pub allow_in : Data → Option Bool
 allow_in d = option_and_then as_bool (get (codes "allow") d)
@@ -70,27 +68,35 @@ allow_in d = option_and_then as_bool (get (codes "allow") d)
 abbrev pub texts_at : List ℕ → Data → Option (List (List ℕ))
 texts_at key d = option_and_then texts_in (get key d)
 
+-- the text of a target, or that there is none
+abbrev pub target_text : Option Data → Option (Option (List ℕ))
+target_text None = Some None
+target_text (Some d) = option_map (λ t. Some t) (as_str d)
+
+abbrev pub target_in : Data → Option (Option (List ℕ))
+target_in d = target_text (get (codes "target") d)
+
 abbrev pub rule_fields : Data → Option RuleTexts
 rule_fields d =
-    option_and_then (λ allow. option_and_then (λ clients. option_and_then (λ ops. option_and_then (λ types. option_map (λ paths.
-    record { allow = allow; clients = clients; ops = ops; types = types; paths = paths })
-    (texts_at (codes "paths") d)) (texts_at (codes "types") d)) (texts_at (codes "ops") d)) (texts_at (codes "clients") d)) (allow_in d)
+    option_and_then (λ allow. option_and_then (λ clients. option_and_then (λ ops. option_and_then (λ types. option_and_then (λ target. option_map (λ paths.
+    record { allow = allow; clients = clients; ops = ops; types = types; target = target; paths = paths })
+    (texts_at (codes "paths") d)) (target_in d)) (texts_at (codes "types") d)) (texts_at (codes "ops") d)) (texts_at (codes "clients") d)) (allow_in d)
 
--- the object of a rule: all of its keys are there and no other, with values of their types
+-- the object of a rule: its keys are there, `target` or not, and no other, with values of their types
 unfoldable pub rule_texts : Data → Option RuleTexts
 rule_texts d = option_and_then rule_fields (object_of_only rule_keys d)
 
--- the rule that is written so, where each word is a name
-unfoldable pub rule_named : RuleTexts → Option Rule
+-- the rule that is written so, or the first cause against it: its words, its target, its paths
+unfoldable pub rule_named : RuleTexts → Result Rule Cause
 rule_named t =
-    option_and_then (λ clients. option_and_then (λ ops. option_and_then (λ kinds. option_map (λ paths.
-    record { allow = t.allow; clients = clients; ops = ops; kinds = kinds; paths = paths })
-    (each (path_named kinds) t.paths)) (each kind_named t.types)) (each op_named t.ops)) (each client_named t.clients)
+    or_name (each client_named t.clients) >>= λ clients. or_name (each op_named t.ops) >>= λ ops. or_name (each kind_named t.types) >>= λ kinds.
+    targets_for kinds t.target >>= λ targets. or_name (each (path_named kinds) t.paths) >>= λ paths.
+    Ok (record { allow = t.allow; clients = clients; ops = ops; kinds = kinds; targets = targets; paths = paths })
 
 -- the rule, or its fault
-abbrev pub named_or_fault : ℕ → Option Rule → Says Rule
-named_or_fault n None = Err (record { rule = n; cause = Name })
-named_or_fault n (Some r) = Ok r
+abbrev pub named_or_fault : ℕ → Result Rule Cause → Says Rule
+named_or_fault n (Err cause) = Err (record { rule = n; cause = cause })
+named_or_fault n (Ok r) = Ok r
 
 abbrev pub shaped_or_fault : ℕ → Option RuleTexts → Says Rule
 shaped_or_fault n None = Err (record { rule = n; cause = Shape })

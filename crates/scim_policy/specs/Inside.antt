@@ -6,7 +6,7 @@ use Rattle.scim_policy.specs.Rules.{Rule}
 
 -- a rule by what it covers
 abbrev pub rule_of : RuleInside → Rule
-rule_of r = record { allow = r.allow; clients = r.clients.items; ops = r.ops.items; kinds = r.kinds.items; paths = r.paths.items }
+rule_of r = record { allow = r.allow; clients = r.clients.items; ops = r.ops.items; kinds = r.kinds.items; targets = r.targets.items; paths = r.paths.items }
 
 -- a policy has at most 1,000 rules
 abbrev pub IsSmall : PolicyInside → Type 0

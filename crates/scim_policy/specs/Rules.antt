@@ -2,13 +2,20 @@
 use Rattle.std.specs.Prelude.{Bool, List}
 use Rattle.scim_schema.specs.declared.Kind.{Kind}
 use Rattle.scim_schema.specs.declared.Op.{Op}
+use Rattle.scim_filter.specs.Tree.{Tree}
 use Rattle.scim_policy.specs.declared.rules.ClientName.{ClientName}
 use Rattle.scim_policy.specs.declared.rules.PolicyPath.{PolicyPath}
 
--- whether the rule allows or denies, and what it covers
+-- the filter that a target is on resources of a kind
+pub record Target : Type 0 where
+  pub kind : Kind
+  pub tree : Tree
+
+-- whether the rule allows or denies, what it covers, and its target for each of its kinds; no target is no list
 pub record Rule : Type 0 where
   pub allow : Bool
   pub clients : List ClientName
   pub ops : List Op
   pub kinds : List Kind
+  pub targets : List Target
   pub paths : List PolicyPath

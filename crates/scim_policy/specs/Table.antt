@@ -16,7 +16,7 @@ use Rattle.scim_value.specs.Content.{Content}
 use Rattle.scim_policy.specs.Rules.{Rule}
 use Rattle.scim_policy.specs.declared.rules.PolicyPath.{PolicyPath}
 use Rattle.scim_policy.specs.Decide.{covers, speaks_of}
-use Rattle.scim_policy.specs.Paths.{or_else}
+use Rattle.scim_policy.specs.Lists.{or_else}
 
 -- what is decided of a sub-attribute alone
 abbrev pub at_sub_attribute : SubAttribute → List (SubAttribute × Decision) → Option Decision

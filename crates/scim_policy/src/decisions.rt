@@ -1,18 +1,14 @@
 //! What a policy decides.
 ghost use Rattle.std.specs.Prelude.{◌≡◌, ◌<◌, ◌≤◌, ℕ, length, None, Some, Option, IfOk, OnOk};
-ghost use Rattle.std.specs.List.{list_any};
-ghost use denote.Enum.Bare.{sameb};
-ghost use Rattle.scim_schema.specs.contracts.Kind.{the_type as the_kind};
-ghost use Rattle.scim_schema.specs.contracts.Op.{the_type as the_op};
 ghost use Rattle.scim_schema.specs.declared.Leaf.{Leaf};
 ghost use Rattle.scim_schema.specs.declared.SubAttribute.{SubAttribute};
 ghost use Rattle.scim_policy.specs.Decide as spec;
-ghost use Rattle.scim_policy.specs.Paths.{or_else};
+ghost use Rattle.scim_policy.specs.Lists.{or_else};
 ghost use Rattle.scim_policy.specs.Table as table;
 ghost use Rattle.scim_policy.specs.declared.rules.PolicyPath.{PolicyPath};
 
-use crate::rules::{ClientName, Decision, Policy, PolicyPath, Rule};
-use scim_schema::{Attribute, Kind, Leaf, Op, SubAttribute};
+use crate::rules::{Decision, Policy, PolicyPath, Rule};
+use scim_schema::{Attribute, Leaf, Op, SubAttribute};
 use scim_text::NoMemory;
 use scim_value::resources::Resource;
 use std::alloc::Global;
@@ -125,7 +121,7 @@ impl Decisions {
         let mut number = 0;
         for rule in rules {
             number += 1;
-            if rule.speaks_of(client, op, resource) {
+            if rule.speaks_of(alloc, client, op, resource)? {
                 self.add_rule(alloc, rule, number)?;
                 if self.rest.is_some() {
                     return Ok(());
@@ -301,49 +297,4 @@ fn alone(pairs: &[(SubAttribute, Decision)], sub_attribute: SubAttribute) -> Opt
         }
     }
     None
-}
-
-impl Rule {
-    /// Whether it speaks of the client, the operation and the resource.
-    #[tactic(auto, unfolding(crate::specs::Decide::speaks_of))]
-    fn speaks_of(&self, client: &str, op: Op, resource: &Resource) -> bool
-        ensures { result ≡ spec.speaks_of client.now op resource.now self.now }
-    {
-        is_named(self.clients(), client)
-            && is_op(self.ops(), op)
-            && is_kind(self.kinds(), resource.kind())
-    }
-}
-
-/// Whether a name is that of the client.
-fn is_named(names: &[ClientName], client: &str) -> bool
-    ensures { result ≡ list_any (spec.names client.now) names.now }
-{
-    names.iter().any(|name| name.names(client))
-}
-
-/// Whether the operation is among them.
-fn is_op(ops: &[Op], op: Op) -> bool
-    ensures { result ≡ list_any (sameb the_op op) ops.now }
-{
-    ops.iter().any(|own| op == *own)
-}
-
-/// Whether the kind is among them.
-fn is_kind(kinds: &[Kind], kind: Kind) -> bool
-    ensures { result ≡ list_any (sameb the_kind kind) kinds.now }
-{
-    kinds.iter().any(|own| kind == *own)
-}
-
-impl ClientName {
-    /// Whether it is that of the client.
-    fn names(&self, client: &str) -> bool
-        ensures { result ≡ spec.names client.now self.now }
-    {
-        match self {
-            ClientName::Everyone => true,
-            ClientName::Named(name) => name.as_str() == client,
-        }
-    }
 }

@@ -15,8 +15,13 @@ pub enum Cause {
     Version,
     /// There are more than 1,000 rules.
     TooManyRules,
-    /// A client, an operation, a type or a path that isn't one.
+    /// A client, an operation, a type or a path that isn't one, or a target with a name that none of the
+    /// types has.
     Name,
+    /// A target that is no filter on one of the types.
+    Target,
+    /// A target that names `groups`, `password` or `meta`.
+    TargetNames,
 }
 
 /// Why a policy wasn't read.
@@ -29,6 +34,14 @@ pub enum PolicyFault {
     NoMemory,
 }
 
+/// Why a rule wasn't read.
+#[derive(Clone, Copy, Debug, PartialEq, Eq)]
+pub(crate) enum RuleFault {
+    Refused(Cause),
+    /// No memory was to be had.
+    NoMemory,
+}
+
 impl fmt::Display for Cause {
     fn fmt<W: fmt::Write>(&self, f: &mut fmt::Formatter<W>) -> fmt::Result {
         let word = match self {
@@ -37,6 +50,8 @@ impl fmt::Display for Cause {
             Cause::Version => "version",
             Cause::TooManyRules => "too many rules",
             Cause::Name => "name",
+            Cause::Target => "target",
+            Cause::TargetNames => "target names groups, password or meta",
         };
         write!(f, "{word}")
     }
@@ -83,5 +98,16 @@ impl<T: Drop> From<AllocFailed<T>> for PolicyFault {
 
     fn from(error: AllocFailed<T>) -> PolicyFault {
         NoMemory::from(error).into()
+    }
+}
+
+impl From<NoMemory> for RuleFault {
+    ghost use Rattle.std.specs.Prelude.{◌≡◌};
+    ghost use Rattle.scim_policy.specs.declared.faults.RuleFault.{RuleFault};
+
+    ghost from_gives = { λ _ f. f ≡ RuleFault.NoMemory };
+
+    fn from(_: NoMemory) -> RuleFault {
+        RuleFault::NoMemory
     }
 }

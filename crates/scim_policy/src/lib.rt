@@ -1,20 +1,23 @@
 //! Policies: who may do what with which resources and attributes.
 //!
 //! A policy is a list of rules, numbered from 1. A rule allows or denies some clients some operations
-//! on some attributes of some kinds of resources; of the rules that fit the first decides, and where
-//! none fits the answer is no.
+//! on some attributes of some kinds of resources, of all or of those for which its target holds; of the
+//! rules that fit the first decides, and where none fits the answer is no.
 #![tactic(auto)]
 
 mod decisions;
 mod faults;
+mod misfits;
 mod paths;
 mod reading;
 mod rules;
+mod targets;
 #[cfg(test)]
 mod tests;
 
 pub use decisions::Decisions;
 pub use faults::{Cause, PolicyFault};
+pub use misfits::Misfit;
 pub use paths::is_client_name;
 pub use reading::read_policy;
-pub use rules::{ClientName, Decision, Policy, PolicyPath, Rule};
+pub use rules::{ClientName, Decision, Policy, PolicyPath, Rule, Target};

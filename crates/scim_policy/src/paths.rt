@@ -1,14 +1,19 @@
 //! The words of a policy file: names of clients, operations and kinds, and paths.
-ghost use Rattle.std.specs.Prelude.{◌≡◌, IfOk, option_map};
+ghost use Rattle.std.specs.Prelude.{◌≡◌, IfOk};
 ghost use Rattle.std.specs.List.{list_all};
+ghost use Rattle.scim_policy.specs.Lists.{first_some};
 ghost use Rattle.scim_policy.specs.Paths as spec;
 
 use crate::rules::{ClientName, PolicyPath};
-use scim_schema::lookup::{attribute, sub_attribute};
+use scim_filter::attribute_paths::attribute_path;
+use scim_filter::tree::Meant;
 use scim_schema::{Kind, Op};
 use scim_text::NoMemory;
 use scim_value::atoms::Text;
 use std::alloc::Global;
+
+/// The most bytes that a path has.
+const LONGEST_PATH: usize = 4096;
 
 /// Whether the text may be the name of a client: 1 to 64 ASCII letters, digits, `-`, `_` and `.`.
 #[tactic(auto, unfolding(crate::specs::Paths::is_client_name))]
@@ -63,56 +68,47 @@ pub(crate) fn kind_named(text: &str) -> Option<Kind>
         .find(|kind| text == kind.name())
 }
 
-/// What a path means for a kind: an attribute, or a sub-attribute after a full stop.
-#[tactic(auto, unfolding(crate::specs::Paths::path_in))]
-fn path_in(text: &str, kind: Kind) -> Option<PolicyPath>
-    ensures { result ≡ spec.path_in text.now kind }
+/// What a path covers that names this.
+fn covered_by(meant: Meant) -> Option<PolicyPath>
+    ensures { result ≡ spec.covered_by meant }
 {
-    match split_at_stop(text) {
-        Some((name, sub_name)) => sub_attribute_path(kind, name, sub_name),
-        None => attribute_path(kind, text),
+    match meant {
+        Meant::Nothing => None,
+        Meant::Attribute(attribute) => Some(PolicyPath::Attribute(attribute)),
+        Meant::SubAttribute(attribute, sub_attribute) => {
+            Some(PolicyPath::SubAttribute(attribute, sub_attribute))
+        }
     }
 }
 
-/// What stands before and after the first full stop, if there is one.
-fn split_at_stop(text: &str) -> Option<(&str, &str)>
-    ensures { option_map (λ x. (x.0.now, x.1.now)) result ≡ spec.split_at_stop text.now }
+/// What a path covers on resources of a kind.
+fn path_on(text: &str, kind: Kind) -> Option<PolicyPath>
+    ensures { result ≡ spec.path_on text.now kind }
 {
-    text.split_once('.')
+    covered_by(attribute_path(kind, text)?)
 }
 
-fn attribute_path(kind: Kind, name: &str) -> Option<PolicyPath>
-    ensures { result ≡ spec.attribute_path kind name.now }
-{
-    Some(PolicyPath::Attribute(attribute(kind, name)?))
-}
-
-fn sub_attribute_path(kind: Kind, name: &str, sub_name: &str) -> Option<PolicyPath>
-    ensures { result ≡ spec.sub_attribute_path kind name.now sub_name.now }
-{
-    let of = attribute(kind, name)?;
-    Some(PolicyPath::SubAttribute(of, sub_attribute(of, sub_name)?))
-}
-
-/// What a word of `paths` means for a rule on these kinds: what it means for the first of them that
-/// has it.
-pub(crate) fn path_named(kinds: &[Kind], text: &str) -> Option<PolicyPath>
-    ensures { result ≡ spec.path_named kinds.now text.now }
-{
-    if text == "*" {
-        return Some(PolicyPath::Everything);
-    }
-    path_in_kinds(kinds, text)
-}
-
-/// What a path means for the first of these kinds for which it means something.
-fn path_in_kinds(kinds: &[Kind], text: &str) -> Option<PolicyPath>
-    ensures { result ≡ spec.first_some (spec.path_in text.now) kinds.now }
+/// What a path covers on the first of these kinds that has what it names.
+fn path_on_kinds(kinds: &[Kind], text: &str) -> Option<PolicyPath>
+    ensures { result ≡ first_some (spec.path_on text.now) kinds.now }
 {
     for kind in kinds {
-        if let Some(path) = path_in(text, *kind) {
+        if let Some(path) = path_on(text, *kind) {
             return Some(path);
         }
     }
     None
+}
+
+/// What a word of `paths` covers for a rule on these kinds.
+pub(crate) fn path_named(kinds: &[Kind], text: &str) -> Option<PolicyPath>
+    ensures { result ≡ spec.path_named kinds.now text.now }
+{
+    if text == "*" {
+        Some(PolicyPath::Everything)
+    } else if text.len() <= LONGEST_PATH {
+        path_on_kinds(kinds, text)
+    } else {
+        None
+    }
 }

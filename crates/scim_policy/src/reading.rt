@@ -7,12 +7,14 @@ ghost use Rattle.serde_json.specs.View.{view, number_view, members_view};
 ghost use Rattle.scim_policy.specs.declared.faults.Cause.{Cause};
 ghost use Rattle.scim_policy.specs.declared.faults.PolicyFault.{PolicyFault};
 ghost use Rattle.scim_policy.specs.File as spec;
+ghost use Rattle.scim_policy.specs.Lists.{each};
 ghost use Rattle.scim_policy.specs.Paths.{same_text, client_named, op_named, kind_named, path_named};
-ghost use Rattle.scim_policy.specs.Written.{text_at, texts_view, rule_view, parts_view};
+ghost use Rattle.scim_policy.specs.Written.{Gives, text_at, texts_view, rule_view, parts_view};
 
-use crate::faults::{Cause, PolicyFault};
+use crate::faults::{Cause, PolicyFault, RuleFault};
 use crate::paths::{client_named, kind_named, op_named, path_named};
 use crate::rules::{ClientName, Policy, PolicyPath, Rule};
+use crate::targets::targets_for;
 use scim_schema::{Kind, Op};
 use scim_text::NoMemory;
 use serde_json::{Map, Number, Value};
@@ -20,6 +22,9 @@ use std::alloc::Global;
 
 /// The most rules that a policy has.
 const MOST_RULES: usize = 1000;
+
+/// A word that isn't one.
+const NO_NAME: RuleFault = RuleFault::Refused(Cause::Name);
 
 /// The version and the rules of a file.
 #[derive(Clone, Copy)]
@@ -35,17 +40,21 @@ struct WrittenRule<'v> {
     clients: Vec<&'v str>,
     ops: Vec<&'v str>,
     types: Vec<&'v str>,
+    target: Option<&'v str>,
     paths: Vec<&'v str>,
 }
 
 /// The policy that the text is a file of: a JSON object with `version` 1 and `rules`, a list of at most
 /// 1,000 rules. A rule is an object with `allow` (a boolean), `clients` (names, or `*` for everyone),
 /// `ops` (`read`, `create`, `modify`, `delete`), `types` (`User`, `Group`) and `paths` (`*`, an
-/// attribute, or `attribute.subAttribute`; the names in any ASCII case). All these keys are there and
-/// no other, and no list is empty.
+/// attribute, or `attribute.subAttribute`, with a URN before it or not and with spaces round it; the
+/// names in any ASCII case). All these keys are there, and no list is empty. It may have a `target`, a
+/// filter on each of the types, and no other key. A target names what one of the types has, but neither
+/// `groups` nor `password` nor `meta`; in a type that lacks it a name has no value.
 ///
 /// Faulty with the first fault: of the file (rule 0) the causes in the order of [`Cause`], then of the
-/// rules in turn `Shape` before `Name`. NoMemory where none was to be had.
+/// rules in turn `Shape`, `Name` of the clients, the operations and the types, `Target`, `Name` and
+/// `TargetNames` of the target, and `Name` of the paths. NoMemory where none was to be had.
 #[tactic(auto, unfolding(crate::specs::File::policy_of))]
 pub fn read_policy(alloc: Global, text: &str) -> Result<Policy, PolicyFault>
     ensures policy { IfOk result (λ p. spec.policy_of text.now ≡ Ok p) }
@@ -184,12 +193,13 @@ fn read_rule(alloc: Global, value: &Value, number: u32) -> Result<Rule, PolicyFa
             cause: Cause::Shape,
         });
     };
-    match rule_named(alloc, &written)? {
-        Some(rule) => Ok(rule),
-        None => Err(PolicyFault::Faulty {
+    match rule_named(alloc, &written) {
+        Ok(rule) => Ok(rule),
+        Err(RuleFault::Refused(cause)) => Err(PolicyFault::Faulty {
             rule: number,
-            cause: Cause::Name,
+            cause,
         }),
+        Err(RuleFault::NoMemory) => Err(PolicyFault::NoMemory),
     }
 }
 
@@ -219,7 +229,12 @@ fn has_only_rule_keys(object: &Map<String, Value>) -> bool
 fn is_rule_key(key: &str) -> bool
     ensures { result ≡ list_any (same_text key.now) spec.rule_keys }
 {
-    key == "allow" || key == "clients" || key == "ops" || key == "types" || key == "paths"
+    key == "allow"
+        || key == "clients"
+        || key == "ops"
+        || key == "types"
+        || key == "target"
+        || key == "paths"
 }
 
 /// The rule as it is written, where its keys are there with values of their types.
@@ -238,6 +253,9 @@ fn rule_fields(alloc: Global, value: &Value) -> Result<Option<WrittenRule<'_>>, 
     let Some(types) = texts_at(alloc, value, "types")? else {
         return Ok(None);
     };
+    let Some(target) = target_in(value) else {
+        return Ok(None);
+    };
     let Some(paths) = texts_at(alloc, value, "paths")? else {
         return Ok(None);
     };
@@ -246,6 +264,7 @@ fn rule_fields(alloc: Global, value: &Value) -> Result<Option<WrittenRule<'_>>, 
         clients,
         ops,
         types,
+        target,
         paths,
     }))
 }
@@ -254,6 +273,16 @@ fn allow_in(value: &Value) -> Option<bool>
     ensures { result ≡ spec.allow_in (view value.now) }
 {
     value.get("allow")?.as_bool()
+}
+
+/// The text of the target, or that there is none.
+fn target_in(value: &Value) -> Option<Option<&str>>
+    ensures { option_map (λ o. option_map text_at o) result ≡ spec.target_in (view value.now) }
+{
+    match value.get("target") {
+        Some(found) => Some(Some(found.as_str()?)),
+        None => Some(None),
+    }
 }
 
 /// The texts of the array with this key.
@@ -282,7 +311,7 @@ fn texts_in(alloc: Global, value: &Value) -> Result<Option<Vec<&str>>, NoMemory>
 
 /// The texts of these values, where all are texts.
 fn texts_of(alloc: Global, items: &[Value]) -> Result<Option<Vec<&str>>, NoMemory>
-    ensures { IfOk result (λ o. option_map texts_view o ≡ spec.each as_str (map view items.now)) }
+    ensures { IfOk result (λ o. option_map texts_view o ≡ each as_str (map view items.now)) }
 {
     let mut texts = Vec::new(alloc);
     for item in items {
@@ -294,29 +323,22 @@ fn texts_of(alloc: Global, items: &[Value]) -> Result<Option<Vec<&str>>, NoMemor
     Ok(Some(texts))
 }
 
-/// The rule that is written so, where each word is a name.
+/// The rule that is written so: its words, then its target, then its paths.
 #[tactic(auto, unfolding(crate::specs::File::rule_named))]
-fn rule_named(alloc: Global, written: &WrittenRule<'_>) -> Result<Option<Rule>, NoMemory>
-    ensures { IfOk result (λ o. o ≡ spec.rule_named (rule_view written.now)) }
+fn rule_named(alloc: Global, written: &WrittenRule<'_>) -> Result<Rule, RuleFault>
+    ensures { Gives (λ r. r) result (spec.rule_named (rule_view written.now)) }
 {
-    let Some(clients) = clients_named(alloc, &written.clients)? else {
-        return Ok(None);
-    };
-    let Some(ops) = ops_named(alloc, &written.ops)? else {
-        return Ok(None);
-    };
-    let Some(kinds) = kinds_named(alloc, &written.types)? else {
-        return Ok(None);
-    };
-    let Some(paths) = paths_named(alloc, &kinds, &written.paths)? else {
-        return Ok(None);
-    };
-    Ok(Some(Rule::new(written.allow, clients, ops, kinds, paths)))
+    let clients = clients_named(alloc, &written.clients)?.ok_or(NO_NAME)?;
+    let ops = ops_named(alloc, &written.ops)?.ok_or(NO_NAME)?;
+    let kinds = kinds_named(alloc, &written.types)?.ok_or(NO_NAME)?;
+    let targets = targets_for(alloc, &kinds, written.target)?;
+    let paths = paths_named(alloc, &kinds, &written.paths)?.ok_or(NO_NAME)?;
+    Ok(Rule::new(written.allow, clients, ops, kinds, targets, paths))
 }
 
 /// Whom the texts name, where each names someone.
 fn clients_named(alloc: Global, texts: &[&str]) -> Result<Option<Vec<ClientName>>, NoMemory>
-    ensures { IfOk result (λ o. option_map (λ v. v.items) o ≡ spec.each client_named (map text_at texts.now)) }
+    ensures { IfOk result (λ o. option_map (λ v. v.items) o ≡ each client_named (map text_at texts.now)) }
 {
     let mut clients = Vec::new(alloc);
     for text in texts {
@@ -330,7 +352,7 @@ fn clients_named(alloc: Global, texts: &[&str]) -> Result<Option<Vec<ClientName>
 
 /// The operations that the texts name, where each names one.
 fn ops_named(alloc: Global, texts: &[&str]) -> Result<Option<Vec<Op>>, NoMemory>
-    ensures { IfOk result (λ o. option_map (λ v. v.items) o ≡ spec.each op_named (map text_at texts.now)) }
+    ensures { IfOk result (λ o. option_map (λ v. v.items) o ≡ each op_named (map text_at texts.now)) }
 {
     let mut ops = Vec::new(alloc);
     for text in texts {
@@ -344,7 +366,7 @@ fn ops_named(alloc: Global, texts: &[&str]) -> Result<Option<Vec<Op>>, NoMemory>
 
 /// The kinds that the texts name, where each names one.
 fn kinds_named(alloc: Global, texts: &[&str]) -> Result<Option<Vec<Kind>>, NoMemory>
-    ensures { IfOk result (λ o. option_map (λ v. v.items) o ≡ spec.each kind_named (map text_at texts.now)) }
+    ensures { IfOk result (λ o. option_map (λ v. v.items) o ≡ each kind_named (map text_at texts.now)) }
 {
     let mut kinds = Vec::new(alloc);
     for text in texts {
@@ -363,7 +385,7 @@ fn paths_named(
     texts: &[&str],
 ) -> Result<Option<Vec<PolicyPath>>, NoMemory>
     ensures { IfOk result
-        (λ o. option_map (λ v. v.items) o ≡ spec.each (path_named kinds.now) (map text_at texts.now)) }
+        (λ o. option_map (λ v. v.items) o ≡ each (path_named kinds.now) (map text_at texts.now)) }
 {
     let mut paths = Vec::new(alloc);
     for text in texts {

@@ -1,9 +1,12 @@
 //! Rules and policies.
 ghost use Rattle.std.specs.Prelude.{◌≡◌, ◌≤◌, length};
+ghost use Rattle.scim_filter.specs.Tree.{tree_of};
 ghost use Rattle.scim_policy.specs.Rules as spec;
 
+use scim_filter::tree::Filter;
 use scim_schema::{Attribute, Kind, Op, SubAttribute};
 use scim_value::atoms::Text;
+use std::fmt;
 use std::marker::Model;
 
 /// Whom a rule is for.
@@ -33,14 +36,22 @@ pub struct Decision {
     pub allow: bool,
 }
 
-/// Whether some clients may or may not do some operations on some kinds of resources, and on which
-/// attributes of them.
+/// The filter that a rule's target is on resources of one kind. Contracts see the kind and the tree.
+#[derive(Drop)]
+pub struct Target {
+    kind: Kind,
+    filter: Filter,
+}
+
+/// Whether some clients may or may not do some operations on some kinds of resources for which a target
+/// holds, and on which attributes of them.
 #[derive(Debug, Drop)]
 pub struct Rule {
     allow: bool,
     clients: Vec<ClientName>,
     ops: Vec<Op>,
     kinds: Vec<Kind>,
+    targets: Vec<Target>,
     paths: Vec<PolicyPath>,
 }
 
@@ -50,17 +61,38 @@ pub struct Policy {
     rules: Vec<Rule>,
 }
 
+impl Model for Target {
+    ghost use Rattle.std.specs.Coded.{codes};
+    ghost use Rattle.scim_schema.specs.contracts.Kind as kind_type;
+    ghost use Rattle.scim_filter.specs.Tree.{tree_of};
+    ghost use Rattle.scim_policy.specs.Rules.{Target};
+    ghost use Rattle.scim_policy.specs.Steps.{tree_code};
+
+    ghost Value = { Target };
+
+    ghost coded = { Prim.hlevel (codes, kind_type.the_row.coded, tree_code) };
+
+    ghost view = { λ t. record { kind = t.kind; tree = tree_of t.filter } };
+}
+
+impl fmt::Debug for Target {
+    fn fmt<W: fmt::Write>(&self, f: &mut fmt::Formatter<W>) -> fmt::Result {
+        write!(f, "Target({:?})", self.kind)
+    }
+}
+
 impl Model for Rule {
     ghost use Rattle.std.specs.Coded.{codes};
     ghost use Rattle.scim_schema.specs.contracts.Kind as kind;
     ghost use Rattle.scim_schema.specs.contracts.Op as op;
     ghost use Rattle.scim_policy.specs.contracts.rules.ClientName as client;
     ghost use Rattle.scim_policy.specs.contracts.rules.PolicyPath as path;
+    ghost use Rattle.scim_policy.specs.contracts.rules.Target as target;
     ghost use Rattle.scim_policy.specs.Rules.{Rule};
 
     ghost Value = { Rule };
 
-    ghost coded = { Prim.hlevel (codes, kind.the_row.coded, op.the_row.coded, client.the_row.coded, path.the_row.coded) };
+    ghost coded = { Prim.hlevel (codes, kind.the_row.coded, op.the_row.coded, client.the_row.coded, path.the_row.coded, target.the_row.coded) };
 
     ghost use Rattle.scim_policy.specs.Inside.{rule_of};
 
@@ -84,6 +116,30 @@ impl Model for Policy {
     ghost invariant = { IsSmall };
 }
 
+impl Target {
+    /// The target that is this filter on resources of the kind.
+    pub fn new(kind: Kind, filter: Filter) -> Target
+        ensures kind { result.kind ≡ kind }
+        ensures tree { result.tree ≡ tree_of filter }
+    {
+        Target { kind, filter }
+    }
+
+    /// The kind of resources that it is on.
+    pub fn kind(&self) -> Kind
+        ensures { result ≡ self.now.kind }
+    {
+        self.kind
+    }
+
+    /// The filter that a resource of its kind has to meet.
+    pub fn filter(&self) -> &Filter
+        ensures { tree_of result.now ≡ self.now.tree }
+    {
+        &self.filter
+    }
+}
+
 impl Rule {
     /// The rule that says and covers this.
     pub fn new(
@@ -91,12 +147,14 @@ impl Rule {
         clients: Vec<ClientName>,
         ops: Vec<Op>,
         kinds: Vec<Kind>,
+        targets: Vec<Target>,
         paths: Vec<PolicyPath>,
     ) -> Rule
         ensures allow { result.allow ≡ allow }
         ensures clients { result.clients ≡ clients.items }
         ensures ops { result.ops ≡ ops.items }
         ensures kinds { result.kinds ≡ kinds.items }
+        ensures targets { result.targets ≡ targets.items }
         ensures paths { result.paths ≡ paths.items }
     {
         Rule {
@@ -104,6 +162,7 @@ impl Rule {
             clients,
             ops,
             kinds,
+            targets,
             paths,
         }
     }
@@ -134,6 +193,13 @@ impl Rule {
         ensures { result.now ≡ self.now.kinds }
     {
         self.kinds.as_slice()
+    }
+
+    /// What its target is for each of its kinds; empty where it has no target.
+    pub fn targets(&self) -> &[Target]
+        ensures { result.now ≡ self.now.targets }
+    {
+        self.targets.as_slice()
     }
 
     /// What it covers of a resource.

@@ -2,3 +2,4 @@
 mod decisions;
 mod faults;
 mod reading;
+mod targets;

@@ -105,7 +105,8 @@ fn rule(
     let clients = vec![in alloc; ClientName::Named(Text::copy_of(alloc, client)?)]?;
     let ops = vec![in alloc; op]?;
     let kinds = vec![in alloc; Kind::User]?;
-    Ok(Rule::new(allow, clients, ops, kinds, paths))
+    let targets = Vec::new(alloc);
+    Ok(Rule::new(allow, clients, ops, kinds, targets, paths))
 }
 
 /// The policy that allows one client one operation on what these paths cover, and nothing else.

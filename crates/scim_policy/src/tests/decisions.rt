@@ -11,7 +11,7 @@ use std::test::Fail;
 
 const BASE: &str = "http://127.0.0.1:8080";
 
-const TITLE: Leaf = Leaf {
+pub(super) const TITLE: Leaf = Leaf {
     attribute: Attribute::Title,
     sub_attribute: None,
 };
@@ -37,14 +37,19 @@ fn meta(sub_attribute: SubAttribute, atom: Atom) -> Cell {
 }
 
 /// A user or a group with no more than it must have.
-fn resource(alloc: Global, kind: Kind) -> Result<Resource, Fail> {
+pub(super) fn resource(alloc: Global, kind: Kind) -> Result<Resource, Fail> {
+    resource_with(alloc, kind, Vec::new(alloc))
+}
+
+/// A user or a group with these cells and no more than it must have.
+pub(super) fn resource_with(alloc: Global, kind: Kind, own: Vec<Cell>) -> Result<Resource, Fail> {
     let id = Id::read("2819c223-7f76-453a-919d-413861904646").ok_or("no id")?;
     let moment = Moment::new(1704067200).ok_or("no moment")?;
     let (name, type_name) = match kind {
         Kind::User => (Attribute::UserName, "User"),
         Kind::Group => (Attribute::DisplayName, "Group"),
     };
-    let mut cells = Vec::new(alloc);
+    let mut cells = own;
     cells.push(Cell {
         leaf: Leaf {
             attribute: Attribute::Id,
@@ -98,6 +103,7 @@ fn rule(
         clients,
         vec![in alloc; op]?,
         vec![in alloc; kind]?,
+        Vec::new(alloc),
         covered,
     ))
 }
@@ -223,5 +229,6 @@ fn a_policy_shows_its_rules(rt: HostRuntime) -> Result<(), Fail> {
         [PolicyPath::Attribute(Attribute::Title)].as_slice()
     );
     assert_eq!(rt; first.clients().len(), 1);
+    assert!(rt; first.targets().is_empty());
     Ok(())
 }

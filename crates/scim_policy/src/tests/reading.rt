@@ -18,7 +18,7 @@ const MISNAMED: &str =
     "{\"allow\":true,\"clients\":[\"hr\"],\"ops\":[\"search\"],\"types\":[\"User\"],\"paths\":[\"*\"]}";
 
 /// The file with these rules.
-fn file(alloc: Global, rules: &str) -> Result<String, Fail> {
+pub(super) fn file(alloc: Global, rules: &str) -> Result<String, Fail> {
     Ok(format!(in alloc; "{{\"version\":1,\"rules\":[{rules}]}}")?)
 }
 
@@ -64,7 +64,7 @@ fn file_with_path(alloc: Global, types: &str, path: &str) -> Result<String, Fail
     file_with(alloc, "\"hr\"", "\"read\"", types, quoted.as_str())
 }
 
-fn expect_fault(rt: &impl Abort, alloc: Global, text: &str, rule: u32, cause: Cause) {
+pub(super) fn expect_fault(rt: &impl Abort, alloc: Global, text: &str, rule: u32, cause: Cause) {
     match read_policy(alloc, text) {
         Ok(_) => assert!(rt; false, "{text}"),
         Err(fault) => assert!(rt;
@@ -81,7 +81,7 @@ fn expect_rule_fault(rt: &impl Abort, alloc: Global, rule: &str, cause: Cause) -
     Ok(())
 }
 
-fn rule_at(policy: &Policy, position: usize) -> Result<&Rule, Fail> {
+pub(super) fn rule_at(policy: &Policy, position: usize) -> Result<&Rule, Fail> {
     Ok(policy.listed().get(position).ok_or("no such rule")?)
 }
 
@@ -236,7 +236,9 @@ fn rules_of_another_shape_are_refused(rt: HostRuntime) -> Result<(), Fail> {
         "{\"allow\":true,\"clients\":\"hr\",\"ops\":[\"read\"],\"types\":[\"User\"],\"paths\":[\"*\"]}",
         "{\"allow\":true,\"clients\":[\"hr\"],\"ops\":[\"read\",1],\"types\":[\"User\"],\"paths\":[\"*\"]}",
         "{\"allow\":true,\"clients\":[\"hr\"],\"ops\":[\"read\"],\"types\":[\"User\"],\"paths\":[\"*\"],\"note\":\"\"}",
-        "{\"allow\":true,\"clients\":[\"hr\"],\"ops\":[\"read\"],\"types\":[\"User\"],\"paths\":[\"*\"],\"target\":\"active eq true\"}",
+        "{\"allow\":true,\"clients\":[\"hr\"],\"ops\":[\"read\"],\"types\":[\"User\"],\"paths\":[\"*\"],\"target\":null}",
+        "{\"allow\":true,\"clients\":[\"hr\"],\"ops\":[\"read\"],\"types\":[\"User\"],\"paths\":[\"*\"],\"target\":[\"title pr\"]}",
+        "{\"allow\":true,\"clients\":[\"hr\"],\"ops\":[\"read\"],\"types\":[\"User\"],\"paths\":[\"*\"],\"Target\":\"title pr\"}",
     ] {
         expect_rule_fault(&rt, rt.alloc(), rule, Cause::Shape)?;
     }
@@ -315,6 +317,26 @@ fn paths_are_those_of_the_types(rt: HostRuntime) -> Result<(), Fail> {
             "name.givenName",
             PolicyPath::SubAttribute(Attribute::Name, SubAttribute::GivenName),
         ),
+        (
+            "\"User\"",
+            "  emails.value ",
+            PolicyPath::SubAttribute(Attribute::Emails, SubAttribute::Value),
+        ),
+        (
+            "\"User\"",
+            "urn:ietf:params:scim:schemas:core:2.0:User:name.familyName",
+            PolicyPath::SubAttribute(Attribute::Name, SubAttribute::FamilyName),
+        ),
+        (
+            "\"User\",\"Group\"",
+            "URN:ietf:params:scim:schemas:core:2.0:Group:displayName",
+            PolicyPath::Attribute(Attribute::DisplayName),
+        ),
+        (
+            "\"User\"",
+            "urn:ietf:params:scim:schemas:extension:enterprise:2.0:User:department",
+            PolicyPath::Attribute(Attribute::Department),
+        ),
     ] {
         assert!(rt; path_read(alloc, types, path)? == expected, "{path}");
     }
@@ -330,10 +352,34 @@ fn paths_are_those_of_the_types(rt: HostRuntime) -> Result<(), Fail> {
         ("\"User\"", ".givenName"),
         ("\"User\"", "name.givenName.value"),
         ("\"User\"", "**"),
+        ("\"User\"", " * "),
+        ("\"User\"", "title userName"),
+        ("\"User\"", "emails[type pr]"),
+        ("\"User\"", "emails[type pr].value"),
+        (
+            "\"User\"",
+            "urn:ietf:params:scim:schemas:core:2.0:Group:displayName",
+        ),
+        ("\"User\"", "urn:nosuch:title"),
     ] {
         let text = file_with_path(alloc, types, path)?;
         expect_fault(&rt, alloc, text.as_str(), 1, Cause::Name);
     }
+    Ok(())
+}
+
+#[test]
+fn paths_have_at_most_4096_bytes(rt: HostRuntime) -> Result<(), Fail> {
+    let alloc = rt.alloc();
+    let mut path = String::from_str(alloc, "title")?;
+    for _ in path.len()..4096 {
+        path.push(' ')?;
+    }
+    let title = PolicyPath::Attribute(Attribute::Title);
+    assert!(rt; path_read(alloc, "\"User\"", path.as_str())? == title);
+    path.push(' ')?;
+    let text = file_with_path(alloc, "\"User\"", path.as_str())?;
+    expect_fault(&rt, alloc, text.as_str(), 1, Cause::Name);
     Ok(())
 }
 
@@ -366,6 +412,11 @@ fn faults_say_why(rt: HostRuntime) -> Result<(), Fail> {
         (Cause::Version, "rule 7: version"),
         (Cause::TooManyRules, "rule 7: too many rules"),
         (Cause::Name, "rule 7: name"),
+        (Cause::Target, "rule 7: target"),
+        (
+            Cause::TargetNames,
+            "rule 7: target names groups, password or meta",
+        ),
     ] {
         let said = format!(in rt.alloc(); "{}", PolicyFault::Faulty { rule: 7, cause })?;
         assert_eq!(rt; said.as_str(), why);

@@ -1,6 +1,6 @@
 use Rattle.std.proofs.Common.{◌≡◌, ◌+◌, ◌∙◌, sym, ap, true, Option, drop, ℕ}
 use Rattle.scim_policy.specs.declared.rules.Decision.{Decision}
-use Rattle.scim_policy.specs.Paths.{or_else}
+use Rattle.scim_policy.specs.Lists.{or_else}
 use Rattle.scim_policy.specs.Decide.{speaks_of}
 use Rattle.scim_policy.specs.Table.{decided, by_rule, by_rules}
 use Rattle.scim_policy.proofs.TableLemmas.{all_known}
@@ -12,7 +12,7 @@ returns-then-is_some c l =
     let client = c.args.client.now in
     let resource = c.args.resource.now in
     let n = c.loop-rule.number + 1 in
-    let speaks : speaks_of client c.args.op resource c.rule-item.result ≡ true = sym c.speaks_of.ensures ∙ c.if-speaks_of.true in
+    let speaks : speaks_of client c.args.op resource c.rule-item.result ≡ true = sym c.in_ok-speaks_of.ensures ∙ c.if-branch.true in
     let added : decided c.add_rule.new.self l ≡ or_else (decided c.loop-rule.self l) (by_rule client c.args.op resource l n c.rule-item.result) =
     c.in_ok-add_rule.ensures l ∙ ap (λ (o : Option Decision). or_else (decided c.loop-rule.self l) o) (sym (spoken client c.args.op resource l n c.rule-item.result speaks)) in
     let all : or_else (decided c.add_rule.new.self l) (by_rules client c.args.op resource l (n + 1) (drop (c.loop-rule.rule-index + 1) c.args.rules.now)) ≡ or_else (decided c.loop-rule.self l) (by_rules client c.args.op resource l n (drop c.loop-rule.rule-index c.args.rules.now)) =

@@ -1,6 +1,6 @@
 use Rattle.std.proofs.Common.{◌≡◌, ◌+◌, drop}
 use Rattle.scim_schema.specs.declared.Leaf.{Leaf}
-use Rattle.scim_policy.specs.Paths.{or_else}
+use Rattle.scim_policy.specs.Lists.{or_else}
 use Rattle.scim_policy.specs.Table.{decided, by_rules}
 use Rattle.scim_policy.proofs.decisions.Decisions.add_rules.Given as goal
 

@@ -3,7 +3,7 @@ use denote.Enum.Declared.{tag_of}
 use Rattle.scim_schema.specs.contracts.Attribute.{the_type as the_attribute}
 use Rattle.scim_policy.specs.declared.rules.Decision.{Decision}
 use Rattle.scim_policy.specs.declared.decisions.AttributeDecisions.{AttributeDecisions}
-use Rattle.scim_policy.specs.Paths.{or_else}
+use Rattle.scim_policy.specs.Lists.{or_else}
 use Rattle.scim_policy.specs.Table.{decided, in_attributes}
 use Rattle.scim_policy.proofs.decisions.Decisions.decided.Goals as goal
 
