@@ -11,35 +11,35 @@ use Rattle.scim_wire.specs.Streams.{OpensWith, OpensBadly}
 use Rattle.scim_command.specs.declared.refusals.Refusal.TheVariants.{BadHead}
 use Rattle.scim_command.specs.Refusals.{refusal_text}
 use Rattle.scim_command.specs.Replies.{IsReplyTo}
-use Rattle.scim_command.specs.Once.{Answers, AreUsersOf, IsAnswer, text_or_store}
+use Rattle.scim_command.specs.Once.{Answers, AreSortedResourcesOf, IsAnswer, text_or_store}
 
 -- a reply to the head that was read
-pub answers_head : (policy : List Rule) (client : List ℕ) (cs : List Content) (known : Option (List ℕ)) (head : Head) (reply : Result (String Global) NoMemory)
-    → IfSome known (λ input. OpensWith input head) → IfOk reply (λ t. IsReplyTo policy client cs head (string_bytes t))
-    → IfSome known (λ input. IsAnswer policy client cs input (text_or_store reply))
-answers_head policy client cs None head reply opens is = tt
-answers_head policy client cs (Some input) head (Ok t) opens is = inl (head, opens, is)
-answers_head policy client cs (Some input) head (Err e) opens is = inr (inr refl)
+pub answers_head : (policy : List Rule) (client base : List ℕ) (cs : List Content) (known : Option (List ℕ)) (head : Head) (reply : Result (String Global) NoMemory)
+    → IfSome known (λ input. OpensWith input head) → IfOk reply (λ t. IsReplyTo policy client base cs head (string_bytes t))
+    → IfSome known (λ input. IsAnswer policy client base cs input (text_or_store reply))
+answers_head policy client base cs None head reply opens is = tt
+answers_head policy client base cs (Some input) head (Ok t) opens is = inl (head, opens, is)
+answers_head policy client base cs (Some input) head (Err e) opens is = inr (inr refl)
 
 -- the refusal of what is no head
-pub answers_badly : (policy : List Rule) (client : List ℕ) (cs : List Content) (known : Option (List ℕ)) (reply : Result (String Global) NoMemory)
+pub answers_badly : (policy : List Rule) (client base : List ℕ) (cs : List Content) (known : Option (List ℕ)) (reply : Result (String Global) NoMemory)
     → IfSome known OpensBadly → IfOk reply (λ t. string_bytes t ≡ refusal_text BadHead)
-    → IfSome known (λ input. IsAnswer policy client cs input (text_or_store reply))
-answers_badly policy client cs None reply opens is = tt
-answers_badly policy client cs (Some input) (Ok t) opens is = inr (inl (opens, is))
-answers_badly policy client cs (Some input) (Err e) opens is = inr (inr refl)
+    → IfSome known (λ input. IsAnswer policy client base cs input (text_or_store reply))
+answers_badly policy client base cs None reply opens is = tt
+answers_badly policy client base cs (Some input) (Ok t) opens is = inr (inl (opens, is))
+answers_badly policy client base cs (Some input) (Err e) opens is = inr (inr refl)
 
 -- want of memory
-pub answers_store : (policy : List Rule) (client : List ℕ) (cs : List Content) (known : Option (List ℕ)) (e : NoMemory)
-    → IfSome known (λ input. IsAnswer policy client cs input (text_or_store (Err e)))
-answers_store policy client cs None e = tt
-answers_store policy client cs (Some input) e = inr (inr refl)
+pub answers_store : (policy : List Rule) (client base : List ℕ) (cs : List Content) (known : Option (List ℕ)) (e : NoMemory)
+    → IfSome known (λ input. IsAnswer policy client base cs input (text_or_store (Err e)))
+answers_store policy client base cs None e = tt
+answers_store policy client base cs (Some input) e = inr (inr refl)
 
 -- the reply that was written answers the input by the two files
 pub answered : {T E : Type 0} (result : Result T E) (policy_text users_text base client : List ℕ) (policy : List Rule) (cs : List Content) (known old new : Option (List ℕ)) (text : List ℕ)
-    → policy_of policy_text ≡ Ok policy → AreUsersOf base users_text cs → IfSome known (λ input. IsAnswer policy client cs input text) → OnOk result (Appends old new text)
+    → policy_of policy_text ≡ Ok policy → AreSortedResourcesOf base users_text cs → IfSome known (λ input. IsAnswer policy client base cs input text) → OnOk result (Appends old new text)
     → OnOk result (IfSome known (λ input. (output : List ℕ) × Answers policy_text users_text base client input output × Appends old new output))
 answered (Err e) policy_text users_text base client policy cs known old new text allows holds is wrote = tt
 answered (Ok u) policy_text users_text base client policy cs None old new text allows holds is wrote = tt
 answered (Ok u) policy_text users_text base client policy cs (Some input) old new text allows holds is wrote =
-    (text, record { policy = policy; users = cs; allows = allows; holds = holds; answer = is }, wrote)
+    (text, record { policy = policy; resources = cs; allows = allows; holds = holds; answer = is }, wrote)

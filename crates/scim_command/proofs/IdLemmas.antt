@@ -9,7 +9,7 @@ use Rattle.uuid.specs.Text.{hyphen, is_hyphen_place}
 use Rattle.scim_schema.specs.declared.Kind.{Kind}
 use Rattle.scim_schema.specs.contracts.Kind.{the_type as the_kind}
 use Rattle.scim_value.specs.Content.{Content}
-use Rattle.scim_command.specs.Replies.{found}
+use Rattle.scim_command.specs.Directories.{found}
 use Rattle.scim_value.specs.Ids.{IsId, IsIdText, IsIdCharacter, IsLowerHexDigit, id_text}
 use Rattle.scim_value.proofs.IdLemmas.{IsIdText-id_text, id_text-injective}
 

@@ -1,5 +1,6 @@
 pub mod Requests
 pub mod Refusals
+pub mod Directories
 pub mod Replies
 pub mod Once
 pub mod Faults

@@ -10,8 +10,8 @@ use std::fmt;
 pub enum OnceFault {
     /// The policy file is faulty: the rule, from 1, or 0 for the file, and why.
     Policy { rule: u32, cause: Cause },
-    /// The item of the users file with this number, from 1, is no document of a user or repeats an id or
-    /// a unique name; 0 where the file is no JSON list.
+    /// The item of the users file with this number, from 1, is no document of a user or a group or repeats
+    /// an id or a unique name; 0 where the file is no JSON list.
     Users(usize),
     /// The input ended before the head of a request did.
     InputEnded,

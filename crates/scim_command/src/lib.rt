@@ -2,6 +2,7 @@
 #![tactic(auto)]
 
 mod answers;
+mod directories;
 mod faults;
 mod refusals;
 mod requests;

@@ -1,6 +1,8 @@
 //! `once`: one request, answered over a users file in memory.
 ghost use Rattle.std.specs.Prelude.{◌≡◌, ◌≢◌, ℕ, List, Err, IsOk, IfOk, IfErr, IfSome, OnOk};
 ghost use Rattle.std.specs.Io.KnownBytes.{Appends};
+ghost use Rattle.scim_value.specs.Content.{Content};
+ghost use Rattle.scim_json.specs.Documents.{IsDamagedAt};
 ghost use Rattle.scim_policy.specs.File.{policy_of};
 ghost use Rattle.scim_policy.specs.declared.faults.Cause.{Cause};
 ghost use Rattle.scim_wire.specs.Streams.{IsUnended};
@@ -8,16 +10,16 @@ ghost use Rattle.scim_command.specs.declared.faults.OnceFault.{OnceFault};
 ghost use Rattle.scim_command.specs.declared.refusals.Refusal.{Refusal};
 ghost use Rattle.scim_command.specs.Refusals.{refusal_text};
 ghost use Rattle.scim_command.specs.Faults.{IsOfUsers, IsOfInput};
-ghost use Rattle.scim_command.specs.Once.{Answers, AreFiles, AreUsersOf, IsFaultyAt, IsAnswer, first_group_from, is_group, text_or_store};
+ghost use Rattle.scim_command.specs.Directories.{Holds};
+ghost use Rattle.scim_command.specs.Once.{Answers, AreFiles, AreSortedResourcesOf, IsAnswer, text_or_store};
 
 use crate::answers::answer;
+use crate::directories::Directory;
 use crate::faults::OnceFault;
 use crate::refusals::{Refusal, refusal_text};
 use scim_json::read_documents;
 use scim_policy::{Policy, read_policy};
-use scim_schema::Kind;
 use scim_text::NoMemory;
-use scim_value::resources::Resource;
 use scim_wire::{Head, HeadFault, read_head};
 use std::alloc::Global;
 use std::io::{Read, Write};
@@ -27,7 +29,7 @@ use std::io::{Read, Write};
 pub struct Setting<'a> {
     /// The text of the policy file.
     pub policy: &'a str,
-    /// The text of the users file.
+    /// The text of the users file, which holds users and groups.
     pub users: &'a str,
     /// The name of the client that asks.
     pub client: &'a str,
@@ -37,15 +39,16 @@ pub struct Setting<'a> {
 
 /// Reads the head of one request and writes its reply, and nothing else.
 ///
-/// The reply to a GET of `/Users/{id}` shows the user's cells that the policy lets the client read, or
-/// says 404 where there is no such user or the client doesn't see it: it can't tell which (RFC 7644
-/// sections 3.4.1 and 3.12). What is no head is answered 400, any other head 404, and want of memory
-/// 500. The body of the request isn't read.
+/// The reply to a GET of `/Users/{id}` or `/Groups/{id}` shows the cells of the resource that the policy
+/// lets the client read, or says 404 where there is no such resource or the client doesn't see it: it
+/// can't tell which (RFC 7644 sections 3.4.1 and 3.12). The `groups` of a user are the groups of the file,
+/// in order of id, that the client sees to have it as a member (RFC 7643 section 4.1.2). What is no head
+/// is answered 400, any other head 404, and want of memory 500. The body of the request isn't read.
 ///
-/// Policy, where the policy file is faulty; else Users, where the users file is, in which groups count as
-/// faulty; else InputEnded, where the head doesn't end, and InputFailed, where a read fails. These
-/// write nothing. Output, where a write fails: a part of the reply may have been written then. NoMemory
-/// where none was to be had for the files.
+/// Policy, where the policy file is faulty; else Users, where the users file is damaged; else
+/// InputEnded, where the head doesn't end, and InputFailed, where a read fails. These write nothing.
+/// Output, where a write fails: a part of the reply may have been written then. NoMemory where none was
+/// to be had for the files.
 pub fn once<R: Read, W: Write>(
     alloc: Global,
     setting: &Setting<'_>,
@@ -58,16 +61,23 @@ pub fn once<R: Read, W: Write>(
     ensures policy { (rule : ℕ) (cause : Cause) → result ≡ Err (OnceFault.Policy rule cause)
         → policy_of setting.now.policy.now ≡ Err (record { rule = rule; cause = cause }) }
     ensures users { (n : ℕ) → result ≡ Err (OnceFault.Users n)
-        → IsOk (policy_of setting.now.policy.now) × IsFaultyAt setting.now.base.now setting.now.users.now n }
+        → IsOk (policy_of setting.now.policy.now) × IsDamagedAt setting.now.base.now setting.now.users.now n }
     ensures ended { result ≡ Err OnceFault.InputEnded
         → AreFiles setting.now.policy.now setting.now.users.now setting.now.base.now
         × IfSome (R.remaining reader.old) IsUnended }
     ensures silent { IfErr result (λ f. f ≢ OnceFault.Output → writer.new ≡ writer.old) }
 {
     let policy = read_policy(alloc, setting.policy)?;
-    let users = read_users(alloc, setting.base, setting.users)?;
+    let directory = read_directory(alloc, setting.base, setting.users)?;
     let store = refusal_text(alloc, Refusal::Store)?;
-    let reply = reply_to(alloc, &policy, setting.client, users.as_slice(), reader)?;
+    let reply = reply_to(
+        alloc,
+        &policy,
+        setting.client,
+        setting.base,
+        &directory,
+        reader,
+    )?;
     write_reply(reply, store.as_str(), writer)
 }
 
@@ -79,16 +89,18 @@ fn reply_to<R: Read>(
     alloc: Global,
     policy: &Policy,
     client: &str,
-    users: &[Resource],
+    base: &str,
+    directory: &Directory,
     reader: &mut R,
 ) -> Result<Result<String, NoMemory>, OnceFault>
-    ensures answer { IfOk result (λ reply. IfSome (R.remaining reader.old) (λ input.
-        IsAnswer policy.now client.now users.now input (text_or_store reply))) }
+    ensures answer { (cs : List Content) → Holds directory.now cs
+        → IfOk result (λ reply. IfSome (R.remaining reader.old) (λ input.
+        IsAnswer policy.now client.now base.now cs input (text_or_store reply))) }
     ensures ended { result ≡ Err OnceFault.InputEnded → IfSome (R.remaining reader.old) IsUnended }
     ensures fault { IfErr result IsOfInput }
 {
     match read_head(alloc, reader) {
-        Ok(head) => Ok(answer(alloc, policy, client, users, &head)),
+        Ok(head) => Ok(answer(alloc, policy, client, base, directory, &head)),
         Err(HeadFault::BadHead) => Ok(refusal_text(alloc, Refusal::BadHead)),
         Err(HeadFault::NoMemory) => Ok(Err(NoMemory)),
         Err(HeadFault::Ended) => Err(OnceFault::InputEnded),
@@ -123,33 +135,15 @@ fn write_text<W: Write>(text: &str, writer: &mut W) -> Result<(), OnceFault>
     }
 }
 
-/// The users of a users file.
-fn read_users(alloc: Global, base: &str, text: &str) -> Result<Vec<Resource>, OnceFault>
-    ensures users { IfOk result (λ v. AreUsersOf base.now text.now v.items) }
-    ensures faulty { (n : ℕ) → result ≡ Err (OnceFault.Users n) → IsFaultyAt base.now text.now n }
+/// The resources of a users file.
+///
+/// Users, where it is damaged; NoMemory where none was to be had.
+fn read_directory(alloc: Global, base: &str, text: &str) -> Result<Directory, OnceFault>
+    ensures resources { IfOk result (λ d. (cs : List Content)
+        × AreSortedResourcesOf base.now text.now cs × Holds d cs) }
+    ensures damaged { (n : ℕ) → result ≡ Err (OnceFault.Users n) → IsDamagedAt base.now text.now n }
     ensures fault { IfErr result IsOfUsers }
 {
-    let users = read_documents(alloc, base, text)?;
-    match first_group(users.as_slice()) {
-        Some(number) => Err(OnceFault::Users(number)),
-        None => Ok(users),
-    }
-}
-
-/// The number of the first resource, from 1, that isn't a user.
-fn first_group(resources: &[Resource]) -> Option<usize>
-    ensures { result ≡ first_group_from 1 resources.now }
-{
-    for (position, resource) in resources.iter().enumerate() {
-        if is_group(resource) {
-            return Some(position + 1);
-        }
-    }
-    None
-}
-
-fn is_group(resource: &Resource) -> bool
-    ensures { result ≡ is_group resource.now }
-{
-    resource.kind() != Kind::User
+    let resources = read_documents(alloc, base, text)?;
+    Ok(Directory::of(alloc, resources)?)
 }

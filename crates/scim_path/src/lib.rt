@@ -9,4 +9,4 @@ mod tests;
 
 pub use faults::PathFault;
 pub use paths::{Path, ValuePath};
-pub use reading::read_path;
+pub use reading::{extension_named, read_path};

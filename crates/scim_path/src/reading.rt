@@ -17,8 +17,10 @@ use scim_schema::{Attribute, Kind};
 use scim_value::atoms::Text;
 use std::alloc::Global;
 
-/// The extension of the kind whose URN stands alone in a text of at most 4,096 bytes.
-fn extension(kind: Kind, text: &str) -> Option<Schema>
+/// The extension of the kind whose URN stands alone in a text of at most 4,096 bytes, in any ASCII case and
+/// with spaces round it or not: such a text names all attributes of the extension (RFC 7644 section 3.5.2).
+/// None for any other text. It takes no memory.
+pub fn extension_named(kind: Kind, text: &str) -> Option<Schema>
     ensures { result ≡ spec.extension_named kind text.now }
 {
     if text.len() > 4096 {
@@ -104,7 +106,7 @@ pub fn read_path(alloc: Global, kind: Kind, text: &str) -> Result<Path, PathFaul
     ensures { MatchResult result (λ p. spec.Names kind text.now (Ok (spec.target_of p)))
         (λ f. (f ≡ PathFault.NoMemory) ⊎ spec.Names kind text.now (Err f)) }
 {
-    if let Some(schema) = extension(kind, text) {
+    if let Some(schema) = extension_named(kind, text) {
         return Ok(Path::Extension(schema));
     }
     match written_path(alloc, kind, text)? {

@@ -4,7 +4,7 @@ mod value_paths;
 
 use crate::faults::PathFault;
 use crate::paths::Path;
-use crate::reading::read_path;
+use crate::reading::{extension_named, read_path};
 use scim_filter::tree::{Filter, Meant, Node};
 use scim_schema::schemas::Schema;
 use scim_schema::{Attribute, Kind, SubAttribute};
@@ -81,6 +81,31 @@ fn the_urn_of_an_extension_alone_names_all_of_it(rt: HostRuntime) -> Result<(), 
             Seen::Fault(PathFault::Unknown),
             "at {text}"
         );
+    }
+    Ok(())
+}
+
+#[test]
+fn an_extension_is_named_by_its_urn_alone(rt: HostRuntime) -> Result<(), Fail> {
+    let enterprise = Some(Schema::EnterpriseUser);
+    for (kind, text, wanted) in [
+        (Kind::User, Schema::EnterpriseUser.urn(), enterprise),
+        (
+            Kind::User,
+            " URN:ietf:params:scim:schemas:EXTENSION:enterprise:2.0:user ",
+            enterprise,
+        ),
+        (Kind::Group, Schema::EnterpriseUser.urn(), None),
+        (Kind::User, Schema::User.urn(), None),
+        (
+            Kind::User,
+            "urn:ietf:params:scim:schemas:extension:enterprise:2.0:User:department",
+            None,
+        ),
+        (Kind::User, "department", None),
+        (Kind::User, "", None),
+    ] {
+        assert_eq!(rt; extension_named(kind, text), wanted, "at {text}");
     }
     Ok(())
 }

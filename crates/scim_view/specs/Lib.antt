@@ -1,2 +1,6 @@
 pub mod View
+pub mod Names
 pub mod Shown
+pub mod Groups
+pub mod Memberships
+pub mod Index

@@ -1,5 +1,5 @@
 -- What of a visible part is shown in a reply.
-use Rattle.std.specs.Prelude.{Bool, true, false}
+use Rattle.std.specs.Prelude.{Bool, true, false, not}
 use Rattle.scim_schema.specs.declared.Kind.{Kind}
 use Rattle.scim_schema.specs.declared.Leaf.{Leaf}
 use Rattle.scim_schema.specs.declared.characteristics.Returned.{Returned}
@@ -9,17 +9,31 @@ use Rattle.scim_value.specs.Content.{Content}
 use Rattle.scim_value.specs.Rows.{rows, restricted, content}
 use Rattle.scim_view.specs.declared.projection.Wanted.{Wanted}
 use Rattle.scim_view.specs.declared.projection.Wanted.TheVariants as wanted
+use Rattle.scim_view.specs.Names.{covers}
 
--- whether a leaf that is returned so is shown: one that is always or by default (RFC 7643 section 7, returned)
-abbrev pub shows : Wanted → Returned → Bool
-shows wanted.Default returned.Always = true
-shows wanted.Default returned.Default = true
-shows wanted.Default returned.Never = false
-shows wanted.Default returned.Request = false
+-- whether a leaf that is returned by default is shown: where nothing is said, where it is named, or where it is not excluded
+abbrev pub shows_default : Wanted → Leaf → Bool
+shows_default wanted.Default l = true
+shows_default (wanted.Only names) l = covers names l
+shows_default (wanted.Without names) l = not (covers names l)
 
-abbrev pub is_shown : Wanted → Kind → Leaf → Bool
-is_shown w kind l = shows w (characteristics_of kind l).returned
+-- whether a leaf that is returned on request is shown: where it is named
+abbrev pub shows_requested : Wanted → Leaf → Bool
+shows_requested wanted.Default l = false
+shows_requested (wanted.Only names) l = covers names l
+shows_requested (wanted.Without names) l = false
+
+-- whether a leaf that is returned so is shown (RFC 7643 section 7, returned)
+abbrev pub shows_returned : Wanted → Returned → Leaf → Bool
+shows_returned w returned.Always l = true
+shows_returned w returned.Never l = false
+shows_returned w returned.Default l = shows_default w l
+shows_returned w returned.Request l = shows_requested w l
+
+-- whether a leaf of a kind is shown
+abbrev pub shows : Wanted → Kind → Leaf → Bool
+shows w kind l = shows_returned w (characteristics_of kind l).returned l
 
 -- the cells that are shown; positions close up
 unfoldable pub shown : Wanted → Content → Content
-shown w v = content v.kind v.id (restricted (λ r l. is_shown w v.kind l) (rows v))
+shown w v = content v.kind v.id (restricted (λ r l. shows w v.kind l) (rows v))

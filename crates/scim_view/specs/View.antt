@@ -10,7 +10,7 @@ use Rattle.scim_schema.specs.contracts.characteristics.Mutability.{the_type as t
 use Rattle.scim_schema.specs.Characteristics.{characteristics_of}
 use Rattle.scim_schema.specs.Units.{simple}
 use Rattle.scim_value.specs.Content.{Content}
-use Rattle.scim_value.specs.Rows.{rows, restricted, content}
+use Rattle.scim_value.specs.Rows.{Test, rows, restricted, content}
 use Rattle.scim_policy.specs.declared.rules.Decision.{Decision}
 use Rattle.scim_policy.specs.Rules.{Rule}
 use Rattle.scim_policy.specs.Decide.{decide}
@@ -27,10 +27,13 @@ is_write_only kind l = sameb the_mutability (characteristics_of kind l).mutabili
 unfoldable pub sees : List Rule → List ℕ → Content → Bool
 sees policy client c = may_read policy client c (simple Id)
 
+-- the leaves of a kind that may be seen by these decisions on reading
+abbrev pub may_be_seen : (Leaf → Decision) → Kind → Test
+may_be_seen decision kind _ l = not (is_write_only kind l) && (decision l).allow
+
 -- what may be seen of the resource by these decisions on reading: values without a visible cell are left out, and positions close up
 unfoldable pub visible_by : (Leaf → Decision) → Content → Content
-visible_by decision c =
-    content c.kind c.id (restricted (λ r l. not (is_write_only c.kind l) && (decision l).allow) (rows c))
+visible_by decision c = content c.kind c.id (restricted (may_be_seen decision c.kind) (rows c))
 
 -- the same, where they let its `id` be read
 unfoldable pub view_by : (Leaf → Decision) → Content → Option Content

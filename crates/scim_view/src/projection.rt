@@ -4,6 +4,7 @@ ghost use Rattle.std.specs.List.{list_all};
 ghost use Rattle.scim_value.specs.Rows.{rows};
 ghost use Rattle.scim_view.specs.Shown as spec;
 
+use crate::names::Names;
 use crate::restrictions::restricted;
 use scim_schema::characteristics::{Returned, characteristics_of};
 use scim_schema::{Kind, Leaf};
@@ -12,45 +13,77 @@ use scim_value::parts::Part;
 use scim_value::rows::{Row, RowTest};
 use std::alloc::Global;
 
-/// What a client wants to be shown.
-#[derive(Clone, Copy, Debug, PartialEq, Eq)]
+/// What a client wants to be shown. What is returned always is shown whatever it wants, and what is
+/// returned never is not (RFC 7643 section 7).
+#[derive(Debug, Drop)]
 pub enum Wanted {
-    /// What is returned always or by default.
+    /// What is returned by default.
     Default,
+    /// Of what is returned by default or on request, what is named: the parameter `attributes` of RFC 7644
+    /// section 3.9.
+    Only(Names),
+    /// Of what is returned by default, all but what is named: the parameter `excludedAttributes` of RFC
+    /// 7644 section 3.9.
+    Without(Names),
 }
 
 /// The leaves of a kind that are shown.
 #[derive(Clone, Copy)]
-struct Shown {
-    wanted: Wanted,
+struct Shown<'w> {
+    wanted: &'w Wanted,
     kind: Kind,
 }
 
-impl RowTest for Shown {
-    ghost use Rattle.scim_view.specs.Shown.{is_shown};
+impl RowTest for Shown<'_> {
+    ghost use Rattle.scim_view.specs.Shown.{shows};
 
-    ghost keeps = { λ self _ leaf. is_shown self.wanted self.kind leaf };
+    ghost keeps = { λ self _ leaf. shows self.wanted.now self.kind leaf };
 
     fn is_kept(&self, _row: &Row, leaf: Leaf) -> bool {
-        is_shown(self.wanted, self.kind, leaf)
+        self.wanted.shows(self.kind, leaf)
     }
 }
 
-fn is_shown(wanted: Wanted, kind: Kind, leaf: Leaf) -> bool
-    ensures { result ≡ spec.is_shown wanted kind leaf }
-{
-    match wanted {
-        Wanted::Default => match characteristics_of(kind, leaf).returned {
-            Returned::Always | Returned::Default => true,
-            Returned::Never | Returned::Request => false,
-        },
+impl Wanted {
+    /// Whether a leaf of the kind is shown.
+    fn shows(&self, kind: Kind, leaf: Leaf) -> bool
+        ensures { result ≡ spec.shows self.now kind leaf }
+    {
+        match characteristics_of(kind, leaf).returned {
+            Returned::Always => true,
+            Returned::Never => false,
+            Returned::Default => self.shows_default(leaf),
+            Returned::Request => self.shows_requested(leaf),
+        }
+    }
+
+    /// Whether a leaf that is returned by default is shown.
+    fn shows_default(&self, leaf: Leaf) -> bool
+        ensures { result ≡ spec.shows_default self.now leaf }
+    {
+        match self {
+            Wanted::Default => true,
+            Wanted::Only(names) => names.covers(leaf),
+            Wanted::Without(names) => !names.covers(leaf),
+        }
+    }
+
+    /// Whether a leaf that is returned on request is shown.
+    fn shows_requested(&self, leaf: Leaf) -> bool
+        ensures { result ≡ spec.shows_requested self.now leaf }
+    {
+        match self {
+            Wanted::Default => false,
+            Wanted::Only(names) => names.covers(leaf),
+            Wanted::Without(_) => false,
+        }
     }
 }
 
 /// What of a part that a client may see is shown to it; positions close up. A part that is shown
 /// whole is given back as it is. NoMemory where none was to be had.
-pub fn project(alloc: Global, visible: Part, wanted: Wanted) -> Result<Part, NoMemory>
-    ensures { IfOk result (λ p. p ≡ spec.shown wanted visible) }
+pub fn project(alloc: Global, visible: Part, wanted: &Wanted) -> Result<Part, NoMemory>
+    ensures { IfOk result (λ p. p ≡ spec.shown wanted.now visible) }
 {
     let shown = Shown {
         wanted,
@@ -65,15 +98,15 @@ pub fn project(alloc: Global, visible: Part, wanted: Wanted) -> Result<Part, NoM
 
 /// Whether the test keeps each field of the rows.
 fn shows_all(rows: &[Row], shown: &Shown) -> bool
-    ensures { result ≡ list_all (λ r. list_all (λ f. spec.is_shown shown.now.wanted shown.now.kind f.leaf) r.fields) rows.now }
+    ensures { result ≡ list_all (λ r. list_all (λ f. spec.shows shown.now.wanted.now shown.now.kind f.leaf) r.fields) rows.now }
 {
     rows.iter().all(|row| shows_row(row, shown))
 }
 
 fn shows_row(row: &Row, shown: &Shown) -> bool
-    ensures { result ≡ list_all (λ f. spec.is_shown shown.now.wanted shown.now.kind f.leaf) row.now.fields }
+    ensures { result ≡ list_all (λ f. spec.shows shown.now.wanted.now shown.now.kind f.leaf) row.now.fields }
 {
     row.fields()
         .iter()
-        .all(|field| is_shown(shown.wanted, shown.kind, field.leaf))
+        .all(|field| shown.wanted.shows(shown.kind, field.leaf))
 }

@@ -1,5 +1,5 @@
 //! What a client may see of a resource.
-ghost use Rattle.std.specs.Prelude.{◌≡◌, IfOk};
+ghost use Rattle.std.specs.Prelude.{◌≡◌, ◌&&◌, not, IfOk};
 ghost use Rattle.scim_schema.specs.declared.Leaf.{Leaf};
 ghost use Rattle.scim_schema.specs.declared.Kind.{Kind};
 ghost use Rattle.scim_value.specs.Rows.{rows, restricted};
@@ -18,21 +18,29 @@ use std::alloc::Global;
 
 /// The leaves of a kind that may be seen by these decisions on reading.
 #[derive(Clone, Copy)]
-struct MayBeSeen<'d> {
-    kind: Kind,
-    decisions: &'d Decisions,
+pub(crate) struct MayBeSeen<'d> {
+    pub(crate) kind: Kind,
+    pub(crate) decisions: &'d Decisions,
+}
+
+impl MayBeSeen<'_> {
+    /// Whether the leaf may be seen.
+    pub(crate) fn shows(&self, leaf: Leaf) -> bool
+        ensures { result ≡ (not (spec.is_write_only self.now.kind leaf) && (decision self.now.decisions.now leaf).allow) }
+    {
+        characteristics_of(self.kind, leaf).mutability != Mutability::WriteOnly
+            && self.decisions.of(leaf).allow
+    }
 }
 
 impl RowTest for MayBeSeen<'_> {
-    ghost use Rattle.std.specs.Prelude.{◌&&◌, not};
     ghost use Rattle.scim_policy.specs.Table.{decision};
-    ghost use Rattle.scim_view.specs.View.{is_write_only};
+    ghost use Rattle.scim_view.specs.View.{may_be_seen};
 
-    ghost keeps = { λ self _ leaf. not (is_write_only self.kind leaf) && (decision self.decisions.now leaf).allow };
+    ghost keeps = { λ self row leaf. may_be_seen (decision self.decisions.now) self.kind row leaf };
 
     fn is_kept(&self, _row: &Row, leaf: Leaf) -> bool {
-        characteristics_of(self.kind, leaf).mutability != Mutability::WriteOnly
-            && self.decisions.of(leaf).allow
+        self.shows(leaf)
     }
 }
 
@@ -103,7 +111,11 @@ fn view_by(
 }
 
 /// What may be seen of the resource by these decisions on reading it.
-fn visible_by(alloc: Global, decisions: &Decisions, resource: &Resource) -> Result<Part, NoMemory>
+pub(crate) fn visible_by(
+    alloc: Global,
+    decisions: &Decisions,
+    resource: &Resource,
+) -> Result<Part, NoMemory>
     ensures { IfOk result (λ p. p ≡ spec.visible_by (decision decisions.now) resource.now) }
 {
     let test = MayBeSeen {

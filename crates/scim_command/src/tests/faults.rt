@@ -63,7 +63,15 @@ fn faulty_policies_are_told_first(rt: HostRuntime) -> Result<(), Fail> {
         ),
         (
             r#"{"version":1,"rules":[{"allow":true,"clients":["hr"],"ops":["read"],"types":["User"],"paths":["*"],"target":"x"}]}"#,
-            "policy: rule 1: shape",
+            "policy: rule 1: target",
+        ),
+        (
+            r#"{"version":1,"rules":[{"allow":true,"clients":["hr"],"ops":["read"],"types":["User"],"paths":["*"],"target":"title eq"}]}"#,
+            "policy: rule 1: target",
+        ),
+        (
+            r#"{"version":1,"rules":[{"allow":true,"clients":["hr"],"ops":["read"],"types":["User"],"paths":["*"]},{"allow":false,"clients":["mail"],"ops":["read"],"types":["User"],"target":"password pr","paths":["*"]}]}"#,
+            "policy: rule 2: target names groups, password or meta",
         ),
         (
             r#"{"version":1,"rules":[{"allow":true,"clients":["hr"],"ops":["read"],"types":["User"],"paths":["*"]},{"allow":true,"clients":["hr"],"ops":["see"],"types":["User"],"paths":["*"]}]}"#,
@@ -114,12 +122,18 @@ fn ids_and_names_do_not_repeat(rt: HostRuntime) -> Result<(), Fail> {
 }
 
 #[test]
-fn groups_are_no_users(rt: HostRuntime) -> Result<(), Fail> {
+fn damaged_groups_are_told_as_users_are(rt: HostRuntime) -> Result<(), Fail> {
     let alloc = rt.alloc();
-    let first = format!(in alloc; "[{GROUP},{ALICE}]")?;
+    let nameless =
+        r#"{"id":"00000000-0000-4000-8000-00000000000e","meta":{"created":"2024-01-01T00:00:00Z","lastModified":"2024-01-01T00:00:00Z","resourceType":"Group"}}"#;
+    let first = format!(in alloc; "[{nameless},{ALICE}]")?;
     expect_faulty_users(&rt, alloc, &first, "users: item 1")?;
-    let second = format!(in alloc; "[{ALICE},{GROUP}]")?;
-    expect_faulty_users(&rt, alloc, &second, "users: item 2")
+    let second = format!(in alloc; "[{GROUP},{nameless}]")?;
+    expect_faulty_users(&rt, alloc, &second, "users: item 2")?;
+    let repeated = format!(in alloc; "[{GROUP},{ALICE},{GROUP}]")?;
+    expect_faulty_users(&rt, alloc, &repeated, "users: item 3")?;
+    let later = format!(in alloc; "[{ALICE},{GROUP},null]")?;
+    expect_faulty_users(&rt, alloc, &later, "users: item 3")
 }
 
 #[test]

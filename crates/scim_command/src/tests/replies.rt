@@ -57,6 +57,14 @@ fn the_absent_and_the_unseen_are_told_alike(rt: HostRuntime) -> Result<(), Fail>
         ("nobody", GET_ALICE),
         ("HR", GET_ALICE),
         (
+            "mail",
+            "GET /Users/00000000-0000-4000-8000-00000000000b HTTP/1.1\r\n\r\n",
+        ),
+        (
+            "mail",
+            "GET /Users/00000000-0000-4000-8000-00000000000d HTTP/1.1\r\n\r\n",
+        ),
+        (
             "hr",
             "GET /Users/00000000-0000-4000-8000-00000000000d HTTP/1.1\r\n\r\n",
         ),

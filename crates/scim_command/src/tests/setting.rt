@@ -6,14 +6,19 @@ use std::test::Fail;
 
 pub(super) const BASE: &str = "http://127.0.0.1:8080";
 
-/// Lets `hr` read all, `mail` names and addresses, and `mover` departments.
+/// Lets `hr` read all, `mail` names and addresses of all but contractors, and `mover` departments, and
+/// titles at the desk.
 pub(super) const POLICY: &str = r#"{"version":1,"rules":[
 {"allow":true,"clients":["hr"],"ops":["read","create","modify","delete"],
  "types":["User","Group"],"paths":["*"]},
+{"allow":false,"clients":["mail"],"ops":["read"],"types":["User"],
+ "target":"userType eq \"Contractor\"","paths":["*"]},
 {"allow":true,"clients":["mail"],"ops":["read"],"types":["User"],
  "paths":["id","userName","emails"]},
 {"allow":true,"clients":["mover"],"ops":["read","modify"],
- "types":["User"],"paths":["id","department","externalId"]}]}
+ "types":["User"],"paths":["id","department","externalId"]},
+{"allow":true,"clients":["mover"],"ops":["read"],"types":["User"],
+ "target":"department eq \"Desk\"","paths":["title"]}]}
 "#;
 
 /// Alice, Bob and straße, whose ids end in a, b and c.

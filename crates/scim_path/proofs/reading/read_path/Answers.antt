@@ -25,9 +25,9 @@ returns-in-Some-2 c =
     let path : WrittenPath = c.in-Some-2.path in
     let found : (length c.args.text.now ≤ 4096) × IsWritten c.args.kind 32 c.args.text.now (written_of path) = rw c.in-Some-2.is at c.in_ok-path.ensures.found in
     let reads : Reads c.args.kind c.args.text.now (target_read c.written.result) = subst (Reads c.args.kind c.args.text.now) (sym c.written.ensures) (spelled (written_of path) found.0 found.1) in
-    as_result c.args.kind c.args.text.now c.written.result (names_what_it_reads c.args.kind c.args.text.now _ (sym c.extension.ensures ∙ c.in_default.is) reads)
+    as_result c.args.kind c.args.text.now c.written.result (names_what_it_reads c.args.kind c.args.text.now _ (sym c.extension_named.ensures ∙ c.in_default.is) reads)
 
 pub returns-in-None : goal.returns-in-None
 returns-in-None c =
     let unread : (w : Written) → length c.args.text.now ≤ 4096 → ¬ (IsWritten c.args.kind 32 c.args.text.now w) = rw c.in-None.is at c.in_ok-path.ensures.only in
-    inr (names_what_it_reads c.args.kind c.args.text.now (Err Syntax) (sym c.extension.ensures ∙ c.in_default.is) (unspelled unread))
+    inr (names_what_it_reads c.args.kind c.args.text.now (Err Syntax) (sym c.extension_named.ensures ∙ c.in_default.is) (unspelled unread))

@@ -5,7 +5,7 @@ use Rattle.scim_view.proofs.projection.project.Goals as goal
 
 pub returns-then-shows_all : goal.returns-then-shows_all
 returns-then-shows_all c =
-    shown_whole c.args.wanted c.args.visible c.rows.ensures.valid (sym (rw (c.rows.ensures.rows, c.kind.ensures) at c.shows_all.ensures) ∙ c.if-shows_all.true)
+    shown_whole c.args.wanted.now c.args.visible c.rows.ensures.valid (sym (rw (c.rows.ensures.rows, c.kind.ensures) at c.shows_all.ensures) ∙ c.if-shows_all.true)
 
 pub returns-else-shows_all : goal.returns-else-shows_all
 unfolding shown

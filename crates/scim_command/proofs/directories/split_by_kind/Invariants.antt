@@ -1,0 +1,10 @@
+use Rattle.std.proofs.Common.{◌≡◌}
+use Rattle.scim_schema.specs.declared.Kind.TheVariants.{User}
+use Rattle.scim_command.specs.Directories.{of_kind, groups_among}
+use Rattle.scim_command.proofs.directories.split_by_kind.Given as goal
+
+abbrev pub invariant-loop-resource : goal.invariant-loop-resource
+invariant-loop-resource l = record {
+  users : l.users.items ≡ of_kind User l.yielded;
+  groups : l.groups.items ≡ groups_among l.yielded;
+}

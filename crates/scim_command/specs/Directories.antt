@@ -1,0 +1,46 @@
+-- The resources of a users file: their order, those of a kind, and the one that a segment names.
+use Rattle.std.specs.Prelude.{◌≡◌, ℕ, Bool, ◌&&◌, List, filter, find, nat_eq, Option}
+use Rattle.std.specs.declared.cmp.Ordering.{Ordering}
+use Rattle.std.specs.Ordering.{nat_cmp}
+use Rattle.std.specs.Cmp.Lexicographic.{pointwise, slice_cmp}
+use Rattle.std.specs.List.Sorted.{IsPermutation, IsSorted}
+use denote.Enum.Bare.{sameb}
+use Rattle.scim_schema.specs.declared.Kind.{Kind}
+use Rattle.scim_schema.specs.declared.Kind.TheVariants.{User, Group}
+use Rattle.scim_schema.specs.contracts.Kind.{the_type as the_kind}
+use Rattle.scim_value.specs.Content.{Content}
+use Rattle.scim_value.specs.Ids.{id_text}
+use Rattle.scim_command.specs.declared.directories.Directory.{Directory}
+
+-- the order of resources by id
+abbrev pub id_cmp : Content → Content → Ordering
+id_cmp a b = slice_cmp nat_cmp a.id b.id
+
+-- the second list is the first in order of id
+pub record IsInOrder (cs sorted : List Content) : Type 0 where
+  pub members : IsPermutation cs sorted
+  pub in_order : IsSorted id_cmp sorted
+
+-- whether a resource is of the kind
+abbrev pub is_of : Kind → Content → Bool
+is_of kind c = sameb the_kind c.kind kind
+
+-- the resources of the kind, in the order of the list
+abbrev pub of_kind : Kind → List Content → List Content
+of_kind kind cs = filter (is_of kind) cs
+
+abbrev pub groups_among : List Content → List Content
+groups_among cs = of_kind Group cs
+
+-- whether a resource is that of the kind which the segment names by its id
+abbrev pub is_named : Kind → List ℕ → Content → Bool
+is_named kind segment c = is_of kind c && pointwise nat_eq (id_text c.id) segment
+
+-- the resource of the kind that the segment names
+abbrev pub found : Kind → List ℕ → List Content → Option Content
+found kind segment cs = find (is_named kind segment) cs
+
+-- the directory keeps these resources, users and groups apart
+pub record Holds (d : Directory) (cs : List Content) : Type 0 where
+  pub users : d.users.items ≡ of_kind User cs
+  pub groups : d.groups.items ≡ groups_among cs

@@ -1,0 +1,112 @@
+//! The resources of a users file, and those of them that are asked for.
+ghost use Rattle.std.specs.Prelude.{◌≡◌, ℕ, List, OnOk, IfOk, IfSome, IfNone};
+ghost use Rattle.std.specs.Option.{option_copied};
+ghost use Rattle.scim_value.specs.Content.{Content};
+ghost use Rattle.scim_value.specs.Ids.{IsId, id_text};
+ghost use Rattle.scim_command.specs.Directories as spec;
+
+use scim_schema::Kind;
+use scim_text::NoMemory;
+use scim_value::ids::Id;
+use scim_value::resources::Resource;
+use std::alloc::Global;
+
+/// The resources of a users file, each kind in order of id.
+#[derive(Drop)]
+pub(crate) struct Directory {
+    users: Vec<Resource>,
+    groups: Vec<Resource>,
+}
+
+impl Directory {
+    /// The directory of these resources, which may come in any order. NoMemory where none was to be had.
+    pub(crate) fn of(alloc: Global, mut resources: Vec<Resource>) -> Result<Directory, NoMemory>
+        ensures { IfOk result (λ d. (sorted : List Content)
+            × spec.IsInOrder resources.items sorted × spec.Holds d sorted) }
+    {
+        sort_by_id(&mut resources)?;
+        split_by_kind(alloc, resources)
+    }
+
+    /// The groups, in order of id.
+    pub(crate) fn groups(&self) -> &[Resource]
+        ensures { (cs : List Content) → spec.Holds self.now cs → result.now ≡ spec.groups_among cs }
+    {
+        self.of_kind(Kind::Group)
+    }
+
+    /// The resource of the kind that the segment names by its id.
+    pub(crate) fn found(&self, kind: Kind, segment: &[u8]) -> Option<&Resource>
+        ensures { (cs : List Content) → spec.Holds self.now cs
+            → option_copied result ≡ spec.found kind segment.now cs }
+    {
+        let id = id_of(segment)?;
+        with_id(self.of_kind(kind), kind, id)
+    }
+
+    /// The resources of the kind, in order of id.
+    fn of_kind(&self, kind: Kind) -> &[Resource]
+        ensures { (cs : List Content) → spec.Holds self.now cs → result.now ≡ spec.of_kind kind cs }
+    {
+        match kind {
+            Kind::User => self.users.as_slice(),
+            Kind::Group => self.groups.as_slice(),
+        }
+    }
+}
+
+/// Puts resources in order of id. NoMemory where none was to be had.
+fn sort_by_id(resources: &mut Vec<Resource>) -> Result<(), NoMemory>
+    ensures { OnOk result (spec.IsInOrder resources.old.items resources.new.items) }
+{
+    resources.sort_by(|a, b| a.id().cmp(&b.id()))?;
+    Ok(())
+}
+
+/// Puts users and groups apart, each in the order that they come in. NoMemory where none was to be had.
+fn split_by_kind(alloc: Global, resources: Vec<Resource>) -> Result<Directory, NoMemory>
+    ensures { IfOk result (λ d. spec.Holds d resources.items) }
+{
+    let mut users = Vec::new(alloc);
+    let mut groups = Vec::new(alloc);
+    for resource in resources {
+        match resource.kind() {
+            Kind::User => users.push(resource)?,
+            Kind::Group => groups.push(resource)?,
+        }
+    }
+    Ok(Directory { users, groups })
+}
+
+/// The id that the segment is the text of.
+fn id_of(segment: &[u8]) -> Option<Id>
+    ensures id { IfSome result (λ id. IsId id × (segment.now ≡ id_text id)) }
+    ensures none { IfNone result ((id : List ℕ) → segment.now ≡ id_text id → ⊥) }
+{
+    match str::from_utf8(segment) {
+        Ok(text) => Id::read(text),
+        Err(_) => None,
+    }
+}
+
+/// The resource of the kind that has the id.
+fn with_id(resources: &[Resource], kind: Kind, id: Id) -> Option<&Resource>
+    requires { IsId id }
+    ensures { option_copied result ≡ spec.found kind (id_text id) resources.now }
+{
+    for resource in resources {
+        if is_named(resource, kind, id) {
+            return Some(resource);
+        }
+    }
+    None
+}
+
+/// Whether the resource is of the kind and has the id.
+fn is_named(resource: &Resource, kind: Kind, id: Id) -> bool
+    requires { IsId id }
+    ensures { result ≡ spec.is_named kind (id_text id) resource.now }
+{
+    let part = resource.part();
+    part.kind() == kind && part.id() == id
+}

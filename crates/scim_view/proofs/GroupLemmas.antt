@@ -1,0 +1,306 @@
+-- Groups as they are seen, and the values of `groups` that are made of them.
+use Rattle.std.proofs.Common.{◌≡◌, refl, sym, ◌∙◌, ap, ℕ, zero, Bool, true, false, ◌&&◌, ◌||◌, inl, inr, List, [], ◌∷◌, ◌++◌, map, filter, lit<}
+use Rattle.std.specs.Prelude.{not, All, Option, None, Some, if◌then◌else◌}
+use Rattle.std.specs.List.{list_any}
+use Rattle.std.proofs.lemmas.Bool.{cases_Bool}
+use Rattle.std.proofs.lemmas.List.{map-append}
+use Rattle.std.proofs.lemmas.List.Elements.{All-head, All-tail, All-map, All-filter, All-weaker, filter-append, filter_passes}
+use Rattle.std.proofs.lemmas.List.Kept.{AllPairs-filter}
+use Rattle.std.specs.Ordering.{is_lt, is_eq, is_gt}
+use Rattle.std.proofs.Math.Path.{fun_ext}
+use denote.Enum.Bare.{sameb, true_same}
+use denote.Ref.{Bor}
+use Rattle.scim_schema.specs.contracts.Kind.{the_type as the_kind}
+use Rattle.scim_schema.specs.declared.Kind.{Kind}
+use Rattle.scim_schema.specs.declared.Kind.TheVariants.{User}
+use Rattle.scim_schema.specs.declared.Leaf.{Leaf}
+use Rattle.scim_schema.specs.declared.Op.TheVariants.{Read}
+use Rattle.scim_schema.specs.declared.Unit.{Unit as AttributeUnit}
+use Rattle.scim_schema.specs.declared.Attribute.TheVariants.{Id, DisplayName, Groups, Members}
+use Rattle.scim_schema.specs.declared.SubAttribute.TheVariants.{Value}
+use Rattle.scim_schema.specs.Characteristics.{is_multi_valued}
+use Rattle.scim_schema.specs.Units.{simple, leaf_at, whole, unit_of}
+use Rattle.scim_schema.proofs.LeafLemmas.{leaf_one}
+use Rattle.scim_value.specs.declared.rows.Field.{Field}
+use Rattle.scim_value.specs.Content.{Content, IsPart}
+use Rattle.scim_value.specs.Ids.{id_text}
+use Rattle.scim_value.specs.Place.{unit_cmp}
+use Rattle.scim_value.specs.Rows.{Row, Test, rows, values, put_values, restricted_row, restricted, content, is_leaf, atom_in, atom_at, cell_at, is_empty, has_fields, IsSoundField, IsSoundRow, AreValues}
+use Rattle.scim_value.proofs.FieldLemmas.{sound-AreRising}
+use Rattle.scim_value.proofs.OfLemmas.{sound_part}
+use Rattle.scim_value.proofs.OrderLemmas.{unit_same}
+use Rattle.scim_value.proofs.SoundLemmas.{PartsRise, restricted_sound}
+use Rattle.scim_value.proofs.TieLemmas.{rows_content}
+use Rattle.scim_policy.specs.declared.rules.Decision.{Decision}
+use Rattle.scim_policy.specs.Rules.{Rule}
+use Rattle.scim_policy.specs.Decide.{decide}
+use Rattle.scim_view.specs.declared.groups.SeenGroup.{SeenGroup}
+use Rattle.scim_view.specs.View.{is_write_only, may_be_seen, visible_by, view_by}
+use Rattle.scim_view.specs.Groups as spec
+use Rattle.scim_view.specs.Groups.{is_text, lists, and_those, seen, text_in, display_of, membership_of, membership, membership_at, memberships}
+use Rattle.scim_view.specs.Memberships.{kept_of, kept_where_shown, kept_where_listed, kept_groups}
+
+-- whether a leaf of the kind may be seen by these decisions
+abbrev pub shows : (Leaf → Decision) → Kind → Leaf → Bool
+shows d kind l = not (is_write_only kind l) && (d l).allow
+
+-- what a test leaves of the rows of some units
+restricted_filter : (keeps : Test) (p : AttributeUnit → Bool) (rs : List Row) → restricted keeps (filter (λ (r : Row). p r.unit) rs) ≡ filter (λ (r : Row). p r.unit) (restricted keeps rs)
+restricted_filter keeps p [] = refl
+restricted_filter keeps p (r ∷ rs) =
+    let ih = restricted_filter keeps p rs in
+    elim (cases_Bool (p r.unit)) [
+      | inl t ↦ elim (cases_Bool (has_fields (restricted_row keeps r))) [
+        | inl f ↦ rw (t, f, t) (ap (λ xs. restricted_row keeps r ∷ xs) ih)
+        | inr f ↦ rw (t, f) ih
+      ]
+      | inr n ↦ elim (cases_Bool (has_fields (restricted_row keeps r))) [
+        | inl f ↦ rw (n, f, n) ih
+        | inr f ↦ rw (n, f) ih
+      ]
+    ]
+
+restricted-append : (keeps : Test) (xs ys : List Row) → restricted keeps (xs ++ ys) ≡ restricted keeps xs ++ restricted keeps ys
+restricted-append keeps xs ys =
+    ap (filter has_fields) (map-append (restricted_row keeps) xs ys) ∙ filter-append has_fields (map (restricted_row keeps) xs) (map (restricted_row keeps) ys)
+
+-- what a test leaves of rows with other values for a unit
+pub restricted-put_values : (keeps : Test) (u : AttributeUnit) (vs rs : List Row) → restricted keeps (put_values u vs rs) ≡ put_values u (restricted keeps vs) (restricted keeps rs)
+restricted-put_values keeps u vs rs =
+    let before : List Row = filter (λ (r : Row). is_lt (unit_cmp r.unit u)) rs in
+    let later : List Row = filter (λ (r : Row). is_gt (unit_cmp r.unit u)) rs in
+    let lows = restricted_filter keeps (λ (v : AttributeUnit). is_lt (unit_cmp v u)) rs in
+    let highs = restricted_filter keeps (λ (v : AttributeUnit). is_gt (unit_cmp v u)) rs in
+    restricted-append keeps before (vs ++ later)
+    ∙ (λ i. lows i ++ (restricted-append keeps vs later ∙ ap (λ (xs : List Row). restricted keeps vs ++ xs) highs) i)
+
+values-restricted : (keeps : Test) (u : AttributeUnit) (rs : List Row) → values u (restricted keeps rs) ≡ restricted keeps (values u rs)
+values-restricted keeps u rs = sym (restricted_filter keeps (λ (v : AttributeUnit). is_eq (unit_cmp v u)) rs)
+
+-- the atom of a leaf among the fields that are kept
+kept_atom : (keep : Leaf → Bool) (l : Leaf) (fs : List Field) → keep l ≡ true → atom_in l (filter (λ (f : Field). keep f.leaf) fs) ≡ atom_in l fs
+kept_atom keep l [] h = refl
+kept_atom keep l (f ∷ fs) h =
+    let ih = kept_atom keep l fs h in
+    elim (cases_Bool (is_leaf l f.leaf)) [
+      | inl t ↦
+          let k : keep f.leaf ≡ true = ap keep (leaf_one f.leaf l t) ∙ h in
+          rw (k, t) refl
+      | inr n ↦ elim (cases_Bool (keep f.leaf)) [ inl k ↦ rw (k, n) ih | inr k ↦ rw (k, n) ih ]
+    ]
+
+dropped_atom : (keep : Leaf → Bool) (l : Leaf) (fs : List Field) → keep l ≡ false → atom_in l (filter (λ (f : Field). keep f.leaf) fs) ≡ None
+dropped_atom keep l [] h = refl
+dropped_atom keep l (f ∷ fs) h =
+    let ih = dropped_atom keep l fs h in
+    elim (cases_Bool (is_leaf l f.leaf)) [
+      | inl t ↦
+          let k : keep f.leaf ≡ false = ap keep (leaf_one f.leaf l t) ∙ h in
+          rw k ih
+      | inr n ↦ elim (cases_Bool (keep f.leaf)) [ inl k ↦ rw (k, n) ih | inr k ↦ rw k ih ]
+    ]
+
+no_atom : (l : Leaf) (fs : List Field) → not (is_empty fs) ≡ false → atom_in l fs ≡ None
+no_atom l [] h = refl
+no_atom l (f ∷ fs) h = cc
+
+-- a text among the rows that are left
+text_kept : (keep : Leaf → Bool) (l : Leaf) (t : List ℕ) (rs : List Row) → keep l ≡ true
+    → list_any (λ (m : Row). is_text t (atom_in l m.fields)) (restricted (λ r k. keep k) rs) ≡ list_any (λ (m : Row). is_text t (atom_in l m.fields)) rs
+text_kept keep l t [] h = refl
+text_kept keep l t (r ∷ rs) h =
+    let ih = text_kept keep l t rs h in
+    let own = kept_atom keep l r.fields h in
+    elim (cases_Bool (has_fields (restricted_row (λ s k. keep k) r))) [
+      | inl f ↦ rw f (λ i. is_text t (own i) || ih i)
+      | inr f ↦
+          let none : atom_in l r.fields ≡ None = sym own ∙ no_atom l _ f in
+          rw f (ih ∙ sym (ap (λ o. is_text t o || list_any (λ (m : Row). is_text t (atom_in l m.fields)) rs) none))
+    ]
+
+text_dropped : (keep : Leaf → Bool) (l : Leaf) (t : List ℕ) (rs : List Row) → keep l ≡ false
+    → list_any (λ (m : Row). is_text t (atom_in l m.fields)) (restricted (λ r k. keep k) rs) ≡ false
+text_dropped keep l t [] h = refl
+text_dropped keep l t (r ∷ rs) h =
+    let ih = text_dropped keep l t rs h in
+    let own = dropped_atom keep l r.fields h in
+    elim (cases_Bool (has_fields (restricted_row (λ s k. keep k) r))) [
+      | inl f ↦ rw f (λ i. is_text t (own i) || ih i)
+      | inr f ↦ rw f ih
+    ]
+
+text_left : (keep : Leaf → Bool) (l : Leaf) (t : List ℕ) (rs : List Row)
+    → list_any (λ (m : Row). is_text t (atom_in l m.fields)) (restricted (λ r k. keep k) rs) ≡ keep l && list_any (λ (m : Row). is_text t (atom_in l m.fields)) rs
+text_left keep l t rs = elim (cases_Bool (keep l)) [ inl h ↦ rw h (text_kept keep l t rs h) | inr h ↦ rw h (text_dropped keep l t rs h) ]
+
+-- the rows of what is visible
+pub visible_rows : (d : Leaf → Decision) (c : Content) → IsPart c → rows (visible_by d c) ≡ restricted (may_be_seen d c.kind) (rows c)
+unfolding visible_by
+visible_rows d c valid = rows_content c.kind c.id _ (restricted_sound c.kind (may_be_seen d c.kind) (rows c) (sound_part c valid))
+
+pub visible_kind : (d : Leaf → Decision) (c : Content) → (visible_by d c).kind ≡ c.kind
+unfolding visible_by
+visible_kind d c = refl
+
+-- a group as it may be seen lists what it lists, where the values of its members may be seen
+pub lists_visible : (d : Leaf → Decision) (id : List ℕ) (g : Content) → IsPart g → lists id (visible_by d g) ≡ shows d g.kind (leaf_at Members Value) && lists id g
+lists_visible d id g valid =
+    let any : List Row → Bool = list_any (λ (m : Row). is_text (id_text id) (atom_in (leaf_at Members Value) m.fields)) in
+    ap (λ (rs : List Row). any (values (whole Members) rs)) (visible_rows d g valid)
+    ∙ ap any (values-restricted (may_be_seen d g.kind) (whole Members) (rows g))
+    ∙ text_left (shows d g.kind) (leaf_at Members Value) (id_text id) (values (whole Members) (rows g))
+
+-- a unit that is a leaf has no other leaf
+one_leaf : (l m : Leaf) → is_multi_valued l.attribute ≡ false → unit_of m ≡ unit_of l → m ≡ l
+one_leaf l m n e =
+    let a : m.attribute ≡ l.attribute = ap (λ (u : AttributeUnit). u.attribute) e in
+    let k : is_multi_valued m.attribute ≡ false = ap is_multi_valued a ∙ n in
+    let p : (if is_multi_valued m.attribute then None else m.sub_attribute) ≡ (if is_multi_valued l.attribute then None else l.sub_attribute) = ap (λ (u : AttributeUnit). u.sub_attribute) e in
+    let q : m.sub_attribute ≡ l.sub_attribute = rw (k, n) at p in
+    λ i. record { attribute = a i; sub_attribute = q i }
+
+kept_some : (keep : Leaf → Bool) (l : Leaf) (fs : List Field) → keep l ≡ true → All (λ f. f.leaf ≡ l) fs → not (is_empty fs) ≡ true → not (is_empty (filter (λ (f : Field). keep f.leaf) fs)) ≡ true
+kept_some keep l [] h a full = full
+kept_some keep l (f ∷ fs) h a full =
+    let k : keep f.leaf ≡ true = ap keep (All-head (λ (f : Field). f.leaf ≡ l) f fs a) ∙ h in
+    rw k refl
+
+-- the first cell of a leaf that is a unit of its own, where it is kept and where it isn't
+kept_cell : (kind : Kind) (keep : Leaf → Bool) (l : Leaf) (rs : List Row) → is_multi_valued l.attribute ≡ false → keep l ≡ true → All (λ r. has_fields r ≡ true) rs → All (IsSoundRow kind) rs
+    → atom_at l zero (restricted (λ r k. keep k) (values (unit_of l) rs)) ≡ atom_at l zero (values (unit_of l) rs)
+kept_cell kind keep l [] n h full own = refl
+kept_cell kind keep l (r ∷ rs) n h full own =
+    let first = All-head (IsSoundRow kind) r rs own in
+    elim (cases_Bool (is_eq (unit_cmp r.unit (unit_of l)))) [
+      | inl t ↦
+          let one : All (λ f. f.leaf ≡ l) r.fields = All-weaker (IsSoundField kind r.unit) (λ f. f.leaf ≡ l) (λ f s. one_leaf l f.leaf n (s.0 ∙ unit_same r.unit (unit_of l) t)) r.fields first.own in
+          let some : has_fields (restricted_row (λ s k. keep k) r) ≡ true = kept_some keep l r.fields h one (All-head (λ (r : Row). has_fields r ≡ true) r rs full) in
+          rw (t, some) (kept_atom keep l r.fields h)
+      | inr t ↦ rw t (kept_cell kind keep l rs n h (All-tail (λ (r : Row). has_fields r ≡ true) r rs full) (All-tail (IsSoundRow kind) r rs own))
+    ]
+
+dropped_cell : (keep : Leaf → Bool) (l : Leaf) (rs : List Row) → keep l ≡ false → atom_at l zero (restricted (λ r k. keep k) rs) ≡ None
+dropped_cell keep l [] h = refl
+dropped_cell keep l (r ∷ rs) h =
+    elim (cases_Bool (has_fields (restricted_row (λ s k. keep k) r))) [
+      | inl f ↦ rw f (dropped_atom keep l r.fields h)
+      | inr f ↦ rw f (dropped_cell keep l rs h)
+    ]
+
+visible_name : (d : Leaf → Decision) (g : Content) → IsPart g → display_of (visible_by d g) ≡ text_in (atom_at (simple DisplayName) zero (restricted (may_be_seen d g.kind) (values (unit_of (simple DisplayName)) (rows g))))
+visible_name d g valid =
+    ap (λ (rs : List Row). text_in (cell_at (simple DisplayName) zero rs)) (visible_rows d g valid)
+    ∙ ap (λ (rs : List Row). text_in (atom_at (simple DisplayName) zero rs)) (values-restricted (may_be_seen d g.kind) (unit_of (simple DisplayName)) (rows g))
+
+-- the name of a group as it may be seen
+pub shown_name : (d : Leaf → Decision) (g : Content) → IsPart g → shows d g.kind (simple DisplayName) ≡ true → display_of (visible_by d g) ≡ display_of g
+shown_name d g valid h =
+    let sound = sound_part g valid in
+    visible_name d g valid ∙ ap text_in (kept_cell g.kind (shows d g.kind) (simple DisplayName) (rows g) refl h sound.full sound.own)
+
+pub hidden_name : (d : Leaf → Decision) (g : Content) → IsPart g → shows d g.kind (simple DisplayName) ≡ false → display_of (visible_by d g) ≡ None
+hidden_name d g valid h = visible_name d g valid ∙ ap text_in (dropped_cell (shows d g.kind) (simple DisplayName) (values (unit_of (simple DisplayName)) (rows g)) h)
+
+-- what is kept of a group that lists an id is what is kept of it as it may be seen
+pub kept_listed : (d : Leaf → Decision) (id : List ℕ) (g : Content) → IsPart g → lists id g ≡ true → kept_where_shown d g ≡ kept_where_listed id (view_by d g)
+unfolding view_by
+kept_listed d id g valid h =
+    let members = leaf_at Members Value in
+    elim (cases_Bool (d (simple Id)).allow) [
+      | inl seen ↦ elim (cases_Bool (shows d g.kind members)) [
+        | inl shown ↦
+            let listed : lists id (visible_by d g) ≡ true = lists_visible d id g valid ∙ (λ i. shown i && h i) in
+            rw (seen, shown, listed) refl
+        | inr hidden ↦
+            let unlisted : lists id (visible_by d g) ≡ false = lists_visible d id g valid ∙ (λ i. hidden i && h i) in
+            rw (seen, hidden, unlisted) refl
+      ]
+      | inr unseen ↦ rw unseen refl
+    ]
+
+and_false : (b : Bool) → b && false ≡ false
+and_false true = refl
+and_false false = refl
+
+-- and of one that doesn't list it nothing
+pub kept_unlisted : (d : Leaf → Decision) (id : List ℕ) (g : Content) → IsPart g → lists id g ≡ false → kept_where_listed id (view_by d g) ≡ None
+unfolding view_by
+kept_unlisted d id g valid h =
+    let unlisted : lists id (visible_by d g) ≡ false = lists_visible d id g valid ∙ ap (λ (b : Bool). shows d g.kind (leaf_at Members Value) && b) h ∙ and_false _ in
+    elim (cases_Bool (d (simple Id)).allow) [ inl seen ↦ rw (seen, unlisted) refl | inr unseen ↦ rw unseen refl ]
+
+-- what is kept of groups, one before others
+pub kept_first : (id : List ℕ) (o : Option Content) (gs : List Content)
+    → map kept_of (filter (lists id) (and_those o gs)) ≡ and_those (kept_where_listed id o) (map kept_of (filter (lists id) gs))
+kept_first id None gs = refl
+kept_first id (Some g) gs = elim (cases_Bool (lists id g)) [ inl t ↦ rw t refl | inr n ↦ rw n refl ]
+
+-- a value of `groups` is sound, and so is what is left of it
+membership_sound : (base id : List ℕ) (name : Option (List ℕ)) → IsSoundRow User (membership_of base id name)
+membership_sound base id None =
+    sound-AreRising User (membership_of base id None)
+    ((refl, (43, lit< tt, refl), tt), tt, ((refl, (44, lit< tt, refl), tt), lit< tt, ((refl, (46, lit< tt, refl), tt), lit< tt, tt)))
+membership_sound base id (Some name) =
+    sound-AreRising User (membership_of base id (Some name))
+    ((refl, (43, lit< tt, refl), tt), tt, ((refl, (44, lit< tt, refl), tt), lit< tt, ((refl, (45, lit< tt, refl), tt), lit< tt, ((refl, (46, lit< tt, refl), tt), lit< tt, tt))))
+
+abbrev IsOwn : Row → Type 0
+IsOwn r = (r.unit ≡ whole Groups) × IsSoundRow User r
+
+restricted_own : (keeps : Test) (r : Row) → IsOwn r → IsOwn (restricted_row keeps r)
+restricted_own keeps r h = (
+  h.0,
+  record {
+    own = All-filter (λ (f : Field). keeps r f.leaf) (IsSoundField User r.unit) r.fields h.1.own;
+    in_order = AllPairs-filter PartsRise (λ (f : Field). keeps r f.leaf) r.fields h.1.in_order;
+  },
+)
+
+-- the values of `groups` that are left may be put in
+pub membership_values : (keeps : Test) (base : List ℕ) (gs : List (Bor SeenGroup)) → AreValues User (whole Groups) (restricted keeps (map (membership_at base) gs))
+membership_values keeps base gs =
+    let made : All IsOwn (map (membership_at base) gs) = All-map IsOwn (membership_at base) gs (λ k d l. (refl, membership_sound base _ _)) in
+    let left : List Row = map (restricted_row keeps) (map (membership_at base) gs) in
+    let own : All IsOwn left = All-map IsOwn (restricted_row keeps) (map (membership_at base) gs) (All-weaker IsOwn (λ r. IsOwn (restricted_row keeps r)) (restricted_own keeps) (map (membership_at base) gs) made) in
+    let some = filter_passes has_fields left in
+    let kept : All IsOwn (filter has_fields left) = All-filter has_fields IsOwn left own in
+    record { few = inl refl; own = λ k d l. ((kept k d l).0, some k d l, (kept k d l).1) }
+
+-- what is visible of a user, with values of `groups`
+pub user_visible : (d : Leaf → Decision) (ms : List Row) (c : Content) → IsPart c → c.kind ≡ User
+    → content (visible_by d c).kind (visible_by d c).id (put_values (whole Groups) (restricted (may_be_seen d User) ms) (rows (visible_by d c))) ≡ spec.visible_with d ms c
+unfolding spec.visible_with visible_by
+user_visible d ms c valid e =
+    let user : sameb the_kind c.kind User ≡ true = true_same the_kind c.kind User e in
+    rw user (ap (λ (rs : List Row). content c.kind c.id rs)
+    ((λ i. put_values (whole Groups) (restricted (may_be_seen d (sym e i)) ms) (visible_rows d c valid i))
+    ∙ sym (restricted-put_values (may_be_seen d c.kind) (whole Groups) ms (rows c))))
+
+-- and of another resource
+pub other_visible : (d : Leaf → Decision) (ms : List Row) (c : Content) → sameb the_kind c.kind User ≡ false → spec.visible_with d ms c ≡ visible_by d c
+unfolding spec.visible_with visible_by
+other_visible d ms c n = rw n refl
+
+map_kept : (base : List ℕ) (gs : List Content) → map (λ (g : SeenGroup). membership_of base g.id g.display) (map kept_of gs) ≡ map (membership base) gs
+map_kept base [] = refl
+map_kept base (g ∷ gs) = ap (λ xs. membership base g ∷ xs) (map_kept base gs)
+
+-- the same of references to them
+pub map_lent : (base : List ℕ) (gs : List (Bor SeenGroup)) → map (λ (g : SeenGroup). membership_of base g.id g.display) (map (λ (g : Bor SeenGroup). g.now) gs) ≡ map (membership_at base) gs
+map_lent base [] = refl
+map_lent base (g ∷ gs) = ap (λ xs. membership_at base g ∷ xs) (map_lent base gs)
+
+-- what is kept of groups makes what is visible with them
+pub kept_visible : (d : Leaf → Decision) (policy : List Rule) (client base : List ℕ) (gs : List Content) (c : Content)
+    → spec.visible_with d (map (λ (g : SeenGroup). membership_of base g.id g.display) (kept_groups policy client gs c)) c ≡ spec.visible_with d (memberships base (seen policy client gs) c.id) c
+kept_visible d policy client base gs c = elim (cases_Bool (sameb the_kind c.kind User)) [
+  | inl t ↦ ap (λ (ms : List Row). spec.visible_with d ms c) (rw t (map_kept base (filter (lists c.id) (seen policy client gs))))
+  | inr n ↦ other_visible d _ c n ∙ sym (other_visible d _ c n)
+]
+
+-- decisions that are those of the policy show the same
+pub same_with_groups : (d : Leaf → Decision) (policy : List Rule) (client base : List ℕ) (gs : List Content) (c : Content) → ((l : Leaf) → d l ≡ decide policy client Read c l)
+    → spec.visible_with d (map (λ (g : SeenGroup). membership_of base g.id g.display) (kept_groups policy client gs c)) c ≡ spec.with_groups policy client base gs c
+unfolding spec.with_groups
+same_with_groups d policy client base gs c same =
+    kept_visible d policy client base gs c ∙ ap (λ (f : Leaf → Decision). spec.visible_with f (memberships base (seen policy client gs) c.id) c) (fun_ext same)

@@ -1,0 +1,141 @@
+-- What an index of groups holds, as groups are added, and what it gives.
+use Rattle.std.proofs.Common.{◌≡◌, refl, sym, ◌∙◌, ap, subst, ℕ, ◌+◌, ◌-◌, ◌<◌, Bool, true, false, ◌||◌, cond, List, [], ◌∷◌, ◌++◌, append_assoc, map, filter, length, inl, inr, arith}
+use Rattle.std.specs.Prelude.{All, Option, None, Some, nat_eq, if◌then◌else◌}
+use Rattle.std.specs.List.{list_any, slice_get}
+use Rattle.std.specs.Option.{option_eq, option_copied}
+use Rattle.std.proofs.lemmas.Bool.{cases_Bool, ne_eqb, eq-eqb}
+use Rattle.std.proofs.lemmas.List.{length_push, length-map, map_push}
+use Rattle.std.proofs.lemmas.List.Elements.{All-nil, All-cons, All-weaker}
+use denote.Ref.{Bor}
+use Rattle.std.specs.Slice.{IsItemAt}
+use Rattle.std.proofs.lemmas.Option.{slice_get_past, slice_get-get_or, slice_get_within, get_or_from_slice_get}
+use Rattle.scim_value.specs.Content.{Content}
+use Rattle.scim_value.specs.Ids.{IsId}
+use Rattle.scim_policy.specs.Rules.{Rule}
+use Rattle.scim_view.specs.declared.groups.SeenGroup.{SeenGroup}
+use Rattle.scim_view.specs.declared.index.GroupIndex.{GroupIndex}
+use Rattle.scim_view.specs.View.{view}
+use Rattle.scim_view.specs.Groups.{lists, and_those, seen}
+use Rattle.scim_view.specs.Index.{ends_in, noted, at_positions, positions_of, kept, Indexes, positions_from, Holds}
+
+-- an element that was added at the end stands there
+at_end : {X : Type 0} (xs : List X) (x : X) (ys : List X) → slice_get (xs ++ x ∷ ys) (length xs) ≡ Some x
+at_end [] x ys = refl
+at_end (y ∷ xs) x ys = at_end xs x ys
+
+ends_in_itself : (p : ℕ) (ps : List ℕ) → ends_in p (ps ++ p ∷ []) ≡ true
+ends_in_itself p ps =
+    let last : length (ps ++ p ∷ []) - 1 ≡ length ps = omega (arith, length_push ps p) in
+    rw (last, at_end ps p []) (eq-eqb p p refl)
+
+-- a position that is noted twice stands there once
+pub noted_twice : (p : ℕ) (ps : List ℕ) → noted p (noted p ps) ≡ noted p ps
+noted_twice p ps =
+    elim (cases_Bool (ends_in p ps)) [
+      | inl t ↦ rw (t, t) refl
+      | inr n ↦ rw n (rw (ends_in_itself p ps) refl)
+    ]
+
+-- a position beyond all others is new
+ends_in_below : (p : ℕ) (ps : List ℕ) → All (λ q. q < p) ps → ends_in p ps ≡ false
+ends_in_below p ps below =
+    elim (slice_get ps (length ps - 1)) as (λ o. slice_get ps (length ps - 1) ≡ o → option_eq nat_eq o (Some p) ≡ false) [
+      | None ↦ λ e. refl
+      | Some q ↦ λ e.
+          let within : length ps - 1 < length ps = slice_get_within ps (length ps - 1) q e in
+          let less : q < p = subst (λ (x : ℕ). x < p) (get_or_from_slice_get ps (length ps - 1) q 0 e) (below (length ps - 1) 0 within) in
+          ne_eqb q p (λ h. omega arith)
+    ] refl
+
+pub noted_new : (p : ℕ) (ps : List ℕ) → All (λ q. q < p) ps → noted p ps ≡ ps ++ p ∷ []
+noted_new p ps below = rw (ends_in_below p ps below) refl
+
+-- the positions are those of the groups
+pub positions_within : (n : ℕ) (id : List ℕ) (gs : List Content) → All (λ p. p < n + length gs) (positions_from n id gs)
+positions_within n id [] = All-nil (λ p. p < n + 0)
+positions_within n id (g ∷ gs) =
+    let rest : All (λ p. p < n + length (g ∷ gs)) (positions_from (n + 1) id gs) = All-weaker (λ p. p < n + 1 + length gs) (λ p. p < n + length (g ∷ gs)) (λ p l. omega (arith, l)) (positions_from (n + 1) id gs) (positions_within (n + 1) id gs) in
+    elim (cases_Bool (lists id g)) [
+      | inl t ↦ rw t (All-cons (λ p. p < n + length (g ∷ gs)) n (positions_from (n + 1) id gs) (omega arith) rest)
+      | inr f ↦ rw f rest
+    ]
+
+-- the positions with a group more
+pub positions_more : (n : ℕ) (id : List ℕ) (gs : List Content) (g : Content)
+    → positions_from n id (gs ++ g ∷ []) ≡ (if lists id g then positions_from n id gs ++ (n + length gs) ∷ [] else positions_from n id gs)
+positions_more n id [] g =
+    let same : n + 0 ≡ n = omega arith in
+    rw same refl
+positions_more n id (h ∷ gs) g =
+    let same : n + 1 + length gs ≡ n + length (h ∷ gs) = omega arith in
+    let ih : positions_from (n + 1) id (gs ++ g ∷ []) ≡ (if lists id g then positions_from (n + 1) id gs ++ (n + length (h ∷ gs)) ∷ [] else positions_from (n + 1) id gs) =
+    subst (λ (k : ℕ). positions_from (n + 1) id (gs ++ g ∷ []) ≡ (if lists id g then positions_from (n + 1) id gs ++ k ∷ [] else positions_from (n + 1) id gs)) same (positions_more (n + 1) id gs g) in
+    elim (cases_Bool (lists id h)) [
+      | inl t ↦ elim (cases_Bool (lists id g)) [
+        | inl u ↦ rw (t, u) (ap (λ ps. n ∷ ps) (rw u at ih))
+        | inr u ↦ rw (t, u) (ap (λ ps. n ∷ ps) (rw u at ih))
+      ]
+      | inr f ↦ elim (cases_Bool (lists id g)) [
+        | inl u ↦ rw (f, u) (rw u at ih)
+        | inr u ↦ rw (f, u) (rw u at ih)
+      ]
+    ]
+
+-- what stands at the positions of the groups that list an id
+pub given : (id : List ℕ) (xs : List SeenGroup) (gs : List Content) → at_positions (xs ++ map kept gs) (positions_from (length xs) id gs) ≡ map kept (filter (lists id) gs)
+given id xs [] = refl
+given id xs (g ∷ gs) =
+    let more : at_positions (xs ++ kept g ∷ map kept gs) (positions_from (length xs + 1) id gs) ≡ map kept (filter (lists id) gs) =
+    rw (append_assoc xs (kept g ∷ []) (map kept gs), length_push xs (kept g)) at (given id (xs ++ kept g ∷ []) gs) in
+    elim (cases_Bool (lists id g)) [
+      | inl t ↦ rw (t, at_end xs (kept g) (map kept gs)) (ap (λ ys. kept g ∷ ys) more)
+      | inr f ↦ rw f more
+    ]
+
+-- an index that holds groups gives those that list an id
+pub held : (gs : List Content) (index : GroupIndex) → Holds gs index → Indexes gs index
+held gs index h id valid = rw (h.groups, h.positions id valid) (given id [] gs)
+
+-- an index with a group more
+pub added : (gs : List Content) (g : Content) (old new : GroupIndex) → Holds gs old → new.groups.items ≡ old.groups.items ++ kept g ∷ []
+    → ((id : List ℕ) → IsId id → positions_of new id ≡ (if lists id g then noted (length old.groups.items) (positions_of old id) else positions_of old id))
+    → Holds (gs ++ g ∷ []) new
+added gs g old new h groups positions = record {
+  groups = groups ∙ ap (λ xs. xs ++ kept g ∷ []) h.groups ∙ sym (map_push kept gs g);
+  positions = λ id valid.
+      let n : length old.groups.items ≡ length gs = ap (λ xs. length xs) h.groups ∙ length-map gs kept in
+      let none : 0 + length gs ≡ length gs = omega arith in
+      let new_at : noted (length gs) (positions_from 0 id gs) ≡ positions_from 0 id gs ++ length gs ∷ [] = noted_new (length gs) (positions_from 0 id gs) (subst (λ (m : ℕ). All (λ p. p < m) (positions_from 0 id gs)) none (positions_within 0 id gs)) in
+      positions id valid ∙ rw (n, h.positions id valid, new_at) (sym (subst (λ (m : ℕ). positions_from 0 id (gs ++ g ∷ []) ≡ (if lists id g then positions_from 0 id gs ++ m ∷ [] else positions_from 0 id gs)) none (positions_more 0 id gs g)));
+}
+
+-- the groups that a client sees, with a group more
+pub and_those_append : {X : Type 0} (o : Option X) (xs ys : List X) → and_those o (xs ++ ys) ≡ and_those o xs ++ ys
+and_those_append None xs ys = refl
+and_those_append (Some x) xs ys = refl
+
+pub seen_more : (policy : List Rule) (client : List ℕ) (gs : List Content) (g : Content) → seen policy client (gs ++ g ∷ []) ≡ seen policy client gs ++ and_those (view policy client g) []
+seen_more policy client [] g = refl
+seen_more policy client (h ∷ gs) g = ap (and_those (view policy client h)) (seen_more policy client gs g) ∙ and_those_append (view policy client h) (seen policy client gs) (and_those (view policy client g) [])
+
+-- one position more
+pub at_positions_more : {X : Type 0} (xs : List X) (ps : List ℕ) (p : ℕ) → at_positions xs (ps ++ p ∷ []) ≡ at_positions xs ps ++ and_those (slice_get xs p) []
+at_positions_more xs [] p = refl
+at_positions_more xs (q ∷ ps) p = ap (and_those (slice_get xs q)) (at_positions_more xs ps p) ∙ and_those_append (slice_get xs q) (at_positions xs ps) (and_those (slice_get xs p) [])
+
+-- what `get` of a slice gives
+pub item_at : {X : Type 0} (xs : List X) (i : ℕ) (r : Option (Bor X)) → IsItemAt xs i r → option_copied r ≡ slice_get xs i
+item_at xs i None h = sym (slice_get_past xs i h.3)
+item_at xs i (Some x) h = ap (λ y. Some y) h.1 ∙ sym (slice_get-get_or xs i x.now (h.3).0)
+
+-- a test for some element, with one element more
+pub list_any_more : {X : Type 0} (p : X → Bool) (xs : List X) (x : X) → list_any p (xs ++ x ∷ []) ≡ (list_any p xs || p x)
+list_any_more p [] x = elim (cases_Bool (p x)) [ inl t ↦ rw t refl | inr f ↦ rw f refl ]
+list_any_more p (y ∷ xs) x = elim (cases_Bool (p y)) [ inl t ↦ rw t refl | inr f ↦ rw f (list_any_more p xs x) ]
+
+-- a position noted for a member more
+pub noted_more : (b m : Bool) (n : ℕ) (ps now : List ℕ) → now ≡ (if b then noted n ps else ps) → cond m (noted n now) now ≡ (if b || m then noted n ps else ps)
+noted_more true true n ps now e = ap (noted n) e ∙ noted_twice n ps
+noted_more true false n ps now e = e
+noted_more false true n ps now e = ap (noted n) e
+noted_more false false n ps now e = e

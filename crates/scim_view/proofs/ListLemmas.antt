@@ -1,0 +1,74 @@
+-- A client's view of resources, by an index of the groups that it sees.
+use Rattle.std.proofs.Common.{◌≡◌, refl, sym, ◌∙◌, ap, ℕ, true, false, List, [], ◌∷◌, ◌++◌, map, filter}
+use Rattle.std.specs.Prelude.{Option, None, Some}
+use Rattle.std.proofs.lemmas.List.{append-nil}
+use Rattle.std.proofs.lemmas.Simd.{map-map}
+use Rattle.std.proofs.Math.Path.{fun_ext}
+use denote.Ref.{Bor}
+use Rattle.scim_schema.specs.declared.Leaf.{Leaf}
+use Rattle.scim_schema.specs.declared.Attribute.TheVariants.{Id}
+use Rattle.scim_schema.specs.declared.Op.TheVariants.{Read}
+use Rattle.scim_schema.specs.Units.{simple}
+use Rattle.scim_value.specs.Content.{Content}
+use Rattle.scim_value.specs.Ids.{IsId}
+use Rattle.scim_value.specs.Rows.{Row}
+use Rattle.scim_policy.specs.declared.rules.Decision.{Decision}
+use Rattle.scim_policy.specs.Rules.{Rule}
+use Rattle.scim_policy.specs.Decide.{decide}
+use Rattle.scim_view.specs.declared.groups.SeenGroup.{SeenGroup}
+use Rattle.scim_view.specs.declared.index.GroupIndex.{GroupIndex}
+use Rattle.scim_view.specs.View.{sees, view, view_by, visible_by}
+use Rattle.scim_view.specs.Groups.{lists, and_those, seen, membership_of, membership_at, memberships, rows_with, visible_with, with_groups, view_with_groups, views}
+use Rattle.scim_view.specs.Index.{groups_of, kept, Indexes}
+use Rattle.scim_view.proofs.IndexLemmas.{seen_more, and_those_append}
+use Rattle.scim_view.proofs.ViewLemmas.{same_view}
+
+-- what is shown of a group that is kept
+abbrev pub shown_of : List ℕ → SeenGroup → Row
+shown_of base s = membership_of base s.id s.display
+
+-- the groups that an index gives for an id, as values of `groups`
+pub memberships_given : (gs : List Content) (index : GroupIndex) (id : List ℕ) (base : List ℕ) (items : List (Bor SeenGroup)) → Indexes gs index → IsId id
+    → map (λ g. g.now) items ≡ groups_of index id → map (membership_at base) items ≡ memberships base gs id
+memberships_given gs index id base items indexes valid given =
+    sym (map-map (shown_of base) (λ (g : Bor SeenGroup). g.now) items)
+    ∙ ap (map (shown_of base)) (given ∙ indexes id valid)
+    ∙ map-map (shown_of base) kept (filter (lists id) gs)
+
+-- the groups that a client sees, with one more that it sees, and one that it doesn't
+pub seen_one : (d : Leaf → Decision) (policy : List Rule) (client : List ℕ) (gs : List Content) (g : Content) → ((l : Leaf) → d l ≡ decide policy client Read g l)
+    → (d (simple Id)).allow ≡ true → seen policy client (gs ++ g ∷ []) ≡ seen policy client gs ++ visible_by d g ∷ []
+unfolding view_by
+seen_one d policy client gs g same allowed =
+    let is : view policy client g ≡ Some (visible_by d g) = sym (same_view d policy client g same) ∙ rw allowed refl in
+    seen_more policy client gs g ∙ ap (λ (o : Option Content). seen policy client gs ++ and_those o []) is
+
+pub seen_none : (d : Leaf → Decision) (policy : List Rule) (client : List ℕ) (gs : List Content) (g : Content) → ((l : Leaf) → d l ≡ decide policy client Read g l)
+    → (d (simple Id)).allow ≡ false → seen policy client (gs ++ g ∷ []) ≡ seen policy client gs
+unfolding view_by
+seen_none d policy client gs g same denied =
+    let is : view policy client g ≡ None = sym (same_view d policy client g same) ∙ rw denied refl in
+    seen_more policy client gs g ∙ ap (λ (o : Option Content). seen policy client gs ++ and_those o []) is ∙ append-nil (seen policy client gs)
+
+-- the views of resources, with one more
+pub views_more : (policy : List Rule) (client base : List ℕ) (groups cs : List Content) (c : Content)
+    → views policy client base groups (cs ++ c ∷ []) ≡ views policy client base groups cs ++ and_those (view_with_groups policy client base groups c) []
+views_more policy client base groups [] c = refl
+views_more policy client base groups (b ∷ cs) c =
+    ap (and_those (view_with_groups policy client base groups b)) (views_more policy client base groups cs c)
+    ∙ and_those_append (view_with_groups policy client base groups b) (views policy client base groups cs) (and_those (view_with_groups policy client base groups c) [])
+
+-- decisions that are those of the policy give the client's view with groups
+pub unseen_with : (d : Leaf → Decision) (policy : List Rule) (client base : List ℕ) (groups : List Content) (c : Content) → ((l : Leaf) → d l ≡ decide policy client Read c l)
+    → (d (simple Id)).allow ≡ false → None ≡ view_with_groups policy client base groups c
+unfolding sees
+unseen_with d policy client base groups c same denied =
+    let no : (decide policy client Read c (simple Id)).allow ≡ false = ap (λ (e : Decision). e.allow) (sym (same (simple Id))) ∙ denied in
+    rw no refl
+
+pub seen_with : (d : Leaf → Decision) (policy : List Rule) (client base : List ℕ) (groups : List Content) (c : Content) (ms : List Row) → ((l : Leaf) → d l ≡ decide policy client Read c l)
+    → (d (simple Id)).allow ≡ true → rows_with ms c ≡ rows_with (memberships base (seen policy client groups) c.id) c → Some (visible_with d ms c) ≡ view_with_groups policy client base groups c
+unfolding sees visible_with with_groups
+seen_with d policy client base groups c ms same allowed beside =
+    let yes : (decide policy client Read c (simple Id)).allow ≡ true = ap (λ (e : Decision). e.allow) (sym (same (simple Id))) ∙ allowed in
+    rw (yes, beside) (ap (λ (f : Leaf → Decision). Some (visible_with f (memberships base (seen policy client groups) c.id) c)) (fun_ext same))

@@ -1,0 +1,8 @@
+use Rattle.std.proofs.Common.{◌≡◌, ◌++◌, map, filter, drop}
+use Rattle.scim_view.specs.Groups.{lists, seen}
+use Rattle.scim_view.specs.Memberships.{kept_of}
+use Rattle.scim_view.proofs.groups.seen_groups.Given as goal
+
+abbrev pub invariant-loop-group : goal.invariant-loop-group
+invariant-loop-group l =
+    map kept_of (filter (lists l.fn.id) (seen l.policy l.client l.groups)) ≡ l.seen.items ++ map kept_of (filter (lists l.fn.id) (seen l.policy l.client (drop l.group-index l.groups)))

@@ -1,0 +1,7 @@
+use Rattle.std.proofs.Common.{take}
+use Rattle.scim_view.specs.Groups.{seen}
+use Rattle.scim_view.specs.Index.{Holds}
+use Rattle.scim_view.proofs.index.GroupIndex.of.Given as goal
+
+abbrev pub invariant-loop-group : goal.invariant-loop-group
+invariant-loop-group l = Holds (seen l.policy l.client (take l.group-index l.groups)) l.index

@@ -1,0 +1,105 @@
+-- The groups of a user (RFC 7643 section 4.1.2), and what a client sees of resources with them.
+use Rattle.std.specs.Prelude.{ℕ, Bool, false, List, [], ◌∷◌, ◌++◌, map, filter, codes, nat_eq, Option, None, Some, if◌then◌else◌}
+use Rattle.std.specs.List.{list_any}
+use Rattle.std.specs.Cmp.Lexicographic.{pointwise}
+use denote.Enum.Bare.{sameb}
+use denote.Ref.{Bor}
+use Rattle.scim_schema.specs.contracts.Kind.{the_type as the_kind}
+use Rattle.scim_schema.specs.declared.Kind.TheVariants.{User, Group}
+use Rattle.scim_schema.specs.declared.Leaf.{Leaf}
+use Rattle.scim_schema.specs.declared.Op.TheVariants.{Read}
+use Rattle.scim_schema.specs.declared.Attribute.TheVariants.{DisplayName, Groups, Members}
+use Rattle.scim_schema.specs.declared.SubAttribute.{SubAttribute}
+use Rattle.scim_schema.specs.declared.SubAttribute.TheVariants.{Value, Reference, Display, TypeName}
+use Rattle.scim_schema.specs.Units.{simple, leaf_at, whole}
+use Rattle.scim_value.specs.declared.atoms.Atom.{Atom}
+use Rattle.scim_value.specs.declared.atoms.Atom.TheVariants.{Text}
+use Rattle.scim_value.specs.declared.rows.Field.{Field}
+use Rattle.scim_value.specs.Content.{Content}
+use Rattle.scim_value.specs.Ids.{id_text}
+use Rattle.scim_value.specs.Resource.{location}
+use Rattle.scim_value.specs.Rows.{Row, rows, values, put_values, restricted, content, atom_in, cell_at}
+use Rattle.scim_policy.specs.declared.rules.Decision.{Decision}
+use Rattle.scim_policy.specs.Rules.{Rule}
+use Rattle.scim_policy.specs.Decide.{decide}
+use Rattle.scim_view.specs.declared.groups.SeenGroup.{SeenGroup}
+use Rattle.scim_view.specs.View.{may_be_seen, sees, view}
+
+-- whether an atom is this text
+abbrev pub is_text : List ℕ → Option Atom → Bool
+is_text t (Some (Text u)) = pointwise nat_eq t u
+is_text t _ = false
+
+-- whether a group lists the resource of an id: some value of its `members` is the text of the id (RFC 7643 section 4.2)
+abbrev pub lists : List ℕ → Content → Bool
+lists id g = list_any (λ (m : Row). is_text (id_text id) (atom_in (leaf_at Members Value) m.fields)) (values (whole Members) (rows g))
+
+-- what is there, before a list
+abbrev pub and_those : {X : Type 0} → Option X → List X → List X
+and_those None xs = xs
+and_those (Some x) xs = x ∷ xs
+
+-- the groups that a client sees, each as it sees it
+abbrev pub seen : List Rule → List ℕ → List Content → List Content
+seen policy client [] = []
+seen policy client (g ∷ gs) = and_those (view policy client g) (seen policy client gs)
+
+-- the text of an atom, where it is one
+abbrev pub text_in : Option Atom → Option (List ℕ)
+text_in (Some (Text t)) = Some t
+text_in _ = None
+
+-- the `displayName` of a group, where it has one to be seen
+abbrev pub display_of : Content → Option (List ℕ)
+display_of g = text_in (cell_at (simple DisplayName) 0 (rows g))
+
+-- a field of a value of `groups`
+abbrev pub field : SubAttribute → List ℕ → Field
+field b t = record { leaf = leaf_at Groups b; atom = Text t }
+
+abbrev pub display_field : Option (List ℕ) → List Field
+display_field None = []
+display_field (Some t) = field Display t ∷ []
+
+-- the value of `groups` for a group with this id, which may have a name: its id, where it is found below the base, its
+-- name, and that membership is direct
+abbrev pub membership_of : List ℕ → List ℕ → Option (List ℕ) → Row
+membership_of base id display = record {
+  unit = whole Groups;
+  fields = field Value (id_text id) ∷ field Reference (location base Group id) ∷ (display_field display ++ field TypeName (codes "direct") ∷ []);
+}
+
+abbrev pub membership : List ℕ → Content → Row
+membership base g = membership_of base g.id (display_of g)
+
+-- the same for what the code keeps of a group
+abbrev pub membership_at : List ℕ → Bor SeenGroup → Row
+membership_at base g = membership_of base g.now.id g.now.display
+
+-- the values of `groups` for the resource of an id: the groups that list it, of those that are seen, in their order
+abbrev pub memberships : List ℕ → List Content → List ℕ → List Row
+memberships base gs id = map (membership base) (filter (lists id) gs)
+
+-- the rows of a resource with these values of `groups`, which only a user has
+abbrev pub rows_with : List Row → Content → List Row
+rows_with ms c = if sameb the_kind c.kind User then put_values (whole Groups) ms (rows c) else rows c
+
+-- what may be seen, by these decisions on reading, of a resource with these values of `groups`
+unfoldable pub visible_with : (Leaf → Decision) → List Row → Content → Content
+visible_with decision ms c = content c.kind c.id (restricted (may_be_seen decision c.kind) (rows_with ms c))
+
+-- what the client may see of a resource with its groups, of those that it sees among these
+unfoldable pub with_groups : List Rule → List ℕ → List ℕ → List Content → Content → Content
+with_groups policy client base groups c =
+    visible_with (decide policy client Read c) (memberships base (seen policy client groups) c.id) c
+
+-- the same, where the client sees the resource
+abbrev pub view_with_groups : List Rule → List ℕ → List ℕ → List Content → Content → Option Content
+view_with_groups policy client base groups c =
+    if sees policy client c then Some (with_groups policy client base groups c) else None
+
+-- a client's view of resources: those that it sees, each as it may see it with its groups
+abbrev pub views : List Rule → List ℕ → List ℕ → List Content → List Content → List Content
+views policy client base groups [] = []
+views policy client base groups (c ∷ cs) =
+    and_those (view_with_groups policy client base groups c) (views policy client base groups cs)

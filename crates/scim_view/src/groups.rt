@@ -1,0 +1,299 @@
+//! The groups of users (RFC 7643 section 4.1.2).
+ghost use Rattle.std.specs.Prelude.{◌≡◌, true, ℕ, List, IfOk, map, filter};
+ghost use Rattle.std.specs.Option.{option_copied};
+ghost use Rattle.std.specs.List.{list_any};
+ghost use Rattle.scim_schema.specs.Units.{whole, leaf_at};
+ghost use Rattle.scim_value.specs.Ids.{id_text};
+ghost use Rattle.scim_value.specs.Rows.{rows, values, atom_in, restricted};
+ghost use Rattle.scim_policy.specs.Table.{decision};
+ghost use Rattle.scim_view.specs.View as seeing;
+ghost use Rattle.scim_view.specs.View.{visible_by};
+ghost use Rattle.scim_view.specs.Memberships as kept;
+ghost use Rattle.scim_view.specs.Groups as spec;
+
+use crate::memberships::membership;
+use crate::restrictions::with_values;
+use crate::views::{MayBeSeen, visible_by};
+use scim_policy::{Decisions, Policy};
+use scim_schema::{Attribute, Kind, Leaf, Op, SubAttribute, Unit};
+use scim_text::NoMemory;
+use scim_value::atoms::{Atom, Text};
+use scim_value::ids::Id;
+use scim_value::parts::Part;
+use scim_value::resources::Resource;
+use scim_value::rows::Row;
+use std::alloc::Global;
+
+/// A group that a client sees: what of it is shown at its members.
+#[derive(Debug, Drop)]
+pub(crate) struct SeenGroup {
+    id: Id,
+    /// The `displayName`, where the client may see it.
+    display: Option<Text>,
+}
+
+/// What of a group is shown at its members, by these decisions on reading it. NoMemory where none was
+/// to be had.
+pub(crate) fn seen_group(
+    alloc: Global,
+    decisions: &Decisions,
+    group: &Resource,
+) -> Result<SeenGroup, NoMemory>
+    ensures id { IfOk result (λ g. g.id ≡ group.now.id) }
+    ensures display { IfOk result (λ g. g.display ≡ spec.display_of (visible_by (decision decisions.now) group.now)) }
+{
+    let display = seen_name(alloc, decisions, group)?;
+    Ok(SeenGroup {
+        id: group.id(),
+        display,
+    })
+}
+
+/// The `displayName` of a group, where it may be seen by these decisions on reading it.
+fn seen_name(
+    alloc: Global,
+    decisions: &Decisions,
+    group: &Resource,
+) -> Result<Option<Text>, NoMemory>
+    ensures { IfOk result (λ n. n ≡ spec.display_of (visible_by (decision decisions.now) group.now)) }
+{
+    let name = Leaf::simple(Attribute::DisplayName);
+    let shown = MayBeSeen {
+        kind: group.kind(),
+        decisions,
+    };
+    let part = group.part();
+    if shown.shows(name) {
+        text_of(alloc, part.get(name, 0))
+    } else {
+        Ok(None)
+    }
+}
+
+/// A copy of the text of an atom, where it is one.
+fn text_of(alloc: Global, atom: Option<&Atom>) -> Result<Option<Text>, NoMemory>
+    ensures { IfOk result (λ t. t ≡ spec.text_in (option_copied atom.entry)) }
+{
+    match atom {
+        Some(Atom::Text(text)) => Ok(Some(text.try_copy(alloc)?)),
+        _ => Ok(None),
+    }
+}
+
+/// What may be seen, by these decisions on reading it, of a resource that is a member of these groups.
+/// NoMemory where none was to be had.
+pub(crate) fn visible_with(
+    alloc: Global,
+    decisions: &Decisions,
+    resource: &Resource,
+    groups: &[&SeenGroup],
+    base: &str,
+) -> Result<Part, NoMemory>
+    ensures { IfOk result (λ p. p ≡ spec.visible_with (decision decisions.now)
+        (map (spec.membership_at base.now) groups.now) resource.now) }
+{
+    let part = visible_by(alloc, decisions, resource)?;
+    if resource.part().kind() == Kind::User {
+        let values = memberships(alloc, decisions, groups, base)?;
+        with_values(part, Unit::whole(Attribute::Groups), values)
+    } else {
+        Ok(part)
+    }
+}
+
+/// The values of `groups` of a user that is a member of these, with the fields that may be seen; those
+/// without one are left out.
+fn memberships(
+    alloc: Global,
+    decisions: &Decisions,
+    groups: &[&SeenGroup],
+    base: &str,
+) -> Result<Vec<Row>, NoMemory>
+    ensures { IfOk result (λ v. v.items ≡ restricted (seeing.may_be_seen (decision decisions.now) Kind.User) (map (spec.membership_at base.now) groups.now)) }
+{
+    let shown = MayBeSeen {
+        kind: Kind::User,
+        decisions,
+    };
+    let mut values = Vec::new(alloc);
+    for group in groups {
+        let value = membership(alloc, &shown, base, group.id, group.display.as_ref())?;
+        if !value.fields().is_empty() {
+            values.push(value)?;
+        }
+    }
+    Ok(values)
+}
+
+/// What the client may see of a resource, a user's `groups` among it: as [`visible`](crate::visible), and
+/// of the groups that list the user, those that the client sees and in which it sees the user's id, in
+/// the order that they are given in, which is by id in a directory. The policy decides on `groups` as on
+/// other attributes (RFC 7643 section 4.1.2). NoMemory where none was to be had.
+pub fn with_groups(
+    alloc: Global,
+    policy: &Policy,
+    client: &str,
+    groups: &[Resource],
+    resource: &Resource,
+    base: &str,
+) -> Result<Part, NoMemory>
+    ensures { IfOk result (λ p. p ≡ spec.with_groups policy.now client.now base.now groups.now resource.now) }
+{
+    let decisions = policy.decisions(alloc, client, Op::Read, resource)?;
+    let seen = groups_of(alloc, policy, client, groups, resource)?;
+    visible_among(alloc, &decisions, resource, seen.as_slice(), base)
+}
+
+/// The same as [`with_groups`]; None where the client doesn't see that the resource is there. The policy
+/// is asked once about the resource, and once about each group that lists it. NoMemory where none was
+/// to be had.
+pub fn view_with_groups(
+    alloc: Global,
+    policy: &Policy,
+    client: &str,
+    groups: &[Resource],
+    resource: &Resource,
+    base: &str,
+) -> Result<Option<Part>, NoMemory>
+    ensures { IfOk result (λ o. o ≡ spec.view_with_groups policy.now client.now base.now groups.now resource.now) }
+{
+    let decisions = policy.decisions(alloc, client, Op::Read, resource)?;
+    if !decisions.of(Leaf::simple(Attribute::Id)).allow {
+        return Ok(None);
+    }
+    let seen = groups_of(alloc, policy, client, groups, resource)?;
+    let part = visible_among(alloc, &decisions, resource, seen.as_slice(), base)?;
+    Ok(Some(part))
+}
+
+/// The same as [`visible_with`], of groups in a row.
+fn visible_among(
+    alloc: Global,
+    decisions: &Decisions,
+    resource: &Resource,
+    groups: &[SeenGroup],
+    base: &str,
+) -> Result<Part, NoMemory>
+    ensures { IfOk result (λ p. p ≡ spec.visible_with (decision decisions.now)
+        (map (λ g. spec.membership_of base.now g.id g.display) groups.now) resource.now) }
+{
+    let lent = references(alloc, groups)?;
+    visible_with(alloc, decisions, resource, lent.as_slice(), base)
+}
+
+/// References to groups, one by one.
+fn references(alloc: Global, groups: &[SeenGroup]) -> Result<Vec<&SeenGroup>, NoMemory>
+    ensures { IfOk result (λ v. map (λ g. g.now) v.items ≡ groups.now) }
+{
+    let mut lent = Vec::with_capacity(alloc, groups.len())?;
+    for group in groups {
+        lent.push(group)?;
+    }
+    Ok(lent)
+}
+
+/// What is kept of the groups that list the resource, of those that the client sees; of a resource other
+/// than a user none, and none is looked at.
+fn groups_of(
+    alloc: Global,
+    policy: &Policy,
+    client: &str,
+    groups: &[Resource],
+    resource: &Resource,
+) -> Result<Vec<SeenGroup>, NoMemory>
+    ensures { IfOk result (λ v. v.items ≡ kept.kept_groups policy.now client.now groups.now resource.now) }
+{
+    match resource.kind() {
+        Kind::User => seen_groups(alloc, policy, client, groups, resource.id()),
+        Kind::Group => Ok(Vec::new(alloc)),
+    }
+}
+
+/// What is kept of the groups that list the resource of an id, of those that the client sees.
+fn seen_groups(
+    alloc: Global,
+    policy: &Policy,
+    client: &str,
+    groups: &[Resource],
+    id: Id,
+) -> Result<Vec<SeenGroup>, NoMemory>
+    ensures { IfOk result (λ v. v.items ≡ map kept.kept_of (filter (spec.lists id) (spec.seen policy.now client.now groups.now))) }
+{
+    let mut buffer = [0; Id::TEXT_LENGTH];
+    let member = id.write(&mut buffer);
+    let mut seen = Vec::new(alloc);
+    for group in groups {
+        if let Some(listing) = seen_where_listed(alloc, policy, client, group, member)? {
+            seen.push(listing)?;
+        }
+    }
+    Ok(seen)
+}
+
+/// What is kept of a group that the client sees, where it sees the text among its members. The policy
+/// isn't asked where the text isn't there.
+fn seen_where_listed(
+    alloc: Global,
+    policy: &Policy,
+    client: &str,
+    group: &Resource,
+    member: &str,
+) -> Result<Option<SeenGroup>, NoMemory>
+    ensures { IfOk result (λ o. (id : List ℕ) → member.now ≡ id_text id → o ≡ kept.kept_where_listed id (seeing.view policy.now client.now group.now)) }
+{
+    if !lists(group.part(), member) {
+        return Ok(None);
+    }
+    let decisions = policy.decisions(alloc, client, Op::Read, group)?;
+    seen_by(alloc, &decisions, group)
+}
+
+/// What is kept of a group at the resources that it lists, where it is seen by these decisions on
+/// reading it, and the ids of its members are.
+fn seen_by(
+    alloc: Global,
+    decisions: &Decisions,
+    group: &Resource,
+) -> Result<Option<SeenGroup>, NoMemory>
+    ensures { IfOk result (λ o. o ≡ kept.kept_where_shown (decision decisions.now) group.now) }
+{
+    if shows_members(decisions, group) {
+        Ok(Some(seen_group(alloc, decisions, group)?))
+    } else {
+        Ok(None)
+    }
+}
+
+/// Whether a group is seen by these decisions on reading it, and the ids of its members.
+pub(crate) fn shows_members(decisions: &Decisions, group: &Resource) -> bool
+    ensures { result ≡ kept.shows_members (decision decisions.now) group.now.kind }
+{
+    let shown = MayBeSeen {
+        kind: group.kind(),
+        decisions,
+    };
+    decisions.of(Leaf::simple(Attribute::Id)).allow
+        && shown.shows(Leaf::of(Attribute::Members, SubAttribute::Value))
+}
+
+/// Whether a group, of which this is the part, has a member with this value.
+pub(crate) fn lists(group: &Part, member: &str) -> bool
+    ensures { result ≡ list_any (λ m. spec.is_text member.now (atom_in (leaf_at Attribute.Members SubAttribute.Value) m.fields))
+        (values (whole Attribute.Members) (rows group.now)) }
+{
+    let value = Leaf::of(Attribute::Members, SubAttribute::Value);
+    group
+        .values(Unit::whole(Attribute::Members))
+        .iter()
+        .any(|row| is_text(member, row.get(value)))
+}
+
+/// Whether an atom is this text.
+fn is_text(text: &str, atom: Option<&Atom>) -> bool
+    ensures { result ≡ spec.is_text text.now (option_copied atom.entry) }
+{
+    match atom {
+        Some(Atom::Text(own)) => text == own.as_str(),
+        _ => false,
+    }
+}

@@ -1,0 +1,150 @@
+//! An index of groups by the ids of their members.
+ghost use Rattle.std.specs.Prelude.{◌≡◌, ◌++◌, ◌∷◌, [], ℕ, List, cond, map, vec_len, IfOk, IfSome, OnOk, if◌then◌else◌};
+ghost use Rattle.std.specs.List.{list_any};
+ghost use Rattle.scim_value.specs.Content.{Content};
+ghost use Rattle.scim_value.specs.Ids.{IsId};
+ghost use Rattle.scim_policy.specs.Table.{decision};
+ghost use Rattle.scim_view.specs.View.{visible_by};
+ghost use Rattle.scim_view.specs.Index as spec;
+ghost use Rattle.scim_view.specs.Index.{IsIndexOf, Holds};
+
+use crate::groups::{SeenGroup, seen_group};
+use scim_policy::{Decisions, Policy};
+use scim_schema::{Attribute, Leaf, Op, SubAttribute, Unit};
+use scim_text::NoMemory;
+use scim_value::atoms::Atom;
+use scim_value::ids::Id;
+use scim_value::resources::Resource;
+use scim_value::rows::Row;
+use std::alloc::Global;
+use std::collections::HashMap;
+
+/// The groups that a client sees, and which of them show whom as a member.
+#[derive(Drop)]
+pub(crate) struct GroupIndex {
+    groups: Vec<SeenGroup>,
+    /// The positions in `groups` of those that show a member's id, ascending, none twice.
+    by_member: HashMap<Id, Vec<usize>>,
+}
+
+impl GroupIndex {
+    /// The index of those of the groups that the client sees. The policy is asked once about each.
+    /// NoMemory where none was to be had.
+    pub(crate) fn of(
+        alloc: Global,
+        policy: &Policy,
+        client: &str,
+        groups: &[Resource],
+    ) -> Result<GroupIndex, NoMemory>
+        ensures { IfOk result (λ index. IsIndexOf policy.now client.now groups.now index) }
+    {
+        let mut index = GroupIndex::new(alloc);
+        for group in groups {
+            let decisions = policy.decisions(alloc, client, Op::Read, group)?;
+            if decisions.of(Leaf::simple(Attribute::Id)).allow {
+                index.add(alloc, &decisions, group)?;
+            }
+        }
+        Ok(index)
+    }
+
+    /// The groups that show this id as a member's, in their order. NoMemory where none was to be had.
+    pub(crate) fn groups_of(&self, alloc: Global, id: Id) -> Result<Vec<&SeenGroup>, NoMemory>
+        ensures { IfOk result (λ v. map (λ g. g.now) v.items ≡ spec.groups_of self.now id) }
+    {
+        let mut groups = Vec::new(alloc);
+        for position in self.positions_of(id) {
+            if let Some(group) = self.groups.get(*position) {
+                groups.push(group)?;
+            }
+        }
+        Ok(groups)
+    }
+
+    /// The index of no groups.
+    fn new(alloc: Global) -> GroupIndex
+        ensures { Holds [] result }
+    {
+        GroupIndex {
+            groups: Vec::new(alloc),
+            by_member: HashMap::new(alloc),
+        }
+    }
+
+    fn positions_of(&self, id: Id) -> &[usize]
+        ensures { result.now ≡ spec.positions_of self.now id }
+    {
+        match self.by_member.get(&id) {
+            Some(positions) => positions.as_slice(),
+            None => &[],
+        }
+    }
+
+    /// Adds a group that is seen, with what these decisions on reading it let be seen of it.
+    fn add(
+        &mut self,
+        alloc: Global,
+        decisions: &Decisions,
+        group: &Resource,
+    ) -> Result<(), NoMemory>
+        ensures { (gs : List Content) → Holds gs self.old
+            → OnOk result (Holds (gs ++ visible_by (decision decisions.now) group.now ∷ []) self.new) }
+    {
+        let seen = seen_group(alloc, decisions, group)?;
+        let members = group.part().values(Unit::whole(Attribute::Members));
+        if decisions
+            .of(Leaf::of(Attribute::Members, SubAttribute::Value))
+            .allow
+        {
+            self.add_members(alloc, members)?;
+        }
+        self.groups.push(seen)?;
+        Ok(())
+    }
+
+    /// Notes the next group for each of its members.
+    fn add_members(&mut self, alloc: Global, members: &[Row]) -> Result<(), NoMemory>
+        ensures groups { self.new.groups ≡ self.old.groups }
+        ensures positions { OnOk result ((id : List ℕ) → IsId id → spec.positions_of self.new id
+            ≡ (if list_any (spec.names_member id) members.now
+            then spec.noted (vec_len self.old.groups) (spec.positions_of self.old id) else spec.positions_of self.old id)) }
+    {
+        for member in members {
+            if let Some(id) = member_id(member) {
+                self.add_member(alloc, id)?;
+            }
+        }
+        Ok(())
+    }
+
+    /// Notes the next group for one member.
+    fn add_member(&mut self, alloc: Global, id: Id) -> Result<(), NoMemory>
+        ensures groups { self.new.groups ≡ self.old.groups }
+        ensures positions { OnOk result ((other : List ℕ) → spec.positions_of self.new other
+            ≡ cond (spec.same_id id other) (spec.noted (vec_len self.old.groups) (spec.positions_of self.old other)) (spec.positions_of self.old other)) }
+    {
+        let position = self.groups.len();
+        let positions = self.by_member.entry(id)?.or_insert(Vec::new(alloc));
+        note(positions, position)
+    }
+}
+
+/// The id whose text a value of `members` has; None where it has no such text.
+fn member_id(member: &Row) -> Option<Id>
+    ensures id { (id : List ℕ) → IsId id → spec.names_member id member.now ≡ spec.is_found id result }
+{
+    match member.get(Leaf::of(Attribute::Members, SubAttribute::Value)) {
+        Some(Atom::Text(text)) => Id::read(text.as_str()),
+        _ => None,
+    }
+}
+
+/// Puts the position at the end, unless it stands there.
+fn note(positions: &mut Vec<usize>, position: usize) -> Result<(), NoMemory>
+    ensures { OnOk result (positions.new.items ≡ spec.noted position positions.old.items) }
+{
+    if positions.last().copied() != Some(position) {
+        positions.push(position)?;
+    }
+    Ok(())
+}

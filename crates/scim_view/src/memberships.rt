@@ -1,0 +1,116 @@
+//! The values of a user's `groups` (RFC 7643 section 4.1.2).
+ghost use Rattle.std.specs.Prelude.{◌≡◌, ◌∷◌, ◌++◌, [], codes, IfOk, OnOk};
+ghost use Rattle.std.specs.Option.{option_copied};
+ghost use Rattle.scim_value.specs.Ids.{id_text};
+ghost use Rattle.scim_value.specs.Resource.{location};
+ghost use Rattle.scim_value.specs.Rows.{restricted_row};
+ghost use Rattle.scim_policy.specs.Table.{decision};
+ghost use Rattle.scim_view.specs.View.{may_be_seen};
+ghost use Rattle.scim_view.specs.Groups as spec;
+ghost use Rattle.scim_view.specs.Memberships.{shown_fields};
+
+use crate::views::MayBeSeen;
+use scim_schema::{Attribute, Kind, Leaf, SubAttribute, Unit};
+use scim_text::NoMemory;
+use scim_value::atoms::{Atom, Text};
+use scim_value::ids::Id;
+use scim_value::resources::location;
+use scim_value::rows::{Field, Row};
+use std::alloc::Global;
+
+/// The value of `groups` for a group with this id, which may have a name: the fields of it that may be
+/// seen, and no others. NoMemory where none was to be had.
+pub(crate) fn membership(
+    alloc: Global,
+    shown: &MayBeSeen,
+    base: &str,
+    id: Id,
+    display: Option<&Text>,
+) -> Result<Row, NoMemory>
+    ensures { IfOk result (λ r. r ≡ restricted_row (may_be_seen (decision shown.now.decisions.now) shown.now.kind)
+        (spec.membership_of base.now id (option_copied display.entry))) }
+{
+    let mut fields = Vec::new(alloc);
+    add_value(alloc, &mut fields, shown, id)?;
+    add_reference(alloc, &mut fields, shown, base, id)?;
+    add_display(alloc, &mut fields, shown, display)?;
+    add_type(alloc, &mut fields, shown)?;
+    Ok(Row::new(Unit::whole(Attribute::Groups), fields))
+}
+
+fn add_value(
+    alloc: Global,
+    fields: &mut Vec<Field>,
+    shown: &MayBeSeen,
+    id: Id,
+) -> Result<(), NoMemory>
+    ensures { OnOk result (fields.new.items ≡ fields.old.items
+        ++ shown_fields (decision shown.now.decisions.now) shown.now.kind (spec.field SubAttribute.Value (id_text id) ∷ [])) }
+{
+    if shown.shows(Leaf::of(Attribute::Groups, SubAttribute::Value)) {
+        add_field(fields, SubAttribute::Value, id.text(alloc)?)?;
+    }
+    Ok(())
+}
+
+fn add_reference(
+    alloc: Global,
+    fields: &mut Vec<Field>,
+    shown: &MayBeSeen,
+    base: &str,
+    id: Id,
+) -> Result<(), NoMemory>
+    ensures { OnOk result (fields.new.items ≡ fields.old.items
+        ++ shown_fields (decision shown.now.decisions.now) shown.now.kind (spec.field SubAttribute.Reference (location base.now Kind.Group id) ∷ [])) }
+{
+    if shown.shows(Leaf::of(Attribute::Groups, SubAttribute::Reference)) {
+        let place = location(alloc, base, Kind::Group, id)?;
+        add_field(fields, SubAttribute::Reference, place)?;
+    }
+    Ok(())
+}
+
+fn add_display(
+    alloc: Global,
+    fields: &mut Vec<Field>,
+    shown: &MayBeSeen,
+    display: Option<&Text>,
+) -> Result<(), NoMemory>
+    ensures { OnOk result (fields.new.items ≡ fields.old.items
+        ++ shown_fields (decision shown.now.decisions.now) shown.now.kind (spec.display_field (option_copied display.entry))) }
+{
+    if let Some(name) = display {
+        if shown.shows(Leaf::of(Attribute::Groups, SubAttribute::Display)) {
+            add_field(fields, SubAttribute::Display, name.try_copy(alloc)?)?;
+        }
+    }
+    Ok(())
+}
+
+fn add_type(alloc: Global, fields: &mut Vec<Field>, shown: &MayBeSeen) -> Result<(), NoMemory>
+    ensures { OnOk result (fields.new.items ≡ fields.old.items
+        ++ shown_fields (decision shown.now.decisions.now) shown.now.kind (spec.field SubAttribute.TypeName (codes "direct") ∷ [])) }
+{
+    if shown.shows(Leaf::of(Attribute::Groups, SubAttribute::TypeName)) {
+        add_field(
+            fields,
+            SubAttribute::TypeName,
+            Text::copy_of(alloc, "direct")?,
+        )?;
+    }
+    Ok(())
+}
+
+fn add_field(
+    fields: &mut Vec<Field>,
+    sub_attribute: SubAttribute,
+    text: Text,
+) -> Result<(), NoMemory>
+    ensures { OnOk result (fields.new.items ≡ fields.old.items ++ spec.field sub_attribute text ∷ []) }
+{
+    fields.push(Field {
+        leaf: Leaf::of(Attribute::Groups, sub_attribute),
+        atom: Atom::Text(text),
+    })?;
+    Ok(())
+}
