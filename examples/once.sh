@@ -1,12 +1,21 @@
 #!/usr/bin/env bash
-# One user, as four clients are shown it: hr may read everything, mail three attributes, mover the
-# department, and a stranger nothing: for it there is no such user.
+# Alice as four clients are shown her: hr may read everything, her group among it, mail three attributes,
+# mover the department, and a stranger nothing: for it there is no such user. Then Bob, a contractor, as hr
+# and mail are shown him: for mail there is no such user either.
 set -eu
 cd "$(dirname "$0")"
 scimd="${1:-../crates/scimd/out/scimd}"
-for client in hr mail mover stranger; do
-  echo "== $client"
-  printf 'GET /Users/00000000-0000-4000-8000-00000000000a HTTP/1.1\r\n\r\n' |
-    "$scimd" once --policy policy.json --users users.json --client "$client"
+get() {
+  echo "== $1"
+  printf 'GET /Users/00000000-0000-4000-8000-00000000000%s HTTP/1.1\r\n\r\n' "$2" |
+    "$scimd" once --policy policy.json --users users.json --client "$1"
   echo
+}
+echo "Alice"
+for client in hr mail mover stranger; do
+  get "$client" a
+done
+echo "Bob, a contractor"
+for client in hr mail; do
+  get "$client" b
 done

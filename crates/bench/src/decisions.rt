@@ -10,14 +10,16 @@ use std::alloc::Global;
 use std::io::Print;
 use std::time::Clock;
 
-const CLIENT: &str = "reader";
+/// The client that asks.
+pub const CLIENT: &str = "reader";
 
-const OTHER_CLIENT: &str = "writer";
+/// Another client.
+pub const OTHER_CLIENT: &str = "writer";
 
 /// The numbers of rules that are compared.
-const FEW: usize = 10;
+pub const FEW: usize = 10;
 
-const MANY: usize = 1_000;
+pub const MANY: usize = 1_000;
 
 const PASSES: usize = 7;
 
@@ -50,7 +52,7 @@ const PATHS: [&str; 20] = [
 
 /// A policy file of so many rules that let clients read users: the last rule the client `id`, and those
 /// before it another one or the same what `PATHS` has in turn.
-fn policy_text(alloc: Global, rules: usize, client_before: &str) -> Result<String> {
+pub fn policy_text(alloc: Global, rules: usize, client_before: &str) -> Result<String> {
     let mut text = String::new(alloc);
     text.push_str("{\"version\":1,\"rules\":[")?;
     for path in PATHS.iter().cycle().take(rules.saturating_sub(1)) {

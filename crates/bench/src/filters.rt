@@ -1,5 +1,5 @@
 //! Filters: reading short, long and deep ones, and holding them on users and on groups.
-mod samples;
+pub mod samples;
 
 use crate::filters::samples::{group, id_of, user};
 use crate::timing::{fastest, ratio};

@@ -9,6 +9,7 @@ mod documents;
 mod filter_texts;
 mod filters;
 mod once_runs;
+mod pages;
 mod parts;
 mod timing;
 mod values;
@@ -24,7 +25,7 @@ fn main(rt: HostRuntime) -> Result<()> {
     match scenario {
         None => {
             println!(rt;
-                "bench documents: writing and reading the JSON of a user, beside serde_json, and users files\nbench parts: making, copying, restricting and looking up parts of 10, 1,000 and 40,000 cells\nbench decisions: what policies of 10 and of 1,000 rules decide of a user, and what a client sees by them\nbench filters: reading filters, and holding them on users and on groups of 1,000 and of 10,000 members\nbench filter-texts: 1,000,000 generated texts, each read as a filter, and what is read checked\nbench once: one GET over a users file of 10,000 users, beside serde_json's reading of the file"
+                "bench documents: writing and reading the JSON of a user, beside serde_json, and users files\nbench parts: making, copying, restricting and looking up parts of 10, 1,000 and 40,000 cells\nbench decisions: what policies of 10 and of 1,000 rules decide of a user, and what a client sees by them\nbench filters: reading filters, and holding them on users and on groups of 1,000 and of 10,000 members\nbench filter-texts: 1,000,000 generated texts, each read as a filter, and what is read checked\nbench once: one GET over a users file of 10,000 users, beside serde_json's reading of the file\nbench pages: a page of 100 out of 10,000 and out of 100,000 users with groups, and by policies of 10 and of 1,000 rules"
             )?;
             Ok(())
         }
@@ -33,6 +34,7 @@ fn main(rt: HostRuntime) -> Result<()> {
         Some(name) if name.as_str() == "filters" => filters::run(&rt, rt.alloc()),
         Some(name) if name.as_str() == "filter-texts" => filter_texts::run(&rt, rt.alloc()),
         Some(name) if name.as_str() == "once" => once_runs::run(&rt, rt.alloc()),
+        Some(name) if name.as_str() == "pages" => pages::run(&rt, rt.alloc()),
         Some(name) if name.as_str() == "parts" => parts::run(&rt, rt.alloc()),
         Some(name) => bail!("there is no scenario {name}"),
     }

@@ -1,3 +1,4 @@
+pub mod ClientSearches
 pub mod Entries
 pub mod Keys
 pub mod Order

@@ -7,6 +7,7 @@ use scim_filter::tree::Filter;
 use scim_schema::Leaf;
 use scim_text::NoMemory;
 use scim_value::parts::Part;
+use scim_view::Wanted;
 use std::alloc::Global;
 
 /// What is asked of a list of parts (RFC 7644 section 3.4.2).
@@ -22,6 +23,8 @@ pub struct Query {
     pub start: usize,
     /// At most so many items.
     pub count: usize,
+    /// What of each item is shown. [`search`] doesn't look at it.
+    pub wanted: Wanted,
 }
 
 /// What a query gives of a list of parts.

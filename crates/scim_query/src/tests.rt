@@ -1,4 +1,6 @@
 //! Searches of small lists of users.
+mod client_searches;
+
 use crate::queries::{Page, Query, search};
 use scim_filter::reading::read_filter;
 use scim_filter::tree::Filter;
@@ -9,6 +11,7 @@ use scim_value::atoms::{Atom, Text};
 use scim_value::cells::Cell;
 use scim_value::ids::Id;
 use scim_value::parts::Part;
+use scim_view::Wanted;
 use std::alloc::Global;
 use std::test::Fail;
 
@@ -39,7 +42,8 @@ const USERS: [(usize, &str); 5] = [
 /// The leaf of a path such as `emails.value`.
 fn leaf_at(path: &str) -> Result<Leaf, Fail> {
     let (name, sub_name) = path.split_once('.').unwrap_or((path, ""));
-    let attribute = attribute(Kind::User, name).ok_or("no such attribute")?;
+    let own = attribute(Kind::User, name).or(attribute(Kind::Group, name));
+    let attribute = own.ok_or("no such attribute")?;
     Ok(Leaf {
         attribute,
         sub_attribute: sub_attribute(attribute, sub_name),
@@ -97,6 +101,7 @@ fn all() -> Query {
         descending: false,
         start: 1,
         count: 100,
+        wanted: Wanted::Default,
     }
 }
 

@@ -1,0 +1,190 @@
+//! Pages of what a client sees of many users, their groups among it.
+use crate::decisions::{CLIENT, FEW, MANY, OTHER_CLIENT, policy_text};
+use crate::documents::BASE;
+use crate::filters::samples::id_of;
+use crate::timing::{fastest, ratio};
+use anyhow::{Result, bail};
+use scim_filter::reading::read_filter;
+use scim_json::read_stored;
+use scim_policy::{Policy, read_policy};
+use scim_query::client_searches::search_view;
+use scim_query::queries::{Page, Query};
+use scim_schema::{Attribute, Kind, Leaf, SubAttribute};
+use scim_value::resources::Resource;
+use scim_view::Wanted;
+use std::alloc::Global;
+use std::io::Print;
+use std::time::Clock;
+
+/// How many users are searched.
+const USERS: [usize; 2] = [10_000, 100_000];
+
+const GROUPS: usize = 1_000;
+
+/// How many members a group has.
+const MEMBERS: usize = 100;
+
+/// How many users a page shows.
+const COUNT: usize = 100;
+
+/// Of so many searches the fastest counts.
+const PASSES: usize = 5;
+
+/// A policy that lets the client read everything.
+const ALL: &str =
+    "{\"version\":1,\"rules\":[{\"allow\":true,\"clients\":[\"reader\"],\"ops\":[\"read\"],\"types\":[\"User\",\"Group\"],\"paths\":[\"*\"]}]}";
+
+/// A directory.
+#[derive(Drop)]
+struct Directory {
+    users: Vec<Resource>,
+    groups: Vec<Resource>,
+}
+
+fn stored(alloc: Global, document: &str) -> Result<Resource> {
+    let Ok(resource) = read_stored(alloc, BASE, document) else {
+        bail!("a document was refused: {document}")
+    };
+    Ok(resource)
+}
+
+/// A user of 15 cells, whose family name is one of some 10,000.
+fn user(alloc: Global, number: usize) -> Result<Resource> {
+    let id = id_of(number).text(alloc)?;
+    let id = id.as_str();
+    let name = number.wrapping_mul(7_919) % 10_007;
+    let document = format!(in alloc;
+        "{{\"active\":true,\"displayName\":\"Barbara Jensen\",\"emails\":[{{\"primary\":true,\"type\":\"work\",\"value\":\"user{number}@example.com\"}}],\"id\":\"{id}\",\"meta\":{{\"created\":\"2024-01-01T00:00:00Z\",\"lastModified\":\"2024-01-01T00:00:00Z\",\"resourceType\":\"User\"}},\"name\":{{\"familyName\":\"Jensen{name}\",\"givenName\":\"Barbara\"}},\"title\":\"Tour Guide\",\"urn:ietf:params:scim:schemas:extension:enterprise:2.0:User\":{{\"department\":\"Tours\"}},\"userName\":\"user{number}\"}}"
+    )?;
+    stored(alloc, document.as_str())
+}
+
+/// A group of the users that follow those of the group before it.
+fn group(alloc: Global, number: usize, users: usize) -> Result<Resource> {
+    let id = id_of(number.saturating_add(1_000_000)).text(alloc)?;
+    let id = id.as_str();
+    let mut document = format!(in alloc;
+        "{{\"displayName\":\"Team {number}\",\"id\":\"{id}\",\"meta\":{{\"created\":\"2024-01-01T00:00:00Z\",\"lastModified\":\"2024-01-01T00:00:00Z\",\"resourceType\":\"Group\"}},\"members\":["
+    )?;
+    for place in 0..MEMBERS {
+        let first = number.saturating_mul(MEMBERS);
+        let member = id_of(first.saturating_add(place) % users.max(1)).text(alloc)?;
+        let member = member.as_str();
+        let comma = if place == 0 { "" } else { "," };
+        let value = format!(in alloc; "{comma}{{\"value\":\"{member}\"}}")?;
+        document.push_str(value.as_str())?;
+    }
+    document.push_str("]}")?;
+    stored(alloc, document.as_str())
+}
+
+fn directory(alloc: Global, count: usize) -> Result<Directory> {
+    let mut users = Vec::new(alloc);
+    for number in 0..count {
+        users.push(user(alloc, number)?)?;
+    }
+    let mut groups = Vec::new(alloc);
+    for number in 0..GROUPS {
+        groups.push(group(alloc, number, count)?)?;
+    }
+    Ok(Directory { users, groups })
+}
+
+/// The first users by family name, of those whose `userName` begins as all do.
+fn query(alloc: Global) -> Result<Query> {
+    Ok(Query {
+        filter: Some(read_filter(alloc, Kind::User, "userName sw \"USER\"")?),
+        sort_by: Some(Leaf::of(Attribute::Name, SubAttribute::FamilyName)),
+        descending: false,
+        start: 1,
+        count: COUNT,
+        wanted: Wanted::Default,
+    })
+}
+
+fn page(alloc: Global, directory: &Directory, policy: &Policy, query: &Query) -> Result<Page> {
+    let (users, groups) = (directory.users.as_slice(), directory.groups.as_slice());
+    let page = search_view(alloc, policy, CLIENT, groups, users, BASE, query)?;
+    Ok(page)
+}
+
+/// Nanoseconds of a page.
+fn measure(
+    rt: &impl Clock,
+    alloc: Global,
+    directory: &Directory,
+    policy: &str,
+    query: &Query,
+) -> Result<u128> {
+    let policy = read_policy(alloc, policy)?;
+    fastest(rt, PASSES, 1, || {
+        page(alloc, directory, &policy, query)?;
+        Ok(())
+    })
+}
+
+/// Checks that a page by the policy that allows everything shows so many users, each with a group.
+fn check_page(alloc: Global, directory: &Directory, query: &Query) -> Result<()> {
+    let policy = read_policy(alloc, ALL)?;
+    let page = page(alloc, directory, &policy, query)?;
+    if page.total != directory.users.len() || page.items.len() != COUNT {
+        bail!(
+            "{} of {} users are found",
+            page.total,
+            directory.users.len()
+        );
+    }
+    for part in &page.items {
+        if part.positions(Attribute::Groups) == 0 {
+            bail!("a user has no groups");
+        }
+    }
+    Ok(())
+}
+
+/// Compares policies of few and of many rules, all but the last for a client.
+fn compare_policies(
+    rt: &(impl Clock + Print),
+    alloc: Global,
+    directory: &Directory,
+    query: &Query,
+    client_before: &str,
+) -> Result<()> {
+    let few = policy_text(alloc, FEW, client_before)?;
+    let few = measure(rt, alloc, directory, few.as_str(), query)?;
+    let many = policy_text(alloc, MANY, client_before)?;
+    let many = measure(rt, alloc, directory, many.as_str(), query)?;
+    println!(rt;
+        "{FEW} rules {}, {MANY} rules {}, {MANY}/{FEW} = {:.1}",
+        few / 1_000,
+        many / 1_000,
+        ratio(many, few)
+    )?;
+    Ok(())
+}
+
+/// Prints what a page takes, in microseconds.
+pub fn run(rt: &(impl Clock + Print), alloc: Global) -> Result<()> {
+    let query = query(alloc)?;
+    let [fewer, more] = USERS;
+    let small = directory(alloc, fewer)?;
+    check_page(alloc, &small, &query)?;
+    println!(rt;
+        "microseconds, for a page of {COUNT} users with their groups, of {GROUPS} groups with {MEMBERS} members, filtered by userName and sorted by familyName"
+    )?;
+    let one = measure(rt, alloc, &small, ALL, &query)?;
+    println!(rt; "policies, over {fewer} users, where all rules fit")?;
+    compare_policies(rt, alloc, &small, &query, CLIENT)?;
+    println!(rt; "where the last rule alone is for the client")?;
+    compare_policies(rt, alloc, &small, &query, OTHER_CLIENT)?;
+    let large = directory(alloc, more)?;
+    check_page(alloc, &large, &query)?;
+    let other = measure(rt, alloc, &large, ALL, &query)?;
+    println!(rt;
+        "{fewer} users {}, {more} users {}, {more}/{fewer} = {:.1}",
+        one / 1_000,
+        other / 1_000,
+        ratio(other, one)
+    )?;
+    Ok(())
+}
