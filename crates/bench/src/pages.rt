@@ -78,7 +78,7 @@ fn group(alloc: Global, number: usize, users: usize) -> Result<Resource> {
     stored(alloc, document.as_str())
 }
 
-fn directory(alloc: Global, count: usize) -> Result<Directory> {
+fn directory_of(alloc: Global, count: usize) -> Result<Directory> {
     let mut users = Vec::new(alloc);
     for number in 0..count {
         users.push(user(alloc, number)?)?;
@@ -91,7 +91,7 @@ fn directory(alloc: Global, count: usize) -> Result<Directory> {
 }
 
 /// The first users by family name, of those whose `userName` begins as all do.
-fn query(alloc: Global) -> Result<Query> {
+fn query_by_name(alloc: Global) -> Result<Query> {
     Ok(Query {
         filter: Some(read_filter(alloc, Kind::User, "userName sw \"USER\"")?),
         sort_by: Some(Leaf::of(Attribute::Name, SubAttribute::FamilyName)),
@@ -102,7 +102,7 @@ fn query(alloc: Global) -> Result<Query> {
     })
 }
 
-fn page(alloc: Global, directory: &Directory, policy: &Policy, query: &Query) -> Result<Page> {
+fn page_of(alloc: Global, directory: &Directory, policy: &Policy, query: &Query) -> Result<Page> {
     let (users, groups) = (directory.users.as_slice(), directory.groups.as_slice());
     let page = search_view(alloc, policy, CLIENT, groups, users, BASE, query)?;
     Ok(page)
@@ -118,7 +118,7 @@ fn measure(
 ) -> Result<u128> {
     let policy = read_policy(alloc, policy)?;
     fastest(rt, PASSES, 1, || {
-        page(alloc, directory, &policy, query)?;
+        page_of(alloc, directory, &policy, query)?;
         Ok(())
     })
 }
@@ -126,7 +126,7 @@ fn measure(
 /// Checks that a page by the policy that allows everything shows so many users, each with a group.
 fn check_page(alloc: Global, directory: &Directory, query: &Query) -> Result<()> {
     let policy = read_policy(alloc, ALL)?;
-    let page = page(alloc, directory, &policy, query)?;
+    let page = page_of(alloc, directory, &policy, query)?;
     if page.total != directory.users.len() || page.items.len() != COUNT {
         bail!(
             "{} of {} users are found",
@@ -165,9 +165,9 @@ fn compare_policies(
 
 /// Prints what a page takes, in microseconds.
 pub fn run(rt: &(impl Clock + Print), alloc: Global) -> Result<()> {
-    let query = query(alloc)?;
+    let query = query_by_name(alloc)?;
     let [fewer, more] = USERS;
-    let small = directory(alloc, fewer)?;
+    let small = directory_of(alloc, fewer)?;
     check_page(alloc, &small, &query)?;
     println!(rt;
         "microseconds, for a page of {COUNT} users with their groups, of {GROUPS} groups with {MEMBERS} members, filtered by userName and sorted by familyName"
@@ -177,7 +177,7 @@ pub fn run(rt: &(impl Clock + Print), alloc: Global) -> Result<()> {
     compare_policies(rt, alloc, &small, &query, CLIENT)?;
     println!(rt; "where the last rule alone is for the client")?;
     compare_policies(rt, alloc, &small, &query, OTHER_CLIENT)?;
-    let large = directory(alloc, more)?;
+    let large = directory_of(alloc, more)?;
     check_page(alloc, &large, &query)?;
     let other = measure(rt, alloc, &large, ALL, &query)?;
     println!(rt;

@@ -95,6 +95,13 @@ fn told(alloc: Global, page: &Page) -> Result<String, Fail> {
     Ok(told)
 }
 
+/// The last digit of the id.
+fn last_digit(part: &Part) -> &str {
+    let id = text_at(part, Leaf::simple(Attribute::Id));
+    id.strip_prefix("00000000-0000-4000-8000-00000000000")
+        .unwrap_or("")
+}
+
 fn told_to(alloc: Global, client: &str, query: &Query) -> Result<String, Fail> {
     let users = users(alloc)?;
     told(alloc, &found(alloc, client, users.as_slice(), query)?)
@@ -132,9 +139,11 @@ fn what_is_not_visible_is_no_sort_key(rt: HostRuntime) -> Result<(), Fail> {
     assert_eq!(rt; page.as_str(), "2 from 1:  1  1");
     let users = users(alloc)?;
     let page = found(alloc, "mail", users.as_slice(), &query)?;
-    for (part, user) in page.items.iter().zip([&users[0], &users[2]]) {
-        assert_eq!(rt; part.id(), user.id());
+    let mut digits = String::new(alloc);
+    for part in &page.items {
+        digits.push_str(last_digit(part))?;
     }
+    assert_eq!(rt; digits.as_str(), "ac");
     Ok(())
 }
 
@@ -166,7 +175,8 @@ fn a_page_has_as_many_as_are_asked_for(rt: HostRuntime) -> Result<(), Fail> {
     assert_eq!(rt; page.total, 201);
     assert_eq!(rt; page.start, 1);
     assert_eq!(rt; page.items.len(), 200);
-    assert_eq!(rt; page.items[0].id(), users[0].id());
+    let first = page.items.first().ok_or("no item")?;
+    assert_eq!(rt; last_digit(first), "0");
     Ok(())
 }
 
