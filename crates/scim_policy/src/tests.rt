@@ -2,4 +2,5 @@
 mod decisions;
 mod faults;
 mod reading;
+mod sample;
 mod targets;
