@@ -8,7 +8,7 @@ use Rattle.scim_policy.specs.declared.faults.Cause.{Cause}
 use Rattle.scim_policy.specs.declared.faults.Cause.TheVariants.{Json, Shape, Version, TooManyRules}
 use Rattle.scim_policy.specs.Rules.{Rule}
 use Rattle.scim_policy.specs.Lists.{each}
-use Rattle.scim_policy.specs.Paths.{same_text, client_named, op_named, kind_named, path_named}
+use Rattle.scim_policy.specs.Paths.{same_text, client_named, op_named, kind_named, paths_named}
 use Rattle.scim_policy.specs.Targets.{◌>>=◌, or_name, targets_for}
 
 -- the number of the faulty rule, 0 for the file, and why it is faulty
@@ -90,7 +90,7 @@ rule_texts d = option_and_then rule_fields (object_of_only rule_keys d)
 unfoldable pub rule_named : RuleTexts → Result Rule Cause
 rule_named t =
     or_name (each client_named t.clients) >>= λ clients. or_name (each op_named t.ops) >>= λ ops. or_name (each kind_named t.types) >>= λ kinds.
-    targets_for kinds t.target >>= λ targets. or_name (each (path_named kinds) t.paths) >>= λ paths.
+    targets_for kinds t.target >>= λ targets. or_name (paths_named kinds t.paths) >>= λ paths.
     Ok (record { allow = t.allow; clients = clients; ops = ops; kinds = kinds; targets = targets; paths = paths })
 
 -- the rule, or its fault

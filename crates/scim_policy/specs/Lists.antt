@@ -10,8 +10,3 @@ each f (x ∷ xs) = option_and_then (λ y. option_map (λ ys. y ∷ ys) (each f 
 abbrev pub or_else : {Y : Type 0} → Option Y → Option Y → Option Y
 or_else None o = o
 or_else (Some y) o = Some y
-
--- the first that there is
-abbrev pub first_some : {X Y : Type 0} → (X → Option Y) → List X → Option Y
-first_some f [] = None
-first_some f (x ∷ xs) = or_else (f x) (first_some f xs)

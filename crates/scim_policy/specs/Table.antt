@@ -15,7 +15,7 @@ use Rattle.scim_schema.specs.declared.Op.{Op}
 use Rattle.scim_value.specs.Content.{Content}
 use Rattle.scim_policy.specs.Rules.{Rule}
 use Rattle.scim_policy.specs.declared.rules.PolicyPath.{PolicyPath}
-use Rattle.scim_policy.specs.Decide.{covers, speaks_of}
+use Rattle.scim_policy.specs.Decide.{covers, paths_on, speaks_of}
 use Rattle.scim_policy.specs.Lists.{or_else}
 
 -- what is decided of a sub-attribute alone
@@ -63,7 +63,7 @@ by_name b d sub = if option_eq (sameb the_sub_attribute) sub (Some b) then Some 
 
 -- what a numbered rule decides of a leaf, where it speaks of the client, the operation and the resource
 abbrev pub by_rule : List ℕ → Op → Content → Leaf → ℕ → Rule → Option Decision
-by_rule client op c l n r = if speaks_of client op c r then by_paths r.paths (record { rule = n; allow = r.allow }) l else None
+by_rule client op c l n r = if speaks_of client op c r then by_paths (paths_on c.kind r.paths) (record { rule = n; allow = r.allow }) l else None
 
 -- what rules numbered from n decide of a leaf
 abbrev pub by_rules : List ℕ → Op → Content → Leaf → ℕ → List Rule → Option Decision

@@ -8,12 +8,12 @@ ghost use Rattle.scim_policy.specs.declared.faults.Cause.{Cause};
 ghost use Rattle.scim_policy.specs.declared.faults.PolicyFault.{PolicyFault};
 ghost use Rattle.scim_policy.specs.File as spec;
 ghost use Rattle.scim_policy.specs.Lists.{each};
-ghost use Rattle.scim_policy.specs.Paths.{same_text, client_named, op_named, kind_named, path_named};
+ghost use Rattle.scim_policy.specs.Paths.{same_text, client_named, op_named, kind_named};
 ghost use Rattle.scim_policy.specs.Written.{Gives, text_at, texts_view, rule_view, parts_view};
 
 use crate::faults::{Cause, PolicyFault, RuleFault};
-use crate::paths::{client_named, kind_named, op_named, path_named};
-use crate::rules::{ClientName, Policy, PolicyPath, Rule};
+use crate::paths::{client_named, kind_named, op_named, paths_named};
+use crate::rules::{ClientName, Policy, Rule};
 use crate::targets::targets_for;
 use scim_schema::{Kind, Op};
 use scim_text::NoMemory;
@@ -376,23 +376,4 @@ fn kinds_named(alloc: Global, texts: &[&str]) -> Result<Option<Vec<Kind>>, NoMem
         kinds.push(kind)?;
     }
     Ok(Some(kinds))
-}
-
-/// What the texts mean on these kinds, where each means something.
-fn paths_named(
-    alloc: Global,
-    kinds: &[Kind],
-    texts: &[&str],
-) -> Result<Option<Vec<PolicyPath>>, NoMemory>
-    ensures { IfOk result
-        (λ o. option_map (λ v. v.items) o ≡ each (path_named kinds.now) (map text_at texts.now)) }
-{
-    let mut paths = Vec::new(alloc);
-    for text in texts {
-        let Some(path) = path_named(kinds, text) else {
-            return Ok(None);
-        };
-        paths.push(path)?;
-    }
-    Ok(Some(paths))
 }
