@@ -1,7 +1,7 @@
 -- What a file says in the words of the code that reads it.
 use Rattle.std.specs.Prelude.{◌≡◌, ℕ, List, map, Vec, option_map, Result, Ok, Err}
 use Rattle.std.specs.declared.alloc.Global.{Global}
-use Rattle.serde_json.specs.View.{view, number_view}
+use Rattle.json.specs.Value.{value_view}
 use denote.Ref.{Bor}
 use Rattle.scim_policy.specs.declared.reading.FileParts.{FileParts}
 use Rattle.scim_policy.specs.declared.reading.WrittenRule.{WrittenRule}
@@ -30,4 +30,4 @@ rule_view w = record { allow = w.allow; clients = texts_view w.clients; ops = te
 
 -- the version and the rules of a file
 abbrev pub parts_view : FileParts → Parts
-parts_view p = record { version = number_view p.version.now; rules = map view p.rules.now }
+parts_view p = record { version = p.version.now; rules = map value_view p.rules.now }

@@ -108,6 +108,18 @@ fn is_path(kinds: &[Kind], text: &str) -> bool
     kinds.iter().any(|kind| path_named(text, *kind).is_some())
 }
 
+/// Whether each word names something on one of these kinds.
+fn are_paths(kinds: &[Kind], texts: &[&str]) -> bool
+    ensures { result ≡ list_all (spec.is_path kinds.now) (map text_at texts.now) }
+{
+    for text in texts {
+        if !is_path(kinds, text) {
+            return false;
+        }
+    }
+    true
+}
+
 /// What words cover on resources of a kind. NoMemory where none was to be had.
 fn paths_for(alloc: Global, texts: &[&str], kind: Kind) -> Result<KindPaths, NoMemory>
     ensures { IfOk result (λ p. p ≡ spec.paths_for (map text_at texts.now) kind) }
@@ -131,7 +143,7 @@ pub(crate) fn paths_named(
     ensures { IfOk result
         (λ o. option_map (λ v. v.items) o ≡ spec.paths_named kinds.now (map text_at texts.now)) }
 {
-    if !texts.iter().all(|text| is_path(kinds, text)) {
+    if !are_paths(kinds, texts) {
         return Ok(None);
     }
     let mut paths = Vec::new(alloc);

@@ -14,7 +14,8 @@ use Rattle.scim_value.specs.Rows.{Row, atom_in}
 use Rattle.scim_policy.specs.Rules.{Rule}
 use Rattle.scim_view.specs.declared.groups.SeenGroup.{SeenGroup}
 use Rattle.scim_view.specs.declared.index.GroupIndex.{GroupIndex}
-use Rattle.scim_view.specs.Groups.{is_text, lists, and_those, display_of, seen}
+use Rattle.scim_view.specs.Groups.{is_text, lists, and_those, seen}
+use Rattle.scim_view.specs.Memberships.{kept_of}
 
 -- how two ids compare
 abbrev pub same_id : List ℕ → List ℕ → Bool
@@ -54,13 +55,9 @@ positions_of index id = positions_in (get same_id index.by_member id)
 abbrev pub groups_of : GroupIndex → List ℕ → List SeenGroup
 groups_of index id = at_positions index.groups.items (positions_of index id)
 
--- what is kept of a group that is seen
-abbrev pub kept : Content → SeenGroup
-kept g = record { id = g.id; display = display_of g }
-
 -- for each id, the index has those of these groups that list it, in their order
 abbrev pub Indexes : List Content → GroupIndex → Type 0
-Indexes gs index = (id : List ℕ) → IsId id → groups_of index id ≡ map kept (filter (lists id) gs)
+Indexes gs index = (id : List ℕ) → IsId id → groups_of index id ≡ map kept_of (filter (lists id) gs)
 
 -- the same of the groups that the client sees
 abbrev pub IsIndexOf : List Rule → List ℕ → List Content → GroupIndex → Type 0
@@ -73,5 +70,5 @@ positions_from n id (g ∷ gs) = if lists id g then n ∷ positions_from (n + 1)
 
 -- what is kept of these groups, and where those stand that list an id
 pub record Holds (gs : List Content) (index : GroupIndex) : Type 0 where
-  pub groups : index.groups.items ≡ map kept gs
+  pub groups : index.groups.items ≡ map kept_of gs
   pub positions : (id : List ℕ) → IsId id → positions_of index id ≡ positions_from 0 id gs

@@ -1,6 +1,7 @@
 pub mod View
 pub mod Names
 pub mod Shown
+pub mod Sorted
 pub mod Groups
 pub mod Memberships
 pub mod Index

@@ -1,5 +1,8 @@
 -- What the code keeps of groups, and the fields that it makes of them.
 use Rattle.std.specs.Prelude.{ℕ, Bool, not, ◌&&◌, List, [], map, filter, Option, None, Some, if◌then◌else◌}
+use Rattle.std.specs.declared.cmp.Ordering.{Ordering}
+use Rattle.std.specs.Ordering.{nat_cmp}
+use Rattle.std.specs.Cmp.Lexicographic.{slice_cmp}
 use denote.Enum.Bare.{sameb}
 use Rattle.scim_schema.specs.declared.Kind.{Kind}
 use Rattle.scim_schema.specs.declared.Leaf.{Leaf}
@@ -42,3 +45,7 @@ kept_where_listed id (Some g) = if lists id g then Some (kept_of g) else None
 abbrev pub kept_groups : List Rule → List ℕ → List Content → Content → List SeenGroup
 kept_groups policy client groups c =
     if sameb the_kind c.kind User then map kept_of (filter (lists c.id) (seen policy client groups)) else []
+
+-- how what is kept of two groups compares: by id
+abbrev pub kept_cmp : SeenGroup → SeenGroup → Ordering
+kept_cmp a b = slice_cmp nat_cmp a.id b.id
