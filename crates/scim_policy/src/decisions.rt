@@ -4,8 +4,8 @@ ghost use Rattle.scim_schema.specs.declared.Leaf.{Leaf};
 ghost use Rattle.scim_schema.specs.declared.SubAttribute.{SubAttribute};
 ghost use Rattle.scim_policy.specs.Decide as spec;
 ghost use Rattle.scim_policy.specs.Decide.{paths_on};
-ghost use Rattle.scim_policy.specs.Lists.{or_else};
-ghost use Rattle.scim_policy.specs.Table as table;
+ghost use Rattle.scim_policy.specs.code.Table.{or_else};
+ghost use Rattle.scim_policy.specs.code.Table as table;
 ghost use Rattle.scim_policy.specs.declared.rules.PolicyPath.{PolicyPath};
 
 use crate::rules::{Decision, Policy, PolicyPath, Rule};
@@ -67,7 +67,7 @@ impl Policy {
 
 impl Decisions {
     /// The decision on a leaf.
-    #[tactic(auto, unfolding(crate::specs::Table::decision))]
+    #[tactic(auto, unfolding(crate::specs::code::Table::decision))]
     pub fn of(&self, leaf: Leaf) -> Decision
         ensures { result ≡ table.decision self.now leaf }
     {
@@ -81,7 +81,7 @@ impl Decisions {
     }
 
     /// Nothing is decided yet.
-    #[tactic(auto, unfolding(crate::specs::Table::decided))]
+    #[tactic(auto, unfolding(crate::specs::code::Table::decided))]
     fn none(alloc: Global) -> Decisions
         ensures { (l : Leaf) → table.decided result l ≡ None }
     {

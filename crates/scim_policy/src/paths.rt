@@ -2,7 +2,7 @@
 ghost use Rattle.std.specs.Prelude.{◌≡◌, IfOk, map, option_map};
 ghost use Rattle.std.specs.List.{list_all};
 ghost use Rattle.scim_policy.specs.Paths as spec;
-ghost use Rattle.scim_policy.specs.Written.{text_at};
+ghost use Rattle.scim_policy.specs.code.Written.{text_at};
 
 use crate::rules::{ClientName, KindPaths, PolicyPath};
 use scim_filter::attribute_paths::attribute_path;

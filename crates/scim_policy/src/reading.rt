@@ -9,7 +9,7 @@ ghost use Rattle.scim_policy.specs.declared.faults.PolicyFault.{PolicyFault};
 ghost use Rattle.scim_policy.specs.File as spec;
 ghost use Rattle.scim_policy.specs.Lists.{each};
 ghost use Rattle.scim_policy.specs.Paths.{same_text, client_named, op_named, kind_named};
-ghost use Rattle.scim_policy.specs.Written.{Gives, text_at, texts_view, rule_view, parts_view};
+ghost use Rattle.scim_policy.specs.code.Written.{Gives, text_at, texts_view, rule_view, parts_view};
 
 use crate::faults::{Cause, PolicyFault, RuleFault};
 use crate::paths::{client_named, kind_named, op_named, paths_named};
@@ -246,10 +246,7 @@ fn read_rule(alloc: Global, value: &Value<'_>, number: u32) -> Result<Rule, Poli
 
 /// The rule as it is written, where it has its keys and no other, with values of their types.
 #[tactic(auto, unfolding(crate::specs::File::rule_texts))]
-fn written_rule<'t>(
-    alloc: Global,
-    value: &Value<'t>,
-) -> Result<Option<WrittenRule<'t>>, NoMemory>
+fn written_rule<'t>(alloc: Global, value: &Value<'t>) -> Result<Option<WrittenRule<'t>>, NoMemory>
     ensures { IfOk result (λ o. option_map rule_view o ≡ spec.rule_texts (value_view value.now)) }
 {
     match members_in(value) {
@@ -282,10 +279,7 @@ fn is_rule_key(key: &str) -> bool
 }
 
 /// The rule as it is written, where its keys are there with values of their types.
-fn rule_fields<'t>(
-    alloc: Global,
-    value: &Value<'t>,
-) -> Result<Option<WrittenRule<'t>>, NoMemory>
+fn rule_fields<'t>(alloc: Global, value: &Value<'t>) -> Result<Option<WrittenRule<'t>>, NoMemory>
     ensures { IfOk result (λ o. option_map rule_view o ≡ spec.rule_fields (value_view value.now)) }
 {
     let Some(allow) = allow_in(value) else {
@@ -357,10 +351,7 @@ fn texts_in<'t>(alloc: Global, value: &Value<'t>) -> Result<Option<Vec<&'t str>>
 }
 
 /// The texts of these values, where all are texts.
-fn texts_of<'t>(
-    alloc: Global,
-    items: &[Value<'t>],
-) -> Result<Option<Vec<&'t str>>, NoMemory>
+fn texts_of<'t>(alloc: Global, items: &[Value<'t>]) -> Result<Option<Vec<&'t str>>, NoMemory>
     ensures { IfOk result (λ o. option_map texts_view o ≡ each as_str (map value_view items.now)) }
 {
     let mut texts = Vec::new(alloc);

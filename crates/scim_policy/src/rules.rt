@@ -75,7 +75,7 @@ impl Model for Target {
     ghost use Rattle.scim_schema.specs.contracts.Kind as kind_type;
     ghost use Rattle.scim_filter.specs.Tree.{tree_of};
     ghost use Rattle.scim_policy.specs.Rules.{Target};
-    ghost use Rattle.scim_policy.specs.Steps.{tree_code};
+    ghost use Rattle.scim_policy.specs.code.Steps.{tree_code};
 
     ghost Value = { Target };
 
@@ -116,7 +116,7 @@ impl Model for Rule {
 
     ghost coded = { Prim.hlevel (codes, kind.the_row.coded, op.the_row.coded, client.the_row.coded, target.the_row.coded, kind_paths.the_row.coded) };
 
-    ghost use Rattle.scim_policy.specs.Inside.{rule_of};
+    ghost use Rattle.scim_policy.specs.code.Inside.{rule_of};
 
     ghost view = { rule_of };
 }
@@ -131,7 +131,7 @@ impl Model for Policy {
 
     ghost coded = { Prim.hlevel (codes, rule.the_row.coded) };
 
-    ghost use Rattle.scim_policy.specs.Inside.{IsSmall};
+    ghost use Rattle.scim_policy.specs.code.Inside.{IsSmall};
 
     ghost view = { λ p. p.rules.items };
 

@@ -38,7 +38,7 @@ use Rattle.scim_view.specs.declared.groups.SeenGroup.{SeenGroup}
 use Rattle.scim_view.specs.View.{is_write_only, may_be_seen, visible_by, view_by}
 use Rattle.scim_view.specs.Groups as spec
 use Rattle.scim_view.specs.Groups.{is_text, lists, and_those, seen, text_in, display_of, membership_of, membership, membership_at, id_cmp, memberships}
-use Rattle.scim_view.specs.Memberships.{kept_of, kept_where_shown, kept_where_listed, kept_groups, kept_cmp}
+use Rattle.scim_view.specs.code.Memberships.{kept_of, kept_where_shown, kept_where_listed, kept_groups, kept_cmp}
 use Rattle.scim_view.specs.Sorted.{sorted_by}
 use Rattle.scim_view.proofs.SortLemmas.{sorted_by-map}
 

@@ -16,8 +16,8 @@ use Rattle.scim_view.specs.declared.groups.SeenGroup.{SeenGroup}
 use Rattle.scim_view.specs.declared.index.GroupIndex.{GroupIndex}
 use Rattle.scim_view.specs.View.{view}
 use Rattle.scim_view.specs.Groups.{lists, and_those, seen}
-use Rattle.scim_view.specs.Index.{ends_in, noted, at_positions, positions_of, Indexes, positions_from, Holds}
-use Rattle.scim_view.specs.Memberships.{kept_of}
+use Rattle.scim_view.specs.code.Index.{ends_in, noted, at_positions, positions_of, Indexes, positions_from, Holds}
+use Rattle.scim_view.specs.code.Memberships.{kept_of}
 
 -- an element that was added at the end stands there
 at_end : {X : Type 0} (xs : List X) (x : X) (ys : List X) → slice_get (xs ++ x ∷ ys) (length xs) ≡ Some x

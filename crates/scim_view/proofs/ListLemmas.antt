@@ -19,8 +19,8 @@ use Rattle.scim_view.specs.declared.groups.SeenGroup.{SeenGroup}
 use Rattle.scim_view.specs.declared.index.GroupIndex.{GroupIndex}
 use Rattle.scim_view.specs.View.{sees, view, view_by, visible_by}
 use Rattle.scim_view.specs.Groups.{lists, and_those, seen, membership_of, membership_at, memberships, rows_with, visible_with, with_groups, view_with_groups, views}
-use Rattle.scim_view.specs.Index.{groups_of, Indexes}
-use Rattle.scim_view.specs.Memberships.{kept_cmp}
+use Rattle.scim_view.specs.code.Index.{groups_of, Indexes}
+use Rattle.scim_view.specs.code.Memberships.{kept_cmp}
 use Rattle.scim_view.specs.Sorted.{sorted_by}
 use Rattle.scim_view.proofs.GroupLemmas.{map_kept_sorted}
 use Rattle.scim_view.proofs.IndexLemmas.{seen_more, and_those_append}

@@ -29,7 +29,7 @@ use Rattle.scim_value.proofs.TieLemmas.{rows_content}
 use Rattle.scim_policy.specs.declared.rules.Decision.{Decision}
 use Rattle.scim_view.specs.View.{may_be_seen, visible_by}
 use Rattle.scim_view.specs.Groups.{is_text, lists}
-use Rattle.scim_view.specs.Index.{same_id, is_found}
+use Rattle.scim_view.specs.code.Index.{same_id, is_found}
 use Rattle.scim_view.proofs.GroupLemmas.{lists_visible}
 
 -- the text of an id is that of the id which it reads as

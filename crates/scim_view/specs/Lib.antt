@@ -3,5 +3,4 @@ pub mod Names
 pub mod Shown
 pub mod Sorted
 pub mod Groups
-pub mod Memberships
-pub mod Index
+pub mod code

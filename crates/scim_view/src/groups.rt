@@ -5,10 +5,10 @@ ghost use Rattle.std.specs.List.{list_any};
 ghost use Rattle.scim_schema.specs.Units.{whole, leaf_at};
 ghost use Rattle.scim_value.specs.Ids.{id_text};
 ghost use Rattle.scim_value.specs.Rows.{rows, values, atom_in, restricted};
-ghost use Rattle.scim_policy.specs.Table.{decision};
+ghost use Rattle.scim_policy.specs.code.Table.{decision};
 ghost use Rattle.scim_view.specs.View as seeing;
 ghost use Rattle.scim_view.specs.View.{visible_by};
-ghost use Rattle.scim_view.specs.Memberships as kept;
+ghost use Rattle.scim_view.specs.code.Memberships as kept;
 ghost use Rattle.scim_view.specs.Sorted.{sorted_by};
 ghost use Rattle.scim_view.specs.Groups as spec;
 

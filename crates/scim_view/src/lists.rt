@@ -2,7 +2,7 @@
 ghost use Rattle.std.specs.Prelude.{◌≡◌, ℕ, IfOk, List, map};
 ghost use Rattle.scim_value.specs.Content.{Content};
 ghost use Rattle.scim_view.specs.Groups as spec;
-ghost use Rattle.scim_view.specs.Index.{Indexes, IsIndexOf};
+ghost use Rattle.scim_view.specs.code.Index.{Indexes, IsIndexOf};
 
 use crate::groups::{SeenGroup, put_in_order, visible_with};
 use crate::index::GroupIndex;

@@ -1,7 +1,7 @@
 use Rattle.std.proofs.Common.{◌≡◌, map, drop}
 use Rattle.std.specs.List.{list_all}
 use Rattle.scim_policy.specs.Paths.{is_path}
-use Rattle.scim_policy.specs.Written.{text_at}
+use Rattle.scim_policy.specs.code.Written.{text_at}
 use Rattle.scim_policy.proofs.paths.are_paths.Given as goal
 
 -- the answer for the texts that are left is that for all

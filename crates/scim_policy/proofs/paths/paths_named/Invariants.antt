@@ -1,6 +1,6 @@
 use Rattle.std.proofs.Common.{◌≡◌, map, take}
 use Rattle.scim_policy.specs.Paths.{paths_for}
-use Rattle.scim_policy.specs.Written.{text_at}
+use Rattle.scim_policy.specs.code.Written.{text_at}
 use Rattle.scim_policy.proofs.paths.paths_named.Given as goal
 
 -- the paths so far are those on the kinds before this one

@@ -1,7 +1,7 @@
 use Rattle.std.proofs.Common.{map}
 use Rattle.json.specs.Find.{as_str}
 use Rattle.json.specs.Value.{value_view}
-use Rattle.scim_policy.specs.Written.{text_at}
+use Rattle.scim_policy.specs.code.Written.{text_at}
 use Rattle.scim_policy.proofs.ListLemmas.{IsMade}
 use Rattle.scim_policy.proofs.reading.texts_of.Given as goal
 

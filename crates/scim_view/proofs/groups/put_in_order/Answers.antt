@@ -6,7 +6,7 @@ use Rattle.std.proofs.lemmas.Fn.{always_returns_same}
 use Rattle.std.proofs.lemmas.List.Sorted.{ranks_by}
 use denote.Ref.{Bor}
 use Rattle.scim_view.specs.declared.groups.SeenGroup.{SeenGroup}
-use Rattle.scim_view.specs.Memberships.{kept_cmp}
+use Rattle.scim_view.specs.code.Memberships.{kept_cmp}
 use Rattle.scim_view.specs.Sorted.{sorted_by}
 use Rattle.scim_view.proofs.SortLemmas.{sorted_is-sorted_by, sorted_by-map}
 use Rattle.scim_view.proofs.groups.put_in_order.Goals as goal

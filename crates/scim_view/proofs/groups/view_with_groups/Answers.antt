@@ -8,11 +8,11 @@ use Rattle.scim_value.specs.Rows.{Row}
 use Rattle.scim_value.proofs.SoundLemmas.{not_flip}
 use Rattle.scim_policy.specs.declared.rules.Decision.{Decision}
 use Rattle.scim_policy.specs.Decide.{decide}
-use Rattle.scim_policy.specs.Table.{decision}
+use Rattle.scim_policy.specs.code.Table.{decision}
 use Rattle.scim_view.specs.declared.groups.SeenGroup.{SeenGroup}
 use Rattle.scim_view.specs.View.{sees}
 use Rattle.scim_view.specs.Groups as spec
-use Rattle.scim_view.specs.Memberships.{kept_cmp}
+use Rattle.scim_view.specs.code.Memberships.{kept_cmp}
 use Rattle.scim_view.specs.Sorted.{sorted_by}
 use Rattle.scim_view.proofs.GroupLemmas.{same_with_groups}
 use Rattle.scim_view.proofs.groups.view_with_groups.Goals as goal

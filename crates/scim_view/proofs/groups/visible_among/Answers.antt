@@ -3,10 +3,10 @@ use Rattle.std.proofs.lemmas.Result.{IfOk-weaker}
 use denote.Ref.{Bor}
 use Rattle.scim_value.specs.Content.{Content}
 use Rattle.scim_value.specs.Rows.{Row}
-use Rattle.scim_policy.specs.Table.{decision}
+use Rattle.scim_policy.specs.code.Table.{decision}
 use Rattle.scim_view.specs.declared.groups.SeenGroup.{SeenGroup}
 use Rattle.scim_view.specs.Groups as spec
-use Rattle.scim_view.specs.Memberships.{kept_cmp}
+use Rattle.scim_view.specs.code.Memberships.{kept_cmp}
 use Rattle.scim_view.specs.Sorted.{sorted_by}
 use Rattle.scim_view.proofs.GroupLemmas.{map_lent}
 use Rattle.scim_view.proofs.groups.visible_among.Goals as goal

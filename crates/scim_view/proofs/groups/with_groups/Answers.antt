@@ -2,10 +2,10 @@ use Rattle.std.proofs.Common.{◌≡◌, ◌∙◌, ap, map, List}
 use Rattle.std.proofs.lemmas.Result.{IfOk-weaker}
 use Rattle.scim_value.specs.Content.{Content}
 use Rattle.scim_value.specs.Rows.{Row}
-use Rattle.scim_policy.specs.Table.{decision}
+use Rattle.scim_policy.specs.code.Table.{decision}
 use Rattle.scim_view.specs.declared.groups.SeenGroup.{SeenGroup}
 use Rattle.scim_view.specs.Groups as spec
-use Rattle.scim_view.specs.Memberships.{kept_cmp}
+use Rattle.scim_view.specs.code.Memberships.{kept_cmp}
 use Rattle.scim_view.specs.Sorted.{sorted_by}
 use Rattle.scim_view.proofs.GroupLemmas.{same_with_groups}
 use Rattle.scim_view.proofs.groups.with_groups.Goals as goal

@@ -2,8 +2,8 @@ use Rattle.std.proofs.Common.{◌≡◌, ◌∙◌, ap, List}
 use Rattle.scim_value.specs.Content.{Content}
 use Rattle.scim_value.specs.Rows.{Row}
 use Rattle.scim_view.specs.Groups as spec
-use Rattle.scim_view.specs.Index.{groups_of}
-use Rattle.scim_view.specs.Memberships.{kept_cmp}
+use Rattle.scim_view.specs.code.Index.{groups_of}
+use Rattle.scim_view.specs.code.Memberships.{kept_cmp}
 use Rattle.scim_view.specs.Sorted.{sorted_by}
 use Rattle.scim_view.proofs.ListLemmas.{memberships_given}
 use Rattle.scim_view.proofs.lists.groups_beside.Goals as goal

@@ -6,12 +6,12 @@ use Rattle.scim_schema.specs.declared.SubAttribute.TheVariants.{Value}
 use Rattle.scim_schema.specs.Units.{leaf_at}
 use Rattle.scim_value.specs.Rows.{rows, values}
 use Rattle.scim_policy.specs.declared.rules.Decision.{Decision}
-use Rattle.scim_policy.specs.Table.{decision}
+use Rattle.scim_policy.specs.code.Table.{decision}
 use Rattle.scim_view.specs.declared.index.GroupIndex.{GroupIndex}
 use Rattle.scim_view.specs.View.{visible_by}
 use Rattle.scim_view.specs.Groups.{lists}
-use Rattle.scim_view.specs.Index as spec
-use Rattle.scim_view.specs.Memberships.{kept_of}
+use Rattle.scim_view.specs.code.Index as spec
+use Rattle.scim_view.specs.code.Memberships.{kept_of}
 use Rattle.scim_view.proofs.IndexLemmas.{added}
 use Rattle.scim_view.proofs.MemberLemmas.{shown_member}
 use Rattle.scim_view.proofs.index.GroupIndex.add.Goals as goal
