@@ -3,9 +3,9 @@ ghost use Rattle.std.specs.Prelude.{◌≡◌, ◌≤◌, length};
 ghost use Rattle.scim_filter.specs.Tree.{tree_of};
 ghost use Rattle.scim_policy.specs.Rules as spec;
 
+use scim_cell::atoms::Text;
 use scim_filter::tree::Filter;
 use scim_schema::{Attribute, Kind, Op, SubAttribute};
-use scim_value::atoms::Text;
 use std::fmt;
 use std::marker::Model;
 

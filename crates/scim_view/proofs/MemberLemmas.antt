@@ -15,14 +15,14 @@ use Rattle.scim_schema.specs.declared.SubAttribute.TheVariants.{Value}
 use Rattle.scim_schema.specs.declared.Unit.{Unit as AttributeUnit}
 use Rattle.scim_schema.specs.Units.{leaf_at, whole}
 use Rattle.scim_schema.proofs.LeafLemmas.{leaf_one}
-use Rattle.scim_value.specs.declared.atoms.Atom.{Atom}
-use Rattle.scim_value.specs.declared.atoms.Atom.TheVariants.{Text}
-use Rattle.scim_value.specs.declared.rows.Field.{Field}
-use Rattle.scim_value.specs.Content.{Content, IsPart}
-use Rattle.scim_value.specs.Ids.{IsId, IsIdText, id_text}
-use Rattle.scim_value.specs.Place.{unit_cmp}
-use Rattle.scim_value.specs.Rows.{Row, Test, rows, values, content, restricted, restricted_row, has_fields, is_leaf, atom_in}
-use Rattle.scim_value.proofs.IdLemmas.{IsIdText-id_text, id_text-injective}
+use Rattle.scim_cell.specs.declared.atoms.Atom.{Atom}
+use Rattle.scim_cell.specs.declared.atoms.Atom.TheVariants.{Text}
+use Rattle.scim_cell.specs.declared.rows.Field.{Field}
+use Rattle.scim_cell.specs.Content.{Content, IsPart}
+use Rattle.scim_cell.specs.Ids.{IsId, IsIdText, id_text}
+use Rattle.scim_cell.specs.Place.{unit_cmp}
+use Rattle.scim_cell.specs.Rows.{Row, Test, rows, values, content, restricted, restricted_row, has_fields, is_leaf, atom_in}
+use Rattle.scim_cell.proofs.IdLemmas.{IsIdText-id_text, id_text-injective}
 use Rattle.scim_value.proofs.OfLemmas.{sound_part}
 use Rattle.scim_value.proofs.SoundLemmas.{restricted_sound}
 use Rattle.scim_value.proofs.TieLemmas.{rows_content}
@@ -79,7 +79,7 @@ module _ (keeps : Leaf → Bool) (l : Leaf) (test : Option Atom → Bool) (none 
   found rs = list_any (λ (m : Row). test (atom_in l m.fields)) (values u rs)
 
   empty_row : (r : Row) → has_fields r ≡ false → test (atom_in l r.fields) ≡ false
-  empty_row r e = elim r.fields as (λ fs. not (Rattle.scim_value.specs.Rows.is_empty fs) ≡ false → test (atom_in l fs) ≡ false) [ [] ↦ λ _. none | f ∷ fs ↦ λ h. cc ] e
+  empty_row r e = elim r.fields as (λ fs. not (Rattle.scim_cell.specs.Rows.is_empty fs) ≡ false → test (atom_in l fs) ≡ false) [ [] ↦ λ _. none | f ∷ fs ↦ λ h. cc ] e
 
   kept_found : (rs : List Row) → keeps l ≡ true → found (restricted (λ r m. keeps m) rs) ≡ found rs
   kept_found [] k = refl

@@ -1,7 +1,7 @@
 use Rattle.std.proofs.Common.{◌≡◌, ◌∙◌, ap, List, ℕ, map}
 use Rattle.std.proofs.lemmas.Result.{IfOk-weaker}
-use Rattle.scim_value.specs.Content.{Content}
-use Rattle.scim_value.specs.Rows.{Row}
+use Rattle.scim_cell.specs.Content.{Content}
+use Rattle.scim_cell.specs.Rows.{Row}
 use Rattle.scim_view.specs.Groups as spec
 use Rattle.scim_view.specs.Index.{groups_of}
 use Rattle.scim_view.proofs.ListLemmas.{memberships_given}
