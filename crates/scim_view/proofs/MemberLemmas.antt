@@ -15,14 +15,14 @@ use Rattle.scim_schema.specs.declared.SubAttribute.TheVariants.{Value}
 use Rattle.scim_schema.specs.declared.Unit.{Unit as AttributeUnit}
 use Rattle.scim_schema.specs.Units.{leaf_at, whole}
 use Rattle.scim_schema.proofs.LeafLemmas.{leaf_one}
-use Rattle.scim_value.specs.declared.atoms.Atom.{Atom}
-use Rattle.scim_value.specs.declared.atoms.Atom.TheVariants.{Text}
-use Rattle.scim_value.specs.declared.rows.Field.{Field}
-use Rattle.scim_value.specs.Content.{Content, IsPart}
-use Rattle.scim_value.specs.Ids.{IsId, IsIdText, id_text}
-use Rattle.scim_value.specs.Place.{unit_cmp}
-use Rattle.scim_value.specs.Rows.{Row, Test, rows, values, content, restricted, restricted_row, has_fields, is_leaf, atom_in}
-use Rattle.scim_value.proofs.IdLemmas.{IsIdText-id_text, id_text-injective}
+use Rattle.scim_cell.specs.declared.atoms.Atom.{Atom}
+use Rattle.scim_cell.specs.declared.atoms.Atom.TheVariants.{Text}
+use Rattle.scim_cell.specs.declared.rows.Field.{Field}
+use Rattle.scim_cell.specs.Content.{Content, IsPart}
+use Rattle.scim_cell.specs.Ids.{IsId, IsIdText, id_text}
+use Rattle.scim_cell.specs.Place.{unit_cmp}
+use Rattle.scim_cell.specs.Rows.{Row, Test, rows, values, content, restricted, restricted_row, has_fields, is_leaf, atom_in}
+use Rattle.scim_cell.proofs.IdLemmas.{IsIdText-id_text, id_text-injective}
 use Rattle.scim_value.proofs.OfLemmas.{sound_part}
 use Rattle.scim_value.proofs.SoundLemmas.{restricted_sound}
 use Rattle.scim_value.proofs.TieLemmas.{rows_content}
