@@ -2,8 +2,8 @@
 use crate::documents::{BASE, users_file};
 use crate::timing::{fastest, ratio};
 use anyhow::{Result, bail};
+use scim_cell::ids::Id;
 use scim_command::{Setting, once};
-use scim_value::ids::Id;
 use serde_json::Value;
 use std::alloc::Global;
 use std::io::Print;

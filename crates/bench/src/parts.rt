@@ -1,12 +1,12 @@
 //! Parts: groups of more and more members, each with four sub-attributes.
 use anyhow::{Result, bail};
+use scim_cell::atoms::{Atom, Text};
+use scim_cell::cells::Cell;
+use scim_cell::ids::Id;
+use scim_cell::rows::{Row, RowTest};
 use scim_schema::{Attribute, Kind, Leaf, SubAttribute};
 use scim_text::NoMemory;
-use scim_value::atoms::{Atom, Text};
-use scim_value::cells::Cell;
-use scim_value::ids::Id;
 use scim_value::parts::Part;
-use scim_value::rows::{Row, RowTest};
 use std::alloc::Global;
 use std::io::Print;
 use std::time::{Clock, Duration, Instant};

@@ -6,8 +6,8 @@ use Rattle.std.specs.Ordering.{ordering_then, nat_cmp, int_cmp, bool_cmp, is_eq,
 use Rattle.std.specs.Cmp.Lexicographic.{slice_cmp}
 use Rattle.scim_text.specs.declared.readings.Reading.{Reading}
 use Rattle.scim_text.specs.Names.{folded}
-use Rattle.scim_value.specs.declared.atoms.Atom.{Atom}
-use Rattle.scim_value.specs.declared.atoms.Atom.TheVariants as atom
+use Rattle.scim_cell.specs.declared.atoms.Atom.{Atom}
+use Rattle.scim_cell.specs.declared.atoms.Atom.TheVariants as atom
 use Rattle.scim_filter.specs.declared.tree.Literal.{Literal}
 use Rattle.scim_filter.specs.declared.tree.Literal.TheVariants as literal
 use Rattle.scim_filter.specs.declared.tree.Operator.{Operator}

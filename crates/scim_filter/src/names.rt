@@ -10,9 +10,9 @@ ghost use Rattle.scim_filter.specs.code.Reading.{Gives, Syntax, urn_of, name_of,
 use crate::bytes::{before_colon, is_keyword, skip_urn, split_name, urn_before};
 use crate::faults::ReadError;
 use crate::tree::{Meant, Path, Scope};
+use scim_cell::atoms::Text;
 use scim_schema::{Attribute, Kind, lookup};
 use scim_text::NoMemory;
-use scim_value::atoms::Text;
 use std::alloc::Global;
 use std::str;
 

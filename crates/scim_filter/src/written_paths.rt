@@ -12,9 +12,9 @@ use crate::limits::LONGEST_TEXT;
 use crate::names::{name, path};
 use crate::reading::listed;
 use crate::tree::{Filter, Path, Scope};
+use scim_cell::atoms::Text;
 use scim_schema::Kind;
 use scim_text::NoMemory;
-use scim_value::atoms::Text;
 use std::alloc::Global;
 
 /// The path of a change as it is written.

@@ -6,27 +6,27 @@ ghost use Rattle.serde_json.specs.Read.{read, max_depth};
 ghost use Rattle.serde_json.specs.View.{view, items_view};
 ghost use Rattle.scim_schema.specs.declared.Kind.{Kind};
 ghost use Rattle.scim_schema.specs.Names.{kind_name};
-ghost use Rattle.scim_value.specs.Ids.{IsId, id_text};
+ghost use Rattle.scim_cell.specs.Ids.{IsId, id_text};
 ghost use Rattle.std.specs.FinMap.{entries};
-ghost use Rattle.scim_value.specs.Content.{Content, entries_of, AreSortedPartCells};
+ghost use Rattle.scim_cell.specs.Content.{Content, entries_of, AreSortedPartCells};
 ghost use Rattle.scim_value.specs.Resource.{HasBase};
 ghost use Rattle.scim_json.specs.PartData.{stored_data};
 ghost use Rattle.scim_json.specs.Found as spec;
-ghost use Rattle.scim_json.specs.Stored.{IsDocument, IsDocumentText};
+ghost use Rattle.scim_json.specs.Stored.{IsDocument, GivesStored};
 
 use crate::faults::StoredFault;
 use crate::keys::{Shape, shape_of};
 use crate::writing::stored_text;
+use scim_cell::atoms::{Atom, Text};
+use scim_cell::cells::Cell;
+use scim_cell::ids::Id;
+use scim_cell::places::sub_attributes_by_place;
 use scim_schema::characteristics::{AttributeType, characteristics_of};
 use scim_schema::schemas::extension_of;
 use scim_schema::table::attributes;
 use scim_schema::{Attribute, Kind, Leaf, SubAttribute};
 use scim_text::{NoMemory, read_printed_moment};
-use scim_value::atoms::{Atom, Text};
-use scim_value::cells::Cell;
-use scim_value::ids::Id;
 use scim_value::parts::Part;
-use scim_value::places::sub_attributes_by_place;
 use scim_value::resources::{Resource, location};
 use serde_json::Value;
 use std::alloc::Global;
@@ -39,9 +39,7 @@ use std::alloc::Global;
 /// stored, null, empty lists and objects, values of another type, moments that aren't as printed, and
 /// what isn't a resource. NoMemory where none was to be had.
 pub fn read_stored(alloc: Global, base: &str, text: &str) -> Result<Resource, StoredFault>
-    ensures document { IfOk result (IsDocumentText base.now text.now) }
-    ensures damaged { result ≡ Err StoredFault.Damaged
-        → (c : Content) → ¬ IsDocumentText base.now text.now c }
+    ensures { GivesStored base.now text.now result }
 {
     let value = parse(alloc, text)?;
     let resource = resource_in(alloc, base, &value)?;

@@ -7,6 +7,7 @@ ghost use Rattle.scim_path.specs.code.Results.{target_read};
 
 use crate::faults::PathFault;
 use crate::paths::{Path, ValuePath};
+use scim_cell::atoms::Text;
 use scim_filter::attribute_paths::lone_word;
 use scim_filter::limits::LONGEST_TEXT;
 use scim_filter::mentions::knows_names;
@@ -16,7 +17,6 @@ use scim_schema::characteristics::is_multi_valued;
 use scim_schema::lookup::sub_attribute;
 use scim_schema::schemas::{Schema, extensions};
 use scim_schema::{Attribute, Kind};
-use scim_value::atoms::Text;
 use std::alloc::Global;
 
 /// The extension of the kind whose URN stands alone in a text of at most 4,096 bytes, in any ASCII case and

@@ -7,9 +7,9 @@ ghost use Rattle.scim_query.specs.Pages.{is_match, matching};
 
 use crate::keys::{compare_keys, key_by};
 use crate::queries::Query;
+use scim_cell::atoms::Atom;
 use scim_filter::truth::holds;
 use scim_text::NoMemory;
-use scim_value::atoms::Atom;
 use scim_value::parts::Part;
 use std::alloc::Global;
 use std::cmp::Ordering;

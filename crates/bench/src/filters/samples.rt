@@ -1,10 +1,10 @@
 //! Users and groups that filters are held on.
 use anyhow::{Result, bail};
+use scim_cell::atoms::{Atom, Text};
+use scim_cell::cells::Cell;
+use scim_cell::ids::Id;
 use scim_schema::{Attribute, Kind, Leaf, SubAttribute};
 use scim_text::Moment;
-use scim_value::atoms::{Atom, Text};
-use scim_value::cells::Cell;
-use scim_value::ids::Id;
 use scim_value::parts::Part;
 use std::alloc::Global;
 use uuid::Uuid;

@@ -1,6 +1,6 @@
 -- The cells that a filter looks at, by value.
 use Rattle.std.specs.Prelude.{List, []}
-use Rattle.scim_value.specs.Rows.{Row, rows, attribute_rows}
+use Rattle.scim_cell.specs.Rows.{Row, rows, attribute_rows}
 use Rattle.scim_filter.specs.declared.truth.Cells.{Cells}
 use Rattle.scim_filter.specs.declared.truth.Cells.TheVariants as cells
 

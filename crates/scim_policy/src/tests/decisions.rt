@@ -1,9 +1,9 @@
 use crate::rules::{ClientName, Decision, Policy, PolicyPath, Rule};
+use scim_cell::atoms::{Atom, Text};
+use scim_cell::cells::Cell;
+use scim_cell::ids::Id;
 use scim_schema::{Attribute, Kind, Leaf, Op, SubAttribute};
 use scim_text::Moment;
-use scim_value::atoms::{Atom, Text};
-use scim_value::cells::Cell;
-use scim_value::ids::Id;
 use scim_value::parts::Part;
 use scim_value::resources::{Resource, location};
 use std::alloc::Global;

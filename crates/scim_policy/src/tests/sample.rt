@@ -2,9 +2,9 @@
 use super::decisions::{TITLE, resource_with};
 use super::reading::expect_fault;
 use crate::{Cause, Decision, Misfit, read_policy};
+use scim_cell::atoms::{Atom, Text};
+use scim_cell::cells::Cell;
 use scim_schema::{Attribute, Kind, Leaf, Op};
-use scim_value::atoms::{Atom, Text};
-use scim_value::cells::Cell;
 use scim_value::resources::Resource;
 use std::alloc::Global;
 use std::test::Fail;

@@ -1,9 +1,9 @@
 use super::decisions::{TITLE, resource, resource_with};
 use super::reading::{expect_fault, file, rule_at};
 use crate::{Cause, Misfit, Policy, Rule, read_policy};
+use scim_cell::atoms::{Atom, Text};
+use scim_cell::cells::Cell;
 use scim_schema::{Attribute, Kind, Leaf, Op, SubAttribute};
-use scim_value::atoms::{Atom, Text};
-use scim_value::cells::Cell;
 use scim_value::resources::Resource;
 use std::alloc::Global;
 use std::process::Abort;

@@ -1,10 +1,10 @@
 //! What clients see of users with their groups (RFC 7643 section 4.1.2).
 use super::views::{BABS, BASE, babs, meta_moment, meta_text, part_of, rule, simple, text};
 use crate::{view_with_groups, with_groups};
+use scim_cell::cells::Cell;
+use scim_cell::ids::Id;
 use scim_policy::{Policy, PolicyPath};
 use scim_schema::{Attribute, Kind, Leaf, Op, SubAttribute};
-use scim_value::cells::Cell;
-use scim_value::ids::Id;
 use scim_value::parts::Part;
 use scim_value::resources::{Resource, location};
 use std::alloc::Global;

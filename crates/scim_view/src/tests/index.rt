@@ -2,11 +2,11 @@
 use super::views::{BASE, meta_moment, meta_text, simple, text};
 use crate::index::GroupIndex;
 use crate::lists::views;
+use scim_cell::atoms::{Atom, Text};
+use scim_cell::cells::Cell;
+use scim_cell::ids::Id;
 use scim_policy::{Policy, read_policy};
 use scim_schema::{Attribute, Kind, Leaf, SubAttribute};
-use scim_value::atoms::{Atom, Text};
-use scim_value::cells::Cell;
-use scim_value::ids::Id;
 use scim_value::parts::Part;
 use scim_value::resources::{Resource, location};
 use std::alloc::Global;

@@ -1,8 +1,8 @@
 //! What of a part is shown.
 use super::views::{BABS, email, meta_moment, meta_text, part_of, simple, text};
 use crate::{Names, Wanted, project};
+use scim_cell::cells::Cell;
 use scim_schema::{Attribute, Kind, Leaf, SubAttribute};
-use scim_value::cells::Cell;
 use scim_value::parts::Part;
 use std::alloc::Global;
 use std::test::Fail;
