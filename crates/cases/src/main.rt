@@ -8,7 +8,10 @@
 mod arguments;
 mod case;
 mod faults;
+mod filter_calls;
 mod folder;
+mod path_calls;
+mod query_calls;
 mod samples_calls;
 mod schema_calls;
 mod tally;
@@ -81,6 +84,15 @@ fn answer(case: &Case<'_>) -> Result<String, CaseFault> {
         return found;
     }
     if let Some(found) = schema_calls::answer(case, call) {
+        return found;
+    }
+    if let Some(found) = filter_calls::answer(case, call) {
+        return found;
+    }
+    if let Some(found) = path_calls::answer(case, call) {
+        return found;
+    }
+    if let Some(found) = query_calls::answer(case, call) {
         return found;
     }
     Err(CaseFault::NoSuchCall)
