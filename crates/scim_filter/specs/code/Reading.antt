@@ -14,7 +14,8 @@ use Rattle.scim_filter.specs.declared.tree.Literal.TheVariants as literal
 use Rattle.scim_filter.specs.declared.tree.Path.{Path}
 use Rattle.scim_filter.specs.declared.tree.Scope.{Scope}
 use Rattle.scim_filter.specs.declared.tree.Scope.TheVariants.{Attributes, SubAttributes}
-use Rattle.scim_filter.specs.Bytes.{is_space, is_word_byte, is_no_dot, front, behind, is_word, past_gap, past_join, names_in, urn_in, past_quote}
+use Rattle.scim_filter.specs.Bytes.{is_space, is_word_byte, front, behind, is_word, past_quote}
+use Rattle.scim_filter.specs.code.Cuts.{is_no_dot, past_gap, past_join, names_in, urn_in}
 use Rattle.scim_filter.specs.Names.{is_name, is_urn, fits_scope, meant_by, attribute_meant}
 use Rattle.scim_filter.specs.Tree.{Tree, Or, And, Not, Present, Compare, Values}
 
@@ -23,6 +24,7 @@ pub data Fault : Type 0 where
   Syntax : Fault
   TooDeep : Fault
 
+-- going on with what was read, or stopping at the first fault
 infixl 10 ◌>>=◌
 abbrev pub ◌>>=◌ : {A B : Type 0} → Result A Fault → (A → Result B Fault) → Result B Fault
 (Ok x) >>= f = f x
@@ -34,6 +36,7 @@ Fails errors.NoMemory read = Unit {0}
 Fails (errors.Syntax left) read = read ≡ Err Syntax
 Fails errors.TooDeep read = read ≡ Err TooDeep
 
+-- the same of all that a function returned
 abbrev pub Gives : {X Y : Type 0} → (X → Y) → Result X ReadError → Result Y Fault → Type 0
 Gives view (Ok x) read = read ≡ Ok (view x)
 Gives view (Err e) read = Fails e read
@@ -42,6 +45,7 @@ Gives view (Err e) read = Fails e read
 abbrev pub Read : Type 0 → Type 0
 Read A = Result (A × List ℕ) Fault
 
+-- what reads a tree from the front of bytes
 abbrev pub Reader : Type 0
 Reader = List ℕ → Read Tree
 
@@ -50,6 +54,7 @@ unfoldable pub urn_of : Option (List ℕ) → Result (Option (List ℕ)) Fault
 urn_of None = Ok None
 urn_of (Some urn) = if is_urn urn then Ok (Some urn) else Err Syntax
 
+-- a whole word that is a name
 unfoldable pub name_of : List ℕ → Result (List ℕ) Fault
 name_of name = if is_name name then Ok name else Err Syntax
 
@@ -74,6 +79,7 @@ path_of scope word = do
   sub ← sub_of (behind is_no_dot (names_in word))
   path_with scope urn name sub
 
+-- a whole word that is an operator
 unfoldable pub operator_of : List ℕ → Result Operator Fault
 operator_of w =
     if is_word (codes "eq") w then Ok Eq else
@@ -86,12 +92,15 @@ operator_of w =
     if is_word (codes "lt") w then Ok Lt else
     if is_word (codes "le") w then Ok Le else Err Syntax
 
+-- a whole word that is a number
 unfoldable pub integer_of : List ℕ → Option ℤ
 integer_of w = if is_integer w then Some (signed_digits_value 10 w) else None
 
+-- the same as a literal
 unfoldable pub number_of : List ℕ → Result Literal Fault
 number_of w = ok_or (integer_of w) Syntax >>= λ z. Ok (literal.Number z)
 
+-- a whole word that is a literal
 unfoldable pub word_literal : List ℕ → Result Literal Fault
 word_literal w =
     if is_word (codes "true") w then Ok (literal.Truth true) else
@@ -109,6 +118,7 @@ string_at bytes = do
   s ← string_of (take (length bytes - length rest) bytes)
   Ok (literal.Text s, rest)
 
+-- a literal in front
 unfoldable pub literal_at : List ℕ → Read Literal
 literal_at bytes = if slice_index bytes 0 == 34 then string_at bytes else do
   x ← word_literal (front is_word_byte bytes)
@@ -134,6 +144,7 @@ relation_at path bytes =
       x ← literal_at rest
       Ok (Compare path op x.0, x.1)
 
+-- what is read, with its tree made part of another
 abbrev pub mapped : (Tree → Tree) → Read Tree → Read Tree
 mapped f read = read >>= λ x. Ok (f x.0, x.1)
 
@@ -158,6 +169,7 @@ worded_at filter scope bytes =
       path ← path_of scope (front is_word_byte bytes)
       behind_path_at filter scope path (behind is_word_byte bytes)
 
+-- a term in front
 unfoldable pub term_at : (Scope → Reader) → Scope → Reader
 term_at filter scope bytes =
     if slice_index bytes 0 == 40 then enclosed_at 41 (filter scope) (drop 1 bytes) else worded_at filter scope bytes
@@ -172,9 +184,11 @@ abbrev pub chain_at : ℕ → Reader → List ℕ → (Tree → Tree → Tree) �
 chain_at zero item keyword join bytes = Err Syntax
 chain_at (suc n) item keyword join bytes = item bytes >>= λ x. joined_at (chain_at n item keyword join) join x (past_join keyword x.1)
 
+-- terms with `and` between them
 unfoldable pub conjunction_at : (Scope → Reader) → Scope → Reader
 conjunction_at filter scope bytes = chain_at (suc (length bytes)) (term_at filter scope) (codes "and") And bytes
 
+-- conjunctions with `or` between them
 unfoldable pub disjunction_at : (Scope → Reader) → Scope → Reader
 disjunction_at filter scope bytes = chain_at (suc (length bytes)) (conjunction_at filter scope) (codes "or") Or bytes
 
@@ -183,11 +197,12 @@ unfoldable pub filter_at : ℕ → Scope → Reader
 filter_at zero scope bytes = Err TooDeep
 filter_at (suc n) scope bytes = disjunction_at (filter_at n) scope bytes
 
--- a whole filter, with nothing behind it
+-- the tree, where nothing is left
 abbrev pub ended : Tree → List ℕ → Result Tree Fault
 ended t [] = Ok t
 ended t (b ∷ bs) = Err Syntax
 
+-- a whole filter, with nothing but spaces behind it
 unfoldable pub all_of : Scope → List ℕ → Result Tree Fault
 all_of scope bytes = do
   x ← filter_at 33 scope (behind is_space bytes)
