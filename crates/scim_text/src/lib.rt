@@ -8,8 +8,6 @@ mod memory;
 mod moments;
 mod names;
 mod readings;
-#[cfg(test)]
-mod tests;
 
 pub use laws::{
     moment_in_is_spelled, one_reading, printed_moments_are_ordered, printed_moments_are_read,
