@@ -5,7 +5,7 @@ use crate::faults::CaseFault;
 use scim_samples::{leaf_text, read_leaf};
 use scim_schema::characteristics::{
     AttributeType, Characteristics, Mutability, Returned, Uniqueness, attribute_characteristics,
-    characteristics_of,
+    characteristics_of, is_multi_valued,
 };
 use scim_schema::lookup::{attribute, attribute_in, schema, sub_attribute};
 use scim_schema::schemas::{Schema, core_schema, extension_of, extensions, schema_of, schemas};
@@ -70,8 +70,12 @@ fn returned_word(returned: Returned) -> &'static str {
 
 /// Type, `multi` or `single`, `required` or `optional`, `caseExact` or `caseInexact`, mutability, when it is
 /// returned, and uniqueness.
-fn characteristics_text(alloc: Global, of: &Characteristics) -> Result<String, CaseFault> {
-    let plurality = if of.multi_valued { "multi" } else { "single" };
+fn characteristics_text(
+    alloc: Global,
+    multi_valued: bool,
+    of: &Characteristics,
+) -> Result<String, CaseFault> {
+    let plurality = if multi_valued { "multi" } else { "single" };
     let need = if of.required { "required" } else { "optional" };
     let case = if of.case_exact {
         "caseExact"
@@ -178,14 +182,15 @@ fn leaf(case: &Case<'_>) -> Result<String, CaseFault> {
     };
     let schema = schema_word(schema_of(kind, leaf.attribute));
     let path = leaf_text(case.alloc, leaf)?;
-    let text = characteristics_text(case.alloc, &characteristics_of(kind, leaf))?;
+    let of = characteristics_of(kind, leaf);
+    let text = characteristics_text(case.alloc, is_multi_valued(leaf.attribute), &of)?;
     Ok(format!(in case.alloc; "{schema} {path} {text}")?)
 }
 
 /// The characteristics of a whole complex attribute.
 fn whole_attribute(case: &Case<'_>) -> Result<String, CaseFault> {
     let of = attribute_characteristics(case.kind(), attribute_of(case)?);
-    characteristics_text(case.alloc, &of)
+    characteristics_text(case.alloc, of.multi_valued, &of)
 }
 
 /// Whether the kind has the leaf.
