@@ -19,7 +19,7 @@ pub struct StringLiteral {
 
 impl Model for StringLiteral {
     ghost use Rattle.std.specs.Prelude.{List, ℕ};
-    ghost use Rattle.scim_filter.specs.Inside.{IsSoundLiteral};
+    ghost use Rattle.scim_filter.specs.code.Inside.{IsSoundLiteral};
 
     ghost Value = { List ℕ };
 

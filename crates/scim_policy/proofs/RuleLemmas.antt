@@ -10,9 +10,9 @@ use Rattle.scim_cell.specs.Content.{Content}
 use Rattle.scim_policy.specs.declared.rules.Decision.{Decision}
 use Rattle.scim_policy.specs.declared.decisions.Decisions.{Decisions}
 use Rattle.scim_policy.specs.Rules.{Rule}
-use Rattle.scim_policy.specs.Lists.{or_else}
-use Rattle.scim_policy.specs.Decide.{covers, speaks_of, fits, first_of, decide}
-use Rattle.scim_policy.specs.Table.{or_denied, decided, decision, by_paths, by_rule, by_rules}
+use Rattle.scim_policy.specs.code.Table.{or_else}
+use Rattle.scim_policy.specs.Decide.{covers_in, paths_on, speaks_of, fits, first_of, decide}
+use Rattle.scim_policy.specs.code.Table.{or_denied, decided, decision, by_paths, by_rule, by_rules}
 use Rattle.scim_policy.proofs.TableLemmas.{or_or}
 
 -- the first of numbered rules that decides is the first that fits
@@ -21,7 +21,7 @@ first_decides client op c l n [] = refl
 first_decides client op c l n (r ∷ rs) =
     let ih = first_decides client op c l (n + 1) rs in
     elim (cases_Bool (speaks_of client op c r)) [
-      | inl speaks ↦ elim (cases_Bool (list_any (covers l) r.paths)) [
+      | inl speaks ↦ elim (cases_Bool (covers_in c l r)) [
         | inl covered ↦ rw (speaks, covered) refl
         | inr apart ↦ rw (speaks, apart) ih
       ]
@@ -36,7 +36,7 @@ all_decide ds client op c rs before none all l =
     ap or_denied e ∙ first_decides client op c l 1 rs
 
 -- what a rule decides that speaks of the client, the operation and the resource
-pub spoken : (client : List ℕ) (op : Op) (c : Content) (l : Leaf) (n : ℕ) (r : Rule) → speaks_of client op c r ≡ true → by_rule client op c l n r ≡ by_paths r.paths (record { rule = n; allow = r.allow }) l
+pub spoken : (client : List ℕ) (op : Op) (c : Content) (l : Leaf) (n : ℕ) (r : Rule) → speaks_of client op c r ≡ true → by_rule client op c l n r ≡ by_paths (paths_on c.kind r.paths) (record { rule = n; allow = r.allow }) l
 spoken client op c l n r speaks = rw speaks refl
 
 -- what one rule decides and those behind it

@@ -18,9 +18,9 @@ use Rattle.scim_policy.specs.declared.rules.PolicyPath.{PolicyPath}
 use Rattle.scim_policy.specs.declared.rules.PolicyPath.TheVariants.{SubAttribute as SubAttributePath}
 use Rattle.scim_policy.specs.declared.decisions.AttributeDecisions.{AttributeDecisions}
 use Rattle.scim_policy.specs.declared.decisions.Decisions.{Decisions}
-use Rattle.scim_policy.specs.Lists.{or_else}
+use Rattle.scim_policy.specs.code.Table.{or_else}
 use Rattle.scim_policy.specs.Decide.{covers}
-use Rattle.scim_policy.specs.Table.{at_sub_attribute, in_attribute, in_attributes, decided, by_path, by_paths, by_name}
+use Rattle.scim_policy.specs.code.Table.{at_sub_attribute, in_attribute, in_attributes, decided, by_path, by_paths, by_name}
 
 pub or_none : (o : Option Decision) → or_else o None ≡ o
 or_none None = refl

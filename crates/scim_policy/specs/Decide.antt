@@ -3,6 +3,7 @@ use Rattle.std.specs.Prelude.{ℕ, Bool, true, false, ◌&&◌, ◌||◌, ◌==�
 use Rattle.std.specs.List.{list_any, enumerate_from}
 use Rattle.std.specs.Cmp.Lexicographic.{pointwise}
 use denote.Enum.Bare.{sameb}
+use Rattle.scim_schema.specs.declared.Kind.{Kind}
 use Rattle.scim_schema.specs.declared.Op.{Op}
 use Rattle.scim_schema.specs.declared.Leaf.{Leaf}
 use Rattle.scim_schema.specs.contracts.Kind.{the_type as the_kind}
@@ -19,7 +20,7 @@ use Rattle.scim_policy.specs.declared.rules.PolicyPath.TheVariants.{Everything, 
 use Rattle.scim_policy.specs.declared.rules.Decision.{Decision}
 use Rattle.scim_policy.specs.declared.misfits.Misfit.{Misfit}
 use Rattle.scim_policy.specs.declared.misfits.Misfit.TheVariants as misfit
-use Rattle.scim_policy.specs.Rules.{Target, Rule}
+use Rattle.scim_policy.specs.Rules.{Target, KindPaths, Rule}
 
 -- whether a rule's client name is that of the client
 abbrev pub names : List ℕ → ClientName → Bool
@@ -31,6 +32,15 @@ abbrev pub covers : Leaf → PolicyPath → Bool
 covers l Everything = true
 covers l (Attribute a) = sameb the_attribute l.attribute a
 covers l (SubAttribute a b) = is_leaf (leaf_at a b) l
+
+-- the paths for a kind; none where the rule isn't for the kind
+abbrev pub paths_on : Kind → List KindPaths → List PolicyPath
+paths_on k [] = []
+paths_on k (p ∷ ps) = if sameb the_kind k p.kind then p.paths else paths_on k ps
+
+-- whether the rule covers a leaf of a resource: by one of its paths for the resource's kind
+abbrev pub covers_in : Content → Leaf → Rule → Bool
+covers_in c l r = list_any (covers l) (paths_on c.kind r.paths)
 
 -- whether the target for the resource's kind holds on its rows
 abbrev pub holds_on : Content → List Target → Bool
@@ -48,7 +58,7 @@ speaks_of client op c r =
 
 -- whether the rule fits: it speaks of them, and covers the leaf
 abbrev pub fits : List ℕ → Op → Content → Leaf → Rule → Bool
-fits client op c l r = speaks_of client op c r && list_any (covers l) r.paths
+fits client op c l r = speaks_of client op c r && covers_in c l r
 
 -- what the first of some numbered rules decides; where there is none, rule 0 denies
 abbrev pub first_of : List (ℕ × Rule) → Decision
@@ -65,7 +75,7 @@ misfit_of client op c l r =
     if list_any (names client) r.clients
     then (if list_any (sameb the_op op) r.ops
     then (if list_any (sameb the_kind c.kind) r.kinds
-    then (if list_any (covers l) r.paths
+    then (if covers_in c l r
     then (if is_target_met c r then None else Some misfit.Target)
     else Some misfit.Path)
     else Some misfit.Kind)

@@ -1,10 +1,7 @@
+pub mod code
 pub mod Decide
 pub mod File
-pub mod Inside
 pub mod Lists
 pub mod Paths
 pub mod Rules
-pub mod Steps
-pub mod Table
 pub mod Targets
-pub mod Written

@@ -5,13 +5,3 @@ use Rattle.std.specs.Prelude.{List, [], ◌∷◌, Option, None, Some, option_ma
 abbrev pub each : {X Y : Type 0} → (X → Option Y) → List X → Option (List Y)
 each f [] = Some []
 each f (x ∷ xs) = option_and_then (λ y. option_map (λ ys. y ∷ ys) (each f xs)) (f x)
-
--- the first of two that there is
-abbrev pub or_else : {Y : Type 0} → Option Y → Option Y → Option Y
-or_else None o = o
-or_else (Some y) o = Some y
-
--- the first that there is
-abbrev pub first_some : {X Y : Type 0} → (X → Option Y) → List X → Option Y
-first_some f [] = None
-first_some f (x ∷ xs) = or_else (f x) (first_some f xs)

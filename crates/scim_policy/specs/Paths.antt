@@ -1,6 +1,6 @@
 -- The words of a policy file: names of clients, operations and kinds, and paths.
-use Rattle.std.specs.Prelude.{ℕ, Bool, ◌&&◌, ◌||◌, ◌==◌, nat_le, nat_eq, List, [], ◌∷◌, length, codes, find, Option, None, Some, option_and_then, if◌then◌else◌}
-use Rattle.std.specs.List.{list_all}
+use Rattle.std.specs.Prelude.{ℕ, Bool, ◌&&◌, ◌||◌, ◌==◌, nat_le, nat_eq, List, [], ◌∷◌, length, map, filter_map, codes, find, Option, None, Some, is_some, option_and_then, if◌then◌else◌}
+use Rattle.std.specs.List.{list_any, list_all}
 use Rattle.std.specs.Cmp.Lexicographic.{pointwise}
 use Rattle.scim_schema.specs.declared.Kind.{Kind}
 use Rattle.scim_schema.specs.declared.Kind.TheVariants.{User, Group}
@@ -11,11 +11,11 @@ use Rattle.scim_filter.specs.declared.tree.Meant.{Meant}
 use Rattle.scim_filter.specs.declared.tree.Meant.TheVariants as meant
 use Rattle.scim_filter.specs.declared.tree.Path.{Path}
 use Rattle.scim_filter.specs.Spelled.{path_in}
-use Rattle.scim_policy.specs.Lists.{first_some}
 use Rattle.scim_policy.specs.declared.rules.ClientName.{ClientName}
 use Rattle.scim_policy.specs.declared.rules.ClientName.TheVariants.{Everyone, Named}
 use Rattle.scim_policy.specs.declared.rules.PolicyPath.{PolicyPath}
 use Rattle.scim_policy.specs.declared.rules.PolicyPath.TheVariants.{Everything, Attribute, SubAttribute}
+use Rattle.scim_policy.specs.Rules.{KindPaths}
 
 abbrev pub same_text : List ℕ → List ℕ → Bool
 same_text = pointwise nat_eq
@@ -51,7 +51,19 @@ covered_by (meant.SubAttribute a b) = Some (SubAttribute a b)
 abbrev pub path_on : List ℕ → Kind → Option PolicyPath
 path_on t kind = option_and_then (λ (path : Path). covered_by path.meant) (path_in kind t)
 
--- what a word of `paths` covers for a rule on these kinds: everything by `*`, else what it covers on the first of them that has it
-abbrev pub path_named : List Kind → List ℕ → Option PolicyPath
-path_named kinds t =
-    if same_text t (codes "*") then Some Everything else (if nat_le (length t) 4096 then first_some (path_on t) kinds else None)
+-- what a word of `paths` covers on resources of a kind: everything by `*`, else the attribute or sub-attribute of the kind that it names
+abbrev pub path_named : List ℕ → Kind → Option PolicyPath
+path_named t kind =
+    if same_text t (codes "*") then Some Everything else (if nat_le (length t) 4096 then path_on t kind else None)
+
+-- whether one of these kinds has what a word names
+abbrev pub is_path : List Kind → List ℕ → Bool
+is_path kinds t = list_any (λ k. is_some (path_named t k)) kinds
+
+-- what words cover on resources of a kind: of a word that names nothing there, nothing
+abbrev pub paths_for : List (List ℕ) → Kind → KindPaths
+paths_for texts kind = record { kind = kind; paths = filter_map (λ t. path_named t kind) texts }
+
+-- what the words of `paths` cover for a rule on these kinds, on each kind by itself, if each word names something on one of them
+abbrev pub paths_named : List Kind → List (List ℕ) → Option (List KindPaths)
+paths_named kinds texts = if list_all (is_path kinds) texts then Some (map (paths_for texts) kinds) else None

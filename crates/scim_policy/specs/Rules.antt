@@ -11,11 +11,16 @@ pub record Target : Type 0 where
   pub kind : Kind
   pub tree : Tree
 
--- whether the rule allows or denies, what it covers, and its target for each of its kinds; no target is no list
+-- what a rule's paths cover on resources of a kind
+pub record KindPaths : Type 0 where
+  pub kind : Kind
+  pub paths : List PolicyPath
+
+-- whether the rule allows or denies, whom and what it is for, and for each of its kinds its target and what it covers; no target is no list
 pub record Rule : Type 0 where
   pub allow : Bool
   pub clients : List ClientName
   pub ops : List Op
   pub kinds : List Kind
   pub targets : List Target
-  pub paths : List PolicyPath
+  pub paths : List KindPaths

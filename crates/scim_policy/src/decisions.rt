@@ -3,12 +3,13 @@ ghost use Rattle.std.specs.Prelude.{◌≡◌, ◌<◌, ◌≤◌, ℕ, length, 
 ghost use Rattle.scim_schema.specs.declared.Leaf.{Leaf};
 ghost use Rattle.scim_schema.specs.declared.SubAttribute.{SubAttribute};
 ghost use Rattle.scim_policy.specs.Decide as spec;
-ghost use Rattle.scim_policy.specs.Lists.{or_else};
-ghost use Rattle.scim_policy.specs.Table as table;
+ghost use Rattle.scim_policy.specs.Decide.{paths_on};
+ghost use Rattle.scim_policy.specs.code.Table.{or_else};
+ghost use Rattle.scim_policy.specs.code.Table as table;
 ghost use Rattle.scim_policy.specs.declared.rules.PolicyPath.{PolicyPath};
 
 use crate::rules::{Decision, Policy, PolicyPath, Rule};
-use scim_schema::{Attribute, Leaf, Op, SubAttribute};
+use scim_schema::{Attribute, Kind, Leaf, Op, SubAttribute};
 use scim_text::NoMemory;
 use scim_value::resources::Resource;
 use std::alloc::Global;
@@ -66,7 +67,7 @@ impl Policy {
 
 impl Decisions {
     /// The decision on a leaf.
-    #[tactic(auto, unfolding(crate::specs::Table::decision))]
+    #[tactic(auto, unfolding(crate::specs::code::Table::decision))]
     pub fn of(&self, leaf: Leaf) -> Decision
         ensures { result ≡ table.decision self.now leaf }
     {
@@ -80,7 +81,7 @@ impl Decisions {
     }
 
     /// Nothing is decided yet.
-    #[tactic(auto, unfolding(crate::specs::Table::decided))]
+    #[tactic(auto, unfolding(crate::specs::code::Table::decided))]
     fn none(alloc: Global) -> Decisions
         ensures { (l : Leaf) → table.decided result l ≡ None }
     {
@@ -122,7 +123,7 @@ impl Decisions {
         for rule in rules {
             number += 1;
             if rule.speaks_of(alloc, client, op, resource)? {
-                self.add_rule(alloc, rule, number)?;
+                self.add_rule(alloc, rule, resource.kind(), number)?;
                 if self.rest.is_some() {
                     return Ok(());
                 }
@@ -131,16 +132,23 @@ impl Decisions {
         Ok(())
     }
 
-    /// Decides by the rule what it covers and isn't decided yet. NoMemory where none was to be had.
-    fn add_rule(&mut self, alloc: Global, rule: &Rule, number: u32) -> Result<(), NoMemory>
+    /// Decides by the rule what it covers on resources of the kind and isn't decided yet. NoMemory where
+    /// none was to be had.
+    fn add_rule(
+        &mut self,
+        alloc: Global,
+        rule: &Rule,
+        kind: Kind,
+        number: u32,
+    ) -> Result<(), NoMemory>
         ensures { OnOk result ((l : Leaf) → table.decided self.new l ≡ or_else (table.decided self.old l)
-            (table.by_paths rule.now.paths (record { rule = number; allow = rule.now.allow }) l)) }
+            (table.by_paths (paths_on kind rule.now.paths) (record { rule = number; allow = rule.now.allow }) l)) }
     {
         let decision = Decision {
             rule: number,
             allow: rule.allows(),
         };
-        self.add_paths(alloc, rule.paths(), decision)
+        self.add_paths(alloc, rule.paths_on(kind), decision)
     }
 
     /// Decides what the paths cover and isn't decided yet. NoMemory where none was to be had.

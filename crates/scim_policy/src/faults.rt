@@ -9,9 +9,10 @@ use std::fmt;
 pub enum Cause {
     /// The file is no JSON.
     Json,
-    /// A value of another type than is due, an empty list, a key that is missing or isn't known.
+    /// A value of another type than is due (as a version that is no integer), an empty list, a key that is
+    /// missing or isn't known.
     Shape,
-    /// The version isn't 1.
+    /// The version is an integer other than 1, of any size.
     Version,
     /// There are more than 1,000 rules.
     TooManyRules,

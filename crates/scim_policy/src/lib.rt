@@ -20,4 +20,4 @@ pub use faults::{Cause, PolicyFault};
 pub use misfits::Misfit;
 pub use paths::is_client_name;
 pub use reading::read_policy;
-pub use rules::{ClientName, Decision, Policy, PolicyPath, Rule, Target};
+pub use rules::{ClientName, Decision, KindPaths, Policy, PolicyPath, Rule, Target};

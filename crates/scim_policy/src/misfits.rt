@@ -22,7 +22,7 @@ pub enum Misfit {
     Op,
     /// It is for other kinds of resources.
     Kind,
-    /// It doesn't cover the attribute or the sub-attribute.
+    /// It doesn't cover the attribute or the sub-attribute of a resource of that kind.
     Path,
     /// Its target doesn't hold on the resource.
     Target,
@@ -72,7 +72,7 @@ impl Rule {
             Some(Misfit::Op)
         } else if !is_kind(self.kinds(), resource.kind()) {
             Some(Misfit::Kind)
-        } else if !covers(self.paths(), leaf) {
+        } else if !covers(self.paths_on(resource.kind()), leaf) {
             Some(Misfit::Path)
         } else if !self.is_target_met(alloc, resource)? {
             Some(Misfit::Target)

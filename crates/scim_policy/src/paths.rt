@@ -1,10 +1,10 @@
 //! The words of a policy file: names of clients, operations and kinds, and paths.
-ghost use Rattle.std.specs.Prelude.{◌≡◌, IfOk};
+ghost use Rattle.std.specs.Prelude.{◌≡◌, IfOk, map, option_map};
 ghost use Rattle.std.specs.List.{list_all};
-ghost use Rattle.scim_policy.specs.Lists.{first_some};
 ghost use Rattle.scim_policy.specs.Paths as spec;
+ghost use Rattle.scim_policy.specs.code.Written.{text_at};
 
-use crate::rules::{ClientName, PolicyPath};
+use crate::rules::{ClientName, KindPaths, PolicyPath};
 use scim_cell::atoms::Text;
 use scim_filter::attribute_paths::attribute_path;
 use scim_filter::tree::Meant;
@@ -88,27 +88,67 @@ fn path_on(text: &str, kind: Kind) -> Option<PolicyPath>
     covered_by(attribute_path(kind, text)?)
 }
 
-/// What a path covers on the first of these kinds that has what it names.
-fn path_on_kinds(kinds: &[Kind], text: &str) -> Option<PolicyPath>
-    ensures { result ≡ first_some (spec.path_on text.now) kinds.now }
-{
-    for kind in kinds {
-        if let Some(path) = path_on(text, *kind) {
-            return Some(path);
-        }
-    }
-    None
-}
-
-/// What a word of `paths` covers for a rule on these kinds.
-pub(crate) fn path_named(kinds: &[Kind], text: &str) -> Option<PolicyPath>
-    ensures { result ≡ spec.path_named kinds.now text.now }
+/// What a word of `paths` covers on resources of a kind.
+fn path_named(text: &str, kind: Kind) -> Option<PolicyPath>
+    ensures { result ≡ spec.path_named text.now kind }
 {
     if text == "*" {
         Some(PolicyPath::Everything)
     } else if text.len() <= LONGEST_PATH {
-        path_on_kinds(kinds, text)
+        path_on(text, kind)
     } else {
         None
     }
+}
+
+/// Whether one of these kinds has what a word names.
+fn is_path(kinds: &[Kind], text: &str) -> bool
+    ensures { result ≡ spec.is_path kinds.now text.now }
+{
+    kinds.iter().any(|kind| path_named(text, *kind).is_some())
+}
+
+/// Whether each word names something on one of these kinds.
+fn are_paths(kinds: &[Kind], texts: &[&str]) -> bool
+    ensures { result ≡ list_all (spec.is_path kinds.now) (map text_at texts.now) }
+{
+    for text in texts {
+        if !is_path(kinds, text) {
+            return false;
+        }
+    }
+    true
+}
+
+/// What words cover on resources of a kind. NoMemory where none was to be had.
+fn paths_for(alloc: Global, texts: &[&str], kind: Kind) -> Result<KindPaths, NoMemory>
+    ensures { IfOk result (λ p. p ≡ spec.paths_for (map text_at texts.now) kind) }
+{
+    let mut paths = Vec::new(alloc);
+    for text in texts {
+        if let Some(path) = path_named(text, kind) {
+            paths.push(path)?;
+        }
+    }
+    Ok(KindPaths::new(kind, paths))
+}
+
+/// What the words of `paths` cover for a rule on these kinds, if each names something on one of them.
+/// NoMemory where none was to be had.
+pub(crate) fn paths_named(
+    alloc: Global,
+    kinds: &[Kind],
+    texts: &[&str],
+) -> Result<Option<Vec<KindPaths>>, NoMemory>
+    ensures { IfOk result
+        (λ o. option_map (λ v. v.items) o ≡ spec.paths_named kinds.now (map text_at texts.now)) }
+{
+    if !are_paths(kinds, texts) {
+        return Ok(None);
+    }
+    let mut paths = Vec::new(alloc);
+    for kind in kinds {
+        paths.push(paths_for(alloc, texts, *kind)?)?;
+    }
+    Ok(Some(paths))
 }

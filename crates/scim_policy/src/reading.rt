@@ -1,23 +1,23 @@
 //! Reading a policy file.
 ghost use Rattle.std.specs.Prelude.{◌≡◌, ◌≤◌, ℕ, length, map, Some, Ok, Err, IfOk, IfErr, option_map};
 ghost use Rattle.std.specs.List.{list_any};
-ghost use Rattle.serde_json.specs.Read.{read};
-ghost use Rattle.serde_json.specs.Find.{as_str};
-ghost use Rattle.serde_json.specs.View.{view, number_view, members_view};
+ghost use Rattle.json.specs.Json.{document};
+ghost use Rattle.json.specs.Find.{as_str, as_array, as_object};
+ghost use Rattle.json.specs.Value.{value_view, items_view, members_view};
 ghost use Rattle.scim_policy.specs.declared.faults.Cause.{Cause};
 ghost use Rattle.scim_policy.specs.declared.faults.PolicyFault.{PolicyFault};
 ghost use Rattle.scim_policy.specs.File as spec;
 ghost use Rattle.scim_policy.specs.Lists.{each};
-ghost use Rattle.scim_policy.specs.Paths.{same_text, client_named, op_named, kind_named, path_named};
-ghost use Rattle.scim_policy.specs.Written.{Gives, text_at, texts_view, rule_view, parts_view};
+ghost use Rattle.scim_policy.specs.Paths.{same_text, client_named, op_named, kind_named};
+ghost use Rattle.scim_policy.specs.code.Written.{Gives, text_at, texts_view, rule_view, parts_view};
 
 use crate::faults::{Cause, PolicyFault, RuleFault};
-use crate::paths::{client_named, kind_named, op_named, path_named};
-use crate::rules::{ClientName, Policy, PolicyPath, Rule};
+use crate::paths::{client_named, kind_named, op_named, paths_named};
+use crate::rules::{ClientName, Policy, Rule};
 use crate::targets::targets_for;
+use json::{Error, Scratch, Value};
 use scim_schema::{Kind, Op};
 use scim_text::NoMemory;
-use serde_json::{Map, Number, Value};
 use std::alloc::Global;
 
 /// The most rules that a policy has.
@@ -26,11 +26,11 @@ const MOST_RULES: usize = 1000;
 /// A word that isn't one.
 const NO_NAME: RuleFault = RuleFault::Refused(Cause::Name);
 
-/// The version and the rules of a file.
+/// The text of the version, and the rules of a file.
 #[derive(Clone, Copy)]
-struct FileParts<'v> {
-    version: &'v Number,
-    rules: &'v [Value],
+struct FileParts<'v, 't> {
+    version: &'t str,
+    rules: &'v [Value<'t>],
 }
 
 /// A rule as it is written.
@@ -61,7 +61,8 @@ pub fn read_policy(alloc: Global, text: &str) -> Result<Policy, PolicyFault>
     ensures faulty { (rule : ℕ) (cause : Cause) → result ≡ Err (PolicyFault.Faulty rule cause)
         → spec.policy_of text.now ≡ Err (record { rule = rule; cause = cause }) }
 {
-    let value = parse(alloc, text)?;
+    let mut scratch = Scratch::new(alloc);
+    let value = parse(alloc, text, &mut scratch)?;
     match file_rules(&value) {
         Ok(rules) => Ok(Policy::of(read_rules(alloc, rules)?)),
         Err(cause) => Err(PolicyFault::Faulty { rule: 0, cause }),
@@ -70,37 +71,36 @@ pub fn read_policy(alloc: Global, text: &str) -> Result<Policy, PolicyFault>
 
 /// The JSON value of a text.
 #[tactic(auto, unfolding(crate::specs::File::policy_of))]
-fn parse(alloc: Global, text: &str) -> Result<Value, PolicyFault>
-    ensures value { IfOk result (λ v. read text.now ≡ Some (view v)) }
+fn parse<'t>(
+    alloc: Global,
+    text: &'t str,
+    scratch: &'t mut Scratch,
+) -> Result<Value<'t>, PolicyFault>
+    ensures value { IfOk result (λ v. document text.now ≡ Some (value_view v)) }
     ensures faulty { (rule : ℕ) (cause : Cause) → result ≡ Err (PolicyFault.Faulty rule cause)
         → spec.policy_of text.now ≡ Err (record { rule = rule; cause = cause }) }
 {
-    match Value::from_str(alloc, text) {
+    match Value::parse(alloc, text, scratch) {
         Ok(value) => Ok(value),
-        Err(error) => {
-            if error.is_memory() {
-                Err(PolicyFault::NoMemory)
-            } else {
-                Err(PolicyFault::Faulty {
-                    rule: 0,
-                    cause: Cause::Json,
-                })
-            }
-        }
+        Err(Error::OutOfMemory) => Err(PolicyFault::NoMemory),
+        Err(_) => Err(PolicyFault::Faulty {
+            rule: 0,
+            cause: Cause::Json,
+        }),
     }
 }
 
 /// The rules of a file as they stand there, or why the file is faulty.
-fn file_rules(value: &Value) -> Result<&[Value], Cause>
-    ensures rules { IfOk result (λ vs. spec.policy_in (view value.now) ≡ spec.rules_from 1 (map view vs.now)) }
+fn file_rules<'v, 't>(value: &'v Value<'t>) -> Result<&'v [Value<'t>], Cause>
+    ensures rules { IfOk result (λ vs. spec.policy_in (value_view value.now) ≡ spec.rules_from 1 (map value_view vs.now)) }
     ensures few { IfOk result (λ vs. length vs.now ≤ 1000) }
     ensures faulty { IfErr result
-        (λ cause. spec.policy_in (view value.now) ≡ Err (record { rule = 0; cause = cause })) }
+        (λ cause. spec.policy_in (value_view value.now) ≡ Err (record { rule = 0; cause = cause })) }
 {
     let Some(parts) = file_parts(value) else {
         return Err(Cause::Shape);
     };
-    if parts.version.as_u64() != Some(1) {
+    if parts.version != "1" {
         return Err(Cause::Version);
     }
     if parts.rules.len() > MOST_RULES {
@@ -112,10 +112,10 @@ fn file_rules(value: &Value) -> Result<&[Value], Cause>
 /// The version and the rules of a file, where it has its keys and no other, with an integer and a list
 /// that isn't empty.
 #[tactic(auto, unfolding(crate::specs::File::file_parts))]
-fn file_parts(value: &Value) -> Option<FileParts<'_>>
-    ensures { option_map parts_view result ≡ spec.file_parts (view value.now) }
+fn file_parts<'v, 't>(value: &'v Value<'t>) -> Option<FileParts<'v, 't>>
+    ensures { option_map parts_view result ≡ spec.file_parts (value_view value.now) }
 {
-    if !has_only_file_keys(value.as_object()?) {
+    if !has_only_file_keys(members_in(value)?) {
         return None;
     }
     let version = integer_in(value.get("version")?)?;
@@ -123,12 +123,22 @@ fn file_parts(value: &Value) -> Option<FileParts<'_>>
     Some(FileParts { version, rules })
 }
 
-/// Whether each key is one that a file has.
-fn has_only_file_keys(object: &Map<String, Value>) -> bool
-    ensures { result ≡ spec.has_only spec.file_keys (members_view object.now.entries) }
+/// The members of an object.
+fn members_in<'v, 't>(value: &'v Value<'t>) -> Option<&'v [(&'t str, Value<'t>)]>
+    ensures { option_map (λ ms. members_view ms.now) result ≡ as_object (value_view value.now) }
 {
-    for (key, _value) in object {
-        if !is_file_key(key) {
+    match value {
+        Value::Object(members) => Some(members.as_slice()),
+        _ => None,
+    }
+}
+
+/// Whether each key is one that a file has.
+fn has_only_file_keys(members: &[(&str, Value<'_>)]) -> bool
+    ensures { result ≡ spec.has_only spec.file_keys (members_view members.now) }
+{
+    for member in members {
+        if !is_file_key(member.0) {
             return false;
         }
     }
@@ -141,36 +151,67 @@ fn is_file_key(key: &str) -> bool
     key == "version" || key == "rules"
 }
 
-/// The number, where it is an integer.
-fn integer_in(value: &Value) -> Option<&Number>
-    ensures { option_map (λ n. number_view n.now) result ≡ spec.integer_in (view value.now) }
+/// The text of a number, where it is an integer.
+fn integer_in<'t>(value: &Value<'t>) -> Option<&'t str>
+    ensures { option_map text_at result ≡ spec.integer_in (value_view value.now) }
 {
     let number = value.as_number()?;
-    if number.is_i64() || number.is_u64() {
+    if is_integer(number) {
         Some(number)
     } else {
         None
     }
 }
 
-/// The values of an array that isn't empty.
-fn items_in(value: &Value) -> Option<&[Value]>
-    ensures { option_map (λ vs. map view vs.now) result ≡ spec.items_in (view value.now) }
+/// Whether a number of this text has neither a fraction nor an exponent.
+fn is_integer(number: &str) -> bool
+    ensures { result ≡ spec.is_integer number.now }
 {
-    let items = value.as_array()?;
+    !has_part(number)
+}
+
+/// Whether a number of this text has a fraction or an exponent.
+fn has_part(number: &str) -> bool
+    ensures { result ≡ list_any spec.begins_part number.now }
+{
+    number.as_bytes().iter().any(|byte| begins_part(*byte))
+}
+
+/// Whether a fraction or an exponent begins with the byte.
+fn begins_part(byte: u8) -> bool
+    ensures { result ≡ spec.begins_part byte }
+{
+    byte == b'.' || byte == b'e' || byte == b'E'
+}
+
+/// The values of an array.
+fn array_in<'v, 't>(value: &'v Value<'t>) -> Option<&'v [Value<'t>]>
+    ensures { option_map (λ vs. items_view vs.now) result ≡ as_array (value_view value.now) }
+{
+    match value {
+        Value::Array(items) => Some(items.as_slice()),
+        _ => None,
+    }
+}
+
+/// The values of an array that isn't empty.
+fn items_in<'v, 't>(value: &'v Value<'t>) -> Option<&'v [Value<'t>]>
+    ensures { option_map (λ vs. map value_view vs.now) result ≡ spec.items_in (value_view value.now) }
+{
+    let items = array_in(value)?;
     if items.is_empty() {
         return None;
     }
-    Some(items.as_slice())
+    Some(items)
 }
 
 /// The rules that these values say.
-fn read_rules(alloc: Global, values: &[Value]) -> Result<Vec<Rule>, PolicyFault>
+fn read_rules(alloc: Global, values: &[Value<'_>]) -> Result<Vec<Rule>, PolicyFault>
     requires { length values.now ≤ 1000 }
-    ensures rules { IfOk result (λ v. spec.rules_from 1 (map view values.now) ≡ Ok v.items) }
+    ensures rules { IfOk result (λ v. spec.rules_from 1 (map value_view values.now) ≡ Ok v.items) }
     ensures count { IfOk result (λ v. length v.items ≡ length values.now) }
     ensures faulty { (rule : ℕ) (cause : Cause) → result ≡ Err (PolicyFault.Faulty rule cause)
-        → spec.rules_from 1 (map view values.now) ≡ Err (record { rule = rule; cause = cause }) }
+        → spec.rules_from 1 (map value_view values.now) ≡ Err (record { rule = rule; cause = cause }) }
 {
     let mut rules = Vec::new(alloc);
     let mut number = 0;
@@ -182,10 +223,10 @@ fn read_rules(alloc: Global, values: &[Value]) -> Result<Vec<Rule>, PolicyFault>
 }
 
 /// What the rule of that number says.
-fn read_rule(alloc: Global, value: &Value, number: u32) -> Result<Rule, PolicyFault>
-    ensures rule { IfOk result (λ r. spec.rule_of number (view value.now) ≡ Ok r) }
+fn read_rule(alloc: Global, value: &Value<'_>, number: u32) -> Result<Rule, PolicyFault>
+    ensures rule { IfOk result (λ r. spec.rule_of number (value_view value.now) ≡ Ok r) }
     ensures faulty { (rule : ℕ) (cause : Cause) → result ≡ Err (PolicyFault.Faulty rule cause)
-        → spec.rule_of number (view value.now) ≡ Err (record { rule = rule; cause = cause }) }
+        → spec.rule_of number (value_view value.now) ≡ Err (record { rule = rule; cause = cause }) }
 {
     let Some(written) = written_rule(alloc, value)? else {
         return Err(PolicyFault::Faulty {
@@ -205,21 +246,21 @@ fn read_rule(alloc: Global, value: &Value, number: u32) -> Result<Rule, PolicyFa
 
 /// The rule as it is written, where it has its keys and no other, with values of their types.
 #[tactic(auto, unfolding(crate::specs::File::rule_texts))]
-fn written_rule(alloc: Global, value: &Value) -> Result<Option<WrittenRule<'_>>, NoMemory>
-    ensures { IfOk result (λ o. option_map rule_view o ≡ spec.rule_texts (view value.now)) }
+fn written_rule<'t>(alloc: Global, value: &Value<'t>) -> Result<Option<WrittenRule<'t>>, NoMemory>
+    ensures { IfOk result (λ o. option_map rule_view o ≡ spec.rule_texts (value_view value.now)) }
 {
-    match value.as_object() {
-        Some(object) if has_only_rule_keys(object) => rule_fields(alloc, value),
+    match members_in(value) {
+        Some(members) if has_only_rule_keys(members) => rule_fields(alloc, value),
         _ => Ok(None),
     }
 }
 
 /// Whether each key is one that a rule has.
-fn has_only_rule_keys(object: &Map<String, Value>) -> bool
-    ensures { result ≡ spec.has_only spec.rule_keys (members_view object.now.entries) }
+fn has_only_rule_keys(members: &[(&str, Value<'_>)]) -> bool
+    ensures { result ≡ spec.has_only spec.rule_keys (members_view members.now) }
 {
-    for (key, _value) in object {
-        if !is_rule_key(key) {
+    for member in members {
+        if !is_rule_key(member.0) {
             return false;
         }
     }
@@ -238,8 +279,8 @@ fn is_rule_key(key: &str) -> bool
 }
 
 /// The rule as it is written, where its keys are there with values of their types.
-fn rule_fields(alloc: Global, value: &Value) -> Result<Option<WrittenRule<'_>>, NoMemory>
-    ensures { IfOk result (λ o. option_map rule_view o ≡ spec.rule_fields (view value.now)) }
+fn rule_fields<'t>(alloc: Global, value: &Value<'t>) -> Result<Option<WrittenRule<'t>>, NoMemory>
+    ensures { IfOk result (λ o. option_map rule_view o ≡ spec.rule_fields (value_view value.now)) }
 {
     let Some(allow) = allow_in(value) else {
         return Ok(None);
@@ -269,15 +310,15 @@ fn rule_fields(alloc: Global, value: &Value) -> Result<Option<WrittenRule<'_>>, 
     }))
 }
 
-fn allow_in(value: &Value) -> Option<bool>
-    ensures { result ≡ spec.allow_in (view value.now) }
+fn allow_in(value: &Value<'_>) -> Option<bool>
+    ensures { result ≡ spec.allow_in (value_view value.now) }
 {
     value.get("allow")?.as_bool()
 }
 
 /// The text of the target, or that there is none.
-fn target_in(value: &Value) -> Option<Option<&str>>
-    ensures { option_map (λ o. option_map text_at o) result ≡ spec.target_in (view value.now) }
+fn target_in<'t>(value: &Value<'t>) -> Option<Option<&'t str>>
+    ensures { option_map (λ o. option_map text_at o) result ≡ spec.target_in (value_view value.now) }
 {
     match value.get("target") {
         Some(found) => Some(Some(found.as_str()?)),
@@ -286,12 +327,12 @@ fn target_in(value: &Value) -> Option<Option<&str>>
 }
 
 /// The texts of the array with this key.
-fn texts_at<'v>(
+fn texts_at<'t>(
     alloc: Global,
-    value: &'v Value,
+    value: &Value<'t>,
     key: &str,
-) -> Result<Option<Vec<&'v str>>, NoMemory>
-    ensures { IfOk result (λ o. option_map texts_view o ≡ spec.texts_at key.now (view value.now)) }
+) -> Result<Option<Vec<&'t str>>, NoMemory>
+    ensures { IfOk result (λ o. option_map texts_view o ≡ spec.texts_at key.now (value_view value.now)) }
 {
     match value.get(key) {
         Some(found) => texts_in(alloc, found),
@@ -300,8 +341,8 @@ fn texts_at<'v>(
 }
 
 /// The texts of an array of texts that isn't empty.
-fn texts_in(alloc: Global, value: &Value) -> Result<Option<Vec<&str>>, NoMemory>
-    ensures { IfOk result (λ o. option_map texts_view o ≡ spec.texts_in (view value.now)) }
+fn texts_in<'t>(alloc: Global, value: &Value<'t>) -> Result<Option<Vec<&'t str>>, NoMemory>
+    ensures { IfOk result (λ o. option_map texts_view o ≡ spec.texts_in (value_view value.now)) }
 {
     match items_in(value) {
         Some(items) => texts_of(alloc, items),
@@ -310,8 +351,8 @@ fn texts_in(alloc: Global, value: &Value) -> Result<Option<Vec<&str>>, NoMemory>
 }
 
 /// The texts of these values, where all are texts.
-fn texts_of(alloc: Global, items: &[Value]) -> Result<Option<Vec<&str>>, NoMemory>
-    ensures { IfOk result (λ o. option_map texts_view o ≡ each as_str (map view items.now)) }
+fn texts_of<'t>(alloc: Global, items: &[Value<'t>]) -> Result<Option<Vec<&'t str>>, NoMemory>
+    ensures { IfOk result (λ o. option_map texts_view o ≡ each as_str (map value_view items.now)) }
 {
     let mut texts = Vec::new(alloc);
     for item in items {
@@ -376,23 +417,4 @@ fn kinds_named(alloc: Global, texts: &[&str]) -> Result<Option<Vec<Kind>>, NoMem
         kinds.push(kind)?;
     }
     Ok(Some(kinds))
-}
-
-/// What the texts mean on these kinds, where each means something.
-fn paths_named(
-    alloc: Global,
-    kinds: &[Kind],
-    texts: &[&str],
-) -> Result<Option<Vec<PolicyPath>>, NoMemory>
-    ensures { IfOk result
-        (λ o. option_map (λ v. v.items) o ≡ each (path_named kinds.now) (map text_at texts.now)) }
-{
-    let mut paths = Vec::new(alloc);
-    for text in texts {
-        let Some(path) = path_named(kinds, text) else {
-            return Ok(None);
-        };
-        paths.push(path)?;
-    }
-    Ok(Some(paths))
 }

@@ -1,6 +1,7 @@
 //! Rules and policies.
 ghost use Rattle.std.specs.Prelude.{◌≡◌, ◌≤◌, length};
 ghost use Rattle.scim_filter.specs.Tree.{tree_of};
+ghost use Rattle.scim_policy.specs.Decide.{paths_on};
 ghost use Rattle.scim_policy.specs.Rules as spec;
 
 use scim_cell::atoms::Text;
@@ -18,7 +19,7 @@ pub enum ClientName {
     Named(Text),
 }
 
-/// What a rule covers of a resource.
+/// What a path of a rule covers of a resource.
 #[derive(Clone, Copy, Debug, PartialEq, Eq)]
 pub enum PolicyPath {
     /// All of it: `*`.
@@ -43,6 +44,14 @@ pub struct Target {
     filter: Filter,
 }
 
+/// What a rule's paths cover on resources of one kind: of a path that names nothing on that kind,
+/// nothing. Contracts see the kind and the list of paths.
+#[derive(Debug, Drop)]
+pub struct KindPaths {
+    kind: Kind,
+    paths: Vec<PolicyPath>,
+}
+
 /// Whether some clients may or may not do some operations on some kinds of resources for which a target
 /// holds, and on which attributes of them.
 #[derive(Debug, Drop)]
@@ -52,7 +61,7 @@ pub struct Rule {
     ops: Vec<Op>,
     kinds: Vec<Kind>,
     targets: Vec<Target>,
-    paths: Vec<PolicyPath>,
+    paths: Vec<KindPaths>,
 }
 
 /// Rules, numbered from 1 by their place; at most 1,000. Contracts see the list of rules.
@@ -66,7 +75,7 @@ impl Model for Target {
     ghost use Rattle.scim_schema.specs.contracts.Kind as kind_type;
     ghost use Rattle.scim_filter.specs.Tree.{tree_of};
     ghost use Rattle.scim_policy.specs.Rules.{Target};
-    ghost use Rattle.scim_policy.specs.Steps.{tree_code};
+    ghost use Rattle.scim_policy.specs.code.Steps.{tree_code};
 
     ghost Value = { Target };
 
@@ -81,20 +90,33 @@ impl fmt::Debug for Target {
     }
 }
 
+impl Model for KindPaths {
+    ghost use Rattle.std.specs.Coded.{codes};
+    ghost use Rattle.scim_schema.specs.contracts.Kind as kind_type;
+    ghost use Rattle.scim_policy.specs.contracts.rules.PolicyPath as path;
+    ghost use Rattle.scim_policy.specs.Rules.{KindPaths};
+
+    ghost Value = { KindPaths };
+
+    ghost coded = { Prim.hlevel (codes, kind_type.the_row.coded, path.the_row.coded) };
+
+    ghost view = { λ p. record { kind = p.kind; paths = p.paths.items } };
+}
+
 impl Model for Rule {
     ghost use Rattle.std.specs.Coded.{codes};
     ghost use Rattle.scim_schema.specs.contracts.Kind as kind;
     ghost use Rattle.scim_schema.specs.contracts.Op as op;
     ghost use Rattle.scim_policy.specs.contracts.rules.ClientName as client;
-    ghost use Rattle.scim_policy.specs.contracts.rules.PolicyPath as path;
     ghost use Rattle.scim_policy.specs.contracts.rules.Target as target;
+    ghost use Rattle.scim_policy.specs.contracts.rules.KindPaths as kind_paths;
     ghost use Rattle.scim_policy.specs.Rules.{Rule};
 
     ghost Value = { Rule };
 
-    ghost coded = { Prim.hlevel (codes, kind.the_row.coded, op.the_row.coded, client.the_row.coded, path.the_row.coded, target.the_row.coded) };
+    ghost coded = { Prim.hlevel (codes, kind.the_row.coded, op.the_row.coded, client.the_row.coded, target.the_row.coded, kind_paths.the_row.coded) };
 
-    ghost use Rattle.scim_policy.specs.Inside.{rule_of};
+    ghost use Rattle.scim_policy.specs.code.Inside.{rule_of};
 
     ghost view = { rule_of };
 }
@@ -109,7 +131,7 @@ impl Model for Policy {
 
     ghost coded = { Prim.hlevel (codes, rule.the_row.coded) };
 
-    ghost use Rattle.scim_policy.specs.Inside.{IsSmall};
+    ghost use Rattle.scim_policy.specs.code.Inside.{IsSmall};
 
     ghost view = { λ p. p.rules.items };
 
@@ -140,6 +162,30 @@ impl Target {
     }
 }
 
+impl KindPaths {
+    /// What these paths cover on resources of the kind.
+    pub fn new(kind: Kind, paths: Vec<PolicyPath>) -> KindPaths
+        ensures kind { result.kind ≡ kind }
+        ensures paths { result.paths ≡ paths.items }
+    {
+        KindPaths { kind, paths }
+    }
+
+    /// The kind of resources that they are on.
+    pub fn kind(&self) -> Kind
+        ensures { result ≡ self.now.kind }
+    {
+        self.kind
+    }
+
+    /// The paths.
+    pub fn paths(&self) -> &[PolicyPath]
+        ensures { result.now ≡ self.now.paths }
+    {
+        self.paths.as_slice()
+    }
+}
+
 impl Rule {
     /// The rule that says and covers this.
     pub fn new(
@@ -148,7 +194,7 @@ impl Rule {
         ops: Vec<Op>,
         kinds: Vec<Kind>,
         targets: Vec<Target>,
-        paths: Vec<PolicyPath>,
+        paths: Vec<KindPaths>,
     ) -> Rule
         ensures allow { result.allow ≡ allow }
         ensures clients { result.clients ≡ clients.items }
@@ -202,11 +248,23 @@ impl Rule {
         self.targets.as_slice()
     }
 
-    /// What it covers of a resource.
-    pub fn paths(&self) -> &[PolicyPath]
+    /// What it covers, for each of its kinds.
+    pub fn paths(&self) -> &[KindPaths]
         ensures { result.now ≡ self.now.paths }
     {
         self.paths.as_slice()
+    }
+
+    /// What it covers of a resource of the kind; nothing where it isn't for the kind.
+    pub fn paths_on(&self, kind: Kind) -> &[PolicyPath]
+        ensures { result.now ≡ paths_on kind self.now.paths }
+    {
+        for paths in self.paths() {
+            if kind == paths.kind() {
+                return paths.paths();
+            }
+        }
+        &[]
     }
 }
 

@@ -3,7 +3,7 @@ ghost use Rattle.std.specs.Prelude.{◌≡◌, IfOk, map, option_map};
 ghost use Rattle.std.specs.List.{list_any};
 ghost use Rattle.scim_policy.specs.Lists.{each};
 ghost use Rattle.scim_policy.specs.Targets as spec;
-ghost use Rattle.scim_policy.specs.Written.{Gives, text_at};
+ghost use Rattle.scim_policy.specs.code.Written.{Gives, text_at};
 
 use crate::faults::{Cause, RuleFault};
 use crate::rules::Target;

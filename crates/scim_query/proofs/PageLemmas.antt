@@ -12,7 +12,7 @@ use Rattle.scim_query.specs.declared.entries.Entry.{Entry}
 use Rattle.scim_query.specs.declared.queries.Query.{Query}
 use Rattle.scim_query.specs.Keys.{key_by}
 use Rattle.scim_query.specs.Order.{rank_of, rank_cmp}
-use Rattle.scim_query.specs.Entries.{parts_of, HasKey, entry_rank}
+use Rattle.scim_query.specs.code.Entries.{parts_of, HasKey, entry_rank}
 use Rattle.scim_query.specs.Pages.{IsInOrder, slice_of}
 
 -- an order by key carries over to what a function gives, where that has the same keys

@@ -2,7 +2,7 @@
 ghost use Rattle.std.specs.Prelude.{◌≡◌, ◌-◌, IfOk, OnOk, All, take, drop};
 ghost use Rattle.std.specs.List.Sorted.{IsPermutation, IsSorted, IsStable};
 ghost use Rattle.scim_query.specs.Order.{rank_cmp};
-ghost use Rattle.scim_query.specs.Entries as spec;
+ghost use Rattle.scim_query.specs.code.Entries as spec;
 ghost use Rattle.scim_query.specs.Pages.{is_match, matching};
 
 use crate::keys::{compare_keys, key_by};

@@ -38,8 +38,10 @@ use Rattle.scim_policy.specs.Decide.{decide}
 use Rattle.scim_view.specs.declared.groups.SeenGroup.{SeenGroup}
 use Rattle.scim_view.specs.View.{is_write_only, may_be_seen, visible_by, view_by}
 use Rattle.scim_view.specs.Groups as spec
-use Rattle.scim_view.specs.Groups.{is_text, lists, and_those, seen, text_in, display_of, membership_of, membership, membership_at, memberships}
-use Rattle.scim_view.specs.Memberships.{kept_of, kept_where_shown, kept_where_listed, kept_groups}
+use Rattle.scim_view.specs.Groups.{is_text, lists, and_those, seen, text_in, display_of, membership_of, membership, membership_at, id_cmp, memberships}
+use Rattle.scim_view.specs.code.Memberships.{kept_of, kept_where_shown, kept_where_listed, kept_groups, kept_cmp}
+use Rattle.scim_view.specs.Sorted.{sorted_by}
+use Rattle.scim_view.proofs.SortLemmas.{sorted_by-map}
 
 -- whether a leaf of the kind may be seen by these decisions
 abbrev pub shows : (Leaf → Decision) → Kind → Leaf → Bool
@@ -291,17 +293,21 @@ pub map_lent : (base : List ℕ) (gs : List (Bor SeenGroup)) → map (λ (g : Se
 map_lent base [] = refl
 map_lent base (g ∷ gs) = ap (λ xs. membership_at base g ∷ xs) (map_lent base gs)
 
+-- what is kept of groups, in order, makes their memberships in order
+pub map_kept_sorted : (base : List ℕ) (gs : List Content) → map (λ (g : SeenGroup). membership_of base g.id g.display) (sorted_by kept_cmp (map kept_of gs)) ≡ map (membership base) (sorted_by id_cmp gs)
+map_kept_sorted base gs = ap (map (λ (g : SeenGroup). membership_of base g.id g.display)) (sorted_by-map kept_cmp kept_of gs) ∙ map_kept base (sorted_by id_cmp gs)
+
 -- what is kept of groups makes what is visible with them
 pub kept_visible : (d : Leaf → Decision) (policy : List Rule) (client base : List ℕ) (gs : List Content) (c : Content)
-    → spec.visible_with d (map (λ (g : SeenGroup). membership_of base g.id g.display) (kept_groups policy client gs c)) c ≡ spec.visible_with d (memberships base (seen policy client gs) c.id) c
+    → spec.visible_with d (map (λ (g : SeenGroup). membership_of base g.id g.display) (sorted_by kept_cmp (kept_groups policy client gs c))) c ≡ spec.visible_with d (memberships base (seen policy client gs) c.id) c
 kept_visible d policy client base gs c = elim (cases_Bool (sameb the_kind c.kind User)) [
-  | inl t ↦ ap (λ (ms : List Row). spec.visible_with d ms c) (rw t (map_kept base (filter (lists c.id) (seen policy client gs))))
+  | inl t ↦ ap (λ (ms : List Row). spec.visible_with d ms c) (rw t (map_kept_sorted base (filter (lists c.id) (seen policy client gs))))
   | inr n ↦ other_visible d _ c n ∙ sym (other_visible d _ c n)
 ]
 
 -- decisions that are those of the policy show the same
 pub same_with_groups : (d : Leaf → Decision) (policy : List Rule) (client base : List ℕ) (gs : List Content) (c : Content) → ((l : Leaf) → d l ≡ decide policy client Read c l)
-    → spec.visible_with d (map (λ (g : SeenGroup). membership_of base g.id g.display) (kept_groups policy client gs c)) c ≡ spec.with_groups policy client base gs c
+    → spec.visible_with d (map (λ (g : SeenGroup). membership_of base g.id g.display) (sorted_by kept_cmp (kept_groups policy client gs c))) c ≡ spec.with_groups policy client base gs c
 unfolding spec.with_groups
 same_with_groups d policy client base gs c same =
     kept_visible d policy client base gs c ∙ ap (λ (f : Leaf → Decision). spec.visible_with f (memberships base (seen policy client gs) c.id) c) (fun_ext same)

@@ -16,7 +16,8 @@ use Rattle.scim_view.specs.declared.groups.SeenGroup.{SeenGroup}
 use Rattle.scim_view.specs.declared.index.GroupIndex.{GroupIndex}
 use Rattle.scim_view.specs.View.{view}
 use Rattle.scim_view.specs.Groups.{lists, and_those, seen}
-use Rattle.scim_view.specs.Index.{ends_in, noted, at_positions, positions_of, kept, Indexes, positions_from, Holds}
+use Rattle.scim_view.specs.code.Index.{ends_in, noted, at_positions, positions_of, Indexes, positions_from, Holds}
+use Rattle.scim_view.specs.code.Memberships.{kept_of}
 
 -- an element that was added at the end stands there
 at_end : {X : Type 0} (xs : List X) (x : X) (ys : List X) → slice_get (xs ++ x ∷ ys) (length xs) ≡ Some x
@@ -82,13 +83,13 @@ positions_more n id (h ∷ gs) g =
     ]
 
 -- what stands at the positions of the groups that list an id
-pub given : (id : List ℕ) (xs : List SeenGroup) (gs : List Content) → at_positions (xs ++ map kept gs) (positions_from (length xs) id gs) ≡ map kept (filter (lists id) gs)
+pub given : (id : List ℕ) (xs : List SeenGroup) (gs : List Content) → at_positions (xs ++ map kept_of gs) (positions_from (length xs) id gs) ≡ map kept_of (filter (lists id) gs)
 given id xs [] = refl
 given id xs (g ∷ gs) =
-    let more : at_positions (xs ++ kept g ∷ map kept gs) (positions_from (length xs + 1) id gs) ≡ map kept (filter (lists id) gs) =
-    rw (append_assoc xs (kept g ∷ []) (map kept gs), length_push xs (kept g)) at (given id (xs ++ kept g ∷ []) gs) in
+    let more : at_positions (xs ++ kept_of g ∷ map kept_of gs) (positions_from (length xs + 1) id gs) ≡ map kept_of (filter (lists id) gs) =
+    rw (append_assoc xs (kept_of g ∷ []) (map kept_of gs), length_push xs (kept_of g)) at (given id (xs ++ kept_of g ∷ []) gs) in
     elim (cases_Bool (lists id g)) [
-      | inl t ↦ rw (t, at_end xs (kept g) (map kept gs)) (ap (λ ys. kept g ∷ ys) more)
+      | inl t ↦ rw (t, at_end xs (kept_of g) (map kept_of gs)) (ap (λ ys. kept_of g ∷ ys) more)
       | inr f ↦ rw f more
     ]
 
@@ -97,13 +98,13 @@ pub held : (gs : List Content) (index : GroupIndex) → Holds gs index → Index
 held gs index h id valid = rw (h.groups, h.positions id valid) (given id [] gs)
 
 -- an index with a group more
-pub added : (gs : List Content) (g : Content) (old new : GroupIndex) → Holds gs old → new.groups.items ≡ old.groups.items ++ kept g ∷ []
+pub added : (gs : List Content) (g : Content) (old new : GroupIndex) → Holds gs old → new.groups.items ≡ old.groups.items ++ kept_of g ∷ []
     → ((id : List ℕ) → IsId id → positions_of new id ≡ (if lists id g then noted (length old.groups.items) (positions_of old id) else positions_of old id))
     → Holds (gs ++ g ∷ []) new
 added gs g old new h groups positions = record {
-  groups = groups ∙ ap (λ xs. xs ++ kept g ∷ []) h.groups ∙ sym (map_push kept gs g);
+  groups = groups ∙ ap (λ xs. xs ++ kept_of g ∷ []) h.groups ∙ sym (map_push kept_of gs g);
   positions = λ id valid.
-      let n : length old.groups.items ≡ length gs = ap (λ xs. length xs) h.groups ∙ length-map gs kept in
+      let n : length old.groups.items ≡ length gs = ap (λ xs. length xs) h.groups ∙ length-map gs kept_of in
       let none : 0 + length gs ≡ length gs = omega arith in
       let new_at : noted (length gs) (positions_from 0 id gs) ≡ positions_from 0 id gs ++ length gs ∷ [] = noted_new (length gs) (positions_from 0 id gs) (subst (λ (m : ℕ). All (λ p. p < m) (positions_from 0 id gs)) none (positions_within 0 id gs)) in
       positions id valid ∙ rw (n, h.positions id valid, new_at) (sym (subst (λ (m : ℕ). positions_from 0 id (gs ++ g ∷ []) ≡ (if lists id g then positions_from 0 id gs ++ m ∷ [] else positions_from 0 id gs)) none (positions_more 0 id gs g)));

@@ -2,6 +2,7 @@ pub mod PartLemmas
 pub mod ViewLemmas
 pub mod ShownLemmas
 pub mod NamesLemmas
+pub mod SortLemmas
 pub mod GroupLemmas
 pub mod MemberLemmas
 pub mod IndexLemmas

@@ -1,7 +1,9 @@
 -- The groups of a user (RFC 7643 section 4.1.2), and what a client sees of resources with them.
 use Rattle.std.specs.Prelude.{ℕ, Bool, false, List, [], ◌∷◌, ◌++◌, map, filter, codes, nat_eq, Option, None, Some, if◌then◌else◌}
 use Rattle.std.specs.List.{list_any}
-use Rattle.std.specs.Cmp.Lexicographic.{pointwise}
+use Rattle.std.specs.declared.cmp.Ordering.{Ordering}
+use Rattle.std.specs.Ordering.{nat_cmp}
+use Rattle.std.specs.Cmp.Lexicographic.{pointwise, slice_cmp}
 use denote.Enum.Bare.{sameb}
 use denote.Ref.{Bor}
 use Rattle.scim_schema.specs.contracts.Kind.{the_type as the_kind}
@@ -24,6 +26,7 @@ use Rattle.scim_policy.specs.Rules.{Rule}
 use Rattle.scim_policy.specs.Decide.{decide}
 use Rattle.scim_view.specs.declared.groups.SeenGroup.{SeenGroup}
 use Rattle.scim_view.specs.View.{may_be_seen, sees, view}
+use Rattle.scim_view.specs.Sorted.{sorted_by}
 
 -- whether an atom is this text
 abbrev pub is_text : List ℕ → Option Atom → Bool
@@ -76,9 +79,13 @@ membership base g = membership_of base g.id (display_of g)
 abbrev pub membership_at : List ℕ → Bor SeenGroup → Row
 membership_at base g = membership_of base g.now.id g.now.display
 
--- the values of `groups` for the resource of an id: the groups that list it, of those that are seen, in their order
+-- how two resources compare by id
+abbrev pub id_cmp : Content → Content → Ordering
+id_cmp a b = slice_cmp nat_cmp a.id b.id
+
+-- the values of `groups` for the resource of an id: the groups that list it, of those that are seen, in order of id
 abbrev pub memberships : List ℕ → List Content → List ℕ → List Row
-memberships base gs id = map (membership base) (filter (lists id) gs)
+memberships base gs id = map (membership base) (sorted_by id_cmp (filter (lists id) gs))
 
 -- the rows of a resource with these values of `groups`, which only a user has
 abbrev pub rows_with : List Row → Content → List Row

@@ -1,6 +1,6 @@
 pub mod View
 pub mod Names
 pub mod Shown
+pub mod Sorted
 pub mod Groups
-pub mod Memberships
-pub mod Index
+pub mod code

@@ -1,14 +1,15 @@
 //! The groups of users (RFC 7643 section 4.1.2).
-ghost use Rattle.std.specs.Prelude.{◌≡◌, true, ℕ, List, IfOk, map, filter};
+ghost use Rattle.std.specs.Prelude.{◌≡◌, true, ℕ, List, IfOk, OnOk, map, filter};
 ghost use Rattle.std.specs.Option.{option_copied};
 ghost use Rattle.std.specs.List.{list_any};
 ghost use Rattle.scim_schema.specs.Units.{whole, leaf_at};
 ghost use Rattle.scim_cell.specs.Ids.{id_text};
 ghost use Rattle.scim_cell.specs.Rows.{rows, values, atom_in, restricted};
-ghost use Rattle.scim_policy.specs.Table.{decision};
+ghost use Rattle.scim_policy.specs.code.Table.{decision};
 ghost use Rattle.scim_view.specs.View as seeing;
 ghost use Rattle.scim_view.specs.View.{visible_by};
-ghost use Rattle.scim_view.specs.Memberships as kept;
+ghost use Rattle.scim_view.specs.code.Memberships as kept;
+ghost use Rattle.scim_view.specs.Sorted.{sorted_by};
 ghost use Rattle.scim_view.specs.Groups as spec;
 
 use crate::memberships::membership;
@@ -127,8 +128,8 @@ fn memberships(
 
 /// What the client may see of a resource, a user's `groups` among it: as [`visible`](crate::visible), and
 /// of the groups that list the user, those that the client sees and in which it sees the user's id, in
-/// the order that they are given in, which is by id in a directory. The policy decides on `groups` as on
-/// other attributes (RFC 7643 section 4.1.2). NoMemory where none was to be had.
+/// order of their ids, in whatever order they are given. The policy decides on `groups` as on other
+/// attributes (RFC 7643 section 4.1.2). NoMemory where none was to be had.
 pub fn with_groups(
     alloc: Global,
     policy: &Policy,
@@ -166,7 +167,7 @@ pub fn view_with_groups(
     Ok(Some(part))
 }
 
-/// The same as [`visible_with`], of groups in a row.
+/// The same as [`visible_with`], of groups in a row, which may be in any order.
 fn visible_among(
     alloc: Global,
     decisions: &Decisions,
@@ -175,9 +176,10 @@ fn visible_among(
     base: &str,
 ) -> Result<Part, NoMemory>
     ensures { IfOk result (λ p. p ≡ spec.visible_with (decision decisions.now)
-        (map (λ g. spec.membership_of base.now g.id g.display) groups.now) resource.now) }
+        (map (λ g. spec.membership_of base.now g.id g.display) (sorted_by kept.kept_cmp groups.now)) resource.now) }
 {
-    let lent = references(alloc, groups)?;
+    let mut lent = references(alloc, groups)?;
+    put_in_order(&mut lent)?;
     visible_with(alloc, decisions, resource, lent.as_slice(), base)
 }
 
@@ -190,6 +192,15 @@ fn references(alloc: Global, groups: &[SeenGroup]) -> Result<Vec<&SeenGroup>, No
         lent.push(group)?;
     }
     Ok(lent)
+}
+
+/// Puts groups in order of id; those of one id keep their order. Nothing is moved where they are in
+/// order. NoMemory where none was to be had.
+pub(crate) fn put_in_order(groups: &mut Vec<&SeenGroup>) -> Result<(), NoMemory>
+    ensures { OnOk result (map (λ g. g.now) groups.new.items ≡ sorted_by kept.kept_cmp (map (λ g. g.now) groups.old.items)) }
+{
+    groups.sort_by(|a, b| a.id.cmp(&b.id))?;
+    Ok(())
 }
 
 /// What is kept of the groups that list the resource, of those that the client sees; of a resource other

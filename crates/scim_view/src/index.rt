@@ -3,10 +3,10 @@ ghost use Rattle.std.specs.Prelude.{◌≡◌, ◌++◌, ◌∷◌, [], ℕ, Lis
 ghost use Rattle.std.specs.List.{list_any};
 ghost use Rattle.scim_cell.specs.Content.{Content};
 ghost use Rattle.scim_cell.specs.Ids.{IsId};
-ghost use Rattle.scim_policy.specs.Table.{decision};
+ghost use Rattle.scim_policy.specs.code.Table.{decision};
 ghost use Rattle.scim_view.specs.View.{visible_by};
-ghost use Rattle.scim_view.specs.Index as spec;
-ghost use Rattle.scim_view.specs.Index.{IsIndexOf, Holds};
+ghost use Rattle.scim_view.specs.code.Index as spec;
+ghost use Rattle.scim_view.specs.code.Index.{IsIndexOf, Holds};
 
 use crate::groups::{SeenGroup, seen_group};
 use scim_cell::atoms::Atom;

@@ -2,9 +2,9 @@
 ghost use Rattle.std.specs.Prelude.{◌≡◌, ℕ, IfOk, List, map};
 ghost use Rattle.scim_cell.specs.Content.{Content};
 ghost use Rattle.scim_view.specs.Groups as spec;
-ghost use Rattle.scim_view.specs.Index.{Indexes, IsIndexOf};
+ghost use Rattle.scim_view.specs.code.Index.{Indexes, IsIndexOf};
 
-use crate::groups::{SeenGroup, visible_with};
+use crate::groups::{SeenGroup, put_in_order, visible_with};
 use crate::index::GroupIndex;
 use scim_policy::Policy;
 use scim_schema::{Attribute, Kind, Leaf, Op};
@@ -58,8 +58,8 @@ fn view_by_index(
     Ok(Some(view))
 }
 
-/// The groups that the index has for a resource: none for one that isn't a user, whose groups aren't
-/// shown.
+/// The groups that the index has for a resource, in order of id: none for one that isn't a user, whose
+/// groups aren't shown.
 fn groups_beside<'i>(
     alloc: Global,
     index: &'i GroupIndex,
@@ -71,7 +71,11 @@ fn groups_beside<'i>(
 {
     let part = resource.part();
     match part.kind() {
-        Kind::User => index.groups_of(alloc, part.id()),
+        Kind::User => {
+            let mut groups = index.groups_of(alloc, part.id())?;
+            put_in_order(&mut groups)?;
+            Ok(groups)
+        }
         Kind::Group => Ok(Vec::new(alloc)),
     }
 }

@@ -4,10 +4,10 @@ ghost use Rattle.std.specs.Option.{option_copied};
 ghost use Rattle.scim_cell.specs.Ids.{id_text};
 ghost use Rattle.scim_value.specs.Resource.{location};
 ghost use Rattle.scim_cell.specs.Rows.{restricted_row};
-ghost use Rattle.scim_policy.specs.Table.{decision};
+ghost use Rattle.scim_policy.specs.code.Table.{decision};
 ghost use Rattle.scim_view.specs.View.{may_be_seen};
 ghost use Rattle.scim_view.specs.Groups as spec;
-ghost use Rattle.scim_view.specs.Memberships.{shown_fields};
+ghost use Rattle.scim_view.specs.code.Memberships.{shown_fields};
 
 use crate::views::MayBeSeen;
 use scim_cell::atoms::{Atom, Text};

@@ -3,7 +3,7 @@ ghost use Rattle.std.specs.Prelude.{◌≡◌, ◌&&◌, not, IfOk};
 ghost use Rattle.scim_schema.specs.declared.Leaf.{Leaf};
 ghost use Rattle.scim_schema.specs.declared.Kind.{Kind};
 ghost use Rattle.scim_cell.specs.Rows.{rows, restricted};
-ghost use Rattle.scim_policy.specs.Table.{decision};
+ghost use Rattle.scim_policy.specs.code.Table.{decision};
 ghost use Rattle.scim_view.specs.View as spec;
 
 use crate::restrictions::restricted;
@@ -34,7 +34,7 @@ impl MayBeSeen<'_> {
 }
 
 impl RowTest for MayBeSeen<'_> {
-    ghost use Rattle.scim_policy.specs.Table.{decision};
+    ghost use Rattle.scim_policy.specs.code.Table.{decision};
     ghost use Rattle.scim_view.specs.View.{may_be_seen};
 
     ghost keeps = { λ self row leaf. may_be_seen (decision self.decisions.now) self.kind row leaf };

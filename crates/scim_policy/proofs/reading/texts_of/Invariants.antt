@@ -1,10 +1,10 @@
 use Rattle.std.proofs.Common.{map}
-use Rattle.serde_json.specs.Find.{as_str}
-use Rattle.serde_json.specs.View.{view}
-use Rattle.scim_policy.specs.Written.{text_at}
+use Rattle.json.specs.Find.{as_str}
+use Rattle.json.specs.Value.{value_view}
+use Rattle.scim_policy.specs.code.Written.{text_at}
 use Rattle.scim_policy.proofs.ListLemmas.{IsMade}
 use Rattle.scim_policy.proofs.reading.texts_of.Given as goal
 
 -- the texts so far are those of the items before this one
 abbrev pub invariant-loop-item : goal.invariant-loop-item
-invariant-loop-item l = IsMade view as_str (map text_at l.texts.items) l.item-index l.items
+invariant-loop-item l = IsMade value_view as_str (map text_at l.texts.items) l.item-index l.items

@@ -1,6 +1,6 @@
 use Rattle.std.proofs.Common.{◌≡◌, ◌++◌, map, filter, drop}
 use Rattle.scim_view.specs.Groups.{lists, seen}
-use Rattle.scim_view.specs.Memberships.{kept_of}
+use Rattle.scim_view.specs.code.Memberships.{kept_of}
 use Rattle.scim_view.proofs.groups.seen_groups.Given as goal
 
 abbrev pub invariant-loop-group : goal.invariant-loop-group

@@ -10,11 +10,11 @@ use Rattle.scim_cell.specs.Content.{Content}
 use Rattle.scim_cell.specs.Ids.{id_text}
 use Rattle.scim_cell.specs.Rows.{Row, rows, values, atom_in}
 use Rattle.scim_policy.specs.Decide.{decide}
-use Rattle.scim_policy.specs.Table.{decision}
+use Rattle.scim_policy.specs.code.Table.{decision}
 use Rattle.scim_view.specs.declared.groups.SeenGroup.{SeenGroup}
 use Rattle.scim_view.specs.View.{view}
 use Rattle.scim_view.specs.Groups.{is_text, lists}
-use Rattle.scim_view.specs.Memberships.{kept_where_shown, kept_where_listed}
+use Rattle.scim_view.specs.code.Memberships.{kept_where_shown, kept_where_listed}
 use Rattle.scim_view.proofs.ViewLemmas.{same_view}
 use Rattle.scim_view.proofs.GroupLemmas.{kept_listed, kept_unlisted}
 use Rattle.scim_view.proofs.groups.seen_where_listed.Goals as goal

@@ -8,10 +8,12 @@ use Rattle.scim_cell.specs.Rows.{Row}
 use Rattle.scim_value.proofs.SoundLemmas.{not_flip}
 use Rattle.scim_policy.specs.declared.rules.Decision.{Decision}
 use Rattle.scim_policy.specs.Decide.{decide}
-use Rattle.scim_policy.specs.Table.{decision}
+use Rattle.scim_policy.specs.code.Table.{decision}
 use Rattle.scim_view.specs.declared.groups.SeenGroup.{SeenGroup}
 use Rattle.scim_view.specs.View.{sees}
 use Rattle.scim_view.specs.Groups as spec
+use Rattle.scim_view.specs.code.Memberships.{kept_cmp}
+use Rattle.scim_view.specs.Sorted.{sorted_by}
 use Rattle.scim_view.proofs.GroupLemmas.{same_with_groups}
 use Rattle.scim_view.proofs.groups.view_with_groups.Goals as goal
 
@@ -37,5 +39,5 @@ returns c =
     let seen : (decide c.args.policy.now c.args.client.now Read own (simple Id)).allow ≡ true
     = ap (λ (d : Decision). d.allow) (sym (c.of.ensures ∙ ap d c.simple.ensures ∙ c.in_ok-decisions.ensures (simple Id))) ∙ flip_back _ c.if-not-of.false in
     rw seen (ap (λ (p : Content). Some p)
-    (c.in_ok-part.ensures ∙ ap (λ (gs : List SeenGroup). spec.visible_with d (map made gs) own) (c.as_slice.ensures.value ∙ c.in_ok-seen.ensures)
+    (c.in_ok-part.ensures ∙ ap (λ (gs : List SeenGroup). spec.visible_with d (map made (sorted_by kept_cmp gs)) own) (c.as_slice.ensures.value ∙ c.in_ok-seen.ensures)
     ∙ same_with_groups d c.args.policy.now c.args.client.now base c.args.groups.now own c.in_ok-decisions.ensures))

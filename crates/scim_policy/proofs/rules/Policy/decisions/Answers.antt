@@ -2,7 +2,7 @@ use Rattle.std.proofs.Common.{◌∙◌, ap, List}
 use Rattle.scim_schema.specs.declared.Leaf.{Leaf}
 use Rattle.scim_policy.specs.Rules.{Rule}
 use Rattle.scim_policy.specs.Decide.{decide}
-use Rattle.scim_policy.specs.Table.{decided}
+use Rattle.scim_policy.specs.code.Table.{decided}
 use Rattle.scim_policy.proofs.RuleLemmas.{all_decide}
 use Rattle.scim_policy.proofs.rules.Policy.decisions.Goals as goal
 

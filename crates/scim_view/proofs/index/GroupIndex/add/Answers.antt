@@ -6,11 +6,12 @@ use Rattle.scim_schema.specs.declared.SubAttribute.TheVariants.{Value}
 use Rattle.scim_schema.specs.Units.{leaf_at}
 use Rattle.scim_cell.specs.Rows.{rows, values}
 use Rattle.scim_policy.specs.declared.rules.Decision.{Decision}
-use Rattle.scim_policy.specs.Table.{decision}
+use Rattle.scim_policy.specs.code.Table.{decision}
 use Rattle.scim_view.specs.declared.index.GroupIndex.{GroupIndex}
 use Rattle.scim_view.specs.View.{visible_by}
 use Rattle.scim_view.specs.Groups.{lists}
-use Rattle.scim_view.specs.Index as spec
+use Rattle.scim_view.specs.code.Index as spec
+use Rattle.scim_view.specs.code.Memberships.{kept_of}
 use Rattle.scim_view.proofs.IndexLemmas.{added}
 use Rattle.scim_view.proofs.MemberLemmas.{shown_member}
 use Rattle.scim_view.proofs.index.GroupIndex.add.Goals as goal
@@ -25,7 +26,7 @@ returns c gs h =
     let old = c.args.self.now in
     let s = c.in_ok-seen.ensures in
     let members = c.values-members.result.now in
-    let seen : c.in_ok-seen.seen ≡ spec.kept v = λ i. record { id = s.id i; display = s.display i } in
+    let seen : c.in_ok-seen.seen ≡ kept_of v = λ i. record { id = s.id i; display = s.display i } in
     let of : c.of-2.result.allow ≡ (d (leaf_at Members Value)).allow = ap (λ (e : Decision). e.allow) (c.of-2.ensures ∙ ap d c.of.ensures) in
     let own : members ≡ values c.whole.result (rows g) = c.values-members.ensures.rows ∙ ap (λ p. values c.whole.result (rows p)) c.part.ensures.value in
     let listed = λ (id : List ℕ). ap (list_any (spec.names_member id)) (own ∙ ap (λ u. values u (rows g)) c.whole.ensures) in

@@ -4,7 +4,7 @@ use Rattle.std.specs.List.{list_any}
 use Rattle.std.proofs.lemmas.List.{take_more, take_all}
 use Rattle.scim_cell.specs.Rows.{Row}
 use Rattle.scim_view.specs.declared.index.GroupIndex.{GroupIndex}
-use Rattle.scim_view.specs.Index as spec
+use Rattle.scim_view.specs.code.Index as spec
 use Rattle.scim_view.proofs.IndexLemmas.{list_any_more, noted_more}
 use Rattle.scim_view.proofs.index.GroupIndex.add_members.Goals as goal
 use Rattle.scim_view.proofs.index.GroupIndex.add_members.Goals.{in-Some+in_ok-add_member, in_default}

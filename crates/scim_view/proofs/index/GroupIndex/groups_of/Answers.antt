@@ -5,7 +5,7 @@ use Rattle.std.specs.Option.{option_copied}
 use Rattle.std.proofs.lemmas.List.{take_more, map_push, append-nil}
 use denote.Ref.{Bor}
 use Rattle.scim_view.specs.declared.groups.SeenGroup.{SeenGroup}
-use Rattle.scim_view.specs.Index.{at_positions}
+use Rattle.scim_view.specs.code.Index.{at_positions}
 use Rattle.scim_view.specs.Groups.{and_those}
 use Rattle.scim_view.proofs.IndexLemmas.{at_positions_more, item_at}
 use Rattle.scim_view.proofs.index.GroupIndex.groups_of.Goals as goal

@@ -1,5 +1,5 @@
 use Rattle.std.proofs.Common.{◌≡◌, take, map}
-use Rattle.scim_view.specs.Index.{at_positions}
+use Rattle.scim_view.specs.code.Index.{at_positions}
 use Rattle.scim_view.proofs.index.GroupIndex.groups_of.Given as goal
 
 abbrev pub invariant-loop-position : goal.invariant-loop-position

@@ -4,11 +4,11 @@ use Rattle.scim_schema.specs.declared.Attribute.TheVariants.{Id}
 use Rattle.scim_schema.specs.Units.{simple}
 use Rattle.scim_cell.specs.Content.{Content}
 use Rattle.scim_policy.specs.declared.rules.Decision.{Decision}
-use Rattle.scim_policy.specs.Table.{decision}
+use Rattle.scim_policy.specs.code.Table.{decision}
 use Rattle.scim_view.specs.declared.index.GroupIndex.{GroupIndex}
 use Rattle.scim_view.specs.View.{visible_by}
 use Rattle.scim_view.specs.Groups.{seen}
-use Rattle.scim_view.specs.Index.{Holds}
+use Rattle.scim_view.specs.code.Index.{Holds}
 use Rattle.scim_view.proofs.IndexLemmas.{held}
 use Rattle.scim_view.proofs.ListLemmas.{seen_one, seen_none}
 use Rattle.scim_view.proofs.index.GroupIndex.of.Goals as goal

@@ -1,6 +1,6 @@
 use Rattle.std.proofs.Common.{take}
 use Rattle.scim_view.specs.Groups.{seen}
-use Rattle.scim_view.specs.Index.{Holds}
+use Rattle.scim_view.specs.code.Index.{Holds}
 use Rattle.scim_view.proofs.index.GroupIndex.of.Given as goal
 
 abbrev pub invariant-loop-group : goal.invariant-loop-group

@@ -1,0 +1,7 @@
+use Rattle.std.proofs.Common.{◌≡◌, drop}
+use Rattle.scim_policy.specs.Decide.{paths_on}
+use Rattle.scim_policy.proofs.rules.Rule.paths_on.Given as goal
+
+-- the paths on the kind among the entries that are left are those among all
+abbrev pub invariant-loop-paths : goal.invariant-loop-paths
+invariant-loop-paths l = paths_on l.kind (drop l.paths-index l.paths-items) ≡ paths_on l.kind l.paths-items

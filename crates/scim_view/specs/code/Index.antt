@@ -1,0 +1,74 @@
+-- An index of the groups that a client sees, by the ids of their members.
+use Rattle.std.specs.Prelude.{◌≡◌, ℕ, ◌+◌, ◌-◌, Bool, false, List, [], ◌∷◌, ◌++◌, length, map, filter, nat_eq, Option, None, Some, if◌then◌else◌}
+use Rattle.std.specs.Global.{Vec}
+use Rattle.std.specs.List.{slice_get}
+use Rattle.std.specs.Option.{option_eq}
+use Rattle.std.specs.HashMap.{get}
+use Rattle.scim_schema.specs.declared.Attribute.TheVariants.{Members}
+use Rattle.scim_schema.specs.declared.SubAttribute.TheVariants.{Value}
+use Rattle.scim_schema.specs.Units.{leaf_at}
+use Rattle.scim_cell.specs.contracts.ids.IdPartialEq.TheImpl as id_eq
+use Rattle.scim_cell.specs.Content.{Content}
+use Rattle.scim_cell.specs.Ids.{IsId, id_text}
+use Rattle.scim_cell.specs.Rows.{Row, atom_in}
+use Rattle.scim_policy.specs.Rules.{Rule}
+use Rattle.scim_view.specs.declared.groups.SeenGroup.{SeenGroup}
+use Rattle.scim_view.specs.declared.index.GroupIndex.{GroupIndex}
+use Rattle.scim_view.specs.Groups.{is_text, lists, and_those, seen}
+use Rattle.scim_view.specs.code.Memberships.{kept_of}
+
+-- how two ids compare
+abbrev pub same_id : List ℕ → List ℕ → Bool
+same_id = (id_eq.ghosts).eq
+
+-- whether this is the id that was found
+abbrev pub is_found : List ℕ → Option (List ℕ) → Bool
+is_found id None = false
+is_found id (Some found) = same_id found id
+
+-- whether a value of `members` names the resource of an id, by the text of its id
+abbrev pub names_member : List ℕ → Row → Bool
+names_member id m = is_text (id_text id) (atom_in (leaf_at Members Value) m.fields)
+
+-- whether a position stands at the end
+abbrev pub ends_in : ℕ → List ℕ → Bool
+ends_in p ps = option_eq nat_eq (slice_get ps (length ps - 1)) (Some p)
+
+-- positions with this one at the end
+abbrev pub noted : ℕ → List ℕ → List ℕ
+noted p ps = if ends_in p ps then ps else ps ++ p ∷ []
+
+-- what stands at positions
+abbrev pub at_positions : {X : Type 0} → List X → List ℕ → List X
+at_positions xs [] = []
+at_positions xs (p ∷ ps) = and_those (slice_get xs p) (at_positions xs ps)
+
+abbrev pub positions_in : Option (Vec ℕ) → List ℕ
+positions_in None = []
+positions_in (Some ps) = ps.items
+
+-- the positions that the index has for an id
+abbrev pub positions_of : GroupIndex → List ℕ → List ℕ
+positions_of index id = positions_in (get same_id index.by_member id)
+
+-- the groups that the index has for an id
+abbrev pub groups_of : GroupIndex → List ℕ → List SeenGroup
+groups_of index id = at_positions index.groups.items (positions_of index id)
+
+-- for each id, the index has those of these groups that list it, in their order
+abbrev pub Indexes : List Content → GroupIndex → Type 0
+Indexes gs index = (id : List ℕ) → IsId id → groups_of index id ≡ map kept_of (filter (lists id) gs)
+
+-- the same of the groups that the client sees
+abbrev pub IsIndexOf : List Rule → List ℕ → List Content → GroupIndex → Type 0
+IsIndexOf policy client groups index = Indexes (seen policy client groups) index
+
+-- the positions of the groups that list an id, where the first stands at n
+abbrev pub positions_from : ℕ → List ℕ → List Content → List ℕ
+positions_from n id [] = []
+positions_from n id (g ∷ gs) = if lists id g then n ∷ positions_from (n + 1) id gs else positions_from (n + 1) id gs
+
+-- what is kept of these groups, and where those stand that list an id
+pub record Holds (gs : List Content) (index : GroupIndex) : Type 0 where
+  pub groups : index.groups.items ≡ map kept_of gs
+  pub positions : (id : List ℕ) → IsId id → positions_of index id ≡ positions_from 0 id gs

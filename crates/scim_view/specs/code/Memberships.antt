@@ -1,0 +1,51 @@
+-- What the code keeps of groups, and the fields that it makes of them.
+use Rattle.std.specs.Prelude.{ℕ, Bool, not, ◌&&◌, List, [], map, filter, Option, None, Some, if◌then◌else◌}
+use Rattle.std.specs.declared.cmp.Ordering.{Ordering}
+use Rattle.std.specs.Ordering.{nat_cmp}
+use Rattle.std.specs.Cmp.Lexicographic.{slice_cmp}
+use denote.Enum.Bare.{sameb}
+use Rattle.scim_schema.specs.declared.Kind.{Kind}
+use Rattle.scim_schema.specs.declared.Leaf.{Leaf}
+use Rattle.scim_schema.specs.contracts.Kind.{the_type as the_kind}
+use Rattle.scim_schema.specs.declared.Kind.TheVariants.{User}
+use Rattle.scim_schema.specs.declared.Attribute.TheVariants.{Id, Members}
+use Rattle.scim_schema.specs.declared.SubAttribute.TheVariants.{Value}
+use Rattle.scim_schema.specs.Units.{simple, leaf_at}
+use Rattle.scim_cell.specs.declared.rows.Field.{Field}
+use Rattle.scim_cell.specs.Content.{Content}
+use Rattle.scim_policy.specs.declared.rules.Decision.{Decision}
+use Rattle.scim_policy.specs.Rules.{Rule}
+use Rattle.scim_view.specs.declared.groups.SeenGroup.{SeenGroup}
+use Rattle.scim_view.specs.View.{is_write_only, visible_by}
+use Rattle.scim_view.specs.Groups.{lists, seen, display_of}
+
+-- those of some fields that may be seen, by these decisions on reading a resource of the kind
+abbrev pub shown_fields : (Leaf → Decision) → Kind → List Field → List Field
+shown_fields decision kind fs = filter (λ (f : Field). not (is_write_only kind f.leaf) && (decision f.leaf).allow) fs
+
+-- what is kept of a group that is seen
+abbrev pub kept_of : Content → SeenGroup
+kept_of g = record { id = g.id; display = display_of g }
+
+-- whether a group of this kind is seen by these decisions on reading it, and the ids of its members
+abbrev pub shows_members : (Leaf → Decision) → Kind → Bool
+shows_members decision kind =
+    (decision (simple Id)).allow && (not (is_write_only kind (leaf_at Members Value)) && (decision (leaf_at Members Value)).allow)
+
+-- what is kept of a group as it may be seen by these decisions, where it is seen, and the ids of its members
+abbrev pub kept_where_shown : (Leaf → Decision) → Content → Option SeenGroup
+kept_where_shown decision g = if shows_members decision g.kind then Some (kept_of (visible_by decision g)) else None
+
+-- what is kept of a group that is seen, where it lists the resource of an id
+abbrev pub kept_where_listed : List ℕ → Option Content → Option SeenGroup
+kept_where_listed id None = None
+kept_where_listed id (Some g) = if lists id g then Some (kept_of g) else None
+
+-- the same of the groups that list the resource, of those that the client sees among these; of a resource other than a user none
+abbrev pub kept_groups : List Rule → List ℕ → List Content → Content → List SeenGroup
+kept_groups policy client groups c =
+    if sameb the_kind c.kind User then map kept_of (filter (lists c.id) (seen policy client groups)) else []
+
+-- how what is kept of two groups compares: by id
+abbrev pub kept_cmp : SeenGroup → SeenGroup → Ordering
+kept_cmp a b = slice_cmp nat_cmp a.id b.id
