@@ -1,0 +1,33 @@
+//! The files of a folder.
+use crate::faults::FolderFault;
+use std::alloc::Global;
+use std::fs;
+use std::rt::Files;
+
+/// The names of the files of cases, in order: those that end in `.jsonl`.
+pub fn case_files<R: Files + AllocGlobal + Clone + Drop>(
+    rt: &R,
+    alloc: Global,
+    folder: &str,
+) -> Result<Vec<String>, FolderFault> {
+    let mut names = Vec::new(alloc);
+    for entry in fs::read_dir(rt, folder)? {
+        let entry = entry?;
+        if entry.file_name().ends_with(".jsonl") {
+            names.push(String::from_str(alloc, entry.file_name())?)?;
+        }
+    }
+    names.sort_unstable();
+    Ok(names)
+}
+
+/// The text of a file of the folder.
+pub fn read(
+    rt: &(impl Files + AllocGlobal),
+    alloc: Global,
+    folder: &str,
+    name: &str,
+) -> Result<String, FolderFault> {
+    let path = format!(in alloc; "{folder}/{name}")?;
+    Ok(fs::read_to_string(rt, path.as_str())?)
+}

@@ -1,0 +1,87 @@
+//! `cases`: examples as data. Each line of a folder's `.jsonl` files names a call, its arguments and what must
+//! come; the program makes the call, prints each difference, and last how many cases came as they are written.
+//!
+//! The exit status is 0 where all came so, 1 where one did not, and 2 where there is no case or a file can't be
+//! read.
+#![tactic(auto)]
+
+mod arguments;
+mod case;
+mod faults;
+mod folder;
+mod samples_calls;
+mod schema_calls;
+mod tally;
+mod text_calls;
+mod vectors;
+
+use crate::case::Case;
+use crate::faults::{CaseFault, FolderFault};
+use crate::tally::Tally;
+use std::alloc::Global;
+use std::env;
+use std::io::Print;
+use std::process::ExitCode;
+use std::rt::Files;
+
+fn main(rt: HostRuntime) -> ExitCode {
+    match run(&rt) {
+        Ok(tally) => tally.exit_code(),
+        Err(fault) => {
+            let _ = eprintln!(rt; "cases: {fault}");
+            ExitCode::from(2)
+        }
+    }
+}
+
+/// Goes through the files of the folder that the command line names.
+fn run(rt: &HostRuntime) -> Result<Tally, FolderFault> {
+    let alloc = rt.alloc();
+    let mut folder = None;
+    for word in env::args(rt)?.skip(1) {
+        folder = Some(word);
+    }
+    let folder = folder.ok_or(FolderFault::NoFolder)?;
+    let mut tally = Tally::new();
+    for name in folder::case_files(rt, alloc, folder.as_str())? {
+        let text = folder::read(rt, alloc, folder.as_str(), name.as_str())?;
+        go_through(rt, alloc, name.as_str(), text.as_str(), &mut tally)?;
+    }
+    tally.print(rt)?;
+    Ok(tally)
+}
+
+/// Goes through the lines of a file; empty ones and those that begin with `#` are no cases.
+fn go_through(
+    rt: &impl Print,
+    alloc: Global,
+    file: &str,
+    text: &str,
+    tally: &mut Tally,
+) -> Result<(), FolderFault> {
+    for (index, line) in text.lines().enumerate() {
+        if !line.is_empty() && !line.starts_with('#') {
+            let outcome = case::make(alloc, line)?;
+            tally.take(rt, file, index, &outcome)?;
+        }
+    }
+    Ok(())
+}
+
+/// What the call of a case gives, as text.
+fn answer(case: &Case<'_>) -> Result<String, CaseFault> {
+    let call = case.call()?;
+    if let Some(found) = vectors::answer(case, call) {
+        return found;
+    }
+    if let Some(found) = samples_calls::answer(case, call) {
+        return found;
+    }
+    if let Some(found) = text_calls::answer(case, call) {
+        return found;
+    }
+    if let Some(found) = schema_calls::answer(case, call) {
+        return found;
+    }
+    Err(CaseFault::NoSuchCall)
+}

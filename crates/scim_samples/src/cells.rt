@@ -1,0 +1,175 @@
+//! Cells as text.
+//!
+//! Cells stand one after another with a `;` between two, as in
+//! `userName=babs; emails[0].value=babs@example.com; active=#true; meta.created=@2024-01-01T00:00:00Z`.
+//! Behind the `=`, `#` begins a Boolean, `@` a moment, `~` and a number a text of so many letters `x`; all
+//! else is a text. `[0..3]` in place of a position makes the cell at each of the positions 0, 1 and 2.
+use crate::faults::SampleFault;
+use scim_schema::characteristics::is_multi_valued;
+use scim_schema::lookup::{attribute, sub_attribute};
+use scim_schema::{Attribute, Kind, Leaf};
+use scim_text::{Moment, NoMemory, print_moment, read_printed_moment};
+use scim_value::atoms::{Atom, Text};
+use scim_value::cells::Cell;
+use scim_value::parts::Part;
+use scim_value::rows::Row;
+use std::alloc::Global;
+use std::ops::Range;
+
+/// The leaf of a path such as `emails.value`, of either kind. It also reads `emails.familyName`, which is a
+/// leaf of no kind.
+pub fn read_leaf(path: &str) -> Result<Leaf, SampleFault> {
+    let (name, sub_name) = path.split_once('.').unwrap_or((path, ""));
+    let attribute = attribute(Kind::User, name)
+        .or(attribute(Kind::Group, name))
+        .ok_or(SampleFault::NoSuchLeaf)?;
+    let sub_attribute = sub_attribute(attribute, sub_name).or(sub_attribute(
+        Attribute::Name,
+        sub_name,
+    ));
+    if sub_attribute.is_none() && !sub_name.is_empty() {
+        return Err(SampleFault::NoSuchLeaf);
+    }
+    Ok(Leaf {
+        attribute,
+        sub_attribute,
+    })
+}
+
+/// The cells of a text, in its order.
+pub fn read_cells(alloc: Global, text: &str) -> Result<Vec<Cell>, SampleFault> {
+    let mut cells = Vec::new(alloc);
+    for piece in text.split(';') {
+        let piece = piece.trim();
+        if !piece.is_empty() {
+            push_cells(alloc, &mut cells, piece)?;
+        }
+    }
+    Ok(cells)
+}
+
+/// The cells of `ATTRIBUTE[POSITIONS].SUB=VALUE`.
+fn push_cells(alloc: Global, cells: &mut Vec<Cell>, text: &str) -> Result<(), SampleFault> {
+    let (path, value) = text.split_once('=').ok_or(SampleFault::NotACell)?;
+    let (name, rest) = path.split_once('[').unwrap_or((path, ""));
+    let (positions, sub_name) = rest.split_once(']').unwrap_or(("0", ""));
+    let path = format!(in alloc; "{name}{sub_name}")?;
+    let leaf = read_leaf(path.as_str())?;
+    for position in read_positions(positions)? {
+        let atom = read_atom(alloc, value)?;
+        cells.push(Cell {
+            leaf,
+            position,
+            atom,
+        })?;
+    }
+    Ok(())
+}
+
+/// The positions of `3`, or of `0..3`.
+fn read_positions(text: &str) -> Result<Range<usize>, SampleFault> {
+    match text.split_once("..") {
+        Some((first, end)) => Ok(read_number(first)?..read_number(end)?),
+        None => {
+            let position = read_number(text)?;
+            Ok(position..position.saturating_add(1))
+        }
+    }
+}
+
+fn read_number(text: &str) -> Result<usize, SampleFault> {
+    text.parse::<usize>().map_err(|_| SampleFault::NotACell)
+}
+
+/// The atom of what stands behind the `=`.
+fn read_atom(alloc: Global, value: &str) -> Result<Atom, SampleFault> {
+    if let Some(truth) = value.strip_prefix("#") {
+        return Ok(Atom::Truth(truth == "true"));
+    }
+    if let Some(moment) = value.strip_prefix("@") {
+        return Ok(Atom::Moment(read_moment(alloc, moment)?));
+    }
+    if let Some(length) = value.strip_prefix("~") {
+        return long_text(alloc, read_number(length)?);
+    }
+    Ok(Atom::Text(Text::copy_of(alloc, value)?))
+}
+
+/// A moment as it is printed, or by its second.
+fn read_moment(alloc: Global, text: &str) -> Result<Moment, SampleFault> {
+    match text.parse::<i64>() {
+        Ok(second) => Moment::new(second).ok_or(SampleFault::NotACell),
+        Err(_) => read_printed_moment(alloc, text)?.ok_or(SampleFault::NotACell),
+    }
+}
+
+/// A text of so many letters `x`.
+fn long_text(alloc: Global, length: usize) -> Result<Atom, SampleFault> {
+    let mut text = String::new(alloc);
+    for _ in 0..length {
+        text.push('x')?;
+    }
+    Ok(Atom::Text(Text::new(text)))
+}
+
+/// The text of an atom as it stands behind the `=`; `none` of none.
+pub fn atom_text(alloc: Global, atom: Option<&Atom>) -> Result<String, NoMemory> {
+    match atom {
+        Some(Atom::Text(text)) => Ok(String::from_str(alloc, text.as_str())?),
+        Some(Atom::Truth(truth)) => Ok(format!(in alloc; "#{truth}")?),
+        Some(Atom::Moment(moment)) => {
+            let printed = print_moment(alloc, *moment)?;
+            Ok(format!(in alloc; "@{printed}")?)
+        }
+        None => Ok(String::from_str(alloc, "none")?),
+    }
+}
+
+/// The path of a leaf, as `emails.value`.
+pub fn leaf_text(alloc: Global, leaf: Leaf) -> Result<String, NoMemory> {
+    let name = leaf.attribute.name();
+    match leaf.sub_attribute {
+        Some(sub_attribute) => Ok(format!(in alloc; "{name}.{}", sub_attribute.name())?),
+        None => Ok(String::from_str(alloc, name)?),
+    }
+}
+
+fn cell_text(alloc: Global, cell: &Cell) -> Result<String, NoMemory> {
+    let name = cell.leaf.attribute.name();
+    let mut text = String::from_str(alloc, name)?;
+    if is_multi_valued(cell.leaf.attribute) {
+        text.push_str(format!(in alloc; "[{}]", cell.position)?.as_str())?;
+    }
+    if let Some(sub_attribute) = cell.leaf.sub_attribute {
+        text.push_str(format!(in alloc; ".{}", sub_attribute.name())?.as_str())?;
+    }
+    let atom = atom_text(alloc, Some(&cell.atom))?;
+    text.push_str(format!(in alloc; "={atom}")?.as_str())?;
+    Ok(text)
+}
+
+/// The cells of a part in order of place, as [`read_cells`] reads them.
+pub fn part_text(alloc: Global, part: &Part) -> Result<String, NoMemory> {
+    let mut text = String::new(alloc);
+    for cell in part.cells(alloc)? {
+        if !text.is_empty() {
+            text.push_str("; ")?;
+        }
+        text.push_str(cell_text(alloc, &cell)?.as_str())?;
+    }
+    Ok(text)
+}
+
+/// A row by its attribute and its fields, as `emails .value=b .type=work`.
+pub fn row_text(alloc: Global, row: &Row) -> Result<String, NoMemory> {
+    let mut text = String::from_str(alloc, row.unit().attribute.name())?;
+    for field in row.fields() {
+        let name = match field.leaf.sub_attribute {
+            Some(sub_attribute) => sub_attribute.name(),
+            None => "",
+        };
+        let atom = atom_text(alloc, Some(&field.atom))?;
+        text.push_str(format!(in alloc; " .{name}={atom}")?.as_str())?;
+    }
+    Ok(text)
+}

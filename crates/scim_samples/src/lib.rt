@@ -1,0 +1,13 @@
+//! Sample values for examples, cases and measurements: cells from text, the sample users, the sample group and
+//! the sample policy. No server needs it.
+#![tactic(auto)]
+
+mod cells;
+mod faults;
+mod resources;
+mod texts;
+
+pub use cells::{atom_text, leaf_text, part_text, read_cells, read_leaf, row_text};
+pub use faults::SampleFault;
+pub use resources::{part, resource, sample, sample_groups, sample_users};
+pub use texts::{ALICE, BASE, BOB, POLICY, STRASSE, TEAM};
