@@ -10,6 +10,7 @@ pub mod ShapeLemmas
 pub mod KeyedLookups
 pub mod PartCells
 pub mod Back
+pub mod ReadBack
 pub mod ReadingLemmas
 pub mod TakenLemmas
 pub mod DocumentLemmas

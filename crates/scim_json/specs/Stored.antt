@@ -1,7 +1,8 @@
 -- Stored documents: the JSON that is kept of a resource.
-use Rattle.std.specs.Prelude.{◌≡◌, ℕ, List, Some}
+use Rattle.std.specs.Prelude.{◌≡◌, ℕ, List, Some, Result, Ok, Err, ⊤}
 use Rattle.serde_json.specs.Data.{Data}
 use Rattle.serde_json.specs.Read.{read}
+use Rattle.serde_json.specs.Written.{compact_text}
 use Rattle.scim_value.specs.Content.{Content}
 use Rattle.scim_value.specs.Resource.{IsResource, HasBase}
 use Rattle.scim_value.specs.declared.faults.Fault.{Fault}
@@ -15,6 +16,10 @@ abbrev pub fault_for : Fault → StoredFault
 fault_for Invalid = Damaged
 fault_for WantOfMemory = NoMemory
 
+-- the text that is kept of a resource
+abbrev pub stored_text : Content → List ℕ
+stored_text c = compact_text (stored_data c)
+
 -- a resource below the base
 abbrev pub IsResourceBelow : List ℕ → Content → Type 0
 IsResourceBelow base c = IsResource c × HasBase base c
@@ -26,6 +31,12 @@ IsDocument base d c = IsResourceBelow base c × (d ≡ stored_data c)
 -- the text is a document of the resource: JSON with that value
 abbrev pub IsDocumentText : List ℕ → List ℕ → Content → Type 0
 IsDocumentText base text c = IsResourceBelow base c × (read text ≡ Some (stored_data c))
+
+-- what may be answered of a text below a base: the resource that it is a document of; that it is damaged, where it is the document of none; or that memory was wanting
+abbrev pub GivesStored : List ℕ → List ℕ → Result Content StoredFault → Type 0
+GivesStored base text (Ok c) = IsDocumentText base text c
+GivesStored base text (Err Damaged) = (c : Content) → ¬ IsDocumentText base text c
+GivesStored base text (Err NoMemory) = ⊤
 
 -- what is kept of a resource below a base is kept of no other
 abbrev pub DocumentsAreApart : Type 0

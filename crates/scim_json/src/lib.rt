@@ -14,6 +14,8 @@ mod writing;
 pub use documents::read_documents;
 pub use faults::{DocumentFault, StoredFault};
 pub use keys::{keys_ascend, keys_have_all_attributes};
-pub use laws::{documents_are_apart, documents_read_back, parts_are_shown_whole};
+pub use laws::{
+    documents_are_apart, documents_read_back, parts_are_shown_whole, stored_resources_read_back,
+};
 pub use reading::read_stored;
 pub use writing::{stored_text, to_json};

@@ -12,7 +12,7 @@ ghost use Rattle.scim_value.specs.Content.{Content, entries_of, AreSortedPartCel
 ghost use Rattle.scim_value.specs.Resource.{HasBase};
 ghost use Rattle.scim_json.specs.PartData.{stored_data};
 ghost use Rattle.scim_json.specs.Found as spec;
-ghost use Rattle.scim_json.specs.Stored.{IsDocument, IsDocumentText};
+ghost use Rattle.scim_json.specs.Stored.{IsDocument, GivesStored};
 
 use crate::faults::StoredFault;
 use crate::keys::{Shape, shape_of};
@@ -39,9 +39,7 @@ use std::alloc::Global;
 /// stored, null, empty lists and objects, values of another type, moments that aren't as printed, and
 /// what isn't a resource. NoMemory where none was to be had.
 pub fn read_stored(alloc: Global, base: &str, text: &str) -> Result<Resource, StoredFault>
-    ensures document { IfOk result (IsDocumentText base.now text.now) }
-    ensures damaged { result ≡ Err StoredFault.Damaged
-        → (c : Content) → ¬ IsDocumentText base.now text.now c }
+    ensures { GivesStored base.now text.now result }
 {
     let value = parse(alloc, text)?;
     let resource = resource_in(alloc, base, &value)?;

@@ -11,6 +11,7 @@ ghost use Rattle.scim_value.specs.Rows.{rows, cell_at};
 ghost use Rattle.scim_json.specs.Keys.{key_text};
 ghost use Rattle.scim_json.specs.PartData as spec;
 ghost use Rattle.scim_json.specs.PartData.{members_where, items_of};
+ghost use Rattle.scim_json.specs.Stored.{stored_text};
 ghost use Rattle.scim_json.specs.Tokens.{Adds, value_tokens, member_tokens, members_tokens, items_tokens};
 
 use crate::keys::{Form, Key, Shape, extension_keys, keys, ordered_sub_attributes, shape_of};
@@ -46,7 +47,7 @@ pub fn to_json(alloc: Global, part: &Part) -> Result<String, NoMemory>
 /// The only error is [`NoMemory`].
 #[tactic(auto, unfolding(crate::specs::PartData::stored_data))]
 pub fn stored_text(alloc: Global, resource: &Resource) -> Result<String, NoMemory>
-    ensures text { IfOk result (λ t. string_bytes t ≡ compact_text (spec.stored_data resource.now)) }
+    ensures text { IfOk result (λ t. string_bytes t ≡ stored_text resource.now) }
     ensures reads { IfOk result (λ t. read (string_bytes t) ≡ Some (spec.stored_data resource.now)) }
 {
     text_of(alloc, resource.part(), Form::Stored)

@@ -1,4 +1,5 @@
 pub mod LawLemmas
 pub mod PartLemmas
 pub mod StepLemmas
+pub mod WritingLemmas
 pub mod ReplyLemmas

@@ -1,5 +1,6 @@
--- What a stream opens with.
-use Rattle.std.specs.Prelude.{◌≡◌, ℕ, ◌⊎◌, List, ◌++◌}
+-- What a stream opens with, and what is written to one.
+use Rattle.std.specs.Prelude.{◌≡◌, ℕ, ◌⊎◌, List, ◌++◌, Option}
+use Rattle.std.specs.Io.KnownBytes.{Appends}
 use Rattle.httparse.specs.Grammar.{LineEnd, print_blank}
 use Rattle.scim_wire.specs.declared.heads.Head.{Head}
 use Rattle.scim_wire.specs.Heads.{ReadsAs, SaysNothing}
@@ -30,3 +31,11 @@ pub record IsOpening (input part : List ℕ) : Type 0 where
 -- empty lines, and then a head that has not ended
 abbrev pub IsUnended : List ℕ → Type 0
 IsUnended input = (part : List ℕ) × IsOpening input part
+
+-- the text begins with these bytes: they are a front of it, perhaps none of it or the whole
+abbrev pub BeginsWith : List ℕ → List ℕ → Type 0
+BeginsWith text front = (back : List ℕ) × (text ≡ front ++ back)
+
+-- what a writer holds grows by a front of the text, and by nothing else
+abbrev pub AppendsFront : Option (List ℕ) → Option (List ℕ) → List ℕ → Type 0
+AppendsFront old new text = (front : List ℕ) × BeginsWith text front × Appends old new front

@@ -12,9 +12,11 @@ mod steps;
 #[cfg(test)]
 mod tests;
 mod texts;
+mod writing;
 
 pub use heads::{Head, HeadFault};
 pub use laws::heads_are_read_in_one_way;
 pub use octets::Octets;
 pub use replies::{Reply, print_reply};
 pub use steps::read_head;
+pub use writing::write_text;
