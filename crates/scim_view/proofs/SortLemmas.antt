@@ -33,7 +33,7 @@ module _ {X : Type 0} (cmp : X → X → Ordering) (total : IsTotalOrder cmp) wh
   turned Greater h = refl
 
   turned_gt : (o : Ordering) → is_gt o ≡ true → is_gt (ordering_reverse o) ≡ false
-  turned_gt Less h = refl
+  turned_gt Less h = cc
   turned_gt Equal h = refl
   turned_gt Greater h = refl
 

@@ -19,9 +19,7 @@ lent_total = on_total (λ (g : Bor SeenGroup). g.now.id) nat_list_cmp_total
 
 pub returns : goal.returns
 returns c =
-    let before = c.args.groups.old.items in
-    let after = c.sort_by.new.self in
     let sorted = c.in_ok-sort_by.ensures.sorted (λ a b. is_lt (lent_cmp a b)) (ranks_by nat_list_cmp_total (λ (g : Bor SeenGroup). g.now.id)) (always_returns_same _ _ _ (λ a r f k. search rules)) in
     let stable = c.in_ok-sort_by.ensures.stable (λ a b. is_lt (lent_cmp a b)) (ranks_by nat_list_cmp_total (λ (g : Bor SeenGroup). g.now.id)) (always_returns_same _ _ _ (λ a r f k. search rules)) in
-    ap (map (λ (g : Bor SeenGroup). g.now)) (sorted_is-sorted_by lent_cmp lent_total _ _ sorted stable)
-    ∙ sym (sorted_by-map kept_cmp (λ (g : Bor SeenGroup). g.now) _)
+    ap (map (λ (g : Bor SeenGroup). g.now)) (sorted_is-sorted_by lent_cmp lent_total c.args.groups.now.items _ sorted stable)
+    ∙ sym (sorted_by-map kept_cmp (λ (g : Bor SeenGroup). g.now) c.args.groups.now.items)
