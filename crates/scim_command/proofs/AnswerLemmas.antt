@@ -3,7 +3,7 @@ use Rattle.std.proofs.Common.{◌≡◌, inl, inr, ℕ, List, Result, Ok, Err, I
 use Rattle.std.specs.declared.alloc.Global.{Global}
 use Rattle.std.specs.Io.KnownBytes.{Appends}
 use Rattle.scim_text.specs.declared.memory.NoMemory.{NoMemory}
-use Rattle.scim_value.specs.Content.{Content}
+use Rattle.scim_cell.specs.Content.{Content}
 use Rattle.scim_policy.specs.Rules.{Rule}
 use Rattle.scim_policy.specs.File.{policy_of}
 use Rattle.scim_wire.specs.declared.heads.Head.{Head}

@@ -2,8 +2,8 @@
 use Rattle.std.proofs.Common.{◌≡◌, ◌∙◌, ℕ, Bool, true, false, ◌&&◌, List, [], ◌∷◌, Option, Some, nat_eq, cond, ap, sym, refl}
 use Rattle.std.specs.Cmp.Lexicographic.{pointwise}
 use Rattle.scim_schema.specs.declared.Kind.{Kind}
-use Rattle.scim_value.specs.Content.{Content}
-use Rattle.scim_value.specs.Ids.{id_text}
+use Rattle.scim_cell.specs.Content.{Content}
+use Rattle.scim_cell.specs.Ids.{id_text}
 use Rattle.scim_command.specs.Directories.{is_of, of_kind, is_named, found}
 
 -- the resource that is named stands among those of its kind

@@ -8,10 +8,10 @@ use denote.Enum.Bare.{sameb}
 use Rattle.uuid.specs.Text.{hyphen, is_hyphen_place}
 use Rattle.scim_schema.specs.declared.Kind.{Kind}
 use Rattle.scim_schema.specs.contracts.Kind.{the_type as the_kind}
-use Rattle.scim_value.specs.Content.{Content}
+use Rattle.scim_cell.specs.Content.{Content}
 use Rattle.scim_command.specs.Directories.{found}
-use Rattle.scim_value.specs.Ids.{IsId, IsIdText, IsIdCharacter, IsLowerHexDigit, id_text}
-use Rattle.scim_value.proofs.IdLemmas.{IsIdText-id_text, id_text-injective}
+use Rattle.scim_cell.specs.Ids.{IsId, IsIdText, IsIdCharacter, IsLowerHexDigit, id_text}
+use Rattle.scim_cell.proofs.IdLemmas.{IsIdText-id_text, id_text-injective}
 
 -- two ids are one where their texts are
 pub same_ids : (a b : List ℕ) → IsId a → IsId b → pointwise nat_eq a b ≡ pointwise nat_eq (id_text a) (id_text b)

@@ -8,8 +8,8 @@ use denote.Enum.Bare.{sameb}
 use Rattle.scim_schema.specs.declared.Kind.{Kind}
 use Rattle.scim_schema.specs.declared.Kind.TheVariants.{User, Group}
 use Rattle.scim_schema.specs.contracts.Kind.{the_type as the_kind}
-use Rattle.scim_value.specs.Content.{Content}
-use Rattle.scim_value.specs.Ids.{id_text}
+use Rattle.scim_cell.specs.Content.{Content}
+use Rattle.scim_cell.specs.Ids.{id_text}
 use Rattle.scim_command.specs.declared.directories.Directory.{Directory}
 
 -- the order of resources by id

@@ -2,7 +2,7 @@
 use Rattle.std.specs.Prelude.{◌≡◌, ◌⊎◌, ℕ, List, Result, Ok, Err, IsOk, String, string_bytes}
 use Rattle.std.specs.declared.alloc.Global.{Global}
 use Rattle.scim_text.specs.declared.memory.NoMemory.{NoMemory}
-use Rattle.scim_value.specs.Content.{Content}
+use Rattle.scim_cell.specs.Content.{Content}
 use Rattle.scim_json.specs.Documents.{IsDocumentsText}
 use Rattle.scim_policy.specs.Rules.{Rule}
 use Rattle.scim_policy.specs.File.{policy_of}

@@ -2,7 +2,7 @@
 use Rattle.std.specs.Prelude.{◌≡◌, ℕ, ◌⊎◌, List, Option, None, Some, option_and_then}
 use Rattle.serde_json.specs.Written.{compact_text}
 use Rattle.scim_schema.specs.declared.Kind.{Kind}
-use Rattle.scim_value.specs.Content.{Content}
+use Rattle.scim_cell.specs.Content.{Content}
 use Rattle.scim_json.specs.PartData.{part_data}
 use Rattle.scim_policy.specs.Rules.{Rule}
 use Rattle.scim_view.specs.Groups.{view_with_groups}

@@ -1,7 +1,7 @@
 //! The reply to the head of a request.
 ghost use Rattle.std.specs.Prelude.{◌≡◌, List, IfOk, string_bytes};
 ghost use Rattle.std.specs.Option.{option_copied};
-ghost use Rattle.scim_value.specs.Content.{Content};
+ghost use Rattle.scim_cell.specs.Content.{Content};
 ghost use Rattle.scim_command.specs.Directories.{Holds};
 ghost use Rattle.scim_command.specs.Replies as spec;
 

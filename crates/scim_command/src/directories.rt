@@ -1,13 +1,13 @@
 //! The resources of a users file, and those of them that are asked for.
 ghost use Rattle.std.specs.Prelude.{◌≡◌, ℕ, List, OnOk, IfOk, IfSome, IfNone};
 ghost use Rattle.std.specs.Option.{option_copied};
-ghost use Rattle.scim_value.specs.Content.{Content};
-ghost use Rattle.scim_value.specs.Ids.{IsId, id_text};
+ghost use Rattle.scim_cell.specs.Content.{Content};
+ghost use Rattle.scim_cell.specs.Ids.{IsId, id_text};
 ghost use Rattle.scim_command.specs.Directories as spec;
 
+use scim_cell::ids::Id;
 use scim_schema::Kind;
 use scim_text::NoMemory;
-use scim_value::ids::Id;
 use scim_value::resources::Resource;
 use std::alloc::Global;
 

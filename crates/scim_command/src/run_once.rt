@@ -1,7 +1,7 @@
 //! `once`: one request, answered over a users file in memory.
 ghost use Rattle.std.specs.Prelude.{◌≡◌, ◌≢◌, ℕ, List, Err, IsOk, IfOk, IfErr, IfSome, OnOk};
 ghost use Rattle.std.specs.Io.KnownBytes.{Appends};
-ghost use Rattle.scim_value.specs.Content.{Content};
+ghost use Rattle.scim_cell.specs.Content.{Content};
 ghost use Rattle.scim_json.specs.Documents.{IsDamagedAt};
 ghost use Rattle.scim_policy.specs.File.{policy_of};
 ghost use Rattle.scim_policy.specs.declared.faults.Cause.{Cause};

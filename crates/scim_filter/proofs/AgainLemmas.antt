@@ -5,8 +5,8 @@ use Rattle.std.specs.List.{list_all}
 use Rattle.std.specs.Char.{to_ascii_lowercase}
 use Rattle.std.proofs.lemmas.List.{append-nil}
 use Rattle.std.proofs.lemmas.List.Folds.{list_all-append}
-use Rattle.scim_filter.specs.Reading.{Fault}
-use Rattle.scim_filter.specs.Reading.{Syntax, TooDeep}
+use Rattle.scim_filter.specs.code.Reading.{Fault}
+use Rattle.scim_filter.specs.code.Reading.{Syntax, TooDeep}
 use Rattle.scim_filter.specs.declared.tree.Operator.{Operator}
 use Rattle.scim_filter.specs.declared.tree.Operator.TheVariants.{Eq, Ne, Co, Sw, Ew, Gt, Ge, Lt, Le}
 use Rattle.scim_filter.specs.declared.tree.Literal.{Literal}
@@ -18,9 +18,10 @@ use Rattle.scim_filter.specs.declared.tree.Scope.TheVariants.{Attributes, SubAtt
 use Rattle.scim_filter.specs.Literals.{IsWord, IsLiteral}
 use Rattle.scim_filter.specs.Names.{IsPath, IsPassed, is_name_byte, is_name, is_urn_byte, is_urn, fits_scope, attribute_meant, names_text, path_text}
 use Rattle.scim_filter.specs.Tree.{Tree, Or, And, Not, Present, Compare, Values}
-use Rattle.scim_filter.specs.Bytes.{is_space, is_word_byte, is_no_dot, front, behind, is_word, is_no_colon, past_join, names_in, urn_in}
+use Rattle.scim_filter.specs.Bytes.{is_space, is_word_byte, front, behind, is_word, is_no_colon}
+use Rattle.scim_filter.specs.code.Cuts.{is_no_dot, past_join, names_in, urn_in}
 use Rattle.scim_filter.specs.Grammar.{IsBlank, IsGap, spelled, Encloses, Level, Disjunction, Conjunction, Term, IsFilter, Spells, one_conjunction, either, one_term, both, group, negation, presence, comparison, values}
-use Rattle.scim_filter.specs.Reading.{◌>>=◌, Read, Reader, urn_of, name_of, sub_of, path_with, path_of, operator_of, listed_at, closing_at, enclosed_at, relation_at, mapped, behind_path_at, worded_at, term_at, joined_at, conjunction_at, disjunction_at, filter_at, ended, all_of}
+use Rattle.scim_filter.specs.code.Reading.{◌>>=◌, Read, Reader, urn_of, name_of, sub_of, path_with, path_of, operator_of, listed_at, closing_at, enclosed_at, relation_at, mapped, behind_path_at, worded_at, term_at, joined_at, conjunction_at, disjunction_at, filter_at, ended, all_of}
 use Rattle.scim_filter.proofs.SpelledLemmas.{list_all_imp, list_all-map, word_byte, not_at, name_bytes, name_case, StopsAt, front_again, behind_again, blank_again, gap_again, gap_parts, gap_first, blank_parts, lowered, other_word, IsRun, run_of, word_run, word_bytes, Opens, opens_more, opens_stops, run_opens, run_no_bracket, name_word, name_no_dot, name_full, join_again, join_other, join_parts, close_no_join}
 use Rattle.scim_filter.proofs.FrontLemmas.{bind_ok, front-behind, blank_front, both_true}
 use Rattle.scim_filter.proofs.TakeLemmas.{ok_is, disjunction_takes, filter_takes}

@@ -2,10 +2,11 @@
 use Rattle.std.proofs.Common.{◌≡◌, ℕ, suc, ◌<◌, ◌≤◌, Bool, true, false, cond, eqb, List, [], ◌∷◌, ◌++◌, length, drop, Option, Some, None, Result, Ok, Err, refl, sym, ap, subst, ◌∙◌, append_assoc, arith, length-append}
 use Rattle.std.specs.Prelude.{slice_index, option_and_then, ◌&&◌, not}
 use Rattle.std.proofs.lemmas.Bool.{eqb-true}
-use Rattle.scim_filter.specs.Reading.{Fault}
-use Rattle.scim_filter.specs.Bytes.{is_space, is_word_byte, front, behind, is_word, past_gap, past_join}
+use Rattle.scim_filter.specs.code.Reading.{Fault}
+use Rattle.scim_filter.specs.Bytes.{is_space, is_word_byte, front, behind, is_word}
+use Rattle.scim_filter.specs.code.Cuts.{past_gap, past_join}
 use Rattle.scim_filter.specs.Grammar.{IsBlank, IsGap, IsJoin}
-use Rattle.scim_filter.specs.Reading.{◌>>=◌}
+use Rattle.scim_filter.specs.code.Reading.{◌>>=◌}
 
 -- the value of a step that did not fail
 pub bind_ok : {A B : Type 0} (r : Result A Fault) (f : A → Result B Fault) (y : B) → (r >>= f) ≡ Ok y → (x : A) × (r ≡ Ok x) × (f x ≡ Ok y)

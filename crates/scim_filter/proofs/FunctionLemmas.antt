@@ -1,6 +1,6 @@
 -- The functions that give what a text spells say what the grammar says.
-use Rattle.std.proofs.Common.{◌≡◌, ◌≤◌, ◌<◌, ℕ, Bool, true, false, cond, List, length, Option, Some, None, Result, Ok, Err, refl, sym, ap, subst, ◌∙◌}
-use Rattle.std.specs.Prelude.{◌↔◌, nat_le, option_and_then, option_map}
+use Rattle.std.proofs.Common.{◌≡◌, ◌≤◌, ℕ, Bool, true, false, cond, List, length, Option, Some, None, Result, Ok, Err, refl, sym, ap, ◌∙◌}
+use Rattle.std.specs.Prelude.{nat_le, option_and_then}
 use Rattle.std.specs.Result.{result_ok}
 use Rattle.std.proofs.lemmas.Bool.{leb-true, le-leb}
 use Rattle.scim_schema.specs.declared.Kind.{Kind}
@@ -8,7 +8,8 @@ use Rattle.scim_filter.specs.declared.tree.Path.{Path}
 use Rattle.scim_filter.specs.declared.tree.Scope.TheVariants.{Attributes}
 use Rattle.scim_filter.specs.Bytes.{lone_word}
 use Rattle.scim_filter.specs.Grammar.{IsFilter}
-use Rattle.scim_filter.specs.Reading.{Fault, path_of, all_of}
+use Rattle.scim_filter.specs.declared.limits.TheConstants.{LONGEST_TEXT}
+use Rattle.scim_filter.specs.code.Reading.{Fault, path_of, all_of}
 use Rattle.scim_filter.specs.Tree.{Tree}
 use Rattle.scim_filter.specs.Types.{fits}
 use Rattle.scim_filter.specs.WrittenPaths.{IsWritten, Plain}
@@ -34,22 +35,22 @@ within : {A : Type 0} (b : Bool) (o : Option A) (x : A) → cond b o None ≡ So
 within true o x e = (refl, e)
 within false o x e = absurd cc
 
-pub filter_in-spelled : (kind : Kind) (text : List ℕ) (t : Tree) → filter_in kind text ≡ Some t → (length text ≤ 4096) × IsFilter kind 32 text t × (fits t ≡ true)
+pub filter_in-spelled : (kind : Kind) (text : List ℕ) (t : Tree) → filter_in kind text ≡ Some t → (length text ≤ LONGEST_TEXT) × IsFilter kind 32 text t × (fits t ≡ true)
 unfolding filter_in
 filter_in-spelled kind text t e =
-    let a = within (nat_le (length text) 4096) (fitting (result_ok (all_of (Attributes kind) text))) t e in
+    let a = within (nat_le (length text) LONGEST_TEXT) (fitting (result_ok (all_of (Attributes kind) text))) t e in
     let b = fitting_some (result_ok (all_of (Attributes kind) text)) t a.1 in
-    (leb-true (length text) 4096 a.0, all_takes kind text t (ok_some (all_of (Attributes kind) text) t b.0), b.1)
+    (leb-true (length text) LONGEST_TEXT a.0, all_takes kind text t (ok_some (all_of (Attributes kind) text) t b.0), b.1)
 
-pub spelled-filter_in : (kind : Kind) (text : List ℕ) (t : Tree) → length text ≤ 4096 → IsFilter kind 32 text t → fits t ≡ true → filter_in kind text ≡ Some t
+pub spelled-filter_in : (kind : Kind) (text : List ℕ) (t : Tree) → length text ≤ LONGEST_TEXT → IsFilter kind 32 text t → fits t ≡ true → filter_in kind text ≡ Some t
 unfolding filter_in
-spelled-filter_in kind text t short h typed = rw (le-leb (length text) 4096 short, is_read kind text t h, typed) refl
+spelled-filter_in kind text t short h typed = rw (le-leb (length text) LONGEST_TEXT short, is_read kind text t h, typed) refl
 
 pub filters_are_spelled : FiltersAreSpelled
 filters_are_spelled kind text t = (filter_in-spelled kind text t, λ h. spelled-filter_in kind text t h.0 h.1 h.2)
 
 -- where nothing is spelled, the function gives nothing
-pub none_spelled : (kind : Kind) (text : List ℕ) → ((t : Tree) → length text ≤ 4096 → IsFilter kind 32 text t → fits t ≡ true → ⊥) → filter_in kind text ≡ None
+pub none_spelled : (kind : Kind) (text : List ℕ) → ((t : Tree) → length text ≤ LONGEST_TEXT → IsFilter kind 32 text t → fits t ≡ true → ⊥) → filter_in kind text ≡ None
 none_spelled kind text none =
     let at : (o : Option Tree) → filter_in kind text ≡ o → o ≡ None = λ o. elim o as (λ p. filter_in kind text ≡ p → p ≡ None) [
       | None ↦ λ e. refl

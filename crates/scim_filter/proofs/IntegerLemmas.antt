@@ -9,7 +9,7 @@ use Rattle.std.proofs.lemmas.Bool.{eqb-true, false≢true, ltb-true, lt-ltb, leb
 use Rattle.std.proofs.lemmas.Str.{IsUtf8-from_ascii}
 use Rattle.std.proofs.lemmas.Str.Parse.{digit_from_value, without_leading_plus_none}
 use Rattle.scim_filter.specs.Literals.{are_digits, is_within, is_integer}
-use Rattle.scim_filter.specs.Reading.{integer_of}
+use Rattle.scim_filter.specs.code.Reading.{integer_of}
 use Rattle.scim_filter.proofs.FrontLemmas.{both_true, not_true}
 
 digits_all : (ds : List ℕ) → are_digits ds ≡ true → AllDigits 10 ds

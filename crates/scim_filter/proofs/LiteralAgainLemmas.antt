@@ -11,7 +11,7 @@ use Rattle.scim_filter.specs.declared.tree.Literal.{Literal}
 use Rattle.scim_filter.specs.declared.tree.Literal.TheVariants as literal
 use Rattle.scim_filter.specs.Bytes.{is_word_byte, is_word, past_quote}
 use Rattle.scim_filter.specs.Literals.{IsString, IsLiteral}
-use Rattle.scim_filter.specs.Reading.{integer_of, number_of, word_literal, string_at, literal_at}
+use Rattle.scim_filter.specs.code.Reading.{integer_of, number_of, word_literal, string_at, literal_at}
 use Rattle.scim_filter.proofs.SpelledLemmas.{StopsAt, front_again, behind_again, lowered, not_at, word_byte, IsRun, run_of, run_first, run_opens, word_run, Opens}
 use Rattle.scim_filter.proofs.IntegerLemmas.{IsNumber, integer_number, integer_some, no_plus_differs, and_true}
 use Rattle.scim_filter.proofs.LiteralLemmas.{closes_before, seam, string_ok}

@@ -8,7 +8,7 @@ use Rattle.serde_json.specs.Data.{Data, null, boolean, number, string, array, ob
 use Rattle.serde_json.specs.Read.{read}
 use Rattle.serde_json.specs.Find.{as_str}
 use Rattle.scim_filter.specs.Bytes.{past_quote}
-use Rattle.scim_filter.specs.Reading.{Syntax, string_of}
+use Rattle.scim_filter.specs.code.Reading.{Syntax, string_of}
 use Rattle.std.proofs.lemmas.List.{append-nil}
 use Rattle.scim_filter.proofs.FrontLemmas.{chosen}
 

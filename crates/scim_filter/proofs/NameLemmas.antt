@@ -7,7 +7,8 @@ use Rattle.std.specs.Str.{IsAscii, IsUtf8}
 use Rattle.std.proofs.lemmas.Bool.{eqb-true, ltb-true, lt-ltb, ltb-false, le-ltb, leb-true}
 use Rattle.std.proofs.lemmas.Str.{IsUtf8-from_ascii}
 use Rattle.std.proofs.Math.Seq.{take-append_seam}
-use Rattle.scim_filter.specs.Bytes.{is_no_colon, front, is_word, names_from, names_in, urn_in}
+use Rattle.scim_filter.specs.Bytes.{is_no_colon, front, is_word}
+use Rattle.scim_filter.specs.code.Cuts.{names_from, names_in, urn_in}
 use Rattle.scim_filter.specs.Names.{is_letter, is_name_byte, is_name, is_urn_byte, is_urn, path_text}
 use Rattle.scim_filter.proofs.FrontLemmas.{both_true}
 use Rattle.scim_filter.proofs.SpelledLemmas.{lowered, list_all_imp, list_all-map, not_at, name_bytes, name_case}

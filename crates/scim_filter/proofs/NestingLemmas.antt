@@ -5,11 +5,12 @@ use Rattle.scim_filter.specs.declared.tree.Path.{Path}
 use Rattle.scim_filter.specs.declared.tree.Scope.{Scope}
 use Rattle.scim_filter.specs.declared.tree.Scope.TheVariants.{Attributes, SubAttributes}
 use Rattle.scim_filter.specs.Brackets.{open_behind, IsDeeper}
-use Rattle.scim_filter.specs.Bytes.{is_space, is_word_byte, front, behind, is_word, past_gap, past_join}
+use Rattle.scim_filter.specs.Bytes.{is_space, is_word_byte, front, behind, is_word}
+use Rattle.scim_filter.specs.code.Cuts.{past_gap, past_join}
 use Rattle.scim_filter.specs.Names.{attribute_meant}
 use Rattle.scim_filter.specs.Tree.{Tree, Or, And, Not, Values}
 use Rattle.scim_filter.specs.Grammar.{Conjunction, Term, Spells}
-use Rattle.scim_filter.specs.Reading.{Fault, Syntax, TooDeep, ◌>>=◌, Read, Reader, urn_of, name_of, sub_of, path_of, operator_of, number_of, word_literal, string_of, string_at, literal_at, listed_at, closing_at, enclosed_at, relation_at, mapped, behind_path_at, worded_at, term_at, joined_at, chain_at, conjunction_at, disjunction_at, filter_at, ended, all_of}
+use Rattle.scim_filter.specs.code.Reading.{Fault, Syntax, TooDeep, ◌>>=◌, Read, Reader, urn_of, name_of, sub_of, path_of, operator_of, number_of, word_literal, string_of, string_at, literal_at, listed_at, closing_at, enclosed_at, relation_at, mapped, behind_path_at, worded_at, term_at, joined_at, chain_at, conjunction_at, disjunction_at, filter_at, ended, all_of}
 use Rattle.scim_filter.proofs.FrontLemmas.{chosen, front-behind, join_takes, first_is, both_true}
 use Rattle.scim_filter.proofs.TakeLemmas.{Spelling, Takes, term_takes, conjunction_takes, filter_takes}
 use Rattle.scim_filter.proofs.BracketLemmas.{IsBalanced, IsPlain, space_plain, word_plain, front_balanced, IsPlainWord, join_balanced, IsOpening, round_opens, square_opens, spelled_balanced}

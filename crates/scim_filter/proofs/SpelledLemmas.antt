@@ -6,7 +6,8 @@ use Rattle.std.specs.Char.{to_ascii_lowercase}
 use Rattle.std.specs.Str.{bytes_eq}
 use Rattle.std.proofs.lemmas.Bool.{eqb-true, false≢true}
 use Rattle.std.proofs.lemmas.Slice.Eq.{bytes_eq-Decides}
-use Rattle.scim_filter.specs.Bytes.{is_space, is_word_byte, is_no_dot, front, behind, is_word, past_gap, past_join}
+use Rattle.scim_filter.specs.Bytes.{is_space, is_word_byte, front, behind, is_word}
+use Rattle.scim_filter.specs.code.Cuts.{is_no_dot, past_gap, past_join}
 use Rattle.scim_filter.specs.Grammar.{IsBlank, IsGap, IsJoin}
 use Rattle.scim_filter.specs.Literals.{IsWord}
 use Rattle.scim_filter.specs.Names.{is_letter, is_name_byte, is_plain_name, is_name}

@@ -3,9 +3,9 @@ use Rattle.std.proofs.Common.{◌≡◌, ℕ, zero, suc, ◌<◌, ◌≤◌, Lis
 use Rattle.std.specs.Prelude.{codes}
 use Rattle.scim_filter.specs.Tree.{Tree, Or, And}
 use Rattle.scim_filter.specs.declared.tree.Scope.{Scope}
-use Rattle.scim_filter.specs.Reading.{TooDeep}
-use Rattle.scim_filter.specs.Bytes.{past_join}
-use Rattle.scim_filter.specs.Reading.{◌>>=◌, Reader, mapped, term_at, joined_at, chain_at, conjunction_at, disjunction_at, filter_at}
+use Rattle.scim_filter.specs.code.Reading.{TooDeep}
+use Rattle.scim_filter.specs.code.Cuts.{past_join}
+use Rattle.scim_filter.specs.code.Reading.{◌>>=◌, Reader, mapped, term_at, joined_at, chain_at, conjunction_at, disjunction_at, filter_at}
 use Rattle.scim_filter.proofs.FrontLemmas.{bind_same, join_shorter}
 use Rattle.scim_filter.proofs.TakeLemmas.{term_shrinks, conjunction_shrinks}
 

@@ -3,8 +3,8 @@ use Rattle.std.proofs.Common.{◌≡◌, ℕ, zero, suc, ◌≤◌, true, false,
 use Rattle.std.specs.Prelude.{slice_index, codes, ◌&&◌, ok_or}
 use Rattle.std.proofs.lemmas.Bool.{eqb-true}
 use Rattle.std.proofs.lemmas.List.{append-nil}
-use Rattle.scim_filter.specs.Reading.{Fault}
-use Rattle.scim_filter.specs.Reading.{Syntax}
+use Rattle.scim_filter.specs.code.Reading.{Fault}
+use Rattle.scim_filter.specs.code.Reading.{Syntax}
 use Rattle.scim_filter.specs.declared.tree.Operator.{Operator}
 use Rattle.scim_filter.specs.declared.tree.Operator.TheVariants.{Eq, Ne, Co, Sw, Ew, Gt, Ge, Lt, Le}
 use Rattle.scim_filter.specs.declared.tree.Literal.{Literal}
@@ -15,9 +15,10 @@ use Rattle.scim_filter.specs.declared.tree.Scope.TheVariants.{Attributes, SubAtt
 use Rattle.scim_filter.specs.Literals.{IsWord, is_integer, IsLiteral}
 use Rattle.scim_filter.specs.Names.{IsPath, IsPassed, is_name, is_urn, fits_scope, meant_by, attribute_meant, names_text, path_text}
 use Rattle.scim_filter.specs.Tree.{Tree, Or, And, Not, Present, Compare, Values}
-use Rattle.scim_filter.specs.Bytes.{is_space, is_word_byte, is_no_dot, front, behind, is_word, past_gap, past_join, past_quote, names_in, urn_in}
+use Rattle.scim_filter.specs.Bytes.{is_space, is_word_byte, front, behind, is_word, past_quote}
+use Rattle.scim_filter.specs.code.Cuts.{is_no_dot, past_gap, past_join, names_in, urn_in}
 use Rattle.scim_filter.specs.Grammar.{IsGap, IsJoin, spelled, Encloses, Disjunction, Conjunction, Term, Spells, one_conjunction, either, one_term, both, group, negation, presence, comparison, values}
-use Rattle.scim_filter.specs.Reading.{◌>>=◌, Read, Reader, urn_of, name_of, sub_of, path_with, path_of, operator_of, integer_of, number_of, word_literal, string_of, string_at, literal_at, listed_at, closing_at, enclosed_at, relation_at, mapped, behind_path_at, worded_at, term_at, joined_at, chain_at, conjunction_at, disjunction_at, filter_at}
+use Rattle.scim_filter.specs.code.Reading.{◌>>=◌, Read, Reader, urn_of, name_of, sub_of, path_with, path_of, operator_of, integer_of, number_of, word_literal, string_of, string_at, literal_at, listed_at, closing_at, enclosed_at, relation_at, mapped, behind_path_at, worded_at, term_at, joined_at, chain_at, conjunction_at, disjunction_at, filter_at}
 use Rattle.scim_filter.proofs.FrontLemmas.{some_if, both_true, not_false, behind_first, bind_ok, ok_if, chosen, front-behind, blank_front, gap_takes, join_takes, first_is}
 use Rattle.std.specs.Str.Parse.{signed_digits_value}
 use Rattle.scim_filter.proofs.NameLemmas.{urn_split}

@@ -1,5 +1,5 @@
 -- The path of a change: what is read is spelled so, and what is spelled is read.
-use Rattle.std.proofs.Common.{◌≡◌, ℕ, suc, false, cond, append-nil, append_assoc, eqb, List, [], ◌∷◌, ◌++◌, drop, Option, Some, None, Result, Ok, Err, slice_index, refl, sym, ap, subst, ◌∙◌, arith, inl, inr}
+use Rattle.std.proofs.Common.{◌≡◌, ◌≤◌, ◌+◌, ℕ, suc, false, cond, append-nil, append_assoc, eqb, List, [], ◌∷◌, ◌++◌, drop, Option, Some, None, Result, Ok, Err, slice_index, refl, sym, ap, subst, ◌∙◌, arith, inl, inr}
 use Rattle.std.specs.Prelude.{option_map, MatchOption}
 use Rattle.std.specs.Result.{result_ok}
 use Rattle.scim_schema.specs.declared.Kind.{Kind}
@@ -10,9 +10,10 @@ use Rattle.scim_filter.specs.Bytes.{is_empty, lone_word, is_space, is_word_byte,
 use Rattle.scim_filter.specs.Names.{IsPath, IsPassed, is_name, names_text, attribute_meant}
 use Rattle.scim_filter.specs.Grammar.{IsBlank}
 use Rattle.scim_filter.specs.Tree.{Tree, Values}
-use Rattle.scim_filter.specs.Reading.{Fault, ◌>>=◌, name_of, path_of, listed_at, enclosed_at, filter_at}
+use Rattle.scim_filter.specs.code.Reading.{Fault, ◌>>=◌, name_of, path_of, listed_at, enclosed_at, filter_at}
+use Rattle.scim_filter.specs.Spelled.{OnePathIsSpelled}
 use Rattle.scim_filter.specs.WrittenPaths.{Written, Plain, Filtered, SpellsPath, plain, filtered, IsWritten}
-use Rattle.scim_filter.specs.PathReading.{nothing_left, ended_at, sub_at, filtered_at, behind_names_at, written_at}
+use Rattle.scim_filter.specs.code.PathReading.{nothing_left, ended_at, sub_at, filtered_at, behind_names_at, written_at}
 use Rattle.scim_filter.proofs.FrontLemmas.{bind_ok, chosen, front-behind, blank_front, first_is}
 use Rattle.scim_filter.proofs.SpelledLemmas.{StopsAt, front_again, behind_again, blank_again, Opens, opens_more, opens_stops, run_opens, name_word}
 use Rattle.scim_filter.proofs.TakeLemmas.{ok_is, mapped_ok, name_takes, path_takes, enclosed_takes, filter_takes}
@@ -62,7 +63,7 @@ sub_name_takes tree bytes w e =
     let done = ended_takes (Filtered tree None) w bytes f in
     record { sub = None; after = bytes; passed = tt; is = done.0; after_blank = done.1; joins = λ a. refl })
 
-filtered_takes : (kind : Kind) (path : Path) (bytes : List ℕ) (w : Written) → bytes ≡ 91 ∷ drop 1 bytes → filtered_at kind path (drop 1 bytes) ≡ Ok w → (p : List ℕ) → IsPath (Attributes kind) p path → TakesPath kind (p ++ bytes) w
+filtered_takes : (kind : Kind) (path : Path) (bytes : List ℕ) (w : Written) → bytes ≡ 91 ∷ drop 1 bytes → filtered_at 32 kind path (drop 1 bytes) ≡ Ok w → (p : List ℕ) → IsPath (Attributes kind) p path → TakesPath kind (p ++ bytes) w
 unfolding filtered_at listed_at
 filtered_takes kind path bytes w first e p is_path =
     let within = SubAttributes (attribute_meant path.meant) in
@@ -84,15 +85,15 @@ filtered_takes kind path bytes w first e p is_path =
       whole = ap (λ (r : List ℕ). p ++ r) parts ∙ sym (append_assoc p (names_text t.text s.sub) s.after);
     }
 
-pub written_takes : (kind : Kind) (bytes : List ℕ) (w : Written) → written_at kind bytes ≡ Ok w → TakesPath kind bytes w
+pub written_takes : (kind : Kind) (bytes : List ℕ) (w : Written) → written_at 32 kind bytes ≡ Ok w → TakesPath kind bytes w
 unfolding written_at behind_names_at
 written_takes kind bytes w e =
     let word = front is_word_byte bytes in
     let after = behind is_word_byte bytes in
-    let a = bind_ok (path_of (Attributes kind) word) (λ path. behind_names_at kind path after) w e in
+    let a = bind_ok (path_of (Attributes kind) word) (λ path. behind_names_at 32 kind path after) w e in
     let is_path = path_takes (Attributes kind) word a.0 a.1 in
     let whole : bytes ≡ word ++ after = front-behind is_word_byte bytes in
-    chosen (TakesPath kind bytes w) (eqb (slice_index after 0) 91) (filtered_at kind a.0 (drop 1 after)) (ended_at (Plain a.0) after) (Ok w) a.2
+    chosen (TakesPath kind bytes w) (eqb (slice_index after 0) 91) (filtered_at 32 kind a.0 (drop 1 after)) (ended_at (Plain a.0) after) (Ok w) a.2
     (λ h f. subst (λ (b : List ℕ). TakesPath kind b w) (sym whole) (filtered_takes kind a.0 after w (first_is after 90 h) f word is_path))
     (λ _ f.
     let done = ended_takes (Plain a.0) w after f in
@@ -133,30 +134,30 @@ sub_name_again tree (Some name) after passed h =
     let stops = blank_stops after h in
     rw (front_again is_word_byte name after each stops, behind_again is_word_byte name after each stops, name_reads name passed, ended_again (Filtered tree (Some name)) after h) refl
 
-names_again_at : (kind : Kind) (path : Path) (p rest : List ℕ) → IsPath (Attributes kind) p path → StopsAt is_word_byte rest → written_at kind (p ++ rest) ≡ behind_names_at kind path rest
+names_again_at : (d : ℕ) (kind : Kind) (path : Path) (p rest : List ℕ) → IsPath (Attributes kind) p path → StopsAt is_word_byte rest → written_at d kind (p ++ rest) ≡ behind_names_at d kind path rest
 unfolding written_at
-names_again_at kind path p rest is_path stops =
+names_again_at d kind path p rest is_path stops =
     let run = path_run (Attributes kind) p path is_path in
     rw (front_again is_word_byte p rest run.each stops, behind_again is_word_byte p rest run.each stops, path_again (Attributes kind) p path is_path) refl
 
-pub written_again : (kind : Kind) {n : ℕ} {text : List ℕ} {w : Written} → SpellsPath kind n text w → (after : List ℕ) → IsBlank after → Reads n 32 (written_at kind (text ++ after)) w
+pub written_again : (kind : Kind) {n : ℕ} {text : List ℕ} {w : Written} → SpellsPath kind n text w → (d : ℕ) (after : List ℕ) → IsBlank after → Reads n d (written_at d kind (text ++ after)) w
 unfolding behind_names_at filtered_at
-written_again kind (plain {text = text} {path = path} is_path) after h =
+written_again kind (plain {text = text} {path = path} is_path) d after h =
     let no_bracket : eqb (slice_index after 0) 91 ≡ false = blank_begins after 91 h refl refl in
-    inl (names_again_at kind path text after is_path (blank_stops after h) ∙ rw (no_bracket, ended_again (Plain path) after h) refl)
-written_again kind (filtered {n = n} {a = a} {enclosed = enclosed} {path = path} {t = t} {sub = sub} p is_path o enc passed) after h =
+    inl (names_again_at d kind path text after is_path (blank_stops after h) ∙ rw (no_bracket, ended_again (Plain path) after h) refl)
+written_again kind (filtered {n = n} {a = a} {enclosed = enclosed} {path = path} {t = t} {sub = sub} p is_path o enc passed) d after h =
     let rest = behind_bracket sub after in
     let bracket = drop 1 (enclosed ++ rest) in
     let first : enclosed ++ rest ≡ 91 ∷ bracket = encloses_first 91 93 a enclosed rest enc in
     let regroup : (p ++ names_text enclosed sub) ++ after ≡ p ++ 91 ∷ bracket = append_assoc p (names_text enclosed sub) after ∙ ap (λ (x : List ℕ). p ++ x) (bracket_parts enclosed sub after ∙ first) in
-    let reads : written_at kind ((p ++ names_text enclosed sub) ++ after) ≡ (listed_at (filter_at 32) (Attributes kind) path bracket >>= λ x. sub_at x.0 x.1) =
-    ap (written_at kind) regroup ∙ names_again_at kind path p (91 ∷ bracket) is_path refl in
-    subst (λ r. Reads (suc n) 32 r (Filtered (Values path t) sub)) (sym reads)
-    (reads_then (suc n) 32 (listed_at (filter_at 32) (Attributes kind) path bracket) (λ x. sub_at x.0 x.1) (Values path t, rest) (Filtered (Values path t) sub) (values_again kind n 32 a enclosed rest path t o enc) (inl (sub_name_again (Values path t) sub after passed h)))
+    let reads : written_at d kind ((p ++ names_text enclosed sub) ++ after) ≡ (listed_at (filter_at d) (Attributes kind) path bracket >>= λ x. sub_at x.0 x.1) =
+    ap (written_at d kind) regroup ∙ names_again_at d kind path p (91 ∷ bracket) is_path refl in
+    subst (λ r. Reads (suc n) d r (Filtered (Values path t) sub)) (sym reads)
+    (reads_then (suc n) d (listed_at (filter_at d) (Attributes kind) path bracket) (λ x. sub_at x.0 x.1) (Values path t, rest) (Filtered (Values path t) sub) (values_again kind n d a enclosed rest path t o enc) (inl (sub_name_again (Values path t) sub after passed h)))
 
 -- ---- a whole text
 
-pub whole_takes : (kind : Kind) (bytes : List ℕ) (w : Written) → written_at kind (behind is_space bytes) ≡ Ok w → IsWritten kind 32 bytes w
+pub whole_takes : (kind : Kind) (bytes : List ℕ) (w : Written) → written_at 32 kind (behind is_space bytes) ≡ Ok w → IsWritten kind 32 bytes w
 whole_takes kind bytes w e =
     let took = written_takes kind (behind is_space bytes) w e in
     record {
@@ -173,12 +174,25 @@ path_opens : (kind : Kind) {n : ℕ} {text : List ℕ} {w : Written} → SpellsP
 path_opens kind (plain {text = text} {path = path} is_path) = run_opens text (path_run (Attributes kind) text path is_path)
 path_opens kind (filtered {enclosed = enclosed} {path = path} {sub = sub} p is_path o enc passed) = opens_more p (names_text enclosed sub) (run_opens p (path_run (Attributes kind) p path is_path))
 
-pub whole_again : (kind : Kind) (bytes : List ℕ) (w : Written) → IsWritten kind 32 bytes w → written_at kind (behind is_space bytes) ≡ Ok w
-whole_again kind bytes w h =
+whole_reads : (kind : Kind) (n d : ℕ) (bytes : List ℕ) (w : Written) → IsWritten kind n bytes w → Reads n d (written_at d kind (behind is_space bytes)) w
+whole_reads kind n d bytes w h =
     let skipped : behind is_space bytes ≡ h.inner ++ h.after = ap (behind is_space) h.whole ∙ blank_again h.before (h.inner ++ h.after) h.before_blank (opens_stops h.inner h.after (path_opens kind h.spells)) in
-    elim (written_again kind h.spells h.after h.after_blank) [ inl e ↦ ap (written_at kind) skipped ∙ e | inr p ↦ absurd (omega (arith, p.0)) ]
+    subst (λ (b : List ℕ). Reads n d (written_at d kind b) w) (sym skipped) (written_again kind h.spells d h.after h.after_blank)
 
-pub not_written : (kind : Kind) (bytes : List ℕ) (f : Fault) (w : Written) → written_at kind (behind is_space bytes) ≡ Err f → IsWritten kind 32 bytes w → ⊥
+-- brackets that may be nested deep enough are all read
+deep_enough : (kind : Kind) (n d : ℕ) (bytes : List ℕ) (w : Written) → n ≤ d → IsWritten kind n bytes w → written_at d kind (behind is_space bytes) ≡ Ok w
+deep_enough kind n d bytes w fits h = elim (whole_reads kind n d bytes w h) [ inl e ↦ e | inr p ↦ absurd (omega (arith, fits, p.0)) ]
+
+pub whole_again : (kind : Kind) (bytes : List ℕ) (w : Written) → IsWritten kind 32 bytes w → written_at 32 kind (behind is_space bytes) ≡ Ok w
+whole_again kind bytes w h = deep_enough kind 32 32 bytes w (omega arith) h
+
+pub one_path_is_spelled : OnePathIsSpelled
+one_path_is_spelled kind text m n v w h k =
+    let one = deep_enough kind m (m + n) text v (omega arith) h in
+    let other = deep_enough kind n (m + n) text w (omega arith) k in
+    ok_is v w (sym one ∙ other)
+
+pub not_written : (kind : Kind) (bytes : List ℕ) (f : Fault) (w : Written) → written_at 32 kind (behind is_space bytes) ≡ Err f → IsWritten kind 32 bytes w → ⊥
 not_written kind bytes f w e h = absurd (let no : fault f ≡ Ok w = sym e ∙ whole_again kind bytes w h in cc)
   where
     fault : Fault → Result Written Fault

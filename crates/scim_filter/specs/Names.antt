@@ -16,6 +16,7 @@ use Rattle.scim_filter.specs.Bytes.{front, is_word, is_no_colon}
 abbrev pub is_letter : ℕ → Bool
 is_letter b = nat_le 65 b && nat_le b 90 || nat_le 97 b && nat_le b 122
 
+-- a letter, a digit, "$", "-" or "_"
 abbrev pub is_name_byte : ℕ → Bool
 is_name_byte b = is_letter b || nat_le 48 b && nat_le b 57 || b == 36 || b == 45 || b == 95
 
@@ -28,6 +29,7 @@ is_plain_name (b ∷ bs) = is_letter b && list_all is_name_byte bs
 abbrev pub is_name : List ℕ → Bool
 is_name text = is_plain_name text || is_word (codes "$ref") text
 
+-- such a byte, "." or ":"
 abbrev pub is_urn_byte : ℕ → Bool
 is_urn_byte b = is_name_byte b || b == 46 || b == 58
 
@@ -62,6 +64,7 @@ abbrev pub attribute_by : Kind → Option (List ℕ) → List ℕ → Option Att
 attribute_by kind None name = attribute_named kind name
 attribute_by kind (Some urn) name = option_and_then (λ s. attribute_in kind s name) (schema_named urn)
 
+-- what is named by an attribute and the sub-attribute that a name finds in it
 abbrev pub sub_meant : Attribute → Option SubAttribute → Meant
 sub_meant a None = meant.Nothing
 sub_meant a (Some b) = meant.SubAttribute a b

@@ -6,8 +6,8 @@ use Rattle.std.specs.Ordering.{ordering_then, nat_cmp, int_cmp, bool_cmp, is_eq,
 use Rattle.std.specs.Cmp.Lexicographic.{slice_cmp}
 use Rattle.scim_text.specs.declared.readings.Reading.{Reading}
 use Rattle.scim_text.specs.Names.{folded}
-use Rattle.scim_value.specs.declared.atoms.Atom.{Atom}
-use Rattle.scim_value.specs.declared.atoms.Atom.TheVariants as atom
+use Rattle.scim_cell.specs.declared.atoms.Atom.{Atom}
+use Rattle.scim_cell.specs.declared.atoms.Atom.TheVariants as atom
 use Rattle.scim_filter.specs.declared.tree.Literal.{Literal}
 use Rattle.scim_filter.specs.declared.tree.Literal.TheVariants as literal
 use Rattle.scim_filter.specs.declared.tree.Operator.{Operator}
@@ -42,6 +42,7 @@ abbrev pub cased : Bool → List ℕ → List ℕ
 cased true text = text
 cased false text = folded text
 
+-- two truth values are equal
 abbrev pub same_truth : Bool → Bool → Bool
 same_truth true b = b
 same_truth false b = not b
@@ -56,6 +57,7 @@ truth_stands _ _ _ = false
 abbrev pub moment_cmp : ℕ → Reading → Ordering
 moment_cmp m r = ordering_then (int_cmp (pos m) r.second) (bool_cmp false r.later)
 
+-- a moment and what a text spells; a text that spells no moment stands in no relation
 abbrev pub moment_stands : Operator → ℕ → Option Reading → Bool
 moment_stands op m (Some r) = is_ordered op (moment_cmp m r)
 moment_stands op m None = false

@@ -15,6 +15,7 @@ past_token b bs = if b == 34 then past_quote bs else if is_bracket b then Some b
 abbrev pub Span : Type 0
 Span = ℕ × ℕ
 
+-- where each token begins and ends
 abbrev pub spans : List Token → List Span
 spans ts = map (λ t. (t.start, t.end)) ts
 

@@ -6,6 +6,7 @@ use Rattle.scim_filter.specs.declared.tree.Node.{Node}
 use Rattle.scim_filter.specs.declared.tree.Filter.{Filter}
 use Rattle.scim_filter.specs.declared.tree.Node.TheVariants as node
 
+-- the tree that the text of a filter spells: `or`, `and` and `not`; `pr`; a comparison; and a value path with the filter between its brackets
 pub data Tree : Type 0 where
   Or : Tree → Tree → Tree
   And : Tree → Tree → Tree

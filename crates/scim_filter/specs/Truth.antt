@@ -5,9 +5,9 @@ use Rattle.scim_schema.specs.declared.Attribute.{Attribute}
 use Rattle.scim_schema.specs.declared.Leaf.{Leaf}
 use Rattle.scim_schema.specs.Characteristics.{is_multi_valued}
 use Rattle.scim_schema.specs.Units.{leaf_at}
-use Rattle.scim_value.specs.declared.atoms.Atom.{Atom}
-use Rattle.scim_value.specs.declared.rows.Field.{Field}
-use Rattle.scim_value.specs.Rows.{Row, attribute_rows, is_leaf}
+use Rattle.scim_cell.specs.declared.atoms.Atom.{Atom}
+use Rattle.scim_cell.specs.declared.rows.Field.{Field}
+use Rattle.scim_cell.specs.Rows.{Row, attribute_rows, is_leaf}
 use Rattle.scim_filter.specs.declared.tree.Operator.{Operator}
 use Rattle.scim_filter.specs.declared.tree.Operator.TheVariants.{Eq, Ne}
 use Rattle.scim_filter.specs.declared.tree.Literal.{Literal}

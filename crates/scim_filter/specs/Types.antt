@@ -23,10 +23,11 @@ use Rattle.scim_filter.specs.Bytes.{is_word}
 use Rattle.scim_text.specs.MomentIn.{moment_in}
 use Rattle.scim_filter.specs.Tree.{Tree, Or, And, Not, Present, Compare, Values}
 
--- the type of a leaf, and whether it is compared with regard to case; both are the same for all kinds
+-- the type of a leaf, which is the same for all kinds
 abbrev pub type_of : Leaf → AttributeType
 type_of leaf = (characteristics_of User leaf).attribute_type
 
+-- whether texts of a leaf are compared with regard to case, which is the same for all kinds
 abbrev pub is_case_exact : Leaf → Bool
 is_case_exact leaf = (characteristics_of User leaf).case_exact
 
@@ -41,6 +42,7 @@ compared_leaf meant.Nothing = None
 compared_leaf (meant.Attribute a) = leaf_for a (sub_attributes a)
 compared_leaf (meant.SubAttribute a b) = Some (leaf_at a b)
 
+-- equal or not equal
 abbrev pub is_equality : Operator → Bool
 is_equality Eq = true
 is_equality Ne = true
@@ -57,6 +59,7 @@ is_part_test _ = false
 abbrev pub truth_in : List ℕ → Option Bool
 truth_in text = if is_word (codes "true") text then Some true else if is_word (codes "false") text then Some false else None
 
+-- there is a value
 abbrev pub is_some : {A : Type 0} → Option A → Bool
 is_some None = false
 is_some (Some x) = true
@@ -82,6 +85,7 @@ fits_comparison m op literal.Null = is_equality op
 fits_comparison meant.Nothing op x = true
 fits_comparison m op x = suits_leaf (compared_leaf m) op x
 
+-- there is no sub-attribute
 abbrev pub is_empty : List SubAttribute → Bool
 is_empty [] = true
 is_empty (b ∷ bs) = false

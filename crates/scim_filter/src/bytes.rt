@@ -2,7 +2,8 @@
 
 ghost use Rattle.std.specs.Prelude.{◌≡◌, ◌↔◌, IsTrue, Bool, ℕ, map, option_map, IfSome, length, ◌<◌, ◌≤◌};
 ghost use Rattle.std.specs.Prelude.{drop};
-ghost use Rattle.scim_filter.specs.Bytes.{is_space, is_word_byte, is_no_dot, is_no_colon, front, behind, is_word, past_gap, past_join, past_quote, names_in, urn_in};
+ghost use Rattle.scim_filter.specs.Bytes.{is_space, is_word_byte, is_no_colon, front, behind, is_word, past_quote};
+ghost use Rattle.scim_filter.specs.code.Cuts.{is_no_dot, past_gap, past_join, names_in, urn_in};
 
 /// Whether the byte is one of a word: no space, no quote and no bracket.
 fn is_word_byte_at(byte: u8) -> bool

@@ -11,7 +11,9 @@ use std::fmt;
 /// Why a filter could not be read.
 #[derive(Clone, Copy, Debug, PartialEq, Eq)]
 pub enum FilterFault {
-    /// The text is no filter; what can't be read begins at this byte.
+    /// The text is no filter. The byte is at most the length of the text. Of a filter that is read it
+    /// hints at where reading stopped, and no more is promised; of tokens it is where a string begins that
+    /// isn't closed.
     Syntax(usize),
     /// A value is compared that is not of the attribute's type.
     WrongType,
@@ -26,7 +28,7 @@ pub enum FilterFault {
 impl fmt::Display for FilterFault {
     fn fmt<W: fmt::Write>(&self, f: &mut fmt::Formatter<W>) -> fmt::Result {
         match self {
-            FilterFault::Syntax(at) => write!(f, "the text is no filter from byte {at} on"),
+            FilterFault::Syntax(at) => write!(f, "the text is no filter, about byte {at}"),
             FilterFault::WrongType => write!(f, "a value is not of the type of its attribute"),
             FilterFault::TooDeep => write!(f, "the filter has more than 32 open brackets"),
             FilterFault::TooLong => write!(f, "the filter has more than 4096 bytes"),

@@ -1,5 +1,5 @@
 //! What holds of all texts of filters and paths.
-ghost use Rattle.scim_filter.specs.Spelled.{FiltersAreSpelled, PathsAreSpelled};
+ghost use Rattle.scim_filter.specs.Spelled.{FiltersAreSpelled, PathsAreSpelled, OnePathIsSpelled};
 
 /// The filter that a text spells, as a function of it, is what the grammar says. So what
 /// [`crate::reading::read_filter`] reads is the one filter that the text spells.
@@ -7,7 +7,13 @@ pub fn filters_are_spelled()
     ensures { FiltersAreSpelled }
 {}
 
-/// The path that a text spells, as a function of it, is what the grammar says.
+/// The path of an attribute that a text spells, as a function of it, is what the grammar says.
 pub fn paths_are_spelled()
     ensures { PathsAreSpelled }
+{}
+
+/// A text spells one path of a change at most, value paths too. So what
+/// [`crate::written_paths::written_path`] reads is the one path that the text spells.
+pub fn one_path_is_spelled()
+    ensures { OnePathIsSpelled }
 {}

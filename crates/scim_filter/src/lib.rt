@@ -6,6 +6,7 @@ pub mod attribute_paths;
 mod bytes;
 pub mod faults;
 pub mod laws;
+pub mod limits;
 mod literals;
 pub mod mentions;
 mod names;

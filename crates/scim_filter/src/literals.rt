@@ -1,6 +1,6 @@
 //! The literals in a filter.
 ghost use Rattle.std.specs.Prelude.{◌≡◌, ◌≤◌, ◌==◌, IfOk, length, slice_index};
-ghost use Rattle.scim_filter.specs.Reading.{Gives, integer_of, number_of, word_literal, string_of, string_at, literal_at};
+ghost use Rattle.scim_filter.specs.code.Reading.{Gives, integer_of, number_of, word_literal, string_of, string_at, literal_at};
 
 use crate::bytes::{is_keyword, skip_one, skip_string, split_word};
 use crate::faults::ReadError;
@@ -32,7 +32,7 @@ fn integer(word: &[u8]) -> Option<i64>
     }
 }
 
-#[tactic(auto, unfolding(crate::specs::Reading::number_of))]
+#[tactic(auto, unfolding(crate::specs::code::Reading::number_of))]
 fn number(word: &[u8], left: usize) -> Result<Literal, ReadError>
     ensures { Gives (λ x. x) result (number_of word.now) }
 {
@@ -42,7 +42,7 @@ fn number(word: &[u8], left: usize) -> Result<Literal, ReadError>
     }
 }
 
-#[tactic(auto, unfolding(crate::specs::Reading::word_literal))]
+#[tactic(auto, unfolding(crate::specs::code::Reading::word_literal))]
 fn one_word(word: &[u8], left: usize) -> Result<Literal, ReadError>
     ensures { Gives (λ x. x) result (word_literal word.now) }
 {
@@ -58,7 +58,7 @@ fn one_word(word: &[u8], left: usize) -> Result<Literal, ReadError>
 }
 
 /// The text that a JSON string stands for.
-#[tactic(auto, unfolding(crate::specs::Reading::string_of))]
+#[tactic(auto, unfolding(crate::specs::code::Reading::string_of))]
 fn unquoted(alloc: Global, string: &[u8], left: usize) -> Result<StringLiteral, ReadError>
     ensures { Gives (λ t. t) result (string_of string.now) }
 {
@@ -77,7 +77,7 @@ fn unquoted(alloc: Global, string: &[u8], left: usize) -> Result<StringLiteral, 
     }
 }
 
-#[tactic(auto, unfolding(crate::specs::Reading::string_at))]
+#[tactic(auto, unfolding(crate::specs::code::Reading::string_at))]
 fn quoted(alloc: Global, bytes: &[u8]) -> Result<(Literal, &[u8]), ReadError>
     ensures gives { Gives (λ x. (x.0, x.1.now)) result (string_at bytes.now) }
     ensures shorter { IfOk result (λ x. length x.1.now ≤ length bytes.now) }
@@ -91,7 +91,7 @@ fn quoted(alloc: Global, bytes: &[u8]) -> Result<(Literal, &[u8]), ReadError>
 }
 
 /// The literal in front, and what is behind it.
-#[tactic(auto, unfolding(crate::specs::Reading::literal_at))]
+#[tactic(auto, unfolding(crate::specs::code::Reading::literal_at))]
 pub fn literal(alloc: Global, bytes: &[u8]) -> Result<(Literal, &[u8]), ReadError>
     ensures gives { Gives (λ x. (x.0, x.1.now)) result (literal_at bytes.now) }
     ensures shorter { IfOk result (λ x. length x.1.now ≤ length bytes.now) }

@@ -6,9 +6,9 @@ ghost use Rattle.scim_filter.specs.Names.{names_text, path_text};
 ghost use Rattle.scim_filter.specs.Tree.{tree_of, view};
 
 use crate::tree::{Filter, Meant, Node, Path};
+use scim_cell::atoms::Text;
 use scim_schema::Attribute;
 use scim_text::NoMemory;
-use scim_value::atoms::Text;
 use std::alloc::Global;
 
 /// A name in a filter.

@@ -5,14 +5,14 @@ ghost use Rattle.std.specs.List.{list_all};
 ghost use Rattle.scim_filter.specs.Names.{is_letter, is_name_byte, is_plain_name, is_name, is_urn_byte, is_urn, fits_scope, attribute_by, sub_meant, meant_in, meant_by};
 ghost use Rattle.scim_filter.specs.declared.tree.Path.{Path};
 ghost use Rattle.scim_schema.specs.Lookup.{sub_attribute_named};
-ghost use Rattle.scim_filter.specs.Reading.{Gives, Syntax, urn_of, name_of, sub_of, path_for, path_of};
+ghost use Rattle.scim_filter.specs.code.Reading.{Gives, Syntax, urn_of, name_of, sub_of, path_for, path_of};
 
 use crate::bytes::{before_colon, is_keyword, skip_urn, split_name, urn_before};
 use crate::faults::ReadError;
 use crate::tree::{Meant, Path, Scope};
+use scim_cell::atoms::Text;
 use scim_schema::{Attribute, Kind, lookup};
 use scim_text::NoMemory;
-use scim_value::atoms::Text;
 use std::alloc::Global;
 use std::str;
 
@@ -68,7 +68,7 @@ fn is_urn_at(text: &[u8]) -> bool
 }
 
 /// The name that a word is, if it is one.
-#[tactic(auto, unfolding(crate::specs::Reading::name_of))]
+#[tactic(auto, unfolding(crate::specs::code::Reading::name_of))]
 pub(crate) fn name(word: &[u8]) -> Option<&str>
     ensures { ok_or (option_map (λ t. t.now) result) Syntax ≡ name_of word.now }
 {
@@ -82,7 +82,7 @@ pub(crate) fn name(word: &[u8]) -> Option<&str>
 }
 
 /// The URN that stands before a colon, if there is a colon; None where what stands there is no URN.
-#[tactic(auto, unfolding(crate::specs::Reading::urn_of))]
+#[tactic(auto, unfolding(crate::specs::code::Reading::urn_of))]
 fn urn(before: Option<&[u8]>) -> Option<Option<&str>>
     ensures { ok_or (option_map (λ o. option_map (λ t. t.now) o) result) Syntax ≡ urn_of (option_map (λ t. t.now) before.entry) }
 {
@@ -99,7 +99,7 @@ fn urn(before: Option<&[u8]>) -> Option<Option<&str>>
 }
 
 /// The name that stands behind a dot, if there is a dot; None where what stands there is no name.
-#[tactic(auto, unfolding(crate::specs::Reading::sub_of))]
+#[tactic(auto, unfolding(crate::specs::code::Reading::sub_of))]
 fn sub_name(behind: &[u8]) -> Option<Option<&str>>
     ensures { ok_or (option_map (λ o. option_map (λ t. t.now) o) result) Syntax ≡ sub_of behind.now }
 {
@@ -166,7 +166,7 @@ fn copy_of(alloc: Global, text: Option<&str>) -> Result<Option<Text>, NoMemory>
 }
 
 /// The URN, the name and the name of a sub-attribute in a path that is a whole word, if it is one.
-#[tactic(auto, unfolding(crate::specs::Reading::path_of))]
+#[tactic(auto, unfolding(crate::specs::code::Reading::path_of))]
 fn parts(scope: Scope, word: &[u8]) -> Option<(Option<&str>, &str, Option<&str>)>
     ensures { ok_or (option_map (λ x. path_for scope (option_map (λ t. t.now) x.0) x.1.now (option_map (λ t. t.now) x.2)) result) Syntax ≡ path_of scope word.now }
 {

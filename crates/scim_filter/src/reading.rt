@@ -6,10 +6,11 @@ ghost use Rattle.scim_filter.specs.Grammar.{IsFilter};
 ghost use Rattle.scim_filter.specs.Spelled.{filter_in};
 ghost use Rattle.scim_filter.specs.Tree.{Tree, view, tree_of};
 ghost use Rattle.scim_filter.specs.Types.{fits};
-ghost use Rattle.scim_filter.specs.Reading.{Gives, operator_of, relation_at, enclosed_at, listed_at, behind_path_at, worded_at, term_at, conjunction_at, disjunction_at, filter_at, all_of};
+ghost use Rattle.scim_filter.specs.code.Reading.{Gives, operator_of, relation_at, enclosed_at, listed_at, behind_path_at, worded_at, term_at, conjunction_at, disjunction_at, filter_at, all_of};
 
 use crate::bytes::{is_keyword, skip_gap, skip_join, skip_spaces, split_word};
 use crate::faults::{FilterFault, ReadError};
+use crate::limits::LONGEST_TEXT;
 use crate::literals::literal;
 use crate::names::path;
 use crate::tree::{Filter, Node, Operator, Path, Scope};
@@ -18,7 +19,7 @@ use scim_schema::Kind;
 use std::alloc::Global;
 
 /// The operator that a word spells; a fault with `left` bytes left where it spells none.
-#[tactic(auto, unfolding(crate::specs::Reading::operator_of))]
+#[tactic(auto, unfolding(crate::specs::code::Reading::operator_of))]
 fn operator(word: &[u8], left: usize) -> Result<Operator, ReadError>
     ensures { Gives (λ x. x) result (operator_of word.now) }
 {
@@ -46,7 +47,7 @@ fn operator(word: &[u8], left: usize) -> Result<Operator, ReadError>
 }
 
 /// What stands behind a path and a gap.
-#[tactic(auto, unfolding(crate::specs::Reading::relation_at))]
+#[tactic(auto, unfolding(crate::specs::code::Reading::relation_at))]
 fn relation(alloc: Global, path: Path, bytes: &[u8]) -> Result<(Node, &[u8]), ReadError>
     ensures gives { Gives (λ x. (view x.0, x.1.now)) result (relation_at path bytes.now) }
     ensures shorter { IfOk result (λ x. length x.1.now ≤ length bytes.now) }
@@ -65,7 +66,7 @@ fn relation(alloc: Global, path: Path, bytes: &[u8]) -> Result<(Node, &[u8]), Re
 
 /// What stands behind an open bracket, up to the one that closes it.
 #[cycle(filter)]
-#[tactic(auto, unfolding(crate::specs::Reading::enclosed_at))]
+#[tactic(auto, unfolding(crate::specs::code::Reading::enclosed_at))]
 fn enclosed(
     alloc: Global,
     depth: u32,
@@ -85,7 +86,7 @@ fn enclosed(
 
 /// What stands between the brackets of a value path.
 #[cycle(filter)]
-#[tactic(auto, unfolding(crate::specs::Reading::listed_at))]
+#[tactic(auto, unfolding(crate::specs::code::Reading::listed_at))]
 pub(crate) fn listed(
     alloc: Global,
     depth: u32,
@@ -108,7 +109,7 @@ pub(crate) fn listed(
 
 /// What stands behind a path.
 #[cycle(filter)]
-#[tactic(auto, unfolding(crate::specs::Reading::behind_path_at))]
+#[tactic(auto, unfolding(crate::specs::code::Reading::behind_path_at))]
 fn behind_path(
     alloc: Global,
     depth: u32,
@@ -130,7 +131,7 @@ fn behind_path(
 
 /// A term that begins with a word.
 #[cycle(filter)]
-#[tactic(auto, unfolding(crate::specs::Reading::worded_at))]
+#[tactic(auto, unfolding(crate::specs::code::Reading::worded_at))]
 fn worded(alloc: Global, depth: u32, scope: Scope, bytes: &[u8]) -> Result<(Node, &[u8]), ReadError>
     ensures gives { Gives (λ x. (view x.0, x.1.now)) result (worded_at (filter_at depth) scope bytes.now) }
     ensures shorter { IfOk result (λ x. length x.1.now < length bytes.now) }
@@ -148,7 +149,7 @@ fn worded(alloc: Global, depth: u32, scope: Scope, bytes: &[u8]) -> Result<(Node
 
 /// A term in front.
 #[cycle(filter)]
-#[tactic(auto, unfolding(crate::specs::Reading::term_at))]
+#[tactic(auto, unfolding(crate::specs::code::Reading::term_at))]
 fn term(alloc: Global, depth: u32, scope: Scope, bytes: &[u8]) -> Result<(Node, &[u8]), ReadError>
     ensures gives { Gives (λ x. (view x.0, x.1.now)) result (term_at (filter_at depth) scope bytes.now) }
     ensures shorter { IfOk result (λ x. length x.1.now < length bytes.now) }
@@ -216,7 +217,7 @@ fn filter(alloc: Global, depth: u32, scope: Scope, bytes: &[u8]) -> Result<(Node
 }
 
 /// A whole filter, with nothing but spaces behind it.
-#[tactic(auto, unfolding(crate::specs::Reading::all_of))]
+#[tactic(auto, unfolding(crate::specs::code::Reading::all_of))]
 fn all(alloc: Global, scope: Scope, bytes: &[u8]) -> Result<Node, ReadError>
     ensures { Gives view result (all_of scope bytes.now) }
 {
@@ -230,14 +231,16 @@ fn all(alloc: Global, scope: Scope, bytes: &[u8]) -> Result<Node, ReadError>
 /// The filter on resources of a kind that a text spells, within 4,096 bytes and 32 open brackets
 /// (RFC 7644 section 3.4.2.2).
 ///
-/// Fails with `Syntax` where the text is no filter, with `WrongType` where a value is not of the type of
-/// what it is compared with, with `TooDeep` and `TooLong` beyond the limits, and with `NoMemory`.
+/// Fails with `Syntax` where the text is no filter however many brackets may be open, with a byte that is at
+/// most the length of the text (it hints at where reading stopped, and no more is promised of it); with
+/// `WrongType` where a value is not of the type of what it is compared with; with `TooDeep` and `TooLong`
+/// beyond the limits; and with `NoMemory`.
 #[tactic(auto, using(crate::proofs::NestingLemmas::all_deep))]
 pub fn read_filter(alloc: Global, kind: Kind, text: &str) -> Result<Filter, FilterFault>
     // What is read is spelled so, and its values are of the types of what they are compared with.
-    ensures found { IfOk result (λ f. (length text.now ≤ 4096) × IsFilter kind 32 text.now (tree_of f) × (fits (tree_of f) ≡ true)) }
+    ensures found { IfOk result (λ f. (length text.now ≤ LONGEST_TEXT) × IsFilter kind 32 text.now (tree_of f) × (fits (tree_of f) ≡ true)) }
     // What is spelled within the limits and types is read so, unless memory runs out.
-    ensures only { (tree : Tree) → length text.now ≤ 4096 → IsFilter kind 32 text.now tree → fits tree ≡ true
+    ensures only { (tree : Tree) → length text.now ≤ LONGEST_TEXT → IsFilter kind 32 text.now tree → fits tree ≡ true
         → MatchResult result (λ f. tree_of f ≡ tree) (λ e. e ≡ FilterFault.NoMemory) }
     // A fault comes only where its cause stands.
     ensures syntax { IfErr result (λ e. (at : ℕ) → e ≡ FilterFault.Syntax at
@@ -245,12 +248,12 @@ pub fn read_filter(alloc: Global, kind: Kind, text: &str) -> Result<Filter, Filt
     ensures wrong_type { IsErrOf result FilterFault.WrongType → (tree : Tree) × IsFilter kind 32 text.now tree × (fits tree ≡ false) }
     ensures too_deep { IsErrOf result FilterFault.TooDeep → (tree : Tree) → ¬ (IsFilter kind 32 text.now tree) }
     ensures nested { IsErrOf result FilterFault.TooDeep → IsDeeper 32 text.now }
-    ensures too_long { IsErrOf result FilterFault.TooLong → 4096 < length text.now }
+    ensures too_long { IsErrOf result FilterFault.TooLong → LONGEST_TEXT < length text.now }
     // The same by the function that gives what a text spells.
     ensures same { MatchResult result (λ f. filter_in kind text.now ≡ Some (tree_of f)) (λ e. (e ≡ FilterFault.NoMemory) ⊎ (filter_in kind text.now ≡ None)) }
 {
     let bytes = text.as_bytes();
-    if bytes.len() > 4096 {
+    if bytes.len() > LONGEST_TEXT {
         return Err(FilterFault::TooLong);
     }
     match all(alloc, Scope::Attributes(kind), bytes) {

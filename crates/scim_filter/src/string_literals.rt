@@ -3,8 +3,8 @@ ghost use Rattle.std.specs.Prelude.{◌≡◌, IfOk, IfOk};
 ghost use Rattle.scim_text.specs.Names.{folded};
 ghost use Rattle.scim_text.specs.MomentIn.{moment_in};
 
+use scim_cell::atoms::Text;
 use scim_text::{NoMemory, Reading, fold, read_moment};
-use scim_value::atoms::Text;
 use std::alloc::Global;
 use std::marker::Model;
 
@@ -19,7 +19,7 @@ pub struct StringLiteral {
 
 impl Model for StringLiteral {
     ghost use Rattle.std.specs.Prelude.{List, ℕ};
-    ghost use Rattle.scim_filter.specs.Inside.{IsSoundLiteral};
+    ghost use Rattle.scim_filter.specs.code.Inside.{IsSoundLiteral};
 
     ghost Value = { List ℕ };
 

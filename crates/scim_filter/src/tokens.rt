@@ -6,6 +6,7 @@ ghost use Rattle.scim_filter.specs.declared.faults.FilterFault.{FilterFault};
 
 use crate::bytes::{skip_one, skip_string, split_word};
 use crate::faults::FilterFault;
+use crate::limits::LONGEST_TEXT;
 use std::alloc::Global;
 
 /// A token of a filter's text, from its first byte up to the one behind its last.
@@ -36,17 +37,17 @@ fn skip_token(first: u8, others: &[u8]) -> Option<&[u8]>
 /// bytes, and with `NoMemory`.
 pub fn tokens<'a>(alloc: Global, text: &'a str) -> Result<Vec<Token<'a>>, FilterFault>
     // What is found are all tokens of the text, in order, each with the text of its span.
-    ensures found { IfOk result (λ v. (length text.now ≤ 4096) × Tokens (length text.now) text.now (spans v.items)) }
+    ensures found { IfOk result (λ v. (length text.now ≤ LONGEST_TEXT) × Tokens (length text.now) text.now (spans v.items)) }
     ensures slices { IfOk result (λ v. All (IsSlice text.now) v.items) }
     // A text within the limit whose strings all close is refused for want of memory alone: `Syntax` says where
     // a string isn't closed, and then no list is that of its tokens.
     ensures syntax { IfErr result (λ e. (at : ℕ) → e ≡ FilterFault.Syntax at
         → (at < length text.now) × ((ts : List Span) → ¬ (Tokens (length text.now) text.now ts))) }
     ensures unclosed { IfErr result (λ e. (at : ℕ) → e ≡ FilterFault.Syntax at → Unclosed (length text.now) text.now at) }
-    ensures too_long { IsErrOf result FilterFault.TooLong → 4096 < length text.now }
+    ensures too_long { IsErrOf result FilterFault.TooLong → LONGEST_TEXT < length text.now }
     ensures no_other { IfErr result (λ e. (e ≢ FilterFault.WrongType) × (e ≢ FilterFault.TooDeep)) }
 {
-    if text.len() > 4096 {
+    if text.len() > LONGEST_TEXT {
         return Err(FilterFault::TooLong);
     }
     let mut tokens = Vec::new(alloc);

@@ -1,21 +1,21 @@
 //! Whether a filter holds of the cells of a part (RFC 7644 section 3.4.2.2).
 ghost use Rattle.std.specs.Prelude.{◌≡◌, ◌&&◌, ◌∷◌, [], IfOk, true, take, drop};
 ghost use Rattle.std.specs.List.{list_any};
-ghost use Rattle.scim_value.specs.Rows.{rows, attribute_rows, is_leaf};
+ghost use Rattle.scim_cell.specs.Rows.{rows, attribute_rows, is_leaf};
 ghost use Rattle.scim_filter.specs.declared.tree.Meant.TheVariants as meant;
 ghost use Rattle.scim_filter.specs.Tree.{view, tree_of};
 ghost use Rattle.scim_filter.specs.Relation.{stands};
 ghost use Rattle.scim_filter.specs.Truth as spec;
-ghost use Rattle.scim_filter.specs.Cells.{rows_in};
+ghost use Rattle.scim_filter.specs.code.Cells.{rows_in};
 
 use crate::relation::atom_stands;
 use crate::tree::{Filter, Literal, Meant, Node, Operator};
-use crate::types::{compared_leaf, is_case_exact};
+use crate::types::is_case_exact;
+use scim_cell::rows::{Field, Row};
 use scim_schema::characteristics::is_multi_valued;
 use scim_schema::{Attribute, Leaf};
 use scim_text::NoMemory;
 use scim_value::parts::Part;
-use scim_value::rows::{Field, Row};
 use std::alloc::Global;
 use std::slice;
 
@@ -170,7 +170,7 @@ fn compares(
     match (op, literal) {
         (Operator::Eq, Literal::Null) => Ok(!is_present(meant, cells)),
         (Operator::Ne, Literal::Null) => Ok(is_present(meant, cells)),
-        _ => leaf_compares(alloc, compared_leaf(meant), op, literal, cells),
+        _ => leaf_compares(alloc, meant.compared_leaf(), op, literal, cells),
     }
 }
 

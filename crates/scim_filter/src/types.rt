@@ -36,14 +36,20 @@ fn leaf_for(attribute: Attribute) -> Option<Leaf>
     }
 }
 
-/// The leaf whose cells a comparison with this looks at.
-pub(crate) fn compared_leaf(meant: Meant) -> Option<Leaf>
-    ensures { result ≡ spec.compared_leaf meant }
-{
-    match meant {
-        Meant::Nothing => None,
-        Meant::Attribute(attribute) => leaf_for(attribute),
-        Meant::SubAttribute(attribute, sub_attribute) => Some(Leaf::of(attribute, sub_attribute)),
+impl Meant {
+    /// The leaf whose cells are compared where this is named: a simple attribute or a sub-attribute
+    /// itself, and of a complex attribute that is named alone its `value` (RFC 7644 sections 3.4.2.2 and
+    /// 3.4.2.3). None where a complex attribute has no `value`, and where nothing is named.
+    pub fn compared_leaf(self) -> Option<Leaf>
+        ensures { result ≡ spec.compared_leaf self }
+    {
+        match self {
+            Meant::Nothing => None,
+            Meant::Attribute(attribute) => leaf_for(attribute),
+            Meant::SubAttribute(attribute, sub_attribute) => {
+                Some(Leaf::of(attribute, sub_attribute))
+            }
+        }
     }
 }
 
@@ -109,7 +115,7 @@ fn fits_comparison(meant: Meant, operator: Operator, literal: &Literal) -> bool
         (
             Literal::Text(_) | Literal::Number(_) | Literal::Truth(_),
             Meant::Attribute(_) | Meant::SubAttribute(_, _),
-        ) => suits_leaf(compared_leaf(meant), operator, literal),
+        ) => suits_leaf(meant.compared_leaf(), operator, literal),
     }
 }
 

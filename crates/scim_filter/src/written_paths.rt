@@ -1,19 +1,20 @@
 //! The paths of changes as they are written (RFC 7644 section 3.5.2).
 ghost use Rattle.std.specs.Prelude.{◌≡◌, ◌≤◌, length, IfOk, IfSome, IsSomeAnd};
-ghost use Rattle.scim_filter.specs.Reading.{Gives};
-ghost use Rattle.scim_filter.specs.PathReading.{ended_at, sub_at, filtered_at, behind_names_at, written_at};
+ghost use Rattle.scim_filter.specs.code.Reading.{Gives};
+ghost use Rattle.scim_filter.specs.code.PathReading.{ended_at, sub_at, filtered_at, behind_names_at, written_at};
 ghost use Rattle.scim_filter.specs.WrittenPaths.{Written, IsWritten, written_of};
 ghost use Rattle.scim_filter.specs.Tree.{tree_of};
 ghost use Rattle.scim_filter.specs.Bytes.{is_space, behind};
 
 use crate::bytes::{skip_spaces, split_word};
 use crate::faults::ReadError;
+use crate::limits::LONGEST_TEXT;
 use crate::names::{name, path};
 use crate::reading::listed;
 use crate::tree::{Filter, Path, Scope};
+use scim_cell::atoms::Text;
 use scim_schema::Kind;
 use scim_text::NoMemory;
-use scim_value::atoms::Text;
 use std::alloc::Global;
 
 /// The path of a change as it is written.
@@ -26,7 +27,7 @@ pub enum WrittenPath {
 }
 
 /// The path, where nothing but spaces is left.
-#[tactic(auto, unfolding(crate::specs::PathReading::ended_at))]
+#[tactic(auto, unfolding(crate::specs::code::PathReading::ended_at))]
 fn ended(path: WrittenPath, bytes: &[u8]) -> Result<WrittenPath, ReadError>
     ensures { Gives written_of result (ended_at (written_of path) bytes.now) }
 {
@@ -37,7 +38,7 @@ fn ended(path: WrittenPath, bytes: &[u8]) -> Result<WrittenPath, ReadError>
 }
 
 /// What stands behind the bracket that closes a value path.
-#[tactic(auto, unfolding(crate::specs::PathReading::sub_at))]
+#[tactic(auto, unfolding(crate::specs::code::PathReading::sub_at))]
 fn with_sub_attribute(alloc: Global, filter: Filter, bytes: &[u8]) -> Result<WrittenPath, ReadError>
     ensures { Gives written_of result (sub_at (tree_of filter) bytes.now) }
 {
@@ -53,23 +54,23 @@ fn with_sub_attribute(alloc: Global, filter: Filter, bytes: &[u8]) -> Result<Wri
 }
 
 /// What stands behind a path and an open bracket.
-#[tactic(auto, unfolding(crate::specs::PathReading::filtered_at))]
+#[tactic(auto, unfolding(crate::specs::code::PathReading::filtered_at))]
 fn filtered(alloc: Global, kind: Kind, path: Path, bytes: &[u8]) -> Result<WrittenPath, ReadError>
-    ensures { Gives written_of result (filtered_at kind path bytes.now) }
+    ensures { Gives written_of result (filtered_at 32 kind path bytes.now) }
 {
     let (node, rest) = listed(alloc, 32, Scope::Attributes(kind), path, bytes)?;
     with_sub_attribute(alloc, Filter::of(node), rest)
 }
 
 /// What stands behind a path.
-#[tactic(auto, unfolding(crate::specs::PathReading::behind_names_at))]
+#[tactic(auto, unfolding(crate::specs::code::PathReading::behind_names_at))]
 fn behind_names(
     alloc: Global,
     kind: Kind,
     path: Path,
     bytes: &[u8],
 ) -> Result<WrittenPath, ReadError>
-    ensures { Gives written_of result (behind_names_at kind path bytes.now) }
+    ensures { Gives written_of result (behind_names_at 32 kind path bytes.now) }
 {
     match bytes {
         [b'[', rest @ ..] => filtered(alloc, kind, path, rest),
@@ -77,9 +78,9 @@ fn behind_names(
     }
 }
 
-#[tactic(auto, unfolding(crate::specs::PathReading::written_at))]
+#[tactic(auto, unfolding(crate::specs::code::PathReading::written_at))]
 fn written(alloc: Global, kind: Kind, bytes: &[u8]) -> Result<WrittenPath, ReadError>
-    ensures { Gives written_of result (written_at kind bytes.now) }
+    ensures { Gives written_of result (written_at 32 kind bytes.now) }
 {
     let (word, behind) = split_word(bytes);
     let path = path(alloc, Scope::Attributes(kind), word, bytes.len())?;
@@ -91,13 +92,13 @@ fn written(alloc: Global, kind: Kind, bytes: &[u8]) -> Result<WrittenPath, ReadE
 /// are those of sub-attributes. NoMemory where none was to be had.
 pub fn written_path(alloc: Global, kind: Kind, text: &str) -> Result<Option<WrittenPath>, NoMemory>
     // What is read is spelled so.
-    ensures found { IfOk result (λ o. IfSome o (λ w. (length text.now ≤ 4096) × IsWritten kind 32 text.now (written_of w))) }
+    ensures found { IfOk result (λ o. IfSome o (λ w. (length text.now ≤ LONGEST_TEXT) × IsWritten kind 32 text.now (written_of w))) }
     // What is spelled within the limits is read so.
-    ensures only { (w : Written) → length text.now ≤ 4096 → IsWritten kind 32 text.now w
+    ensures only { (w : Written) → length text.now ≤ LONGEST_TEXT → IsWritten kind 32 text.now w
         → IfOk result (λ o. IsSomeAnd o (λ p. written_of p ≡ w)) }
 {
     let bytes = text.as_bytes();
-    if bytes.len() > 4096 {
+    if bytes.len() > LONGEST_TEXT {
         return Ok(None);
     }
     match written(alloc, kind, skip_spaces(bytes)) {

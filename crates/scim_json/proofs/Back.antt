@@ -20,17 +20,18 @@ use Rattle.scim_schema.specs.Names.{kind_name, sub_attribute_name}
 use Rattle.scim_schema.specs.Table.{attributes}
 use Rattle.scim_schema.specs.Units.{simple, leaf_at}
 use Rattle.scim_schema.proofs.LeafLemmas.{attribute_one}
-use Rattle.scim_value.specs.declared.atoms.Atom.{Atom}
-use Rattle.scim_value.specs.declared.atoms.Atom.TheVariants.{Text}
-use Rattle.scim_value.specs.Ids.{id_text}
-use Rattle.scim_value.specs.Place.{place_at}
-use Rattle.scim_value.specs.Content.{Content, Entry, IsPart}
+use Rattle.scim_cell.specs.declared.atoms.Atom.{Atom}
+use Rattle.scim_cell.specs.declared.atoms.Atom.TheVariants.{Text}
+use Rattle.scim_cell.specs.Ids.{id_text}
+use Rattle.scim_cell.specs.Place.{place_at}
+use Rattle.scim_cell.specs.Content.{Content, Entry, IsPart}
 use Rattle.scim_value.specs.Resource.{IsResource, HasBase, location, first_at}
-use Rattle.scim_value.specs.Rows.{rows, cell_at}
-use Rattle.scim_value.specs.Listing.{sub_attributes_by_place, cell_with, attribute_cells}
+use Rattle.scim_cell.specs.Rows.{rows, cell_at}
+use Rattle.scim_cell.specs.Place.{sub_attributes_by_place}
+use Rattle.scim_value.specs.Listing.{cell_with, attribute_cells}
 use Rattle.scim_value.proofs.GetLemmas.{get_cell}
 use Rattle.scim_value.proofs.ListingLemmas.{cells_are_listed}
-use Rattle.scim_value.proofs.IdLemmas.{id_text-injective}
+use Rattle.scim_cell.proofs.IdLemmas.{id_text-injective}
 use Rattle.scim_value.proofs.OfLemmas.{sound_part}
 use Rattle.scim_json.specs.declared.keys.Form.TheVariants.{Stored}
 use Rattle.scim_json.specs.declared.keys.Shape.{Shape}

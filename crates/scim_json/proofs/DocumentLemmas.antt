@@ -8,7 +8,7 @@ use Rattle.serde_json.specs.Data.{Data, array, Items, no_items, item, depth, ite
 use Rattle.serde_json.specs.Read.{read}
 use Rattle.serde_json.specs.View.{view, items_view}
 use Rattle.serde_json.specs.declared.value.Value.{Value}
-use Rattle.scim_value.specs.Content.{Content}
+use Rattle.scim_cell.specs.Content.{Content}
 use Rattle.scim_value.specs.UniqueNames.{AreApart}
 use Rattle.scim_json.specs.PartData.{stored_data}
 use Rattle.scim_json.specs.Stored.{IsResourceBelow, IsDocument}

@@ -4,7 +4,7 @@ use Rattle.std.proofs.lemmas.Slice.Eq.{bytes_eq-Decides}
 use Rattle.serde_json.specs.Data.{Data, null}
 use Rattle.serde_json.specs.Read.{read}
 use Rattle.serde_json.specs.Written.{has_float, compact_text}
-use Rattle.scim_value.specs.Content.{Content}
+use Rattle.scim_cell.specs.Content.{Content}
 use Rattle.scim_json.specs.PartData.{stored_data}
 use Rattle.scim_json.specs.declared.keys.Form.TheVariants.{Stored}
 use Rattle.scim_json.proofs.Kept.{data_of-IsKept}

@@ -21,13 +21,14 @@ use Rattle.scim_schema.specs.Characteristics.{characteristics_of}
 use Rattle.scim_schema.specs.Names.{sub_attribute_name}
 use Rattle.scim_schema.specs.Units.{simple, leaf_at, whole, unit_of}
 use Rattle.scim_schema.proofs.LeafLemmas.{sub_attribute_one, leaf_one}
-use Rattle.scim_value.specs.declared.atoms.Atom.{Atom}
-use Rattle.scim_value.specs.declared.atoms.Atom.TheVariants.{Text, Truth, Moment}
-use Rattle.scim_value.specs.declared.rows.Field.{Field}
-use Rattle.scim_value.specs.Place.{unit_cmp}
-use Rattle.scim_value.specs.Content.{Entry, HasType}
-use Rattle.scim_value.specs.Rows.{Row, values, is_leaf, atom_in, atom_at, cell_at, IsSoundField, IsSoundRow}
-use Rattle.scim_value.specs.Listing.{sub_attributes_by_place, cell_with, values_cells}
+use Rattle.scim_cell.specs.declared.atoms.Atom.{Atom}
+use Rattle.scim_cell.specs.declared.atoms.Atom.TheVariants.{Text, Truth, Moment}
+use Rattle.scim_cell.specs.declared.rows.Field.{Field}
+use Rattle.scim_cell.specs.Place.{unit_cmp}
+use Rattle.scim_cell.specs.Content.{Entry, HasType}
+use Rattle.scim_cell.specs.Rows.{Row, values, is_leaf, atom_in, atom_at, cell_at, IsSoundField, IsSoundRow}
+use Rattle.scim_cell.specs.Place.{sub_attributes_by_place}
+use Rattle.scim_value.specs.Listing.{cell_with, values_cells}
 use Rattle.scim_json.specs.declared.keys.Form.{Form}
 use Rattle.scim_json.specs.declared.keys.Shape.{Shape}
 use Rattle.scim_json.specs.declared.keys.Shape.TheVariants.{Simple, Complex, MultiValued}

@@ -14,10 +14,10 @@ use Rattle.scim_schema.specs.declared.schemas.Schema.{Schema}
 use Rattle.scim_schema.specs.Names.{attribute_name, sub_attribute_name}
 use Rattle.scim_schema.specs.Schemas.{core_schema, extensions}
 use Rattle.scim_schema.specs.Units.{whole}
-use Rattle.scim_value.specs.declared.atoms.Atom.{Atom}
-use Rattle.scim_value.specs.declared.atoms.Atom.TheVariants.{Text, Truth, Moment}
-use Rattle.scim_value.specs.Content.{Content}
-use Rattle.scim_value.specs.Rows.{Row, rows, values}
+use Rattle.scim_cell.specs.declared.atoms.Atom.{Atom}
+use Rattle.scim_cell.specs.declared.atoms.Atom.TheVariants.{Text, Truth, Moment}
+use Rattle.scim_cell.specs.Content.{Content}
+use Rattle.scim_cell.specs.Rows.{Row, rows, values}
 use Rattle.scim_json.specs.declared.keys.Form.{Form}
 use Rattle.scim_json.specs.declared.keys.Form.TheVariants.{Stored}
 use Rattle.scim_json.specs.declared.keys.Key.{Key}

@@ -19,8 +19,8 @@ use Rattle.scim_schema.specs.Names.{attribute_name, sub_attribute_name}
 use Rattle.scim_schema.specs.Schemas.{urn, extension_of}
 use Rattle.scim_schema.specs.Table.{attributes}
 use Rattle.scim_schema.proofs.LeafLemmas.{attribute_one}
-use Rattle.scim_value.specs.Content.{Content}
-use Rattle.scim_value.specs.Rows.{Row, rows}
+use Rattle.scim_cell.specs.Content.{Content}
+use Rattle.scim_cell.specs.Rows.{Row, rows}
 use Rattle.scim_json.specs.declared.keys.Form.{Form}
 use Rattle.scim_json.specs.declared.keys.Form.TheVariants.{Stored}
 use Rattle.scim_json.specs.declared.keys.Key.{Key}

@@ -9,11 +9,11 @@ use Rattle.scim_schema.specs.declared.Leaf.{Leaf}
 use Rattle.scim_schema.specs.Names.{sub_attribute_name}
 use Rattle.scim_schema.specs.Characteristics.{is_multi_valued}
 use Rattle.scim_schema.specs.Units.{simple, leaf_at, whole, unit_of}
-use Rattle.scim_value.specs.Content.{Content, IsPart}
-use Rattle.scim_value.specs.Rows.{Row, rows, attribute_rows, atom_at, cell_at}
+use Rattle.scim_cell.specs.Content.{Content, IsPart}
+use Rattle.scim_cell.specs.Rows.{Row, rows, attribute_rows, atom_at, cell_at}
 use Rattle.scim_value.proofs.OfLemmas.{sound_part}
 use Rattle.scim_value.proofs.AttributeLemmas.{values_own, values_all}
-use Rattle.scim_value.specs.Listing.{sub_attributes_by_place}
+use Rattle.scim_cell.specs.Place.{sub_attributes_by_place}
 use Rattle.scim_json.specs.declared.keys.Form.{Form}
 use Rattle.scim_json.specs.declared.keys.Shape.{Shape}
 use Rattle.scim_json.specs.declared.keys.Shape.TheVariants.{Simple, Complex, MultiValued}

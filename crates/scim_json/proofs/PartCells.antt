@@ -5,8 +5,8 @@ use Rattle.std.proofs.lemmas.Bool.{and_parts}
 use Rattle.scim_schema.specs.declared.Attribute.{Attribute}
 use Rattle.scim_schema.specs.declared.Attribute.TheVariants.{Meta}
 use Rattle.scim_schema.specs.Table.{attributes}
-use Rattle.scim_value.specs.Content.{Content, Entry, IsPart}
-use Rattle.scim_value.specs.Rows.{rows}
+use Rattle.scim_cell.specs.Content.{Content, Entry, IsPart}
+use Rattle.scim_cell.specs.Rows.{rows}
 use Rattle.scim_value.specs.Listing.{attribute_cells}
 use Rattle.scim_value.proofs.ListingLemmas.{cells_are_listed}
 use Rattle.scim_value.proofs.OfLemmas.{sound_part}

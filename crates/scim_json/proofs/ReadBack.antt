@@ -1,7 +1,7 @@
 -- What is stored of a resource is read as that resource.
 use Rattle.std.proofs.Common.{◌≡◌, ◌⊎◌, ◌∙◌, inl, inr, ℕ, List, Option, Some, Result, Ok, Err, refl, sym, ap}
 use Rattle.serde_json.specs.Data.{Data}
-use Rattle.scim_value.specs.Content.{Content}
+use Rattle.scim_cell.specs.Content.{Content}
 use Rattle.scim_json.specs.declared.faults.StoredFault.{StoredFault}
 use Rattle.scim_json.specs.declared.faults.StoredFault.TheVariants.{Damaged, NoMemory}
 use Rattle.scim_json.specs.PartData.{stored_data}

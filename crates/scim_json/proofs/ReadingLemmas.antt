@@ -4,9 +4,9 @@ use Rattle.std.specs.FinMap.{entries, same_entries_map}
 use Rattle.serde_json.specs.Data.{Data}
 use Rattle.scim_schema.specs.declared.Kind.{Kind}
 use Rattle.scim_schema.specs.Names.{kind_name}
-use Rattle.scim_value.specs.Ids.{IsId, IsIdText, id_text}
-use Rattle.scim_value.specs.Content.{Content, AreSortedPartCells}
-use Rattle.scim_value.proofs.IdLemmas.{IsIdText-id_text, id_text-injective}
+use Rattle.scim_cell.specs.Ids.{IsId, IsIdText, id_text}
+use Rattle.scim_cell.specs.Content.{Content, AreSortedPartCells}
+use Rattle.scim_cell.proofs.IdLemmas.{IsIdText-id_text, id_text-injective}
 use Rattle.scim_value.proofs.RowLemmas.{sorted_entries}
 use Rattle.scim_json.specs.Found.{cells_below, id_in, resource_type_in}
 use Rattle.scim_json.specs.Stored.{IsDocument}

@@ -19,11 +19,12 @@ use Rattle.scim_schema.specs.Characteristics.{is_multi_valued}
 use Rattle.scim_schema.specs.Schemas.{extension_of}
 use Rattle.scim_schema.specs.Table.{leaves_with}
 use Rattle.scim_schema.specs.Units.{simple, leaf_at, whole, unit_of}
-use Rattle.scim_value.specs.declared.rows.Field.{Field}
-use Rattle.scim_value.specs.Place.{unit_cmp}
-use Rattle.scim_value.specs.Rows.{Row, values, cell_at, atom_at, has_fields, IsSoundField, AreSound}
+use Rattle.scim_cell.specs.declared.rows.Field.{Field}
+use Rattle.scim_cell.specs.Place.{unit_cmp}
+use Rattle.scim_cell.specs.Rows.{Row, values, cell_at, atom_at, has_fields, IsSoundField, AreSound}
 use Rattle.scim_value.specs.Resource.{MayBeKept}
-use Rattle.scim_value.specs.Listing.{sub_attributes_by_place, cell_with, values_cells, attribute_cells}
+use Rattle.scim_cell.specs.Place.{sub_attributes_by_place}
+use Rattle.scim_value.specs.Listing.{cell_with, values_cells, attribute_cells}
 use Rattle.scim_value.proofs.OrderLemmas.{unit_same}
 use Rattle.scim_json.specs.declared.keys.Form.{Form}
 use Rattle.scim_json.specs.declared.keys.Form.TheVariants.{Shown, Stored}

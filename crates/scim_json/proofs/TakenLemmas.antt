@@ -12,9 +12,8 @@ use Rattle.std.proofs.lemmas.List.Quantifiers.{Any-push}
 use Rattle.std.proofs.lemmas.Slice.Eq.{bytes_eq-Decides}
 use Rattle.scim_schema.proofs.LeafLemmas.{Decides-leaf_eq}
 use Rattle.scim_value.specs.declared.unique_names.UniqueName.{UniqueName}
-use Rattle.scim_value.specs.Content.{Content}
-use Rattle.scim_value.specs.UniqueNames.{Name, unique_names, AreApart}
-use Rattle.scim_value.specs.NamesInside.{name_of}
+use Rattle.scim_cell.specs.Content.{Content}
+use Rattle.scim_value.specs.UniqueNames.{Name, unique_names, AreApart, name_of}
 use Rattle.scim_json.specs.declared.documents.Taken.{Taken}
 use Rattle.scim_json.specs.Taken.{same_id, same_name, Records}
 

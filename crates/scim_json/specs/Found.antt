@@ -18,12 +18,13 @@ use Rattle.scim_schema.specs.Schemas.{urn, extension_of}
 use Rattle.scim_schema.specs.Table.{attributes}
 use Rattle.scim_schema.specs.Characteristics.{characteristics_of}
 use Rattle.scim_schema.specs.Units.{simple, leaf_at}
-use Rattle.scim_value.specs.declared.atoms.Atom.{Atom}
-use Rattle.scim_value.specs.declared.atoms.Atom.TheVariants.{Text, Truth, Moment}
-use Rattle.scim_value.specs.Place.{place_at}
+use Rattle.scim_cell.specs.declared.atoms.Atom.{Atom}
+use Rattle.scim_cell.specs.declared.atoms.Atom.TheVariants.{Text, Truth, Moment}
+use Rattle.scim_cell.specs.Place.{place_at}
 use Rattle.scim_value.specs.Resource.{location}
-use Rattle.scim_value.specs.Content.{Entry}
-use Rattle.scim_value.specs.Listing.{cell_with, sub_attributes_by_place}
+use Rattle.scim_cell.specs.Content.{Entry}
+use Rattle.scim_cell.specs.Place.{sub_attributes_by_place}
+use Rattle.scim_value.specs.Listing.{cell_with}
 use Rattle.scim_json.specs.declared.keys.Shape.{Shape}
 use Rattle.scim_json.specs.declared.keys.Shape.TheVariants.{Simple, Complex, MultiValued}
 use Rattle.scim_json.specs.Keys.{shape_of}

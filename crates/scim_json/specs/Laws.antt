@@ -3,7 +3,7 @@ use Rattle.std.specs.Prelude.{◌≡◌, ◌⊎◌, ℕ, List, Some, Result, Ok,
 use Rattle.std.specs.FinMap.{entries}
 use Rattle.serde_json.specs.Read.{read}
 use Rattle.serde_json.specs.Written.{compact_text}
-use Rattle.scim_value.specs.Content.{Content, IsPart}
+use Rattle.scim_cell.specs.Content.{Content, IsPart}
 use Rattle.scim_json.specs.declared.faults.StoredFault.{StoredFault}
 use Rattle.scim_json.specs.declared.faults.StoredFault.TheVariants.{NoMemory}
 use Rattle.scim_json.specs.PartData.{part_data, stored_data}

@@ -11,12 +11,12 @@ use Rattle.scim_schema.specs.declared.schemas.Schema.{Schema}
 use Rattle.scim_schema.specs.contracts.schemas.Schema.{the_type as the_schema}
 use Rattle.scim_schema.specs.Names.{attribute_name, sub_attribute_name}
 use Rattle.scim_schema.specs.Schemas.{urn, core_schema, extensions, extension_of}
-use Rattle.scim_value.specs.declared.atoms.Atom.{Atom}
-use Rattle.scim_value.specs.declared.atoms.Atom.TheVariants.{Text, Truth, Moment}
-use Rattle.scim_value.specs.declared.rows.Field.{Field}
-use Rattle.scim_value.specs.Content.{Content}
+use Rattle.scim_cell.specs.declared.atoms.Atom.{Atom}
+use Rattle.scim_cell.specs.declared.atoms.Atom.TheVariants.{Text, Truth, Moment}
+use Rattle.scim_cell.specs.declared.rows.Field.{Field}
+use Rattle.scim_cell.specs.Content.{Content}
 use Rattle.scim_schema.specs.Units.{simple, leaf_at, whole}
-use Rattle.scim_value.specs.Rows.{Row, rows, values, atom_in, cell_at}
+use Rattle.scim_cell.specs.Rows.{Row, rows, values, atom_in, cell_at}
 use Rattle.scim_json.specs.declared.keys.Form.{Form}
 use Rattle.scim_json.specs.declared.keys.Form.TheVariants.{Shown, Stored}
 use Rattle.scim_json.specs.declared.keys.Key.{Key}

@@ -3,7 +3,7 @@ use Rattle.std.specs.Prelude.{◌≡◌, ℕ, List, Some, Result, Ok, Err, ⊤}
 use Rattle.serde_json.specs.Data.{Data}
 use Rattle.serde_json.specs.Read.{read}
 use Rattle.serde_json.specs.Written.{compact_text}
-use Rattle.scim_value.specs.Content.{Content}
+use Rattle.scim_cell.specs.Content.{Content}
 use Rattle.scim_value.specs.Resource.{IsResource, HasBase}
 use Rattle.scim_value.specs.declared.faults.Fault.{Fault}
 use Rattle.scim_value.specs.declared.faults.Fault.TheVariants.{Invalid, NoMemory as WantOfMemory}

@@ -3,10 +3,9 @@ use Rattle.std.specs.Prelude.{◌≡◌, ◌↔◌, ℕ, Bool, List, Contains, A
 use Rattle.std.specs.HashSet.{contains}
 use Rattle.scim_value.specs.declared.unique_names.UniqueName.{UniqueName}
 use Rattle.scim_value.specs.contracts.unique_names.UniqueNamePartialEq.TheImpl as name_eq
-use Rattle.scim_value.specs.contracts.ids.IdPartialEq.TheImpl as id_eq
-use Rattle.scim_value.specs.Content.{Content}
-use Rattle.scim_value.specs.UniqueNames.{unique_names}
-use Rattle.scim_value.specs.NamesInside.{name_of}
+use Rattle.scim_cell.specs.contracts.ids.IdPartialEq.TheImpl as id_eq
+use Rattle.scim_cell.specs.Content.{Content}
+use Rattle.scim_value.specs.UniqueNames.{unique_names, name_of}
 use Rattle.scim_json.specs.declared.documents.Taken.{Taken}
 
 -- how two ids, and two names, compare

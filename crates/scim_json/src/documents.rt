@@ -3,7 +3,7 @@ ghost use Rattle.std.specs.Prelude.{◌≡◌, ◌≤◌, ◌∷◌, ◌++◌, �
 ghost use Rattle.serde_json.specs.Data.{array, items_depth};
 ghost use Rattle.serde_json.specs.Read.{read, max_depth};
 ghost use Rattle.serde_json.specs.View.{items_view};
-ghost use Rattle.scim_value.specs.Content.{Content};
+ghost use Rattle.scim_cell.specs.Content.{Content};
 ghost use Rattle.scim_value.specs.UniqueNames.{AreApart};
 ghost use Rattle.scim_json.specs.declared.faults.DocumentFault.{DocumentFault};
 ghost use Rattle.scim_json.specs.Documents.{IsDocumentsText, IsDamagedAt};
@@ -11,8 +11,8 @@ ghost use Rattle.scim_json.specs.Taken.{Records};
 
 use crate::faults::{DocumentFault, StoredFault};
 use crate::reading::{parse, read_document};
+use scim_cell::ids::Id;
 use scim_text::NoMemory;
-use scim_value::ids::Id;
 use scim_value::resources::Resource;
 use scim_value::unique_names::{UniqueName, unique_names};
 use serde_json::Value;

@@ -7,7 +7,7 @@ ghost use Rattle.serde_json.specs.Read.{read};
 ghost use Rattle.serde_json.specs.Written.{compact_text};
 ghost use Rattle.scim_schema.specs.Names.{attribute_name, sub_attribute_name};
 ghost use Rattle.scim_schema.specs.Schemas.{urn};
-ghost use Rattle.scim_value.specs.Rows.{rows, cell_at};
+ghost use Rattle.scim_cell.specs.Rows.{rows, cell_at};
 ghost use Rattle.scim_json.specs.Keys.{key_text};
 ghost use Rattle.scim_json.specs.PartData as spec;
 ghost use Rattle.scim_json.specs.PartData.{members_where, items_of};
@@ -16,15 +16,15 @@ ghost use Rattle.scim_json.specs.Tokens.{Adds, value_tokens, member_tokens, memb
 
 use crate::keys::{Form, Key, Shape, extension_keys, keys, ordered_sub_attributes, shape_of};
 use json::Writer;
+use scim_cell::atoms::Atom;
+use scim_cell::places::compare_units;
+use scim_cell::rows::Row;
 use scim_schema::schemas::{Schema, core_schema, extension_of, extensions};
 use scim_schema::units::unit_of;
 use scim_schema::{Attribute, Leaf, SubAttribute};
 use scim_text::{NoMemory, print_moment};
-use scim_value::atoms::Atom;
 use scim_value::parts::Part;
-use scim_value::places::compare_units;
 use scim_value::resources::Resource;
-use scim_value::rows::Row;
 use std::alloc::Global;
 
 /// The JSON text of a part, as a client is shown it: its cells and `schemas`, and nothing else

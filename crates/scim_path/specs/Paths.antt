@@ -8,6 +8,7 @@ use Rattle.scim_schema.specs.declared.schemas.Schema.{Schema}
 use Rattle.scim_schema.specs.Characteristics.{is_multi_valued}
 use Rattle.scim_schema.specs.Schemas.{urn, extensions}
 use Rattle.scim_schema.specs.Lookup.{sub_attribute_named}
+use Rattle.scim_filter.specs.declared.limits.TheConstants.{LONGEST_TEXT}
 use Rattle.scim_filter.specs.declared.tree.Meant.{Meant}
 use Rattle.scim_filter.specs.declared.tree.Meant.TheVariants as meant
 use Rattle.scim_filter.specs.Bytes.{is_word, lone_word}
@@ -35,14 +36,9 @@ target_of (path.Attribute a) = OfAttribute a
 target_of (path.SubAttribute a b) = OfSubAttribute a b
 target_of (path.Values v) = OfValues v.attribute (tree_of v.filter) v.sub_attribute
 
--- what was read, without where it lies in memory
-abbrev pub target_read : Result Path PathFault → Result Target PathFault
-target_read (Ok p) = Ok (target_of p)
-target_read (Err f) = Err f
-
 -- the extension of a kind whose URN stands alone in a text of at most 4,096 bytes
 abbrev pub extension_named : Kind → List ℕ → Option Schema
-extension_named kind text = if nat_le (length text) 4096 then option_and_then (λ word. find (λ s. is_word (urn s) word) (extensions kind)) (lone_word text) else None
+extension_named kind text = if nat_le (length text) LONGEST_TEXT then option_and_then (λ word. find (λ s. is_word (urn s) word) (extensions kind)) (lone_word text) else None
 
 -- what a path of names alone names
 abbrev pub names_target : Meant → Result Target PathFault
@@ -80,9 +76,13 @@ written_target (Filtered _ sub) = Err Syntax
 -- what a text names or why it names nothing, where no extension's URN stands in it alone: what the path names that it
 -- spells within 4,096 bytes and 32 open brackets; where it spells none it is no path
 pub data Reads (kind : Kind) (text : List ℕ) : Result Target PathFault → Type 0 where
-  spelled : (w : Written) → length text ≤ 4096 → IsWritten kind 32 text w → Reads kind text (written_target w)
-  unspelled : ((w : Written) → length text ≤ 4096 → ¬ (IsWritten kind 32 text w)) → Reads kind text (Err Syntax)
+  spelled : (w : Written) → length text ≤ LONGEST_TEXT → IsWritten kind 32 text w → Reads kind text (written_target w)
+  unspelled : ((w : Written) → length text ≤ LONGEST_TEXT → ¬ (IsWritten kind 32 text w)) → Reads kind text (Err Syntax)
 
 -- what a text names, or why it names nothing
 abbrev pub Names : Kind → List ℕ → Result Target PathFault → Type 0
 Names kind text r = MatchOption (extension_named kind text) (Reads kind text r) (λ schema. r ≡ Ok (OfExtension schema))
+
+-- a text names one thing or has one fault, and not both
+abbrev pub TextsNameOneThing : Type 0
+TextsNameOneThing = (kind : Kind) (text : List ℕ) (r s : Result Target PathFault) → Names kind text r → Names kind text s → r ≡ s

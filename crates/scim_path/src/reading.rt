@@ -3,10 +3,13 @@ ghost use Rattle.std.specs.Prelude.{◌≡◌, ◌⊎◌, Ok, Err, MatchResult};
 ghost use Rattle.scim_filter.specs.Tree.{tree_of};
 ghost use Rattle.scim_filter.specs.WrittenPaths.{written_of};
 ghost use Rattle.scim_path.specs.Paths as spec;
+ghost use Rattle.scim_path.specs.code.Results.{target_read};
 
 use crate::faults::PathFault;
 use crate::paths::{Path, ValuePath};
+use scim_cell::atoms::Text;
 use scim_filter::attribute_paths::lone_word;
+use scim_filter::limits::LONGEST_TEXT;
 use scim_filter::mentions::knows_names;
 use scim_filter::tree::{Filter, Meant, Node};
 use scim_filter::written_paths::{WrittenPath, written_path};
@@ -14,7 +17,6 @@ use scim_schema::characteristics::is_multi_valued;
 use scim_schema::lookup::sub_attribute;
 use scim_schema::schemas::{Schema, extensions};
 use scim_schema::{Attribute, Kind};
-use scim_value::atoms::Text;
 use std::alloc::Global;
 
 /// The extension of the kind whose URN stands alone in a text of at most 4,096 bytes, in any ASCII case and
@@ -23,7 +25,7 @@ use std::alloc::Global;
 pub fn extension_named(kind: Kind, text: &str) -> Option<Schema>
     ensures { result ≡ spec.extension_named kind text.now }
 {
-    if text.len() > 4096 {
+    if text.len() > LONGEST_TEXT {
         return None;
     }
     let word = lone_word(text)?;
@@ -35,7 +37,7 @@ pub fn extension_named(kind: Kind, text: &str) -> Option<Schema>
 
 /// What a path of names alone names.
 fn path_of_names(meant: Meant) -> Result<Path, PathFault>
-    ensures { spec.target_read result ≡ spec.names_target meant }
+    ensures { target_read result ≡ spec.names_target meant }
 {
     match meant {
         Meant::Nothing => Err(PathFault::Unknown),
@@ -48,7 +50,7 @@ fn path_of_names(meant: Meant) -> Result<Path, PathFault>
 
 /// The values that a filter chooses of an attribute, or the sub-attribute of these with this name.
 fn chosen(attribute: Attribute, filter: Filter, sub_name: Option<Text>) -> Result<Path, PathFault>
-    ensures { spec.target_read result ≡ spec.chosen attribute (tree_of filter) sub_name }
+    ensures { target_read result ≡ spec.chosen attribute (tree_of filter) sub_name }
 {
     let sub_attribute = match sub_name {
         None => None,
@@ -63,7 +65,7 @@ fn chosen(attribute: Attribute, filter: Filter, sub_name: Option<Text>) -> Resul
 
 /// What a value path names, where the path before its bracket names this.
 fn filtered(meant: Meant, filter: Filter, sub_name: Option<Text>) -> Result<Path, PathFault>
-    ensures { spec.target_read result ≡ spec.filtered_target meant (tree_of filter) sub_name }
+    ensures { target_read result ≡ spec.filtered_target meant (tree_of filter) sub_name }
 {
     let attribute = match meant {
         Meant::Nothing => return Err(PathFault::Unknown),
@@ -81,7 +83,7 @@ fn filtered(meant: Meant, filter: Filter, sub_name: Option<Text>) -> Result<Path
 
 /// What a written path names.
 fn written(path: WrittenPath) -> Result<Path, PathFault>
-    ensures { spec.target_read result ≡ spec.written_target (written_of path) }
+    ensures { target_read result ≡ spec.written_target (written_of path) }
 {
     match path {
         WrittenPath::Plain(path) => path_of_names(path.meant),

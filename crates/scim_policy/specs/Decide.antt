@@ -10,8 +10,8 @@ use Rattle.scim_schema.specs.contracts.Kind.{the_type as the_kind}
 use Rattle.scim_schema.specs.contracts.Op.{the_type as the_op}
 use Rattle.scim_schema.specs.contracts.Attribute.{the_type as the_attribute}
 use Rattle.scim_schema.specs.Units.{leaf_at}
-use Rattle.scim_value.specs.Content.{Content}
-use Rattle.scim_value.specs.Rows.{rows, is_leaf}
+use Rattle.scim_cell.specs.Content.{Content}
+use Rattle.scim_cell.specs.Rows.{rows, is_leaf}
 use Rattle.scim_filter.specs.Truth.{truth}
 use Rattle.scim_policy.specs.declared.rules.ClientName.{ClientName}
 use Rattle.scim_policy.specs.declared.rules.ClientName.TheVariants.{Everyone, Named}

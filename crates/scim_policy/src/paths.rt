@@ -5,11 +5,11 @@ ghost use Rattle.scim_policy.specs.Paths as spec;
 ghost use Rattle.scim_policy.specs.code.Written.{text_at};
 
 use crate::rules::{ClientName, KindPaths, PolicyPath};
+use scim_cell::atoms::Text;
 use scim_filter::attribute_paths::attribute_path;
 use scim_filter::tree::Meant;
 use scim_schema::{Kind, Op};
 use scim_text::NoMemory;
-use scim_value::atoms::Text;
 use std::alloc::Global;
 
 /// The most bytes that a path has.

@@ -4,9 +4,9 @@ ghost use Rattle.scim_filter.specs.Tree.{tree_of};
 ghost use Rattle.scim_policy.specs.Decide.{paths_on};
 ghost use Rattle.scim_policy.specs.Rules as spec;
 
+use scim_cell::atoms::Text;
 use scim_filter::tree::Filter;
 use scim_schema::{Attribute, Kind, Op, SubAttribute};
-use scim_value::atoms::Text;
 use std::fmt;
 use std::marker::Model;
 

@@ -5,7 +5,7 @@ use Rattle.std.specs.List.{filter, AllPairs}
 use Rattle.std.specs.List.Sorted.{IsSortedBy, ties}
 use Rattle.std.proofs.lemmas.List.Elements.{All-cons, All-head, All-tail}
 use Rattle.std.proofs.lemmas.List.Sorted.{ranks_by, sorted_far}
-use Rattle.scim_value.specs.Content.{Content}
+use Rattle.scim_cell.specs.Content.{Content}
 use Rattle.scim_query.specs.declared.queries.Query.{Query}
 use Rattle.scim_query.specs.Order.{rank_of}
 use Rattle.scim_query.specs.Pages.{IsInOrder}

@@ -6,13 +6,13 @@ use Rattle.std.proofs.lemmas.List.{get_or-map, length-map, take-map, drop-map}
 use Rattle.std.proofs.lemmas.List.Elements.{All-tail}
 use Rattle.std.proofs.lemmas.List.Sorted.{IsPermutation-map, All-permutation, length_permutation}
 use Rattle.scim_schema.specs.declared.Leaf.{Leaf}
-use Rattle.scim_value.specs.Content.{Content}
-use Rattle.scim_value.specs.Rows.{rows}
+use Rattle.scim_cell.specs.Content.{Content}
+use Rattle.scim_cell.specs.Rows.{rows}
 use Rattle.scim_query.specs.declared.entries.Entry.{Entry}
 use Rattle.scim_query.specs.declared.queries.Query.{Query}
 use Rattle.scim_query.specs.Keys.{key_by}
 use Rattle.scim_query.specs.Order.{rank_of, rank_cmp}
-use Rattle.scim_query.specs.Entries.{parts_of, HasKey, entry_rank}
+use Rattle.scim_query.specs.code.Entries.{parts_of, HasKey, entry_rank}
 use Rattle.scim_query.specs.Pages.{IsInOrder, slice_of}
 
 -- an order by key carries over to what a function gives, where that has the same keys

@@ -1,6 +1,6 @@
 -- What a client is shown of the resources that a query of it finds (RFC 7644 section 3.4.2).
 use Rattle.std.specs.Prelude.{◌≡◌, List, map}
-use Rattle.scim_value.specs.Content.{Content}
+use Rattle.scim_cell.specs.Content.{Content}
 use Rattle.scim_view.specs.Shown.{shown}
 use Rattle.scim_query.specs.declared.queries.Query.{Query}
 use Rattle.scim_query.specs.declared.queries.Page.{Page}

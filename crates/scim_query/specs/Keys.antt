@@ -5,9 +5,9 @@ use Rattle.scim_schema.specs.declared.Attribute.{Attribute}
 use Rattle.scim_schema.specs.declared.SubAttribute.TheVariants.{Primary}
 use Rattle.scim_schema.specs.declared.Leaf.{Leaf}
 use Rattle.scim_schema.specs.Units.{leaf_at, unit_of}
-use Rattle.scim_value.specs.declared.atoms.Atom.{Atom}
-use Rattle.scim_value.specs.declared.atoms.Atom.TheVariants.{Text, Truth}
-use Rattle.scim_value.specs.Rows.{Row, values, atom_in}
+use Rattle.scim_cell.specs.declared.atoms.Atom.{Atom}
+use Rattle.scim_cell.specs.declared.atoms.Atom.TheVariants.{Text, Truth}
+use Rattle.scim_cell.specs.Rows.{Row, values, atom_in}
 use Rattle.scim_filter.specs.Relation.{cased}
 use Rattle.scim_filter.specs.Types.{is_case_exact}
 

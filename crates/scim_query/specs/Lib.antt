@@ -1,5 +1,6 @@
 pub mod ClientSearches
-pub mod Entries
+pub mod SortKeys
 pub mod Keys
 pub mod Order
 pub mod Pages
+pub mod code

@@ -5,10 +5,10 @@ use Rattle.std.specs.declared.cmp.Ordering.TheVariants.{Less, Equal, Greater}
 use Rattle.std.specs.Ordering.{ordering_then, nat_cmp, bool_cmp}
 use Rattle.std.specs.Cmp.Lexicographic.{slice_cmp}
 use Rattle.scim_schema.specs.declared.Leaf.{Leaf}
-use Rattle.scim_value.specs.declared.atoms.Atom.{Atom}
-use Rattle.scim_value.specs.declared.atoms.Atom.TheVariants.{Text, Truth, Moment}
-use Rattle.scim_value.specs.Content.{Content}
-use Rattle.scim_value.specs.Rows.{rows}
+use Rattle.scim_cell.specs.declared.atoms.Atom.{Atom}
+use Rattle.scim_cell.specs.declared.atoms.Atom.TheVariants.{Text, Truth, Moment}
+use Rattle.scim_cell.specs.Content.{Content}
+use Rattle.scim_cell.specs.Rows.{rows}
 use Rattle.scim_query.specs.Keys.{key_by}
 
 -- texts by their bytes, false before true, moments by time; the atoms of one leaf are of one type

@@ -1,8 +1,8 @@
 -- Which parts a search gives (RFC 7644 sections 3.4.2.2 to 3.4.2.4).
 use Rattle.std.specs.Prelude.{◌≡◌, ℕ, zero, suc, ◌-◌, Bool, true, Option, None, Some, List, filter, length, take, drop}
 use Rattle.std.specs.List.Sorted.{IsPermutation, IsSorted, IsStable}
-use Rattle.scim_value.specs.Content.{Content}
-use Rattle.scim_value.specs.Rows.{rows}
+use Rattle.scim_cell.specs.Content.{Content}
+use Rattle.scim_cell.specs.Rows.{rows}
 use Rattle.scim_filter.specs.declared.tree.Filter.{Filter}
 use Rattle.scim_filter.specs.Tree.{tree_of}
 use Rattle.scim_filter.specs.Truth.{truth}

@@ -2,14 +2,14 @@
 ghost use Rattle.std.specs.Prelude.{◌≡◌, ◌-◌, IfOk, OnOk, All, take, drop};
 ghost use Rattle.std.specs.List.Sorted.{IsPermutation, IsSorted, IsStable};
 ghost use Rattle.scim_query.specs.Order.{rank_cmp};
-ghost use Rattle.scim_query.specs.Entries as spec;
+ghost use Rattle.scim_query.specs.code.Entries as spec;
 ghost use Rattle.scim_query.specs.Pages.{is_match, matching};
 
 use crate::keys::{compare_keys, key_by};
 use crate::queries::Query;
+use scim_cell::atoms::Atom;
 use scim_filter::truth::holds;
 use scim_text::NoMemory;
-use scim_value::atoms::Atom;
 use scim_value::parts::Part;
 use std::alloc::Global;
 use std::cmp::Ordering;

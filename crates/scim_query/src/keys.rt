@@ -2,18 +2,18 @@
 ghost use Rattle.std.specs.Prelude.{◌≡◌, IfOk};
 ghost use Rattle.std.specs.Option.{option_copied};
 ghost use Rattle.scim_schema.specs.Units.{unit_of};
-ghost use Rattle.scim_value.specs.Rows.{rows, values};
+ghost use Rattle.scim_cell.specs.Rows.{rows, values};
 ghost use Rattle.scim_filter.specs.Types as filter_types;
 ghost use Rattle.scim_query.specs.Keys as spec;
 ghost use Rattle.scim_query.specs.Order as order;
 
+use scim_cell::atoms::{Atom, Text};
+use scim_cell::rows::Row;
 use scim_schema::characteristics::characteristics_of;
 use scim_schema::units::unit_of;
 use scim_schema::{Attribute, Kind, Leaf, SubAttribute};
 use scim_text::{NoMemory, fold};
-use scim_value::atoms::{Atom, Text};
 use scim_value::parts::Part;
-use scim_value::rows::Row;
 use std::alloc::Global;
 use std::cmp::Ordering;
 

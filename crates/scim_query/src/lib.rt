@@ -7,5 +7,6 @@ mod entries;
 mod keys;
 pub mod laws;
 pub mod queries;
+pub mod sort_keys;
 #[cfg(test)]
 mod tests;

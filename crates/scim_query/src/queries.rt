@@ -15,7 +15,7 @@ use std::alloc::Global;
 pub struct Query {
     /// Only parts of which it holds are meant; all where there is none.
     pub filter: Option<Filter>,
-    /// The leaf to sort by; by id where there is none.
+    /// The leaf to sort by, as [`crate::sort_keys::read_sort_by`] gives it; by id where there is none.
     pub sort_by: Option<Leaf>,
     /// Whether the last comes first.
     pub descending: bool,

@@ -2,14 +2,14 @@
 mod client_searches;
 
 use crate::queries::{Page, Query, search};
+use scim_cell::atoms::{Atom, Text};
+use scim_cell::cells::Cell;
+use scim_cell::ids::Id;
 use scim_filter::reading::read_filter;
 use scim_filter::tree::Filter;
 use scim_schema::lookup::{attribute, sub_attribute};
 use scim_schema::{Attribute, Kind, Leaf};
 use scim_text::Moment;
-use scim_value::atoms::{Atom, Text};
-use scim_value::cells::Cell;
-use scim_value::ids::Id;
 use scim_value::parts::Part;
 use scim_view::Wanted;
 use std::alloc::Global;

@@ -5,14 +5,14 @@
 //! Behind the `=`, `#` begins a Boolean, `@` a moment, `~` and a number a text of so many letters `x`; all
 //! else is a text. `[0..3]` in place of a position makes the cell at each of the positions 0, 1 and 2.
 use crate::faults::SampleFault;
+use scim_cell::atoms::{Atom, Text};
+use scim_cell::cells::Cell;
+use scim_cell::rows::Row;
 use scim_schema::characteristics::is_multi_valued;
 use scim_schema::lookup::{attribute, sub_attribute};
 use scim_schema::{Attribute, Kind, Leaf};
 use scim_text::{Moment, NoMemory, print_moment, read_printed_moment};
-use scim_value::atoms::{Atom, Text};
-use scim_value::cells::Cell;
 use scim_value::parts::Part;
-use scim_value::rows::Row;
 use std::alloc::Global;
 use std::ops::Range;
 

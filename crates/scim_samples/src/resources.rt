@@ -2,8 +2,8 @@
 use crate::cells::read_cells;
 use crate::faults::SampleFault;
 use crate::texts::{ALICE, BASE, BOB, STRASSE, TEAM};
+use scim_cell::ids::Id;
 use scim_schema::Kind;
-use scim_value::ids::Id;
 use scim_value::parts::Part;
 use scim_value::resources::{Resource, location};
 use std::alloc::Global;

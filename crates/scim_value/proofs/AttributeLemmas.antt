@@ -18,8 +18,8 @@ use Rattle.scim_schema.specs.Units.{whole}
 use Rattle.scim_schema.specs.declared.Attribute.{Attribute}
 use Rattle.scim_schema.specs.declared.Unit.{Unit as AttributeUnit}
 use Rattle.scim_schema.specs.contracts.Attribute.{the_type as the_attribute}
-use Rattle.scim_value.specs.Place.{unit_cmp, attribute_number}
-use Rattle.scim_value.specs.Rows.{Row, attribute_rows, values, has_fields, IsSoundRow, AreSound}
+use Rattle.scim_cell.specs.Place.{unit_cmp, attribute_number}
+use Rattle.scim_cell.specs.Rows.{Row, attribute_rows, values, has_fields, IsSoundRow, AreSound}
 use Rattle.scim_value.proofs.OrderLemmas.{unit_same, unit_total}
 use Rattle.scim_value.proofs.GetLemmas.{tail_sound}
 use Rattle.scim_value.proofs.ListingLemmas.{row_in}

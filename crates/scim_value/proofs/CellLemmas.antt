@@ -12,10 +12,10 @@ use Rattle.scim_schema.specs.declared.Unit.{Unit as AttributeUnit}
 use Rattle.scim_schema.specs.Characteristics.{is_multi_valued}
 use Rattle.scim_schema.specs.Units.{unit_of}
 use Rattle.scim_schema.proofs.LeafLemmas.{leaf_one, leaf_same}
-use Rattle.scim_value.specs.declared.rows.Field.{Field}
-use Rattle.scim_value.specs.Place.{unit_cmp, place_at, attribute_number, sub_attribute_number}
-use Rattle.scim_value.specs.Content.{Entry}
-use Rattle.scim_value.specs.Rows.{Row, values, is_leaf, atom_in, atom_at, cell_at, has_fields, IsSoundField, IsSoundRow, AreSound}
+use Rattle.scim_cell.specs.declared.rows.Field.{Field}
+use Rattle.scim_cell.specs.Place.{unit_cmp, place_at, attribute_number, sub_attribute_number}
+use Rattle.scim_cell.specs.Content.{Entry}
+use Rattle.scim_cell.specs.Rows.{Row, values, is_leaf, atom_in, atom_at, cell_at, has_fields, IsSoundField, IsSoundRow, AreSound}
 use Rattle.scim_value.specs.Listing.{cell_with, single_cells}
 use Rattle.scim_value.proofs.OrderLemmas.{unit_total, nat_less, nat_tied, second_less}
 use Rattle.scim_value.proofs.SoundLemmas.{precedes_less}

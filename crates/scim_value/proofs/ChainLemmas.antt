@@ -13,10 +13,10 @@ use Rattle.std.proofs.lemmas.List.Elements.{All-nil, All-cons, All-tail, All-hea
 pub use Rattle.scim_schema.proofs.LeafLemmas.{and_first, and_second}
 use Rattle.scim_schema.specs.declared.Kind.{Kind}
 use Rattle.scim_schema.specs.declared.Attribute.{Attribute}
-use Rattle.scim_value.specs.declared.places.Place.{Place}
-use Rattle.scim_value.specs.Place.{place_cmp, attribute_number, sub_attribute_number}
-use Rattle.scim_value.specs.Content.{Entry, IsOfKind, StandsInLine, ArePartCells}
-use Rattle.scim_value.specs.Chain.{GoesOn, IsChain}
+use Rattle.scim_cell.specs.declared.places.Place.{Place}
+use Rattle.scim_cell.specs.Place.{place_cmp, attribute_number, sub_attribute_number}
+use Rattle.scim_cell.specs.Content.{Entry, IsOfKind, StandsInLine, ArePartCells}
+use Rattle.scim_value.specs.code.Chain.{GoesOn, IsChain}
 use denote.Enum.Bare.{tag_one}
 use Rattle.scim_schema.specs.contracts.Attribute.{the_type as the_attribute}
 use Rattle.scim_value.proofs.PlaceLemmas.{place_total}

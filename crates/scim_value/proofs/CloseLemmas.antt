@@ -12,12 +12,12 @@ use Rattle.std.specs.FinMap.Entries.{below_all}
 use Rattle.scim_schema.specs.declared.Kind.{Kind}
 use Rattle.scim_schema.specs.contracts.Attribute.{the_type as the_attribute}
 use Rattle.scim_schema.specs.Characteristics.{is_multi_valued}
-use Rattle.scim_value.specs.declared.places.Place.{Place}
-use Rattle.scim_value.specs.Place.{place_cmp, attribute_number, sub_attribute_number}
-use Rattle.scim_value.specs.Content.{Content, Entry, IsPart, IsOfKind, StandsInLine, ArePartCells}
-use Rattle.scim_value.specs.Chain.{GoesOn, IsChain}
+use Rattle.scim_cell.specs.declared.places.Place.{Place}
+use Rattle.scim_cell.specs.Place.{place_cmp, attribute_number, sub_attribute_number}
+use Rattle.scim_cell.specs.Content.{Content, Entry, IsPart, IsOfKind, StandsInLine, ArePartCells}
+use Rattle.scim_value.specs.code.Chain.{GoesOn, IsChain}
 use Rattle.scim_value.proofs.ChainLemmas.{and_first, and_second, and_true, is_less, position_le, less_not_after}
-use Rattle.scim_value.specs.Rows.{Row, goes_with, is_led, led, rows_of, AreSound}
+use Rattle.scim_cell.specs.Rows.{Row, goes_with, is_led, led, rows_of, AreSound}
 use Rattle.scim_value.proofs.OrderLemmas.{nat_less, nat_tied, first_less, second_less, then_less}
 use Rattle.scim_value.proofs.OfLemmas.{MayStand, sound_rows}
 use Rattle.scim_value.proofs.RowLemmas.{sorted_entries}
@@ -132,7 +132,7 @@ unfolding position_after
 first_at p = refl
 
 -- no gap
-stays_on : (b : Moved) (p : Place) → IsBefore (Some b) p → MayStand (p, Rattle.scim_value.specs.declared.atoms.Atom.Atom.Truth true)
+stays_on : (b : Moved) (p : Place) → IsBefore (Some b) p → MayStand (p, Rattle.scim_cell.specs.declared.atoms.Atom.Atom.Truth true)
     → (position_after (Some b) p ≡ 0) ⊎ GoesOn (record b.0 { position = b.1 }) (record p { position = position_after (Some b) p })
 stays_on b p h (inl z) = let low : position_after (Some b) p ≤ p.position = lower (Some b) p h in inl (omega arith)
 stays_on b p h (inr m) = goes b p m (sameb the_attribute b.0.attribute p.attribute) refl

@@ -7,10 +7,10 @@ use Rattle.std.specs.Ordering.{ordering_index}
 use Rattle.std.specs.Cmp.{alike_right}
 use Rattle.std.specs.FinMap.{is_sorted}
 use Rattle.std.specs.FinMap.Entries.{below_all}
-use Rattle.scim_value.specs.declared.places.Place.{Place}
-use Rattle.scim_value.specs.declared.cells.Cell.{Cell}
-use Rattle.scim_value.specs.Place.{place_cmp}
-use Rattle.scim_value.specs.Content.{place_of, entries_of}
+use Rattle.scim_cell.specs.declared.places.Place.{Place}
+use Rattle.scim_cell.specs.declared.cells.Cell.{Cell}
+use Rattle.scim_cell.specs.Place.{place_cmp}
+use Rattle.scim_cell.specs.Content.{place_of, entries_of}
 use Rattle.scim_value.proofs.PlaceLemmas.{place_total}
 use Rattle.scim_value.proofs.ChainLemmas.{is_less, and_first, and_second}
 

@@ -16,15 +16,15 @@ use Rattle.scim_schema.specs.declared.Unit.{Unit as AttributeUnit}
 use Rattle.scim_schema.specs.Units.{unit_of}
 use Rattle.scim_schema.specs.Characteristics.{is_multi_valued}
 use Rattle.scim_schema.proofs.LeafLemmas.{leaf_one, leaf_same}
-use Rattle.scim_value.specs.declared.places.Place.{Place}
-use Rattle.scim_value.specs.declared.atoms.Atom.{Atom}
-use Rattle.scim_value.specs.Place.{unit_cmp, place_cmp, place_at, leaf_of}
-use Rattle.scim_value.specs.Content.{Content, Entry, IsPart}
-use Rattle.scim_value.specs.Rows.{Row, unit_at, next_position, numbered, rows, is_leaf, has_fields, atom_in, atom_at, cell_at, values, IsSoundField, IsSoundRow, Precedes, AreSound}
+use Rattle.scim_cell.specs.declared.places.Place.{Place}
+use Rattle.scim_cell.specs.declared.atoms.Atom.{Atom}
+use Rattle.scim_cell.specs.Place.{unit_cmp, place_cmp, place_at, leaf_of}
+use Rattle.scim_cell.specs.Content.{Content, Entry, IsPart}
+use Rattle.scim_cell.specs.Rows.{Row, unit_at, next_position, numbered, rows, is_leaf, has_fields, atom_in, atom_at, cell_at, values, IsSoundField, IsSoundRow, Precedes, AreSound}
 use Rattle.scim_value.proofs.PlaceLemmas.{place_total, place_same}
 use Rattle.scim_value.proofs.OrderLemmas.{unit_total, unit_same}
 use Rattle.scim_value.proofs.RowLemmas.{numbered_part}
-use Rattle.scim_value.specs.declared.rows.Field.{Field}
+use Rattle.scim_cell.specs.declared.rows.Field.{Field}
 use Rattle.scim_value.proofs.TieLemmas.{placed}
 
 -- the k-th value, and beyond the last

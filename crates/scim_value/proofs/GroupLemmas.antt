@@ -1,10 +1,10 @@
 -- Rows of cells, one cell after another.
 use Rattle.std.proofs.Common.{◌≡◌, ◌∙◌, ap, subst, sym, refl, Bool, true, false, List, [], ◌∷◌, ◌++◌}
 use Rattle.std.specs.Prelude.{Option, None, Some}
-use Rattle.scim_value.specs.declared.places.Place.{Place}
-use Rattle.scim_value.specs.Content.{Entry}
-use Rattle.scim_value.specs.Rows.{Row, field_of, goes_with, led, rows_of}
-use Rattle.scim_value.specs.Grouping.{row_with, grouped, joins}
+use Rattle.scim_cell.specs.declared.places.Place.{Place}
+use Rattle.scim_cell.specs.Content.{Entry}
+use Rattle.scim_cell.specs.Rows.{Row, field_of, goes_with, led, rows_of}
+use Rattle.scim_value.specs.code.Grouping.{row_with, grouped, joins}
 use Rattle.scim_value.proofs.RowLemmas.{rows_split}
 
 -- the place of the last cell

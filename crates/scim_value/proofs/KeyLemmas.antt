@@ -14,9 +14,9 @@ use Rattle.scim_schema.specs.Table.{attributes, sub_attributes, leaves_with, lea
 use Rattle.scim_schema.specs.Characteristics.{is_multi_valued}
 use Rattle.scim_schema.specs.Units.{leaf_at}
 use Rattle.scim_schema.proofs.LeafLemmas.{leaf_one}
-use Rattle.scim_value.specs.Place.{attribute_number, sub_attribute_number}
-use Rattle.scim_value.specs.Rows.{is_leaf}
-use Rattle.scim_value.specs.Listing.{sub_attributes_by_place}
+use Rattle.scim_cell.specs.Place.{attribute_number, sub_attribute_number}
+use Rattle.scim_cell.specs.Rows.{is_leaf}
+use Rattle.scim_cell.specs.Place.{sub_attributes_by_place}
 use Rattle.scim_value.proofs.ChainLemmas.{and_first, and_second}
 
 -- the key is one of these

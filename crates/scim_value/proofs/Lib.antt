@@ -14,9 +14,6 @@ pub mod PutLemmas
 pub mod CloseLemmas
 pub mod RemoveLemmas
 pub mod NumberLemmas
-pub mod IdLemmas
-pub mod IdOrderLemmas
-pub mod FieldLemmas
 pub mod EqualityLemmas
 pub mod ValidityLemmas
 pub mod KeyLemmas

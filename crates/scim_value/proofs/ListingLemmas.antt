@@ -14,10 +14,10 @@ use Rattle.scim_schema.specs.contracts.Attribute.{the_type as the_attribute}
 use Rattle.scim_schema.specs.Table.{attributes}
 use Rattle.scim_schema.specs.Characteristics.{is_multi_valued}
 use Rattle.scim_schema.specs.Units.{whole, unit_of}
-use Rattle.scim_value.specs.declared.rows.Field.{Field}
-use Rattle.scim_value.specs.Place.{attribute_number}
-use Rattle.scim_value.specs.Content.{Entry}
-use Rattle.scim_value.specs.Rows.{Row, next_position, numbered, values, atom_in, atom_at, cell_at, has_fields, rows, IsSoundField, IsSoundRow, Precedes, AreSound}
+use Rattle.scim_cell.specs.declared.rows.Field.{Field}
+use Rattle.scim_cell.specs.Place.{attribute_number}
+use Rattle.scim_cell.specs.Content.{Entry}
+use Rattle.scim_cell.specs.Rows.{Row, next_position, numbered, values, atom_in, atom_at, cell_at, has_fields, rows, IsSoundField, IsSoundRow, Precedes, AreSound}
 use Rattle.scim_value.specs.Listing.{cell_with, value_cells, values_cells, single_cells, CellsAreListed}
 use Rattle.scim_value.proofs.ChainLemmas.{first_le}
 use Rattle.scim_value.proofs.TieLemmas.{placed, attribute_of, zero_next}

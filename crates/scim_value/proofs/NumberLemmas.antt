@@ -7,10 +7,10 @@ use denote.Enum.Bare.{sameb}
 use Rattle.scim_schema.specs.declared.Unit.{Unit as AttributeUnit}
 use Rattle.scim_schema.specs.contracts.Attribute.{the_type as the_attribute}
 use Rattle.scim_schema.specs.Characteristics.{is_multi_valued}
-use Rattle.scim_value.specs.declared.rows.Field.{Field}
-use Rattle.scim_value.specs.Place.{place_at}
-use Rattle.scim_value.specs.Content.{Entry}
-use Rattle.scim_value.specs.Rows.{Row, next_position, numbered}
+use Rattle.scim_cell.specs.declared.rows.Field.{Field}
+use Rattle.scim_cell.specs.Place.{place_at}
+use Rattle.scim_cell.specs.Content.{Entry}
+use Rattle.scim_cell.specs.Rows.{Row, next_position, numbered}
 
 -- one row more
 pub numbered_step : (last : Option (AttributeUnit × ℕ)) (rs : List Row) (i : ℕ) (row : Row) (whole before after : List Entry) (u : AttributeUnit) (n : ℕ) → i < length rs → row ≡ get_or rs i row → u ≡ row.unit → n ≡ next_position last u

@@ -14,15 +14,15 @@ use Rattle.scim_schema.specs.declared.Kind.{Kind}
 use Rattle.scim_schema.specs.contracts.Attribute.{the_type as the_attribute}
 use Rattle.scim_schema.specs.declared.Unit.{Unit as AttributeUnit}
 use Rattle.scim_schema.specs.Characteristics.{is_multi_valued}
-use Rattle.scim_value.specs.declared.places.Place.{Place}
-use Rattle.scim_value.specs.Place.{unit_cmp, place_cmp, attribute_number, sub_attribute_number}
-use Rattle.scim_value.specs.Content.{Content, Entry, IsPart, IsOfKind}
-use Rattle.scim_value.specs.Chain.{GoesOn, IsChain}
-use Rattle.scim_value.specs.Rows.{Row, unit_at, field_of, goes_with, rows_of, numbered, rows, has_fields, IsSoundField, IsSoundRow, Precedes, AreSound}
+use Rattle.scim_cell.specs.declared.places.Place.{Place}
+use Rattle.scim_cell.specs.Place.{unit_cmp, place_cmp, attribute_number, sub_attribute_number}
+use Rattle.scim_cell.specs.Content.{Content, Entry, IsPart, IsOfKind}
+use Rattle.scim_value.specs.code.Chain.{GoesOn, IsChain}
+use Rattle.scim_cell.specs.Rows.{Row, unit_at, field_of, goes_with, rows_of, numbered, rows, has_fields, IsSoundField, IsSoundRow, Precedes, AreSound}
 use Rattle.scim_value.proofs.ChainLemmas.{and_first, and_second, chain-ArePartCells}
 use Rattle.scim_value.proofs.OrderLemmas.{unit_total, unit_same, then_less, first_less, nat_tied}
 use Rattle.scim_value.proofs.RowLemmas.{after, first_row, rows_split, with_unit, numbered_rows, numbered_part, sorted_entries}
-use Rattle.scim_value.specs.declared.rows.Field.{Field}
+use Rattle.scim_cell.specs.declared.rows.Field.{Field}
 use Rattle.scim_value.proofs.GetLemmas.{both_ways, tail_sound, head_sound}
 
 -- of a single-valued attribute only at position 0

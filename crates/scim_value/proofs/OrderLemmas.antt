@@ -7,7 +7,7 @@ use Rattle.std.specs.Cmp.{IsTotalOrder, ranked, nat_cmp_is, on_total, then_total
 use denote.Enum.Bare.{tag_one}
 use Rattle.scim_schema.specs.contracts.Attribute.{the_type as the_attribute}
 use Rattle.scim_schema.specs.declared.Unit.{Unit as AttributeUnit}
-use Rattle.scim_value.specs.Place.{unit_cmp, attribute_number, sub_attribute_number}
+use Rattle.scim_cell.specs.Place.{unit_cmp, attribute_number, sub_attribute_number}
 use Rattle.scim_value.proofs.PlaceLemmas.{sub_attribute_one}
 
 pub nat_less : (m n : ℕ) → m < n → nat_cmp m n ≡ Less

@@ -14,10 +14,10 @@ use Rattle.std.specs.Cmp.{tied_itself, upto}
 use Rattle.std.specs.FinMap.{is_sorted, entries, from_sorted}
 use Rattle.std.specs.FinMap.Entries.{below_all}
 use Rattle.scim_schema.specs.declared.Kind.{Kind}
-use Rattle.scim_value.specs.declared.places.Place.{Place}
-use Rattle.scim_value.specs.declared.cells.Cell.{Cell}
-use Rattle.scim_value.specs.Place.{place_cmp}
-use Rattle.scim_value.specs.Content.{Entry, place_of, entries_of, IsOfKind, StandsInLine, ArePartCells, AreSortedPartCells, AreCellsOfAPart}
+use Rattle.scim_cell.specs.declared.places.Place.{Place}
+use Rattle.scim_cell.specs.declared.cells.Cell.{Cell}
+use Rattle.scim_cell.specs.Place.{place_cmp}
+use Rattle.scim_cell.specs.Content.{Entry, place_of, entries_of, IsOfKind, StandsInLine, ArePartCells, AreSortedPartCells, AreCellsOfAPart}
 use Rattle.scim_value.proofs.PartLemmas.{entries-from_true}
 use Rattle.scim_value.proofs.OrderLemmas.{eq_is}
 use Rattle.scim_value.proofs.PlaceLemmas.{place_total, place_same}

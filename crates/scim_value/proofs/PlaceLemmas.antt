@@ -11,8 +11,8 @@ use denote.Enum.Bare.{tag_one}
 use Rattle.scim_schema.specs.declared.SubAttribute.{SubAttribute}
 use Rattle.scim_schema.specs.contracts.Attribute.{the_type as the_attribute}
 use Rattle.scim_schema.specs.contracts.SubAttribute.{the_type as the_sub_attribute}
-use Rattle.scim_value.specs.declared.places.Place.{Place}
-use Rattle.scim_value.specs.Place.{attribute_number, sub_attribute_number, place_cmp}
+use Rattle.scim_cell.specs.declared.places.Place.{Place}
+use Rattle.scim_cell.specs.Place.{attribute_number, sub_attribute_number, place_cmp}
 
 pub place_total : IsTotalOrder place_cmp
 place_total =

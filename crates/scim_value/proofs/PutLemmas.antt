@@ -7,11 +7,11 @@ use Rattle.std.specs.declared.cmp.Ordering.TheVariants.{Less, Equal, Greater}
 use Rattle.std.specs.Ordering.{ordering_reverse}
 use Rattle.std.specs.Cmp.{tied_back}
 use Rattle.std.specs.FinMap.{is_sorted, put, entries, entries_sorted, entries-insert, same_entries_map, insert as insert_entry}
-use Rattle.scim_value.specs.declared.places.Place.{Place}
-use Rattle.scim_value.specs.declared.cells.Cell.{Cell}
-use Rattle.scim_value.specs.Place.{place_cmp}
-use Rattle.scim_value.specs.Content.{Content, Entry, place_of, entries_of, AreSortedPartCells, IsPart}
-use Rattle.scim_value.specs.declared.atoms.Atom.{Atom}
+use Rattle.scim_cell.specs.declared.places.Place.{Place}
+use Rattle.scim_cell.specs.declared.cells.Cell.{Cell}
+use Rattle.scim_cell.specs.Place.{place_cmp}
+use Rattle.scim_cell.specs.Content.{Content, Entry, place_of, entries_of, AreSortedPartCells, IsPart}
+use Rattle.scim_cell.specs.declared.atoms.Atom.{Atom}
 use Rattle.scim_value.proofs.PlaceLemmas.{place_total, place_same}
 use Rattle.scim_value.proofs.ChainLemmas.{and_first, and_second}
 use Rattle.scim_value.proofs.FindLemmas.{below_at}

@@ -6,11 +6,11 @@ use Rattle.std.proofs.lemmas.Float.{T_from_true}
 use Rattle.std.specs.declared.cmp.Ordering.TheVariants.{Less, Equal, Greater}
 use Rattle.std.specs.Ordering.{is_eq, eq_by_cmp}
 use Rattle.std.specs.FinMap.{FinMap, entries, find, remove, from_sorted, get-entries, get-from_sorted, get-remove, same_map, is_sorted}
-use Rattle.scim_value.specs.declared.places.Place.{Place}
-use Rattle.scim_value.specs.declared.cells.Cell.{Cell}
-use Rattle.scim_value.specs.declared.atoms.Atom.{Atom}
-use Rattle.scim_value.specs.Place.{place_cmp}
-use Rattle.scim_value.specs.Content.{Entry, place_of, entry_of, entries_of}
+use Rattle.scim_cell.specs.declared.places.Place.{Place}
+use Rattle.scim_cell.specs.declared.cells.Cell.{Cell}
+use Rattle.scim_cell.specs.declared.atoms.Atom.{Atom}
+use Rattle.scim_cell.specs.Place.{place_cmp}
+use Rattle.scim_cell.specs.Content.{Entry, place_of, entry_of, entries_of}
 use Rattle.scim_value.proofs.OrderLemmas.{eq_is}
 use Rattle.scim_value.proofs.PlaceLemmas.{place_total, place_same}
 use Rattle.scim_value.proofs.PartLemmas.{entries-from_true}

@@ -6,15 +6,15 @@ use Rattle.std.proofs.lemmas.Bool.{cases_Bool}
 use denote.Enum.Bare.{sameb, same_true, true_same}
 use Rattle.std.specs.FinMap.{FinMap, entries, is_sorted, same_entries_map, entries_sorted}
 use Rattle.scim_schema.specs.declared.Kind.{Kind}
-use Rattle.scim_value.specs.declared.rows.Field.{Field}
+use Rattle.scim_cell.specs.declared.rows.Field.{Field}
 use Rattle.scim_schema.specs.contracts.Attribute.{the_type as the_attribute}
 use Rattle.scim_schema.specs.Characteristics.{is_multi_valued}
-use Rattle.scim_value.specs.declared.places.Place.{Place}
-use Rattle.scim_value.specs.declared.atoms.Atom.{Atom}
-use Rattle.scim_value.specs.Place.{place_cmp, place_at}
-use Rattle.scim_value.specs.Content.{Content, Entry, IsPart}
-use Rattle.scim_value.specs.Chain.{Follows, IsChain}
-use Rattle.scim_value.specs.Rows.{Row, unit_at, field_of, goes_with, rows_of, rows, next_position, numbered}
+use Rattle.scim_cell.specs.declared.places.Place.{Place}
+use Rattle.scim_cell.specs.declared.atoms.Atom.{Atom}
+use Rattle.scim_cell.specs.Place.{place_cmp, place_at}
+use Rattle.scim_cell.specs.Content.{Content, Entry, IsPart}
+use Rattle.scim_value.specs.code.Chain.{Follows, IsChain}
+use Rattle.scim_cell.specs.Rows.{Row, unit_at, field_of, goes_with, rows_of, rows, next_position, numbered}
 use Rattle.scim_value.proofs.ChainLemmas.{and_first, and_second, position_le, less_not_after, chain-ArePartCells}
 
 -- cells that go with one go with the same others

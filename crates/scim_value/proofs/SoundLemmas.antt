@@ -16,10 +16,11 @@ use Rattle.scim_schema.specs.declared.Kind.{Kind}
 use Rattle.scim_schema.specs.Characteristics.{is_multi_valued}
 use Rattle.scim_schema.specs.declared.Leaf.{Leaf}
 use Rattle.scim_schema.specs.declared.Unit.{Unit as AttributeUnit}
-use Rattle.scim_value.specs.Place.{unit_cmp, sub_attribute_number}
+use Rattle.scim_cell.specs.Place.{unit_cmp}
+use Rattle.scim_cell.proofs.FieldLemmas.{PartsRise}
 use Rattle.scim_value.proofs.OrderLemmas.{unit_total}
-use Rattle.scim_value.specs.declared.rows.Field.{Field}
-use Rattle.scim_value.specs.Rows.{Row, has_fields, restricted_row, restricted, IsSoundField, IsSoundRow, Precedes, AreSound, AreValues, put_values}
+use Rattle.scim_cell.specs.declared.rows.Field.{Field}
+use Rattle.scim_cell.specs.Rows.{Row, has_fields, restricted_row, restricted, IsSoundField, IsSoundRow, Precedes, AreSound, AreValues, put_values}
 
 abbrev pub NotAfter : Row → Row → Type 0
 NotAfter r s = is_gt (unit_cmp r.unit s.unit) ≡ false
@@ -41,9 +42,6 @@ map_pairs keep [] h = λ i j d l m. absurd (omega arith)
 map_pairs keep (r ∷ rs) h =
     AllPairs-cons Before (restricted_row keep r) (map (restricted_row keep) rs)
     (All-map (Before (restricted_row keep r)) (restricted_row keep) rs (head_pairs Before r rs h)) (map_pairs keep rs (tail_pairs Before r rs h))
-
-abbrev pub PartsRise : Field → Field → Type 0
-PartsRise c d = sub_attribute_number c.leaf.sub_attribute < sub_attribute_number d.leaf.sub_attribute
 
 -- what is left is sound
 pub restricted_sound : (kind : Kind) (keep : Row → Leaf → Bool) (rs : List Row) → AreSound kind rs → AreSound kind (restricted keep rs)

@@ -16,16 +16,16 @@ use Rattle.scim_schema.specs.contracts.Attribute.{the_type as the_attribute}
 use Rattle.scim_schema.specs.declared.Unit.{Unit as AttributeUnit}
 use Rattle.scim_schema.specs.Units.{unit_of}
 use Rattle.scim_schema.specs.Characteristics.{is_multi_valued}
-use Rattle.scim_value.specs.declared.places.Place.{Place}
-use Rattle.scim_value.specs.Place.{unit_cmp, place_at, attribute_number, sub_attribute_number}
-use Rattle.scim_value.specs.Content.{Entry, IsPart, ArePartCells}
-use Rattle.scim_value.specs.Chain.{Follows, IsChain}
-use Rattle.scim_value.specs.Rows.{Row, field_of, goes_with, rows_of, next_position, numbered, rows, has_fields, content, IsSoundField, IsSoundRow, Precedes, AreSound}
+use Rattle.scim_cell.specs.declared.places.Place.{Place}
+use Rattle.scim_cell.specs.Place.{unit_cmp, place_at, attribute_number, sub_attribute_number}
+use Rattle.scim_cell.specs.Content.{Entry, IsPart, ArePartCells}
+use Rattle.scim_value.specs.code.Chain.{Follows, IsChain}
+use Rattle.scim_cell.specs.Rows.{Row, field_of, goes_with, rows_of, next_position, numbered, rows, has_fields, content, IsSoundField, IsSoundRow, Precedes, AreSound}
 use Rattle.scim_value.proofs.PartLemmas.{entries-from_true}
 use Rattle.scim_value.proofs.ChainLemmas.{is_sorted-chain, ArePartCells-chain}
 use Rattle.scim_value.proofs.OrderLemmas.{nat_less, nat_tied, first_less, second_less}
 use Rattle.scim_value.proofs.RowLemmas.{number_at, run, after, rows_split}
-use Rattle.scim_value.specs.declared.rows.Field.{Field}
+use Rattle.scim_cell.specs.declared.rows.Field.{Field}
 
 -- the cells of a row at its position
 abbrev pub placed : ℕ → List Field → List Entry

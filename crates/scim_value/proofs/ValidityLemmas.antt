@@ -6,8 +6,8 @@ use Rattle.std.proofs.lemmas.List.{append_cancel_right}
 use denote.Ref.{Bor}
 use Rattle.scim_schema.specs.declared.Attribute.TheVariants.{Meta}
 use Rattle.scim_schema.specs.declared.SubAttribute.TheVariants.{Location}
-use Rattle.scim_value.specs.declared.atoms.Atom.TheVariants.{Text}
-use Rattle.scim_value.specs.Content.{Content}
+use Rattle.scim_cell.specs.declared.atoms.Atom.TheVariants.{Text}
+use Rattle.scim_cell.specs.Content.{Content}
 use Rattle.scim_schema.specs.Units.{leaf_at}
 use Rattle.scim_value.specs.Resource.{first_at, location, HasBase}
 

@@ -2,10 +2,10 @@
 use Rattle.std.specs.Prelude.{ℕ}
 use Rattle.std.specs.FinMap.{entries, insert, remove}
 use Rattle.scim_schema.specs.declared.Leaf.{Leaf}
-use Rattle.scim_value.specs.declared.atoms.Atom.{Atom}
-use Rattle.scim_value.specs.Place.{place_at}
-use Rattle.scim_value.specs.Content.{Content}
-use Rattle.scim_value.specs.Rows.{rows_of, content}
+use Rattle.scim_cell.specs.declared.atoms.Atom.{Atom}
+use Rattle.scim_cell.specs.Place.{place_at}
+use Rattle.scim_cell.specs.Content.{Content}
+use Rattle.scim_cell.specs.Rows.{rows_of, content}
 
 -- with this atom at a position of a leaf, over one that stands there
 abbrev pub with_cell : Leaf → ℕ → Atom → Content → Content

@@ -1,38 +1,20 @@
--- When two fields, rows or parts are equal.
-use Rattle.std.specs.Prelude.{◌≡◌, ◌&&◌, eqb, Bool, nat_eq, refl}
+-- When two parts are equal.
+use Rattle.std.specs.Prelude.{◌≡◌, ◌&&◌, eqb, Bool, nat_eq}
 use Rattle.std.specs.Bool.{Decides}
 use Rattle.std.specs.Cmp.{IsEquivalence, decided, unsigned_Decides}
 use Rattle.std.specs.Cmp.Lexicographic.{pointwise, pointwise_decides, bytes_decides}
-use Rattle.std.specs.Option.{option_eq}
 use Rattle.std.specs.FinMap.{entries, same_entries_map}
 use Rattle.std.proofs.Common.{ap}
 use Rattle.std.proofs.lemmas.Bool.Decides.{Decides-and}
 use denote.Enum.Bare.{sameb, same_true, true_same}
 use Rattle.scim_schema.specs.declared.Kind.{Kind}
-use Rattle.scim_schema.specs.declared.Leaf.{Leaf}
-use Rattle.scim_schema.specs.declared.Unit.{Unit as AttributeUnit}
 use Rattle.scim_schema.specs.contracts.Kind.{the_type as the_kind}
-use Rattle.scim_schema.specs.contracts.Attribute.{the_type as the_attribute}
-use Rattle.scim_schema.specs.contracts.SubAttribute.{the_type as the_sub_attribute}
-use Rattle.scim_schema.proofs.LeafLemmas.{leaf_eq, Decides-leaf_eq, and_first, and_second}
-use Rattle.scim_value.specs.declared.places.Place.{Place}
-use Rattle.scim_value.specs.declared.rows.Field.{Field}
-use Rattle.scim_value.specs.Atoms.{is_same_atom, is_same_atom-Decides}
-use Rattle.scim_value.specs.Place.{leaf_of, place_at}
-use Rattle.scim_value.specs.Content.{Content, Entry}
-use Rattle.scim_value.specs.Rows.{Row}
-
--- whether two fields are of one leaf, and have one atom
-abbrev pub is_same_field : Field → Field → Bool
-is_same_field f g = leaf_eq f.leaf g.leaf && is_same_atom f.atom g.atom
-
--- whether two units are one
-abbrev pub is_same_unit : AttributeUnit → AttributeUnit → Bool
-is_same_unit u v = sameb the_attribute u.attribute v.attribute && option_eq (sameb the_sub_attribute) u.sub_attribute v.sub_attribute
-
--- whether two rows are of one unit, and have the same fields
-abbrev pub is_same_row : Row → Row → Bool
-is_same_row r s = is_same_unit r.unit s.unit && pointwise is_same_field r.fields s.fields
+use Rattle.scim_schema.proofs.LeafLemmas.{leaf_eq, Decides-leaf_eq}
+use Rattle.scim_cell.specs.declared.places.Place.{Place}
+use Rattle.scim_cell.specs.Atoms.{is_same_atom, is_same_atom-Decides}
+use Rattle.scim_cell.specs.Place.{leaf_of, place_at}
+use Rattle.scim_cell.specs.Content.{Content, Entry}
+use Rattle.scim_cell.specs.Equality.{both}
 
 -- whether two entries are at one place, and have one atom
 abbrev pub is_same_entry : Entry → Entry → Bool
@@ -42,40 +24,9 @@ is_same_entry e f = (leaf_eq (leaf_of e.0) (leaf_of f.0) && eqb e.0.position f.0
 abbrev pub is_same_part : Content → Content → Bool
 is_same_part c d = sameb the_kind c.kind d.kind && (pointwise nat_eq c.id d.id && pointwise is_same_entry (entries c.cells) (entries d.cells))
 
--- two tests decide together what they decide the two pieces of
-both : {P Q R : Type 0} (p q : Bool) → Decides p P → Decides q Q → (P → Q → R) → (R → P) → (R → Q) → Decides (p && q) R
-both p q first second make one two = (λ t. make (first.0 (and_first p q t)) (second.0 (and_second p q t)), λ r. rw (first.1 (one r), second.1 (two r)) refl)
-
 -- each test decides whether the two are one
 kind_Decides : (a b : Kind) → Decides (sameb the_kind a b) (a ≡ b)
 kind_Decides a b = (same_true the_kind tt a b, true_same the_kind a b)
-
-pub is_same_field-Decides : (f g : Field) → Decides (is_same_field f g) (f ≡ g)
-is_same_field-Decides f g =
-    both _ _ (Decides-leaf_eq f.leaf g.leaf) (is_same_atom-Decides f.atom g.atom)
-    (λ p q. λ i. record { leaf = p i; atom = q i }) (ap (λ (x : Field). x.leaf)) (ap (λ (x : Field). x.atom))
-
-pub is_same_field-IsEquivalence : IsEquivalence is_same_field
-is_same_field-IsEquivalence = decided is_same_field is_same_field-Decides
-
-leaf_like : AttributeUnit → Leaf
-leaf_like u = record { attribute = u.attribute; sub_attribute = u.sub_attribute }
-
-unit_like : Leaf → AttributeUnit
-unit_like l = record { attribute = l.attribute; sub_attribute = l.sub_attribute }
-
-pub is_same_unit-Decides : (u v : AttributeUnit) → Decides (is_same_unit u v) (u ≡ v)
-unfolding leaf_like unit_like
-is_same_unit-Decides u v =
-    let d = Decides-leaf_eq (leaf_like u) (leaf_like v) in (λ t. ap unit_like (d.0 t), λ e. d.1 (ap leaf_like e))
-
-pub is_same_row-Decides : (r s : Row) → Decides (is_same_row r s) (r ≡ s)
-is_same_row-Decides r s =
-    both _ _ (is_same_unit-Decides r.unit s.unit) (pointwise_decides is_same_field-Decides r.fields s.fields)
-    (λ p q. λ i. record { unit = p i; fields = q i }) (ap (λ (x : Row). x.unit)) (ap (λ (x : Row). x.fields))
-
-pub is_same_row-IsEquivalence : IsEquivalence is_same_row
-is_same_row-IsEquivalence = decided is_same_row is_same_row-Decides
 
 place_Decides : (p q : Place) → Decides (leaf_eq (leaf_of p) (leaf_of q) && eqb p.position q.position) (p ≡ q)
 place_Decides p q =

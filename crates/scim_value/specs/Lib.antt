@@ -1,16 +1,7 @@
-pub mod Atoms
-pub mod Chain
 pub mod Changes
-pub mod Content
 pub mod Equality
-pub mod Fields
-pub mod Grouping
-pub mod Ids
-pub mod Inside
 pub mod Laws
 pub mod Listing
-pub mod NamesInside
-pub mod Place
 pub mod Resource
-pub mod Rows
 pub mod UniqueNames
+pub mod code

@@ -3,23 +3,14 @@ use Rattle.std.specs.Prelude.{◌≡◌, ℕ, ◌+◌, Option, None, Some, List,
 use Rattle.std.specs.List.{flat_map}
 use Rattle.std.specs.FinMap.{entries}
 use Rattle.scim_schema.specs.declared.Attribute.{Attribute}
-use Rattle.scim_schema.specs.declared.Attribute.TheVariants.{Addresses, Members}
 use Rattle.scim_schema.specs.declared.Leaf.{Leaf}
-use Rattle.scim_schema.specs.declared.SubAttribute.{SubAttribute}
-use Rattle.scim_schema.specs.declared.SubAttribute.TheVariants.{Formatted, Value, Reference, Display, TypeName, Primary, StreetAddress, Locality, Region, PostalCode, Country}
-use Rattle.scim_schema.specs.Table.{attributes, sub_attributes, leaves_with}
+use Rattle.scim_schema.specs.Table.{attributes, leaves_with}
 use Rattle.scim_schema.specs.Characteristics.{is_multi_valued}
 use Rattle.scim_schema.specs.Units.{leaf_at, whole}
-use Rattle.scim_value.specs.declared.atoms.Atom.{Atom}
-use Rattle.scim_value.specs.Place.{place_at}
-use Rattle.scim_value.specs.Content.{Content, Entry, IsPart}
-use Rattle.scim_value.specs.Rows.{Row, rows, values, atom_in, cell_at}
-
--- the sub-attributes of an attribute in order of place, which for two attributes isn't that of the table
-unfoldable pub sub_attributes_by_place : Attribute → List SubAttribute
-sub_attributes_by_place Addresses = Formatted ∷ TypeName ∷ Primary ∷ StreetAddress ∷ Locality ∷ Region ∷ PostalCode ∷ Country ∷ []
-sub_attributes_by_place Members = Value ∷ Reference ∷ Display ∷ TypeName ∷ []
-sub_attributes_by_place a = sub_attributes a
+use Rattle.scim_cell.specs.declared.atoms.Atom.{Atom}
+use Rattle.scim_cell.specs.Place.{place_at, sub_attributes_by_place}
+use Rattle.scim_cell.specs.Content.{Content, Entry, IsPart}
+use Rattle.scim_cell.specs.Rows.{Row, rows, values, atom_in, cell_at}
 
 -- the cell of a leaf at a position, where there is an atom
 abbrev pub cell_with : Leaf → ℕ → Option Atom → List Entry

@@ -12,13 +12,13 @@ use Rattle.scim_schema.specs.Characteristics.{characteristics_of}
 use Rattle.scim_schema.specs.Names.{kind_name, endpoint}
 use Rattle.scim_schema.specs.Table.{attributes}
 use Rattle.scim_schema.specs.Units.{simple, leaf_at, whole}
-use Rattle.scim_value.specs.Ids.{IsId, id_text}
-use Rattle.scim_value.specs.declared.atoms.Atom.{Atom}
-use Rattle.scim_value.specs.declared.atoms.Atom.TheVariants.{Text, Truth}
-use Rattle.scim_value.specs.declared.rows.Field.{Field}
-use Rattle.scim_value.specs.Place.{place_at}
-use Rattle.scim_value.specs.Content.{Content, IsPart}
-use Rattle.scim_value.specs.Rows.{Row, rows, values, atom_in}
+use Rattle.scim_cell.specs.Ids.{IsId, id_text}
+use Rattle.scim_cell.specs.declared.atoms.Atom.{Atom}
+use Rattle.scim_cell.specs.declared.atoms.Atom.TheVariants.{Text, Truth}
+use Rattle.scim_cell.specs.declared.rows.Field.{Field}
+use Rattle.scim_cell.specs.Place.{place_at}
+use Rattle.scim_cell.specs.Content.{Content, IsPart}
+use Rattle.scim_cell.specs.Rows.{Row, rows, values, atom_in}
 
 -- what stands at the first position of a leaf
 abbrev pub first_at : Leaf → Content → Option Atom

@@ -1,5 +1,5 @@
 -- The names that no two resources share.
-use Rattle.std.specs.Prelude.{◌≢◌, ℕ, Bool, List, [], ◌∷◌, Option, Some, filter, Contains, if◌then◌else◌}
+use Rattle.std.specs.Prelude.{◌≢◌, ℕ, Bool, List, [], ◌∷◌, Option, Some, filter, Contains, string_bytes, if◌then◌else◌}
 use Rattle.std.specs.List.{flat_map}
 use denote.Enum.Bare.{sameb}
 use Rattle.scim_text.specs.Names.{folded}
@@ -9,15 +9,20 @@ use Rattle.scim_schema.specs.declared.characteristics.Uniqueness.TheVariants.{Se
 use Rattle.scim_schema.specs.contracts.characteristics.Uniqueness.{the_type as the_uniqueness}
 use Rattle.scim_schema.specs.Characteristics.{characteristics_of}
 use Rattle.scim_schema.specs.Table.{leaves}
-use Rattle.scim_value.specs.declared.atoms.Atom.{Atom}
-use Rattle.scim_value.specs.declared.atoms.Atom.TheVariants.{Text}
-use Rattle.scim_value.specs.Content.{Content}
+use Rattle.scim_cell.specs.declared.atoms.Atom.{Atom}
+use Rattle.scim_cell.specs.declared.atoms.Atom.TheVariants.{Text}
+use Rattle.scim_value.specs.declared.unique_names.UniqueName.{UniqueName}
+use Rattle.scim_cell.specs.Content.{Content}
 use Rattle.scim_value.specs.Resource.{first_at}
 
 -- a leaf, and the text by which a name that stands there is known
 pub record Name : Type 0 where
   pub leaf : Leaf
   pub text : List ℕ
+
+-- a name that the code keeps, by the bytes of its text
+abbrev pub name_of : UniqueName → Name
+name_of n = record { leaf = n.leaf; text = string_bytes n.text }
 
 -- whether no two resources have one name at the leaf (RFC 7643 section 2.2, uniqueness)
 abbrev pub is_unique : Kind → Leaf → Bool

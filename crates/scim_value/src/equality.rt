@@ -1,55 +1,8 @@
-//! Fields, rows and parts are equal just where nothing tells them apart.
+//! Parts and resources are equal just where nothing tells them apart.
 ghost use Rattle.std.specs.Prelude.{◌≡◌, ◌↔◌, IsTrue};
 
 use crate::parts::Part;
 use crate::resources::Resource;
-use crate::rows::{Field, Row};
-
-/// Fields are equal where their leaves and their atoms are.
-impl PartialEq for Field {
-    ghost use Rattle.std.specs.Cmp.{partial_equiv_from_equiv};
-    ghost use Rattle.scim_value.specs.Equality.{is_same_field, is_same_field-IsEquivalence};
-
-    ghost eq = { is_same_field };
-
-    ghost laws = { partial_equiv_from_equiv is_same_field-IsEquivalence };
-
-    fn eq(&self, other: &Field) -> bool
-        ensures value { result ≡ is_same_field self.now other.now }
-        ensures exact { IsTrue result ↔ (self.now ≡ other.now) }
-    {
-        self.leaf == other.leaf && self.atom == other.atom
-    }
-}
-
-impl Eq for Field {
-    ghost use Rattle.scim_value.specs.Equality.{is_same_field-IsEquivalence};
-
-    ghost laws = { is_same_field-IsEquivalence };
-}
-
-/// Rows are equal where their units and their fields are.
-impl PartialEq for Row {
-    ghost use Rattle.std.specs.Cmp.{partial_equiv_from_equiv};
-    ghost use Rattle.scim_value.specs.Equality.{is_same_row, is_same_row-IsEquivalence};
-
-    ghost eq = { is_same_row };
-
-    ghost laws = { partial_equiv_from_equiv is_same_row-IsEquivalence };
-
-    fn eq(&self, other: &Row) -> bool
-        ensures value { result ≡ is_same_row self.now other.now }
-        ensures exact { IsTrue result ↔ (self.now ≡ other.now) }
-    {
-        self.unit() == other.unit() && self.fields() == other.fields()
-    }
-}
-
-impl Eq for Row {
-    ghost use Rattle.scim_value.specs.Equality.{is_same_row-IsEquivalence};
-
-    ghost laws = { is_same_row-IsEquivalence };
-}
 
 /// Parts are equal where their kinds, their ids and their cells are.
 impl PartialEq for Part {

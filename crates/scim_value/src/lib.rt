@@ -1,21 +1,19 @@
-//! Atoms, ids, and the parts and resources that hold them (RFC 7643 sections 2 and 3).
+//! Parts and resources: what stands in their cells, and how it changes (RFC 7643 sections 2 to 4).
 #![tactic(auto)]
 
-pub mod atoms;
-pub mod cells;
+pub mod cell_checks;
 pub mod equality;
 pub mod faults;
-pub mod ids;
 pub mod laws;
 pub mod part_changes;
 pub mod part_of_cells;
 pub mod parts;
-pub mod places;
 pub mod resource_changes;
 pub mod resources;
-pub mod row_checks;
-pub mod rows;
+pub mod row_lists;
 #[cfg(test)]
 mod tests;
 pub mod unique_names;
 pub mod validity;
+
+pub use scim_cell::{atoms, cells, ids, places, row_checks, rows};

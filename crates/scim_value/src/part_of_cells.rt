@@ -2,16 +2,17 @@
 ghost use Rattle.std.specs.Prelude.{◌≡◌, IfOk, OnOk, OnErr, None, Err};
 ghost use Rattle.std.specs.List.Sorted.{IsPermutation};
 ghost use Rattle.std.specs.FinMap.{entries};
-ghost use Rattle.scim_value.specs.Content.{entry_of, entries_of, AreSortedPartCells, AreCellsOfAPart};
-ghost use Rattle.scim_value.specs.Rows.{rows_of, goes_with};
-ghost use Rattle.scim_value.specs.Grouping.{grouped, joins};
+ghost use Rattle.scim_cell.specs.Content.{entry_of, entries_of, AreSortedPartCells, AreCellsOfAPart};
+ghost use Rattle.scim_cell.specs.Rows.{rows_of, goes_with};
+ghost use Rattle.scim_value.specs.code.Grouping.{grouped, joins};
 
-use crate::cells::{Cell, are_sorted_part_cells};
+use crate::cell_checks::are_sorted_part_cells;
 use crate::faults::Fault;
-use crate::ids::Id;
 use crate::parts::Part;
-use crate::places::Place;
-use crate::rows::{Field, Row};
+use scim_cell::cells::Cell;
+use scim_cell::ids::Id;
+use scim_cell::places::Place;
+use scim_cell::rows::{Field, Row};
 use scim_schema::Kind;
 use scim_schema::characteristics::is_multi_valued;
 use scim_schema::units::unit_of;
@@ -55,7 +56,7 @@ impl Part {
 }
 
 /// Whether two cells are of one value of a multi-valued attribute.
-#[tactic(auto, unfolding(crate::specs::Rows::goes_with))]
+#[tactic(auto, unfolding(scim_cell::specs::Rows::goes_with))]
 fn go_together(a: Place, b: Place) -> bool
     ensures { result ≡ goes_with a b }
 {

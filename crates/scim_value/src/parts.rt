@@ -7,15 +7,16 @@ ghost use Rattle.std.specs.Ordering.{is_lt, is_eq, is_gt};
 ghost use Rattle.std.specs.Option.{option_copied};
 ghost use Rattle.std.specs.FinMap.{get, entries};
 ghost use Rattle.scim_schema.specs.Units.{unit_of};
-ghost use Rattle.scim_value.specs.Place.{place_at, unit_cmp};
-ghost use Rattle.scim_value.specs.Content.{entries_of, IsPart, AreSortedPartCells};
-ghost use Rattle.scim_value.specs.Rows as spec;
-ghost use Rattle.scim_value.specs.Rows.{AreSound, AreValues};
+ghost use Rattle.scim_cell.specs.Place.{place_at, unit_cmp};
+ghost use Rattle.scim_cell.specs.Content.{entries_of, IsPart, AreSortedPartCells};
+ghost use Rattle.scim_cell.specs.Rows as spec;
+ghost use Rattle.scim_cell.specs.Rows.{AreSound, AreValues};
 
-use crate::atoms::Atom;
-use crate::ids::Id;
-use crate::places::compare_units;
-use crate::rows::{Row, RowTest, copy_rows, kept_rows};
+use crate::row_lists::{copy_rows, kept_rows};
+use scim_cell::atoms::Atom;
+use scim_cell::ids::Id;
+use scim_cell::places::compare_units;
+use scim_cell::rows::{Row, RowTest};
 use scim_schema::characteristics::is_multi_valued;
 use scim_schema::units::unit_of;
 use scim_schema::{Attribute, Kind, Leaf, Unit};
@@ -38,16 +39,16 @@ pub struct Part {
 impl Model for Part {
     ghost use Rattle.std.specs.Coded.{codes};
     ghost use Rattle.std.specs.FinMap as map;
-    ghost use Rattle.scim_value.specs.contracts.places.Place as place;
-    ghost use Rattle.scim_value.specs.Place.{place_cmp};
-    ghost use Rattle.scim_value.specs.contracts.atoms.Atom as atom;
-    ghost use Rattle.scim_value.specs.Content.{Content};
+    ghost use Rattle.scim_cell.specs.contracts.places.Place as place;
+    ghost use Rattle.scim_cell.specs.Place.{place_cmp};
+    ghost use Rattle.scim_cell.specs.contracts.atoms.Atom as atom;
+    ghost use Rattle.scim_cell.specs.Content.{Content};
 
     ghost Value = { Content };
 
     ghost coded = { Prim.hlevel (codes, map.code {R = place_cmp} place.the_row.coded atom.the_row.coded) };
 
-    ghost use Rattle.scim_value.specs.Inside.{content_of, IsSoundPart};
+    ghost use Rattle.scim_value.specs.code.Inside.{content_of, IsSoundPart};
 
     ghost view = { content_of };
 

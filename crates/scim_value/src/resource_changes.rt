@@ -3,9 +3,9 @@ ghost use Rattle.std.specs.Prelude.{◌≡◌, IfOk, OnOk, Err};
 ghost use Rattle.scim_value.specs.Changes.{with_cell, without_cell};
 ghost use Rattle.scim_value.specs.Resource.{IsResource};
 
-use crate::atoms::Atom;
 use crate::faults::Fault;
 use crate::resources::Resource;
+use scim_cell::atoms::Atom;
 use scim_schema::Leaf;
 use std::alloc::Global;
 

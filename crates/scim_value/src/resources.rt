@@ -2,16 +2,16 @@
 ghost use Rattle.std.specs.Prelude.{◌≡◌, ◌↔◌, IfOk, IsOk};
 ghost use Rattle.std.specs.Option.{option_copied};
 ghost use Rattle.std.specs.FinMap.{get};
-ghost use Rattle.scim_value.specs.Place.{place_at};
-ghost use Rattle.scim_value.specs.Rows.{positions, rows};
+ghost use Rattle.scim_cell.specs.Place.{place_at};
+ghost use Rattle.scim_cell.specs.Rows.{positions, rows};
 ghost use Rattle.scim_value.specs.Resource as spec;
 ghost use Rattle.scim_value.specs.Resource.{IsResource, HasBase};
 
-use crate::atoms::{Atom, Text};
 use crate::faults::Invalid;
-use crate::ids::Id;
 use crate::parts::Part;
 use crate::validity::{has_base, is_resource};
+use scim_cell::atoms::{Atom, Text};
+use scim_cell::ids::Id;
 use scim_schema::{Attribute, Kind, Leaf};
 use scim_text::NoMemory;
 use std::alloc::Global;
@@ -41,10 +41,10 @@ pub fn location(alloc: Global, base: &str, kind: Kind, id: Id) -> Result<Text, N
 impl Model for Resource {
     ghost use Rattle.std.specs.Coded.{codes};
     ghost use Rattle.std.specs.FinMap as map;
-    ghost use Rattle.scim_value.specs.contracts.places.Place as place;
-    ghost use Rattle.scim_value.specs.Place.{place_cmp};
-    ghost use Rattle.scim_value.specs.contracts.atoms.Atom as atom;
-    ghost use Rattle.scim_value.specs.Content.{Content};
+    ghost use Rattle.scim_cell.specs.contracts.places.Place as place;
+    ghost use Rattle.scim_cell.specs.Place.{place_cmp};
+    ghost use Rattle.scim_cell.specs.contracts.atoms.Atom as atom;
+    ghost use Rattle.scim_cell.specs.Content.{Content};
     ghost use Rattle.scim_value.specs.Resource.{IsResource};
 
     ghost Value = { Content };

@@ -3,10 +3,10 @@ ghost use Rattle.std.specs.Prelude.{◌≡◌, ◌++◌, IfOk, OnOk, map, string
 ghost use Rattle.std.specs.List.{flat_map};
 ghost use Rattle.scim_value.specs.Resource.{first_at};
 ghost use Rattle.scim_value.specs.UniqueNames as spec;
-ghost use Rattle.scim_value.specs.NamesInside.{name_of};
+ghost use Rattle.scim_value.specs.UniqueNames.{name_of};
 
-use crate::atoms::Atom;
 use crate::resources::Resource;
+use scim_cell::atoms::Atom;
 use scim_schema::characteristics::characteristics_of;
 use scim_schema::{Attribute, Kind, Leaf};
 use scim_text::{NoMemory, fold};

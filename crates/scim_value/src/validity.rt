@@ -4,15 +4,15 @@ ghost use Rattle.std.specs.Prelude.{◌≡◌, ◌↔◌, ◌≤◌, ◌++◌, L
 ghost use Rattle.std.specs.Option.{option_copied};
 ghost use Rattle.scim_schema.specs.Names.{endpoint};
 ghost use Rattle.scim_schema.specs.Units.{leaf_at, whole};
-ghost use Rattle.scim_value.specs.declared.atoms.Atom.TheVariants.{Text};
-ghost use Rattle.scim_value.specs.Rows.{values, rows};
+ghost use Rattle.scim_cell.specs.declared.atoms.Atom.TheVariants.{Text};
+ghost use Rattle.scim_cell.specs.Rows.{values, rows};
 ghost use Rattle.scim_value.specs.Resource as spec;
 ghost use Rattle.scim_value.specs.Resource.{first_at, IsResource, IsIdentified, HasMeta, HasBase, IsNamed, MembersHaveValues, HasOnePrimary, HasFewValues, IsShort, MayBeKept};
 
-use crate::atoms::Atom;
-use crate::ids::Id;
 use crate::parts::Part;
-use crate::rows::{Field, Row};
+use scim_cell::atoms::Atom;
+use scim_cell::ids::Id;
+use scim_cell::rows::{Field, Row};
 use scim_schema::characteristics::{Mutability, characteristics_of};
 use scim_schema::table::attributes;
 use scim_schema::{Attribute, Kind, Leaf, SubAttribute, Unit};

@@ -21,15 +21,16 @@ use Rattle.scim_schema.specs.declared.SubAttribute.TheVariants.{Value}
 use Rattle.scim_schema.specs.Characteristics.{is_multi_valued}
 use Rattle.scim_schema.specs.Units.{simple, leaf_at, whole, unit_of}
 use Rattle.scim_schema.proofs.LeafLemmas.{leaf_one}
-use Rattle.scim_value.specs.declared.rows.Field.{Field}
-use Rattle.scim_value.specs.Content.{Content, IsPart}
-use Rattle.scim_value.specs.Ids.{id_text}
-use Rattle.scim_value.specs.Place.{unit_cmp}
-use Rattle.scim_value.specs.Rows.{Row, Test, rows, values, put_values, restricted_row, restricted, content, is_leaf, atom_in, atom_at, cell_at, is_empty, has_fields, IsSoundField, IsSoundRow, AreValues}
-use Rattle.scim_value.proofs.FieldLemmas.{sound-AreRising}
+use Rattle.scim_cell.specs.declared.rows.Field.{Field}
+use Rattle.scim_cell.specs.Content.{Content, IsPart}
+use Rattle.scim_cell.specs.Ids.{id_text}
+use Rattle.scim_cell.specs.Place.{unit_cmp}
+use Rattle.scim_cell.specs.Rows.{Row, Test, rows, values, put_values, restricted_row, restricted, content, is_leaf, atom_in, atom_at, cell_at, is_empty, has_fields, IsSoundField, IsSoundRow, AreValues}
+use Rattle.scim_cell.proofs.FieldLemmas.{sound-AreRising}
 use Rattle.scim_value.proofs.OfLemmas.{sound_part}
 use Rattle.scim_value.proofs.OrderLemmas.{unit_same}
-use Rattle.scim_value.proofs.SoundLemmas.{PartsRise, restricted_sound}
+use Rattle.scim_cell.proofs.FieldLemmas.{PartsRise}
+use Rattle.scim_value.proofs.SoundLemmas.{restricted_sound}
 use Rattle.scim_value.proofs.TieLemmas.{rows_content}
 use Rattle.scim_policy.specs.declared.rules.Decision.{Decision}
 use Rattle.scim_policy.specs.Rules.{Rule}

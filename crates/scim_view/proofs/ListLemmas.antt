@@ -9,9 +9,9 @@ use Rattle.scim_schema.specs.declared.Leaf.{Leaf}
 use Rattle.scim_schema.specs.declared.Attribute.TheVariants.{Id}
 use Rattle.scim_schema.specs.declared.Op.TheVariants.{Read}
 use Rattle.scim_schema.specs.Units.{simple}
-use Rattle.scim_value.specs.Content.{Content}
-use Rattle.scim_value.specs.Ids.{IsId}
-use Rattle.scim_value.specs.Rows.{Row}
+use Rattle.scim_cell.specs.Content.{Content}
+use Rattle.scim_cell.specs.Ids.{IsId}
+use Rattle.scim_cell.specs.Rows.{Row}
 use Rattle.scim_policy.specs.declared.rules.Decision.{Decision}
 use Rattle.scim_policy.specs.Rules.{Rule}
 use Rattle.scim_policy.specs.Decide.{decide}

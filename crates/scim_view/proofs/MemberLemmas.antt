@@ -11,10 +11,10 @@ use Rattle.scim_schema.specs.declared.Leaf.{Leaf}
 use Rattle.scim_schema.specs.declared.Attribute.TheVariants.{Members}
 use Rattle.scim_schema.specs.declared.SubAttribute.TheVariants.{Value}
 use Rattle.scim_schema.specs.Units.{leaf_at, whole}
-use Rattle.scim_value.specs.declared.atoms.Atom.TheVariants.{Text}
-use Rattle.scim_value.specs.Content.{Content, IsPart}
-use Rattle.scim_value.specs.Ids.{IsId, IsIdText, id_text}
-use Rattle.scim_value.proofs.IdLemmas.{IsIdText-id_text, id_text-injective}
+use Rattle.scim_cell.specs.declared.atoms.Atom.TheVariants.{Text}
+use Rattle.scim_cell.specs.Content.{Content, IsPart}
+use Rattle.scim_cell.specs.Ids.{IsId, IsIdText, id_text}
+use Rattle.scim_cell.proofs.IdLemmas.{IsIdText-id_text, id_text-injective}
 use Rattle.scim_policy.specs.declared.rules.Decision.{Decision}
 use Rattle.scim_view.specs.View.{may_be_seen, visible_by}
 use Rattle.scim_view.specs.Groups.{is_text, lists}

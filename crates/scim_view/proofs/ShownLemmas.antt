@@ -1,8 +1,8 @@
 -- Parts that are shown whole.
 use Rattle.std.proofs.Common.{◌≡◌, refl, sym, true}
 use Rattle.std.specs.List.{list_all}
-use Rattle.scim_value.specs.Content.{Content, IsPart}
-use Rattle.scim_value.specs.Rows.{rows}
+use Rattle.scim_cell.specs.Content.{Content, IsPart}
+use Rattle.scim_cell.specs.Rows.{rows}
 use Rattle.scim_value.proofs.OfLemmas.{sound_part}
 use Rattle.scim_view.specs.declared.projection.Wanted.{Wanted}
 use Rattle.scim_view.specs.Shown.{shows, shown}

@@ -14,13 +14,13 @@ use Rattle.scim_schema.specs.declared.Attribute.TheVariants.{DisplayName, Groups
 use Rattle.scim_schema.specs.declared.SubAttribute.{SubAttribute}
 use Rattle.scim_schema.specs.declared.SubAttribute.TheVariants.{Value, Reference, Display, TypeName}
 use Rattle.scim_schema.specs.Units.{simple, leaf_at, whole}
-use Rattle.scim_value.specs.declared.atoms.Atom.{Atom}
-use Rattle.scim_value.specs.declared.atoms.Atom.TheVariants.{Text}
-use Rattle.scim_value.specs.declared.rows.Field.{Field}
-use Rattle.scim_value.specs.Content.{Content}
-use Rattle.scim_value.specs.Ids.{id_text}
+use Rattle.scim_cell.specs.declared.atoms.Atom.{Atom}
+use Rattle.scim_cell.specs.declared.atoms.Atom.TheVariants.{Text}
+use Rattle.scim_cell.specs.declared.rows.Field.{Field}
+use Rattle.scim_cell.specs.Content.{Content}
+use Rattle.scim_cell.specs.Ids.{id_text}
 use Rattle.scim_value.specs.Resource.{location}
-use Rattle.scim_value.specs.Rows.{Row, rows, values, put_values, restricted, content, atom_in, cell_at}
+use Rattle.scim_cell.specs.Rows.{Row, rows, values, put_values, restricted, content, atom_in, cell_at}
 use Rattle.scim_policy.specs.declared.rules.Decision.{Decision}
 use Rattle.scim_policy.specs.Rules.{Rule}
 use Rattle.scim_policy.specs.Decide.{decide}

@@ -5,8 +5,8 @@ use Rattle.scim_schema.specs.declared.Leaf.{Leaf}
 use Rattle.scim_schema.specs.declared.characteristics.Returned.{Returned}
 use Rattle.scim_schema.specs.declared.characteristics.Returned.TheVariants as returned
 use Rattle.scim_schema.specs.Characteristics.{characteristics_of}
-use Rattle.scim_value.specs.Content.{Content}
-use Rattle.scim_value.specs.Rows.{rows, restricted, content}
+use Rattle.scim_cell.specs.Content.{Content}
+use Rattle.scim_cell.specs.Rows.{rows, restricted, content}
 use Rattle.scim_view.specs.declared.projection.Wanted.{Wanted}
 use Rattle.scim_view.specs.declared.projection.Wanted.TheVariants as wanted
 use Rattle.scim_view.specs.Names.{covers}

@@ -3,8 +3,8 @@ ghost use Rattle.std.specs.Prelude.{◌≡◌, true, ℕ, List, IfOk, OnOk, map,
 ghost use Rattle.std.specs.Option.{option_copied};
 ghost use Rattle.std.specs.List.{list_any};
 ghost use Rattle.scim_schema.specs.Units.{whole, leaf_at};
-ghost use Rattle.scim_value.specs.Ids.{id_text};
-ghost use Rattle.scim_value.specs.Rows.{rows, values, atom_in, restricted};
+ghost use Rattle.scim_cell.specs.Ids.{id_text};
+ghost use Rattle.scim_cell.specs.Rows.{rows, values, atom_in, restricted};
 ghost use Rattle.scim_policy.specs.code.Table.{decision};
 ghost use Rattle.scim_view.specs.View as seeing;
 ghost use Rattle.scim_view.specs.View.{visible_by};
@@ -15,14 +15,14 @@ ghost use Rattle.scim_view.specs.Groups as spec;
 use crate::memberships::membership;
 use crate::restrictions::with_values;
 use crate::views::{MayBeSeen, visible_by};
+use scim_cell::atoms::{Atom, Text};
+use scim_cell::ids::Id;
+use scim_cell::rows::Row;
 use scim_policy::{Decisions, Policy};
 use scim_schema::{Attribute, Kind, Leaf, Op, SubAttribute, Unit};
 use scim_text::NoMemory;
-use scim_value::atoms::{Atom, Text};
-use scim_value::ids::Id;
 use scim_value::parts::Part;
 use scim_value::resources::Resource;
-use scim_value::rows::Row;
 use std::alloc::Global;
 
 /// A group that a client sees: what of it is shown at its members.

@@ -1,21 +1,21 @@
 //! An index of groups by the ids of their members.
 ghost use Rattle.std.specs.Prelude.{◌≡◌, ◌++◌, ◌∷◌, [], ℕ, List, cond, map, vec_len, IfOk, IfSome, OnOk, if◌then◌else◌};
 ghost use Rattle.std.specs.List.{list_any};
-ghost use Rattle.scim_value.specs.Content.{Content};
-ghost use Rattle.scim_value.specs.Ids.{IsId};
+ghost use Rattle.scim_cell.specs.Content.{Content};
+ghost use Rattle.scim_cell.specs.Ids.{IsId};
 ghost use Rattle.scim_policy.specs.code.Table.{decision};
 ghost use Rattle.scim_view.specs.View.{visible_by};
 ghost use Rattle.scim_view.specs.code.Index as spec;
 ghost use Rattle.scim_view.specs.code.Index.{IsIndexOf, Holds};
 
 use crate::groups::{SeenGroup, seen_group};
+use scim_cell::atoms::Atom;
+use scim_cell::ids::Id;
+use scim_cell::rows::Row;
 use scim_policy::{Decisions, Policy};
 use scim_schema::{Attribute, Leaf, Op, SubAttribute, Unit};
 use scim_text::NoMemory;
-use scim_value::atoms::Atom;
-use scim_value::ids::Id;
 use scim_value::resources::Resource;
-use scim_value::rows::Row;
 use std::alloc::Global;
 use std::collections::HashMap;
 

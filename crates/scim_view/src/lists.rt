@@ -1,6 +1,6 @@
 //! A client's view of resources.
 ghost use Rattle.std.specs.Prelude.{◌≡◌, ℕ, IfOk, List, map};
-ghost use Rattle.scim_value.specs.Content.{Content};
+ghost use Rattle.scim_cell.specs.Content.{Content};
 ghost use Rattle.scim_view.specs.Groups as spec;
 ghost use Rattle.scim_view.specs.code.Index.{Indexes, IsIndexOf};
 

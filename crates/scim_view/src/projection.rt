@@ -1,16 +1,16 @@
 //! What of a visible part a reply shows (RFC 7643 section 7, RFC 7644 section 3.9).
 ghost use Rattle.std.specs.Prelude.{◌≡◌, IfOk};
 ghost use Rattle.std.specs.List.{list_all};
-ghost use Rattle.scim_value.specs.Rows.{rows};
+ghost use Rattle.scim_cell.specs.Rows.{rows};
 ghost use Rattle.scim_view.specs.Shown as spec;
 
 use crate::names::Names;
 use crate::restrictions::restricted;
+use scim_cell::rows::{Row, RowTest};
 use scim_schema::characteristics::{Returned, characteristics_of};
 use scim_schema::{Kind, Leaf};
 use scim_text::NoMemory;
 use scim_value::parts::Part;
-use scim_value::rows::{Row, RowTest};
 use std::alloc::Global;
 
 /// What a client wants to be shown. What is returned always is shown whatever it wants, and what is

@@ -1,11 +1,11 @@
 //! What a test leaves of a part, and parts with other values.
 ghost use Rattle.std.specs.Prelude.{◌≡◌, IfOk};
-ghost use Rattle.scim_value.specs.Rows.{AreValues, rows, content, restricted, put_values};
+ghost use Rattle.scim_cell.specs.Rows.{AreValues, rows, content, restricted, put_values};
 
+use scim_cell::rows::{Row, RowTest};
 use scim_schema::Unit;
 use scim_text::NoMemory;
 use scim_value::parts::Part;
-use scim_value::rows::{Row, RowTest};
 use std::alloc::Global;
 
 /// The part of what the test leaves of a part's rows; positions close up. NoMemory where none was to

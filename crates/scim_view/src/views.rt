@@ -2,18 +2,18 @@
 ghost use Rattle.std.specs.Prelude.{◌≡◌, ◌&&◌, not, IfOk};
 ghost use Rattle.scim_schema.specs.declared.Leaf.{Leaf};
 ghost use Rattle.scim_schema.specs.declared.Kind.{Kind};
-ghost use Rattle.scim_value.specs.Rows.{rows, restricted};
+ghost use Rattle.scim_cell.specs.Rows.{rows, restricted};
 ghost use Rattle.scim_policy.specs.code.Table.{decision};
 ghost use Rattle.scim_view.specs.View as spec;
 
 use crate::restrictions::restricted;
+use scim_cell::rows::{Row, RowTest};
 use scim_policy::{Decisions, Policy};
 use scim_schema::characteristics::{Mutability, characteristics_of};
 use scim_schema::{Attribute, Kind, Leaf, Op};
 use scim_text::NoMemory;
 use scim_value::parts::Part;
 use scim_value::resources::Resource;
-use scim_value::rows::{Row, RowTest};
 use std::alloc::Global;
 
 /// The leaves of a kind that may be seen by these decisions on reading.

@@ -2,13 +2,13 @@
 use crate::filter_texts::checks::{compared_type, operators};
 use crate::filter_texts::dice::Dice;
 use crate::filter_texts::literals::{any_literal, literal_of};
+use scim_cell::atoms::Text;
 use scim_filter::tree::{Meant, Node, Operator, Path};
 use scim_schema::characteristics::AttributeType;
 use scim_schema::schemas::{schema_of, schemas};
 use scim_schema::table::{attributes, sub_attributes};
 use scim_schema::{Attribute, Kind, SubAttribute};
 use scim_text::NoMemory;
-use scim_value::atoms::Text;
 use std::alloc::Global;
 
 /// Names that no kind has, some of which are keywords too.

@@ -2,13 +2,13 @@
 use crate::reading::read_filter;
 use crate::tree::Filter;
 use crate::truth::{holds, holds_at};
+use scim_cell::atoms::{Atom, Text};
+use scim_cell::cells::Cell;
+use scim_cell::ids::Id;
 use scim_schema::characteristics::{AttributeType, characteristics_of};
 use scim_schema::lookup::{attribute, sub_attribute};
 use scim_schema::{Attribute, Kind, Leaf, SubAttribute};
 use scim_text::Moment;
-use scim_value::atoms::{Atom, Text};
-use scim_value::cells::Cell;
-use scim_value::ids::Id;
 use scim_value::parts::Part;
 use std::alloc::Global;
 use std::test::Fail;

@@ -1,8 +1,8 @@
 //! Tests of users files.
 use crate::{DocumentFault, read_documents};
+use scim_cell::atoms::Atom;
+use scim_cell::ids::Id;
 use scim_schema::{Attribute, Kind, Leaf};
-use scim_value::atoms::Atom;
-use scim_value::ids::Id;
 use scim_value::resources::Resource;
 use std::alloc::Global;
 use std::process::Abort;

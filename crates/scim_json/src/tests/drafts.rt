@@ -1,9 +1,9 @@
 //! Parts and resources under test, cell by cell.
+use scim_cell::atoms::{Atom, Text};
+use scim_cell::cells::Cell;
+use scim_cell::ids::Id;
 use scim_schema::{Attribute, Kind, Leaf, SubAttribute};
 use scim_text::Moment;
-use scim_value::atoms::{Atom, Text};
-use scim_value::cells::Cell;
-use scim_value::ids::Id;
 use scim_value::parts::Part;
 use scim_value::resources::Resource;
 use std::alloc::Global;

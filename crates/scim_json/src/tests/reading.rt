@@ -1,10 +1,10 @@
 use super::drafts::{BASE, Draft, ID};
 use crate::{StoredFault, read_stored, stored_text};
+use scim_cell::atoms::{Atom, Text};
+use scim_cell::ids::Id;
 use scim_schema::{Attribute, Kind, Leaf, SubAttribute};
 use scim_text::NoMemory;
-use scim_value::atoms::{Atom, Text};
 use scim_value::faults::{Fault, Invalid};
-use scim_value::ids::Id;
 use scim_value::resources::Resource;
 use std::alloc::Global;
 use std::test::Fail;

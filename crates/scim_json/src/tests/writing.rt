@@ -3,8 +3,8 @@ use crate::{
     documents_are_apart, documents_read_back, keys_ascend, keys_have_all_attributes,
     parts_are_shown_whole, stored_text, to_json,
 };
+use scim_cell::atoms::Atom;
 use scim_schema::{Attribute, Kind, SubAttribute};
-use scim_value::atoms::Atom;
 use scim_value::parts::Part;
 use std::alloc::Global;
 use std::test::Fail;

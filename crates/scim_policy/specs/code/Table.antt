@@ -12,7 +12,7 @@ use Rattle.scim_policy.specs.declared.decisions.Decisions.{Decisions}
 use Rattle.std.specs.List.{list_any}
 use Rattle.std.specs.Option.{option_eq}
 use Rattle.scim_schema.specs.declared.Op.{Op}
-use Rattle.scim_value.specs.Content.{Content}
+use Rattle.scim_cell.specs.Content.{Content}
 use Rattle.scim_policy.specs.Rules.{Rule}
 use Rattle.scim_policy.specs.declared.rules.PolicyPath.{PolicyPath}
 use Rattle.scim_policy.specs.Decide.{covers, paths_on, speaks_of}

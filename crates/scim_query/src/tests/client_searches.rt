@@ -2,10 +2,10 @@
 use super::{all, cell, filter_of};
 use crate::client_searches::search_view;
 use crate::queries::{Page, Query};
+use scim_cell::atoms::Atom;
+use scim_cell::ids::Id;
 use scim_policy::{Policy, read_policy};
 use scim_schema::{Attribute, Kind, Leaf};
-use scim_value::atoms::Atom;
-use scim_value::ids::Id;
 use scim_value::parts::Part;
 use scim_value::resources::Resource;
 use scim_view::{Names, Wanted};

@@ -1,7 +1,7 @@
 use super::lines::{cell, leaf_at, made_text, part_text, row, user};
 use crate::parts::Part;
-use crate::row_checks::are_values;
-use crate::rows::Row;
+use scim_cell::row_checks::are_values;
+use scim_cell::rows::Row;
 use scim_schema::units::unit_of;
 use std::alloc::Global;
 use std::test::Fail;

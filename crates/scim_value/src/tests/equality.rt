@@ -1,6 +1,6 @@
 use super::lines::{cells, id, user};
-use crate::ids::Id;
 use crate::parts::Part;
+use scim_cell::ids::Id;
 use scim_schema::Kind;
 use std::alloc::Global;
 use std::test::Fail;

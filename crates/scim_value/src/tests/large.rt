@@ -1,7 +1,7 @@
 use super::lines::{atom_of, atom_text, id, leaf_at};
 use super::restrictions::OfSubAttribute;
-use crate::cells::Cell;
 use crate::parts::Part;
+use scim_cell::cells::Cell;
 use scim_schema::{Kind, SubAttribute};
 use std::alloc::Global;
 use std::test::Fail;

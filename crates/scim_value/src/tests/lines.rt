@@ -1,11 +1,11 @@
 //! Parts, rows and cells as text: cells such as `emails[0].value=babs@example.com` with a space
 //! between two. `=#true` is a Boolean, `=@0` a dateTime in seconds, and all else a text.
-use crate::atoms::{Atom, Text};
-use crate::cells::Cell;
 use crate::faults::Fault;
-use crate::ids::Id;
 use crate::parts::Part;
-use crate::rows::{Field, Row};
+use scim_cell::atoms::{Atom, Text};
+use scim_cell::cells::Cell;
+use scim_cell::ids::Id;
+use scim_cell::rows::{Field, Row};
 use scim_schema::characteristics::is_multi_valued;
 use scim_schema::lookup::{attribute, sub_attribute};
 use scim_schema::units::unit_of;

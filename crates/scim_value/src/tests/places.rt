@@ -1,7 +1,7 @@
 use super::lines::{atom_of, cell, leaf_at};
-use crate::cells::has_type;
 use crate::faults::Fault;
-use crate::places::{compare_units, sub_attributes_by_place};
+use scim_cell::cells::has_type;
+use scim_cell::places::{compare_units, sub_attributes_by_place};
 use scim_schema::characteristics::AttributeType;
 use scim_schema::units::unit_of;
 use scim_schema::{Attribute, SubAttribute};

@@ -1,11 +1,11 @@
 use super::lines::{atom_of, cell, id, leaf_at, part_text};
-use crate::atoms::{Atom, Text};
-use crate::cells::Cell;
 use crate::faults::{Fault, Invalid};
 use crate::parts::Part;
 use crate::resources::{Resource, location};
 use crate::unique_names::{known_text, unique_leaves, unique_names};
 use crate::validity::{LONGEST_TEXT, MOST_VALUES, is_resource};
+use scim_cell::atoms::{Atom, Text};
+use scim_cell::cells::Cell;
 use scim_schema::{Attribute, Kind, Leaf, SubAttribute};
 use std::alloc::Global;
 use std::test::Fail;

@@ -2,12 +2,12 @@ ghost use Rattle.std.specs.Option.{option_eq};
 ghost use Rattle.std.specs.Prelude.{Some};
 ghost use denote.Enum.Bare.{sameb};
 ghost use Rattle.scim_schema.specs.contracts.SubAttribute.{the_type as the_sub_attribute};
-ghost use Rattle.scim_value.specs.Atoms.{is_same_atom};
-ghost use Rattle.scim_value.specs.Rows.{atom_in};
+ghost use Rattle.scim_cell.specs.Atoms.{is_same_atom};
+ghost use Rattle.scim_cell.specs.Rows.{atom_in};
 
 use super::lines::{atom_of, leaf_at, part_text, row, user};
-use crate::atoms::Atom;
-use crate::rows::{Row, RowTest};
+use scim_cell::atoms::Atom;
+use scim_cell::rows::{Row, RowTest};
 use scim_schema::{Leaf, SubAttribute};
 use std::alloc::Global;
 use std::test::Fail;

@@ -1,6 +1,6 @@
 use super::lines::{atom_text, fields, leaf_at, row, rows_text};
-use crate::row_checks::{are_values, is_sound_row};
-use crate::rows::Row;
+use scim_cell::row_checks::{are_values, is_sound_row};
+use scim_cell::rows::Row;
 use scim_schema::Kind;
 use scim_schema::units::unit_of;
 use std::alloc::Global;

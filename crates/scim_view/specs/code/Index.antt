@@ -7,10 +7,10 @@ use Rattle.std.specs.HashMap.{get}
 use Rattle.scim_schema.specs.declared.Attribute.TheVariants.{Members}
 use Rattle.scim_schema.specs.declared.SubAttribute.TheVariants.{Value}
 use Rattle.scim_schema.specs.Units.{leaf_at}
-use Rattle.scim_value.specs.contracts.ids.IdPartialEq.TheImpl as id_eq
-use Rattle.scim_value.specs.Content.{Content}
-use Rattle.scim_value.specs.Ids.{IsId, id_text}
-use Rattle.scim_value.specs.Rows.{Row, atom_in}
+use Rattle.scim_cell.specs.contracts.ids.IdPartialEq.TheImpl as id_eq
+use Rattle.scim_cell.specs.Content.{Content}
+use Rattle.scim_cell.specs.Ids.{IsId, id_text}
+use Rattle.scim_cell.specs.Rows.{Row, atom_in}
 use Rattle.scim_policy.specs.Rules.{Rule}
 use Rattle.scim_view.specs.declared.groups.SeenGroup.{SeenGroup}
 use Rattle.scim_view.specs.declared.index.GroupIndex.{GroupIndex}

@@ -11,8 +11,8 @@ use Rattle.scim_schema.specs.declared.Kind.TheVariants.{User}
 use Rattle.scim_schema.specs.declared.Attribute.TheVariants.{Id, Members}
 use Rattle.scim_schema.specs.declared.SubAttribute.TheVariants.{Value}
 use Rattle.scim_schema.specs.Units.{simple, leaf_at}
-use Rattle.scim_value.specs.declared.rows.Field.{Field}
-use Rattle.scim_value.specs.Content.{Content}
+use Rattle.scim_cell.specs.declared.rows.Field.{Field}
+use Rattle.scim_cell.specs.Content.{Content}
 use Rattle.scim_policy.specs.declared.rules.Decision.{Decision}
 use Rattle.scim_policy.specs.Rules.{Rule}
 use Rattle.scim_view.specs.declared.groups.SeenGroup.{SeenGroup}

@@ -2,7 +2,7 @@ use Rattle.std.proofs.Common.{rules, is_lt}
 use Rattle.std.proofs.lemmas.Cmp.{nat_list_cmp_total}
 use Rattle.std.proofs.lemmas.List.Sorted.{ranks_by}
 use Rattle.std.proofs.lemmas.Fn.{always_returns_same}
-use Rattle.scim_value.specs.Content.{Content}
+use Rattle.scim_cell.specs.Content.{Content}
 use Rattle.scim_command.specs.Directories.{id_cmp}
 use Rattle.scim_command.proofs.directories.sort_by_id.Goals as goal
 

@@ -1,5 +1,5 @@
 use Rattle.std.proofs.Common.{◌≡◌, drop}
-use Rattle.scim_value.specs.Ids.{id_text}
+use Rattle.scim_cell.specs.Ids.{id_text}
 use Rattle.scim_command.specs.Directories.{found}
 use Rattle.scim_command.proofs.directories.with_id.Given as goal
 

@@ -1,5 +1,5 @@
 use Rattle.std.proofs.Common.{◌≡◌, length}
-use Rattle.scim_filter.specs.Bytes.{names_from}
+use Rattle.scim_filter.specs.code.Cuts.{names_from}
 use Rattle.scim_filter.proofs.bytes.skip_urn.Given as goal
 
 abbrev pub invariant-loop-rest : goal.invariant-loop-rest

@@ -1,5 +1,6 @@
 use Rattle.std.proofs.Common.{◌≡◌, ◌≤◌, ◌++◌, length, ◌-◌, take, drop}
-use Rattle.scim_filter.specs.Bytes.{is_no_dot, front, behind}
+use Rattle.scim_filter.specs.Bytes.{front, behind}
+use Rattle.scim_filter.specs.code.Cuts.{is_no_dot}
 use Rattle.scim_filter.proofs.bytes.split_name.Given as goal
 
 abbrev pub invariant-loop-end : goal.invariant-loop-end

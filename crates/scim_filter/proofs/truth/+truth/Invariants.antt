@@ -1,6 +1,6 @@
 use Rattle.std.proofs.Common.{◌≡◌, drop, ◌∷◌, []}
 use Rattle.std.specs.List.{list_any}
-use Rattle.scim_value.specs.Rows.{Row, attribute_rows}
+use Rattle.scim_cell.specs.Rows.{Row, attribute_rows}
 use Rattle.scim_filter.specs.Tree.{view}
 use Rattle.scim_filter.specs.Truth.{truth}
 use Rattle.scim_filter.proofs.truth.+truth.Given as goal

@@ -1,7 +1,8 @@
 use Rattle.std.proofs.Common.{◌≡◌, ◌≤◌, ℕ, List, length, Ok, Err, sym, ap, subst, ◌∙◌}
 use Rattle.scim_filter.specs.Bytes.{is_space, behind}
-use Rattle.scim_filter.specs.Reading.{Syntax, TooDeep, Fails}
-use Rattle.scim_filter.specs.PathReading.{written_at}
+use Rattle.scim_filter.specs.declared.limits.TheConstants.{LONGEST_TEXT}
+use Rattle.scim_filter.specs.code.Reading.{Syntax, TooDeep, Fails}
+use Rattle.scim_filter.specs.code.PathReading.{written_at}
 use Rattle.scim_filter.specs.WrittenPaths.{written_of}
 use Rattle.scim_filter.proofs.TakeLemmas.{ok_is}
 use Rattle.scim_filter.proofs.WrittenPathLemmas.{whole_takes, whole_again, not_written}
@@ -11,27 +12,27 @@ pub returns-in-Ok-clause-found : goal.returns-in-Ok-clause-found
 returns-in-Ok-clause-found c =
     let e : c.as_bytes-bytes.result.now ≡ c.args.text.now = c.as_bytes-bytes.ensures.value in
     let skipped : c.skip_spaces.result.now ≡ behind is_space c.args.text.now = c.skip_spaces.ensures.rest ∙ ap (behind is_space) e in
-    let read : written_at c.args.kind (behind is_space c.args.text.now) ≡ Ok (written_of c.in-Ok.path) = subst (λ (b : List ℕ). written_at c.args.kind b ≡ Ok (written_of c.in-Ok.path)) skipped c.in-Ok.ensures in
-    let short : length c.args.text.now ≤ 4096 = subst (λ (b : List ℕ). length b ≤ 4096) e c.if-bytes-gt4096.false in
+    let read : written_at 32 c.args.kind (behind is_space c.args.text.now) ≡ Ok (written_of c.in-Ok.path) = subst (λ (b : List ℕ). written_at 32 c.args.kind b ≡ Ok (written_of c.in-Ok.path)) skipped c.in-Ok.ensures in
+    let short : length c.args.text.now ≤ LONGEST_TEXT = subst (λ (b : List ℕ). length b ≤ LONGEST_TEXT) e c.if-bytes-gt-LONGEST_TEXT.false in
     (short, whole_takes c.args.kind c.args.text.now (written_of c.in-Ok.path) read)
 
 pub returns-in-Ok-clause-only : goal.returns-in-Ok-clause-only
 returns-in-Ok-clause-only c =
     let e : c.as_bytes-bytes.result.now ≡ c.args.text.now = c.as_bytes-bytes.ensures.value in
     let skipped : c.skip_spaces.result.now ≡ behind is_space c.args.text.now = c.skip_spaces.ensures.rest ∙ ap (behind is_space) e in
-    let read : written_at c.args.kind (behind is_space c.args.text.now) ≡ Ok (written_of c.in-Ok.path) = subst (λ (b : List ℕ). written_at c.args.kind b ≡ Ok (written_of c.in-Ok.path)) skipped c.in-Ok.ensures in
+    let read : written_at 32 c.args.kind (behind is_space c.args.text.now) ≡ Ok (written_of c.in-Ok.path) = subst (λ (b : List ℕ). written_at 32 c.args.kind b ≡ Ok (written_of c.in-Ok.path)) skipped c.in-Ok.ensures in
     λ w short h. ok_is (written_of c.in-Ok.path) w (sym read ∙ whole_again c.args.kind c.args.text.now w h)
 
 pub returns-in-Err-Syntax-clause-only : goal.returns-in-Err-Syntax-clause-only
 returns-in-Err-Syntax-clause-only c =
     let e : c.as_bytes-bytes.result.now ≡ c.args.text.now = c.as_bytes-bytes.ensures.value in
     let skipped : c.skip_spaces.result.now ≡ behind is_space c.args.text.now = c.skip_spaces.ensures.rest ∙ ap (behind is_space) e in
-    let failed : written_at c.args.kind c.skip_spaces.result.now ≡ Err Syntax = subst (λ f. Fails f (written_at c.args.kind c.skip_spaces.result.now)) c.in-Err-Syntax.field-0-is c.in-Err-Syntax.ensures in
-    λ w short h. absurd (not_written c.args.kind c.args.text.now Syntax w (ap (written_at c.args.kind) (sym skipped) ∙ failed) h)
+    let failed : written_at 32 c.args.kind c.skip_spaces.result.now ≡ Err Syntax = subst (λ f. Fails f (written_at 32 c.args.kind c.skip_spaces.result.now)) c.in-Err-Syntax.field-0-is c.in-Err-Syntax.ensures in
+    λ w short h. absurd (not_written c.args.kind c.args.text.now Syntax w (ap (written_at 32 c.args.kind) (sym skipped) ∙ failed) h)
 
 pub returns-in-Err-TooDeep-clause-only : goal.returns-in-Err-TooDeep-clause-only
 returns-in-Err-TooDeep-clause-only c =
     let e : c.as_bytes-bytes.result.now ≡ c.args.text.now = c.as_bytes-bytes.ensures.value in
     let skipped : c.skip_spaces.result.now ≡ behind is_space c.args.text.now = c.skip_spaces.ensures.rest ∙ ap (behind is_space) e in
-    let failed : written_at c.args.kind c.skip_spaces.result.now ≡ Err TooDeep = subst (λ f. Fails f (written_at c.args.kind c.skip_spaces.result.now)) c.in-Err-TooDeep.field-0-is c.in-Err-TooDeep.ensures in
-    λ w short h. absurd (not_written c.args.kind c.args.text.now TooDeep w (ap (written_at c.args.kind) (sym skipped) ∙ failed) h)
+    let failed : written_at 32 c.args.kind c.skip_spaces.result.now ≡ Err TooDeep = subst (λ f. Fails f (written_at 32 c.args.kind c.skip_spaces.result.now)) c.in-Err-TooDeep.field-0-is c.in-Err-TooDeep.ensures in
+    λ w short h. absurd (not_written c.args.kind c.args.text.now TooDeep w (ap (written_at 32 c.args.kind) (sym skipped) ∙ failed) h)

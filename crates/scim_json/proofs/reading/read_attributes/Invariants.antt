@@ -1,7 +1,7 @@
 use Rattle.std.proofs.Common.{◌≡◌, ◌++◌, drop}
 use Rattle.std.specs.List.{flat_map}
 use Rattle.serde_json.specs.View.{view}
-use Rattle.scim_value.specs.Content.{entries_of}
+use Rattle.scim_cell.specs.Content.{entries_of}
 use Rattle.scim_json.specs.Found.{found_attribute}
 use Rattle.scim_json.proofs.reading.read_attributes.Given as goal
 

@@ -1,6 +1,6 @@
 use Rattle.std.proofs.Common.{◌≡◌, ◌++◌, drop}
 use Rattle.serde_json.specs.View.{items_view}
-use Rattle.scim_value.specs.Content.{entries_of}
+use Rattle.scim_cell.specs.Content.{entries_of}
 use Rattle.scim_json.specs.Found.{found_items}
 use Rattle.scim_json.proofs.reading.read_items.Given as goal
 

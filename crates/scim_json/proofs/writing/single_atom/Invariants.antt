@@ -1,5 +1,5 @@
 use Rattle.std.proofs.Common.{◌≡◌, drop}
-use Rattle.scim_value.specs.Rows.{cell_at}
+use Rattle.scim_cell.specs.Rows.{cell_at}
 use Rattle.scim_json.proofs.writing.single_atom.Given as goal
 
 -- what stands at the leaf is in the rows that are left

@@ -1,6 +1,6 @@
 use Rattle.std.proofs.Common.{arith, sym, ◌∙◌}
 use Rattle.std.proofs.lemmas.Grind.{common_steps}
-use Rattle.scim_value.specs.Rows.{rows}
+use Rattle.scim_cell.specs.Rows.{rows}
 use Rattle.scim_json.proofs.OwnRows.{empty, data_none, data_simple, data_complex, data_values}
 use Rattle.scim_json.proofs.writing.write_attribute.Goals as goal
 

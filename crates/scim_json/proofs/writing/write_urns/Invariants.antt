@@ -1,5 +1,5 @@
 use Rattle.std.proofs.Common.{◌≡◌, ◌++◌, drop, filter}
-use Rattle.scim_value.specs.Rows.{rows}
+use Rattle.scim_cell.specs.Rows.{rows}
 use Rattle.scim_json.specs.PartData.{items_of, urn_data, has_extension, schemas_data}
 use Rattle.scim_json.specs.Tokens.{items_tokens, value_tokens}
 use Rattle.scim_json.proofs.writing.write_urns.Given as goal

@@ -1,7 +1,7 @@
 use Rattle.std.proofs.Common.{◌≡◌, subst, List, map}
 use Rattle.std.specs.Prelude.{Result, Ok, Err, IfOk}
 use Rattle.scim_text.specs.declared.memory.NoMemory.{NoMemory}
-use Rattle.scim_value.specs.Content.{Content}
+use Rattle.scim_cell.specs.Content.{Content}
 use Rattle.scim_view.specs.Shown.{shown}
 use Rattle.scim_query.specs.declared.queries.Query.{Query}
 use Rattle.scim_query.specs.declared.queries.Page.{Page}

@@ -1,5 +1,5 @@
 use Rattle.std.proofs.Common.{◌≡◌, take}
-use Rattle.scim_query.specs.Entries as spec
+use Rattle.scim_query.specs.code.Entries as spec
 use Rattle.scim_query.proofs.entries.copy_parts.Given as goal
 
 abbrev pub invariant-loop-entry : goal.invariant-loop-entry

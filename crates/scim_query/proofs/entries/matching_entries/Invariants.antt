@@ -1,5 +1,5 @@
 use Rattle.std.proofs.Common.{◌≡◌, All, take}
-use Rattle.scim_query.specs.Entries as spec
+use Rattle.scim_query.specs.code.Entries as spec
 use Rattle.scim_query.specs.Pages.{matching}
 use Rattle.scim_query.proofs.entries.matching_entries.Given as goal
 

@@ -1,7 +1,7 @@
 use Rattle.std.proofs.Common.{rules, is_lt}
 use Rattle.std.proofs.lemmas.List.Sorted.{ranks_by}
 use Rattle.std.proofs.lemmas.Fn.{always_returns_same}
-use Rattle.scim_query.specs.Entries.{entry_cmp, entry_rank}
+use Rattle.scim_query.specs.code.Entries.{entry_cmp, entry_rank}
 use Rattle.scim_query.proofs.OrderLemmas.{rank_cmp_total}
 use Rattle.scim_query.proofs.entries.sort_entries.Goals as goal
 

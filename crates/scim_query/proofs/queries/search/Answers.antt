@@ -1,5 +1,5 @@
 use Rattle.std.proofs.Common.{ap, ◌∙◌, length, take, drop, ◌-◌}
-use Rattle.scim_query.specs.Entries.{parts_of}
+use Rattle.scim_query.specs.code.Entries.{parts_of}
 use Rattle.scim_query.specs.Pages.{matching}
 use Rattle.scim_query.proofs.PageLemmas.{in_order_from_entries, total_from_entries, slice_from_entries}
 use Rattle.scim_query.proofs.queries.search.Goals as goal

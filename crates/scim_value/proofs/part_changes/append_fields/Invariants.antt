@@ -1,7 +1,7 @@
 use Rattle.std.proofs.Common.{◌≡◌, ◌++◌, take, map}
-use Rattle.scim_value.specs.declared.rows.Field.{Field}
-use Rattle.scim_value.specs.Place.{place_at}
-use Rattle.scim_value.specs.Content.{entries_of}
+use Rattle.scim_cell.specs.declared.rows.Field.{Field}
+use Rattle.scim_cell.specs.Place.{place_at}
+use Rattle.scim_cell.specs.Content.{entries_of}
 use Rattle.scim_value.proofs.part_changes.append_fields.Given as goal
 
 abbrev pub invariant-loop-field : goal.invariant-loop-field

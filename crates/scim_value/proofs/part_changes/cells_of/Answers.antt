@@ -1,10 +1,10 @@
 use Rattle.std.proofs.Common.{◌≡◌, ℕ, ◌+◌, ◌<◌, ◌∙◌, ap, sym, subst, ◌++◌, map}
 use Rattle.std.specs.Prelude.{Option, None, Some}
 use Rattle.scim_schema.specs.declared.Unit.{Unit as AttributeUnit}
-use Rattle.scim_value.specs.declared.rows.Field.{Field}
-use Rattle.scim_value.specs.Place.{place_at}
-use Rattle.scim_value.specs.Content.{entries_of}
-use Rattle.scim_value.specs.Rows.{next_position}
+use Rattle.scim_cell.specs.declared.rows.Field.{Field}
+use Rattle.scim_cell.specs.Place.{place_at}
+use Rattle.scim_cell.specs.Content.{entries_of}
+use Rattle.scim_cell.specs.Rows.{next_position}
 use Rattle.scim_value.proofs.NumberLemmas.{numbered_step, next_bound}
 use Rattle.scim_value.proofs.part_changes.cells_of.Goals as goal
 

@@ -1,8 +1,8 @@
 use Rattle.std.proofs.Common.{◌≡◌, ◌<◌, ◌++◌, drop}
 use Rattle.std.specs.Prelude.{None}
 use Rattle.std.specs.Option.{ForSome}
-use Rattle.scim_value.specs.Content.{entries_of}
-use Rattle.scim_value.specs.Rows.{numbered}
+use Rattle.scim_cell.specs.Content.{entries_of}
+use Rattle.scim_cell.specs.Rows.{numbered}
 use Rattle.scim_value.proofs.part_changes.cells_of.Given as goal
 
 abbrev pub invariant-loop-row : goal.invariant-loop-row

@@ -1,8 +1,8 @@
 use Rattle.std.proofs.Common.{rules}
 use Rattle.std.proofs.lemmas.Fn.{always_returns_same}
-use Rattle.scim_value.specs.declared.cells.Cell.{Cell}
-use Rattle.scim_value.specs.Place.{place_cmp}
-use Rattle.scim_value.specs.Content.{place_of}
+use Rattle.scim_cell.specs.declared.cells.Cell.{Cell}
+use Rattle.scim_cell.specs.Place.{place_cmp}
+use Rattle.scim_cell.specs.Content.{place_of}
 use Rattle.scim_value.proofs.part_changes.place_in.Goals as goal
 
 pub returns-clause-searched : goal.returns-clause-searched

@@ -1,5 +1,5 @@
 use Rattle.std.proofs.Common.{sym, ap, ◌∙◌}
-use Rattle.scim_value.specs.Content.{place_of, entries_of}
+use Rattle.scim_cell.specs.Content.{place_of, entries_of}
 use Rattle.scim_value.proofs.FindLemmas.{searchable}
 use Rattle.scim_value.proofs.PutLemmas.{put-at, put-new}
 use Rattle.scim_value.proofs.part_changes.put_cell.Goals as goal

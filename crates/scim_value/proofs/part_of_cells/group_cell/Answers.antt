@@ -1,8 +1,8 @@
 use Rattle.std.proofs.Common.{◌≡◌, ◌∙◌, ap, sym, List, [], ◌∷◌, ◌++◌}
-use Rattle.scim_value.specs.declared.rows.Field.{Field}
-use Rattle.scim_value.specs.Content.{entry_of}
-use Rattle.scim_value.specs.Rows.{Row, field_of}
-use Rattle.scim_value.specs.Grouping.{grouped}
+use Rattle.scim_cell.specs.declared.rows.Field.{Field}
+use Rattle.scim_cell.specs.Content.{entry_of}
+use Rattle.scim_cell.specs.Rows.{Row, field_of}
+use Rattle.scim_value.specs.code.Grouping.{grouped}
 use Rattle.scim_value.proofs.GroupLemmas.{grouped_last}
 use Rattle.scim_value.proofs.part_of_cells.group_cell.Goals as goal
 

@@ -1,10 +1,10 @@
 use Rattle.std.proofs.Common.{◌≡◌, ◌∙◌, ap, sym, List, [], ◌∷◌, ◌++◌}
 use Rattle.std.specs.Prelude.{None, Some}
 use Rattle.std.proofs.lemmas.List.{map-append}
-use Rattle.scim_value.specs.declared.places.Place.{Place}
-use Rattle.scim_value.specs.Content.{Entry, entry_of, entries_of}
-use Rattle.scim_value.specs.Rows.{rows_of}
-use Rattle.scim_value.specs.Grouping.{grouped, joins}
+use Rattle.scim_cell.specs.declared.places.Place.{Place}
+use Rattle.scim_cell.specs.Content.{Entry, entry_of, entries_of}
+use Rattle.scim_cell.specs.Rows.{rows_of}
+use Rattle.scim_value.specs.code.Grouping.{grouped, joins}
 use Rattle.scim_value.proofs.GroupLemmas.{last_place, rows_grouped, last_more}
 use Rattle.scim_value.proofs.part_of_cells.rows_from.Goals as goal
 

@@ -1,7 +1,7 @@
 use Rattle.std.proofs.Common.{◌≡◌}
 use Rattle.std.specs.Prelude.{None}
-use Rattle.scim_value.specs.Content.{entries_of}
-use Rattle.scim_value.specs.Rows.{rows_of}
+use Rattle.scim_cell.specs.Content.{entries_of}
+use Rattle.scim_cell.specs.Rows.{rows_of}
 use Rattle.scim_value.proofs.GroupLemmas.{last_place}
 use Rattle.scim_value.proofs.part_of_cells.rows_from.Given as goal
 

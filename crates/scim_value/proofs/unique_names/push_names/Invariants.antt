@@ -1,8 +1,7 @@
 use Rattle.std.proofs.Common.{◌≡◌, ◌++◌, map, drop}
 use Rattle.std.specs.List.{flat_map}
 use Rattle.scim_value.specs.Resource.{first_at}
-use Rattle.scim_value.specs.UniqueNames.{name_at}
-use Rattle.scim_value.specs.NamesInside.{name_of}
+use Rattle.scim_value.specs.UniqueNames.{name_at, name_of}
 use Rattle.scim_value.proofs.unique_names.push_names.Given as goal
 
 -- the names that are found and those at the leaves that are left make the whole

@@ -5,7 +5,7 @@ use Rattle.std.specs.FinMap.{get}
 use Rattle.std.proofs.lemmas.Result.{IfOk-weaker}
 use Rattle.scim_schema.specs.declared.Attribute.TheVariants.{DisplayName}
 use Rattle.scim_schema.specs.Units.{simple}
-use Rattle.scim_value.specs.Place.{place_at}
+use Rattle.scim_cell.specs.Place.{place_at}
 use Rattle.scim_value.proofs.GetLemmas.{get_cell}
 use Rattle.scim_value.proofs.OfLemmas.{sound_part}
 use Rattle.scim_policy.specs.code.Table.{decision}

@@ -6,9 +6,9 @@ use Rattle.scim_schema.specs.declared.Attribute.TheVariants.{Members}
 use Rattle.scim_schema.specs.declared.SubAttribute.TheVariants.{Value}
 use Rattle.scim_schema.specs.declared.Op.TheVariants.{Read}
 use Rattle.scim_schema.specs.Units.{whole, leaf_at}
-use Rattle.scim_value.specs.Content.{Content}
-use Rattle.scim_value.specs.Ids.{id_text}
-use Rattle.scim_value.specs.Rows.{Row, rows, values, atom_in}
+use Rattle.scim_cell.specs.Content.{Content}
+use Rattle.scim_cell.specs.Ids.{id_text}
+use Rattle.scim_cell.specs.Rows.{Row, rows, values, atom_in}
 use Rattle.scim_policy.specs.Decide.{decide}
 use Rattle.scim_policy.specs.code.Table.{decision}
 use Rattle.scim_view.specs.declared.groups.SeenGroup.{SeenGroup}

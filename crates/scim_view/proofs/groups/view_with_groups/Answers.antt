@@ -3,8 +3,8 @@ use Rattle.std.specs.Prelude.{Bool, not, Some}
 use Rattle.scim_schema.specs.declared.Attribute.TheVariants.{Id}
 use Rattle.scim_schema.specs.declared.Op.TheVariants.{Read}
 use Rattle.scim_schema.specs.Units.{simple}
-use Rattle.scim_value.specs.Content.{Content}
-use Rattle.scim_value.specs.Rows.{Row}
+use Rattle.scim_cell.specs.Content.{Content}
+use Rattle.scim_cell.specs.Rows.{Row}
 use Rattle.scim_value.proofs.SoundLemmas.{not_flip}
 use Rattle.scim_policy.specs.declared.rules.Decision.{Decision}
 use Rattle.scim_policy.specs.Decide.{decide}

@@ -5,10 +5,10 @@ use Rattle.scim_schema.specs.declared.Attribute.TheVariants.{Members}
 use Rattle.scim_schema.specs.declared.SubAttribute.TheVariants.{Value}
 use Rattle.scim_schema.specs.declared.Leaf.{Leaf}
 use Rattle.scim_schema.specs.Units.{leaf_at}
-use Rattle.scim_value.specs.declared.atoms.Atom.{Atom}
-use Rattle.scim_value.specs.declared.atoms.Atom.TheVariants.{Text}
-use Rattle.scim_value.specs.Ids.{id_text}
-use Rattle.scim_value.specs.Rows.{atom_in}
+use Rattle.scim_cell.specs.declared.atoms.Atom.{Atom}
+use Rattle.scim_cell.specs.declared.atoms.Atom.TheVariants.{Text}
+use Rattle.scim_cell.specs.Ids.{id_text}
+use Rattle.scim_cell.specs.Rows.{atom_in}
 use Rattle.scim_view.specs.Groups.{is_text}
 use Rattle.scim_view.proofs.MemberLemmas.{text_read}
 use Rattle.scim_view.proofs.index.member_id.Goals as goal

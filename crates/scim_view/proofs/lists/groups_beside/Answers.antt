@@ -1,6 +1,6 @@
 use Rattle.std.proofs.Common.{◌≡◌, ◌∙◌, ap, List}
-use Rattle.scim_value.specs.Content.{Content}
-use Rattle.scim_value.specs.Rows.{Row}
+use Rattle.scim_cell.specs.Content.{Content}
+use Rattle.scim_cell.specs.Rows.{Row}
 use Rattle.scim_view.specs.Groups as spec
 use Rattle.scim_view.specs.code.Index.{groups_of}
 use Rattle.scim_view.specs.code.Memberships.{kept_cmp}

@@ -1,7 +1,7 @@
 use Rattle.std.proofs.Common.{◌≡◌, sym, ◌∙◌, ap, List, ◌++◌, ◌∷◌, [], take, ◌+◌}
 use Rattle.std.specs.Prelude.{Option}
 use Rattle.std.proofs.lemmas.List.{take_more, append-nil}
-use Rattle.scim_value.specs.Content.{Content}
+use Rattle.scim_cell.specs.Content.{Content}
 use Rattle.scim_view.specs.Groups.{and_those, view_with_groups, views}
 use Rattle.scim_view.proofs.ListLemmas.{views_more}
 use Rattle.scim_view.proofs.lists.views.Goals as goal

@@ -1,6 +1,6 @@
 use Rattle.std.proofs.Common.{◌≡◌, ◌∙◌}
 use Rattle.std.proofs.lemmas.Result.{IfOk-weaker}
-use Rattle.scim_value.specs.Content.{Content}
+use Rattle.scim_cell.specs.Content.{Content}
 use Rattle.scim_policy.specs.code.Table.{decision}
 use Rattle.scim_view.specs.View as spec
 use Rattle.scim_view.proofs.ViewLemmas.{same_visible}

@@ -2,8 +2,8 @@ use Rattle.std.proofs.Common.{◌≡◌, ◌∙◌, ap}
 use Rattle.std.specs.Prelude.{None}
 use Rattle.std.specs.FinMap.{entries}
 use Rattle.std.proofs.lemmas.Result.{IfOk-weaker}
-use Rattle.scim_value.specs.Content.{entries_of}
-use Rattle.scim_value.specs.Rows.{numbered}
+use Rattle.scim_cell.specs.Content.{entries_of}
+use Rattle.scim_cell.specs.Rows.{numbered}
 use Rattle.scim_value.proofs.RowLemmas.{numbered_part}
 use Rattle.scim_value.proofs.parts.Part.cells.Goals as goal
 

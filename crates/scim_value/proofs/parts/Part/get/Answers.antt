@@ -1,5 +1,5 @@
 use Rattle.std.proofs.Common.{ap, sym, ◌∙◌}
-use Rattle.scim_value.specs.Rows.{atom_at, values, rows}
+use Rattle.scim_cell.specs.Rows.{atom_at, values, rows}
 use Rattle.scim_schema.specs.declared.Unit.{Unit as AttributeUnit}
 use Rattle.scim_value.proofs.GetLemmas.{get_cell}
 use Rattle.scim_value.proofs.OfLemmas.{sound_part}

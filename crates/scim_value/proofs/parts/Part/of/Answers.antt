@@ -7,9 +7,9 @@ use Rattle.std.proofs.lemmas.Result.{IfOk-weaker}
 use Rattle.std.proofs.lemmas.List.MinMax.{ranks_by}
 use Rattle.std.proofs.lemmas.List.Sorted.{IsPermutation-map}
 use Rattle.scim_schema.specs.declared.Kind.{Kind}
-use Rattle.scim_value.specs.declared.cells.Cell.{Cell}
-use Rattle.scim_value.specs.Place.{place_cmp}
-use Rattle.scim_value.specs.Content.{Content, place_of, entry_of, entries_of, ArePartCells, AreSortedPartCells, AreCellsOfAPart}
+use Rattle.scim_cell.specs.declared.cells.Cell.{Cell}
+use Rattle.scim_cell.specs.Place.{place_cmp}
+use Rattle.scim_cell.specs.Content.{Content, place_of, entry_of, entries_of, ArePartCells, AreSortedPartCells, AreCellsOfAPart}
 use Rattle.scim_value.proofs.PlaceLemmas.{place_total}
 use Rattle.scim_value.proofs.RowLemmas.{sorted_entries}
 use Rattle.scim_value.proofs.PermutationLemmas.{weakly_sorted, sorted_part, cells_of_a_part}

@@ -1,6 +1,6 @@
 use Rattle.std.proofs.Common.{sym, subst, ◌∙◌}
-use Rattle.scim_value.specs.Content.{entries_of, AreSortedPartCells}
-use Rattle.scim_value.specs.Rows.{AreSound}
+use Rattle.scim_cell.specs.Content.{entries_of, AreSortedPartCells}
+use Rattle.scim_cell.specs.Rows.{AreSound}
 use Rattle.scim_value.proofs.ChainLemmas.{chain-ArePartCells}
 use Rattle.scim_value.proofs.OfLemmas.{sound_rows, entries_back}
 use Rattle.scim_value.proofs.parts.Part.of_sorted.Goals as goal

@@ -1,8 +1,8 @@
 use Rattle.std.proofs.Common.{◌≡◌, ◌∙◌, ap, List, ◌++◌, take, drop, length, ◌+◌, filter}
 use Rattle.std.specs.Ordering.{is_lt, is_gt}
 use Rattle.scim_schema.specs.declared.Unit.{Unit as AttributeUnit}
-use Rattle.scim_value.specs.Place.{unit_cmp}
-use Rattle.scim_value.specs.Rows.{Row, put_values, rows}
+use Rattle.scim_cell.specs.Place.{unit_cmp}
+use Rattle.scim_cell.specs.Rows.{Row, put_values, rows}
 use Rattle.scim_value.proofs.OfLemmas.{sound_part}
 use Rattle.scim_value.proofs.SoundLemmas.{put_moved, put_sound}
 use Rattle.scim_value.proofs.parts.Part.put.Goals as goal

@@ -1,4 +1,4 @@
-use Rattle.scim_value.specs.Rows.{rows}
+use Rattle.scim_cell.specs.Rows.{rows}
 use Rattle.scim_value.proofs.OfLemmas.{sound_part}
 use Rattle.scim_value.proofs.SoundLemmas.{restricted_sound}
 use Rattle.scim_value.proofs.parts.Part.restrict.Goals as goal

@@ -1,6 +1,6 @@
 use Rattle.std.proofs.Common.{ap, sym, ◌∙◌, subst}
-use Rattle.scim_value.specs.Content.{Content, IsPart}
-use Rattle.scim_value.specs.Rows.{rows}
+use Rattle.scim_cell.specs.Content.{Content, IsPart}
+use Rattle.scim_cell.specs.Rows.{rows}
 use Rattle.scim_value.proofs.TieLemmas.{rows_content, part_content}
 use Rattle.scim_value.proofs.parts.Part.rows.Goals as goal
 

@@ -4,8 +4,8 @@ use Rattle.std.specs.Prelude.{AllPairs}
 use Rattle.std.specs.Ordering.{is_lt, is_gt}
 use Rattle.std.specs.List.Sorted.{IsPartitionedBy}
 use Rattle.std.proofs.lemmas.List.Sorted.{IsPartitionPoint-from_clause}
-use Rattle.scim_value.specs.Place.{unit_cmp}
-use Rattle.scim_value.specs.Rows.{Row}
+use Rattle.scim_cell.specs.Place.{unit_cmp}
+use Rattle.scim_cell.specs.Rows.{Row}
 use Rattle.scim_value.proofs.OfLemmas.{sound_part}
 use Rattle.scim_value.proofs.SoundLemmas.{NotAfter, not_after, split_rows, partitioned_lt, partitioned_le, partitioned_drop, point_zero, first_after}
 use Rattle.scim_value.proofs.parts.Part.split.Goals as goal

@@ -2,11 +2,11 @@ use Rattle.std.proofs.Common.{◌≡◌, ◌∙◌, ap, subst, sym, List}
 use Rattle.std.specs.Prelude.{Result, Ok, Err, IfOk}
 use Rattle.std.specs.FinMap.{entries, put, insert}
 use Rattle.scim_schema.specs.declared.Kind.{Kind}
-use Rattle.scim_value.specs.declared.atoms.Atom.{Atom}
+use Rattle.scim_cell.specs.declared.atoms.Atom.{Atom}
 use Rattle.scim_value.specs.declared.faults.Fault.{Fault}
-use Rattle.scim_value.specs.declared.places.Place.{Place}
-use Rattle.scim_value.specs.Place.{place_cmp, place_at}
-use Rattle.scim_value.specs.Content.{Content, Entry, entries_of, AreSortedPartCells}
+use Rattle.scim_cell.specs.declared.places.Place.{Place}
+use Rattle.scim_cell.specs.Place.{place_cmp, place_at}
+use Rattle.scim_cell.specs.Content.{Content, Entry, entries_of, AreSortedPartCells}
 use Rattle.scim_value.proofs.RowLemmas.{sorted_entries}
 use Rattle.scim_value.proofs.PutLemmas.{content_put, not_part_put}
 use Rattle.scim_value.proofs.parts.Part.with.Goals as goal

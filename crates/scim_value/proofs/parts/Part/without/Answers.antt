@@ -1,8 +1,8 @@
 use Rattle.std.proofs.Common.{◌≡◌, ◌∙◌, ap, sym, filter, List}
 use Rattle.std.specs.FinMap.{entries}
-use Rattle.scim_value.specs.Place.{place_at}
-use Rattle.scim_value.specs.Content.{Content, Entry, IsPart, entries_of}
-use Rattle.scim_value.specs.Rows.{Row, AreSound, rows, rows_of, content}
+use Rattle.scim_cell.specs.Place.{place_at}
+use Rattle.scim_cell.specs.Content.{Content, Entry, IsPart, entries_of}
+use Rattle.scim_cell.specs.Rows.{Row, AreSound, rows, rows_of, content}
 use Rattle.scim_value.proofs.CloseLemmas.{kept_sound}
 use Rattle.scim_value.proofs.RemoveLemmas.{is_other, entries-remove, entries-filter}
 use Rattle.scim_value.proofs.RowLemmas.{same_part}

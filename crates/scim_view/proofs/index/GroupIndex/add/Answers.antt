@@ -4,7 +4,7 @@ use Rattle.std.specs.List.{list_any}
 use Rattle.scim_schema.specs.declared.Attribute.TheVariants.{Members}
 use Rattle.scim_schema.specs.declared.SubAttribute.TheVariants.{Value}
 use Rattle.scim_schema.specs.Units.{leaf_at}
-use Rattle.scim_value.specs.Rows.{rows, values}
+use Rattle.scim_cell.specs.Rows.{rows, values}
 use Rattle.scim_policy.specs.declared.rules.Decision.{Decision}
 use Rattle.scim_policy.specs.code.Table.{decision}
 use Rattle.scim_view.specs.declared.index.GroupIndex.{GroupIndex}

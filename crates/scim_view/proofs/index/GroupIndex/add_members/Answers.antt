@@ -2,7 +2,7 @@ use Rattle.std.proofs.Common.{◌≡◌, sym, ◌∙◌, ap, List, ℕ, Bool, ta
 use Rattle.std.specs.Prelude.{if◌then◌else◌, Option, None, Some, vec_len}
 use Rattle.std.specs.List.{list_any}
 use Rattle.std.proofs.lemmas.List.{take_more, take_all}
-use Rattle.scim_value.specs.Rows.{Row}
+use Rattle.scim_cell.specs.Rows.{Row}
 use Rattle.scim_view.specs.declared.index.GroupIndex.{GroupIndex}
 use Rattle.scim_view.specs.code.Index as spec
 use Rattle.scim_view.proofs.IndexLemmas.{list_any_more, noted_more}

@@ -1,7 +1,7 @@
 use Rattle.std.proofs.Common.{◌≡◌, take, ℕ, List}
 use Rattle.std.specs.Prelude.{if◌then◌else◌, vec_len}
 use Rattle.std.specs.List.{list_any}
-use Rattle.scim_value.specs.Ids.{IsId}
+use Rattle.scim_cell.specs.Ids.{IsId}
 use Rattle.scim_view.specs.code.Index.{positions_of, noted, names_member}
 use Rattle.scim_view.proofs.index.GroupIndex.add_members.Given as goal
 

@@ -1,0 +1,4 @@
+pub mod IdLemmas
+pub mod IdOrderLemmas
+pub mod FieldLemmas
+pub mod EqualityLemmas

@@ -1,0 +1,60 @@
+-- When two fields or rows are equal.
+use Rattle.std.specs.Prelude.{◌≡◌, ◌&&◌, Bool, refl}
+use Rattle.std.specs.Bool.{Decides}
+use Rattle.std.specs.Cmp.{IsEquivalence, decided}
+use Rattle.std.specs.Cmp.Lexicographic.{pointwise, pointwise_decides}
+use Rattle.std.specs.Option.{option_eq}
+use Rattle.std.proofs.Common.{ap}
+use denote.Enum.Bare.{sameb}
+use Rattle.scim_schema.specs.declared.Leaf.{Leaf}
+use Rattle.scim_schema.specs.declared.Unit.{Unit as AttributeUnit}
+use Rattle.scim_schema.specs.contracts.Attribute.{the_type as the_attribute}
+use Rattle.scim_schema.specs.contracts.SubAttribute.{the_type as the_sub_attribute}
+use Rattle.scim_schema.proofs.LeafLemmas.{leaf_eq, Decides-leaf_eq, and_first, and_second}
+use Rattle.scim_cell.specs.declared.rows.Field.{Field}
+use Rattle.scim_cell.specs.Atoms.{is_same_atom, is_same_atom-Decides}
+use Rattle.scim_cell.specs.Rows.{Row}
+
+-- whether two fields are of one leaf, and have one atom
+abbrev pub is_same_field : Field → Field → Bool
+is_same_field f g = leaf_eq f.leaf g.leaf && is_same_atom f.atom g.atom
+
+-- whether two units are one
+abbrev pub is_same_unit : AttributeUnit → AttributeUnit → Bool
+is_same_unit u v = sameb the_attribute u.attribute v.attribute && option_eq (sameb the_sub_attribute) u.sub_attribute v.sub_attribute
+
+-- whether two rows are of one unit, and have the same fields
+abbrev pub is_same_row : Row → Row → Bool
+is_same_row r s = is_same_unit r.unit s.unit && pointwise is_same_field r.fields s.fields
+
+-- two tests decide together what they decide the two pieces of
+pub both : {P Q R : Type 0} (p q : Bool) → Decides p P → Decides q Q → (P → Q → R) → (R → P) → (R → Q) → Decides (p && q) R
+both p q first second make one two = (λ t. make (first.0 (and_first p q t)) (second.0 (and_second p q t)), λ r. rw (first.1 (one r), second.1 (two r)) refl)
+
+-- each test decides whether the two are one
+pub is_same_field-Decides : (f g : Field) → Decides (is_same_field f g) (f ≡ g)
+is_same_field-Decides f g =
+    both _ _ (Decides-leaf_eq f.leaf g.leaf) (is_same_atom-Decides f.atom g.atom)
+    (λ p q. λ i. record { leaf = p i; atom = q i }) (ap (λ (x : Field). x.leaf)) (ap (λ (x : Field). x.atom))
+
+pub is_same_field-IsEquivalence : IsEquivalence is_same_field
+is_same_field-IsEquivalence = decided is_same_field is_same_field-Decides
+
+leaf_like : AttributeUnit → Leaf
+leaf_like u = record { attribute = u.attribute; sub_attribute = u.sub_attribute }
+
+unit_like : Leaf → AttributeUnit
+unit_like l = record { attribute = l.attribute; sub_attribute = l.sub_attribute }
+
+pub is_same_unit-Decides : (u v : AttributeUnit) → Decides (is_same_unit u v) (u ≡ v)
+unfolding leaf_like unit_like
+is_same_unit-Decides u v =
+    let d = Decides-leaf_eq (leaf_like u) (leaf_like v) in (λ t. ap unit_like (d.0 t), λ e. d.1 (ap leaf_like e))
+
+pub is_same_row-Decides : (r s : Row) → Decides (is_same_row r s) (r ≡ s)
+is_same_row-Decides r s =
+    both _ _ (is_same_unit-Decides r.unit s.unit) (pointwise_decides is_same_field-Decides r.fields s.fields)
+    (λ p q. λ i. record { unit = p i; fields = q i }) (ap (λ (x : Row). x.unit)) (ap (λ (x : Row). x.fields))
+
+pub is_same_row-IsEquivalence : IsEquivalence is_same_row
+is_same_row-IsEquivalence = decided is_same_row is_same_row-Decides

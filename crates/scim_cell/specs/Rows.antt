@@ -1,0 +1,160 @@
+-- The cells of a part by value: rows. All later definitions read a part so.
+use Rattle.std.specs.Prelude.{◌≡◌, ◌≤◌, ◌<◌, ◌⊎◌, length, Bool, true, false, ◌&&◌, not, eqb, ℕ, zero, suc, ◌+◌, Option, None, Some, List, [], ◌∷◌, ◌++◌, map, filter, All, AllPairs, if◌then◌else◌}
+use Rattle.std.specs.List.{list_any}
+use Rattle.std.specs.Ordering.{is_lt, is_eq, is_gt}
+use denote.Enum.Bare.{sameb}
+use Rattle.std.specs.Option.{option_eq}
+use Rattle.std.specs.FinMap.{entries, from_sorted}
+use Rattle.scim_schema.specs.declared.Kind.{Kind}
+use Rattle.scim_schema.specs.declared.Attribute.{Attribute}
+use Rattle.scim_schema.specs.declared.Leaf.{Leaf}
+use Rattle.scim_schema.specs.declared.Unit.{Unit as AttributeUnit}
+use Rattle.scim_schema.specs.contracts.Attribute.{the_type as the_attribute}
+use Rattle.scim_schema.specs.contracts.SubAttribute.{the_type as the_sub_attribute}
+use Rattle.scim_schema.specs.Table.{HasLeaf}
+use Rattle.scim_schema.specs.Characteristics.{characteristics_of, is_multi_valued}
+use Rattle.scim_schema.specs.Units.{whole, unit_of}
+use Rattle.scim_cell.specs.declared.places.Place.{Place}
+use Rattle.scim_cell.specs.declared.atoms.Atom.{Atom}
+use Rattle.scim_cell.specs.declared.rows.Field.{Field}
+use Rattle.scim_cell.specs.Place.{unit_cmp, leaf_of, place_at, sub_attribute_number}
+use Rattle.scim_cell.specs.Content.{Content, Entry, HasType}
+
+-- one value of a unit: its fields, in order of sub-attribute; the value of a unit that is a leaf has one
+pub record Row : Type 0 where
+  pub unit : AttributeUnit
+  pub fields : List Field
+
+-- a test of a row and a leaf, by which fields are kept
+abbrev pub Test : Type 0
+Test = Row → Leaf → Bool
+
+-- the unit of a cell that stands at a place
+abbrev pub unit_at : Place → AttributeUnit
+unit_at p = unit_of (leaf_of p)
+
+-- a cell without its position
+abbrev pub field_of : Entry → Field
+field_of e = record { leaf = leaf_of e.0; atom = e.1 }
+
+-- two cells of one value of a multi-valued attribute
+unfoldable pub goes_with : Place → Place → Bool
+goes_with p q = is_multi_valued p.attribute && (sameb the_attribute p.attribute q.attribute && eqb p.position q.position)
+
+-- whether a cell is of one value with the first of those after it
+abbrev pub is_led : Entry → List Entry → Bool
+is_led e [] = false
+is_led e (f ∷ es) = goes_with e.0 f.0
+
+-- a cell before rows: in the first row, or in one of its own
+abbrev pub led : Bool → Entry → List Row → List Row
+led true e (r ∷ rs) = record { unit = unit_at e.0; fields = field_of e ∷ r.fields } ∷ rs
+led _ e rs = record { unit = unit_at e.0; fields = field_of e ∷ [] } ∷ rs
+
+-- cells in order of place, by value
+abbrev pub rows_of : List Entry → List Row
+rows_of [] = []
+rows_of (e ∷ es) = led (is_led e es) e (rows_of es)
+
+-- the rows of a part, in order of unit; a position is a row's place among those of its unit
+abbrev pub rows : Content → List Row
+rows c = rows_of (entries c.cells)
+
+-- the position of the next row of a unit
+abbrev pub next_position : Option (AttributeUnit × ℕ) → AttributeUnit → ℕ
+next_position None u = 0
+next_position (Some last) u = if sameb the_attribute last.0.attribute u.attribute && is_multi_valued u.attribute then last.1 + 1 else 0
+
+-- rows as cells, each at the position of its row
+abbrev pub numbered : Option (AttributeUnit × ℕ) → List Row → List Entry
+numbered last [] = []
+numbered last (r ∷ rs) =
+    map (λ (f : Field). (place_at f.leaf (next_position last r.unit), f.atom)) r.fields ++ numbered (Some (r.unit, next_position last r.unit)) rs
+
+-- and back: the part of these rows
+abbrev pub content : Kind → List ℕ → List Row → Content
+content kind id rs = record { kind = kind; id = id; cells = from_sorted (numbered None rs) }
+
+-- the rows of a unit, which are its values by position
+abbrev pub values : AttributeUnit → List Row → List Row
+values u rs = filter (λ (r : Row). is_eq (unit_cmp r.unit u)) rs
+
+-- the rows of an attribute, in order of unit
+abbrev pub attribute_rows : Attribute → List Row → List Row
+attribute_rows a rs = filter (λ (r : Row). sameb the_attribute r.unit.attribute a) rs
+
+-- rows with other values for a unit
+abbrev pub put_values : AttributeUnit → List Row → List Row → List Row
+put_values u vs rs = filter (λ (r : Row). is_lt (unit_cmp r.unit u)) rs ++ (vs ++ filter (λ (r : Row). is_gt (unit_cmp r.unit u)) rs)
+
+-- how many positions of an attribute have cells: the number of its values, or 1 where a single-valued one has any
+abbrev pub positions : Attribute → List Row → ℕ
+positions a rs = if is_multi_valued a then length (values (whole a) rs) else (if list_any (λ (r : Row). sameb the_attribute r.unit.attribute a) rs then 1 else 0)
+
+-- whether the second leaf is the first
+abbrev pub is_leaf : Leaf → Leaf → Bool
+is_leaf l m = sameb the_attribute m.attribute l.attribute && option_eq (sameb the_sub_attribute) m.sub_attribute l.sub_attribute
+
+-- the atom of a leaf in one value
+abbrev pub atom_in : Leaf → List Field → Option Atom
+atom_in l [] = None
+atom_in l (f ∷ fs) = by (is_leaf l f.leaf) f.atom (atom_in l fs)
+  where
+    by : Bool → Atom → Option Atom → Option Atom
+    by true a o = Some a
+    by false a o = o
+
+-- the atom of a leaf in the k-th of some values, from 0
+abbrev pub atom_at : Leaf → ℕ → List Row → Option Atom
+atom_at l k [] = None
+atom_at l zero (r ∷ rs) = atom_in l r.fields
+atom_at l (suc k) (r ∷ rs) = atom_at l k rs
+
+-- what stands at a position of a leaf
+abbrev pub cell_at : Leaf → ℕ → List Row → Option Atom
+cell_at l k rs = atom_at l k (values (unit_of l) rs)
+
+-- whether there is no field
+abbrev pub is_empty : List Field → Bool
+is_empty [] = true
+is_empty (f ∷ fs) = false
+
+-- whether a row has a field
+abbrev pub has_fields : Row → Bool
+has_fields r = not (is_empty r.fields)
+
+-- what is left of a row where only the fields that a test of row and leaf admits are kept
+abbrev pub restricted_row : Test → Row → Row
+restricted_row keeps r = record { unit = r.unit; fields = filter (λ (f : Field). keeps r f.leaf) r.fields }
+
+-- what is left of rows: those without a field go, so that positions close up
+abbrev pub restricted : Test → List Row → List Row
+restricted keeps rs = filter has_fields (map (restricted_row keeps) rs)
+
+-- a field of the unit and the kind, with an atom of its type
+abbrev pub IsSoundField : Kind → AttributeUnit → Field → Type 0
+IsSoundField kind u f = (unit_of f.leaf ≡ u) × HasLeaf kind f.leaf × HasType (characteristics_of kind f.leaf).attribute_type f.atom
+
+-- a value's fields, each once, in order of sub-attribute
+pub record IsSoundRow (kind : Kind) (r : Row) : Type 0 where
+  pub own : All (IsSoundField kind r.unit) r.fields
+  pub in_order : AllPairs (λ f g. sub_attribute_number f.leaf.sub_attribute < sub_attribute_number g.leaf.sub_attribute) r.fields
+
+-- a value of the one unit may stand before one of the other
+abbrev pub Precedes : AttributeUnit → AttributeUnit → Type 0
+Precedes u v = (is_gt (unit_cmp u v) ≡ false) × (is_eq (unit_cmp u v) ≡ true → is_multi_valued u.attribute ≡ true)
+
+-- rows that a part has: none empty, each of the kind, in order of unit, and one at most of a unit that isn't multi-valued
+pub record AreSound (kind : Kind) (rs : List Row) : Type 0 where
+  pub full : All (λ r. has_fields r ≡ true) rs
+  pub own : All (IsSoundRow kind) rs
+  pub in_order : AllPairs (λ r s. Precedes r.unit s.unit) rs
+
+-- a value of the unit, with a field at least
+abbrev pub IsValue : Kind → AttributeUnit → Row → Type 0
+IsValue kind u r = (r.unit ≡ u) × (has_fields r ≡ true) × IsSoundRow kind r
+
+-- values that may be put in for a unit
+pub record AreValues (kind : Kind) (u : AttributeUnit) (vs : List Row) : Type 0 where
+  pub few : (is_multi_valued u.attribute ≡ true) ⊎ (length vs ≤ 1)
+  pub own : All (IsValue kind u) vs

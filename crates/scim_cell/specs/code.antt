@@ -1,0 +1,3 @@
+-- How the code keeps and checks rows.
+pub mod Fields
+pub mod Inside

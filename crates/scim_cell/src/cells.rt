@@ -1,0 +1,45 @@
+//! Cells, and the types of their atoms.
+ghost use Rattle.std.specs.Prelude.{◌≡◌, ◌↔◌, IsTrue};
+ghost use Rattle.scim_cell.specs.Content.{place_of, HasType};
+
+use crate::atoms::Atom;
+use crate::places::Place;
+use scim_schema::Leaf;
+use scim_schema::characteristics::AttributeType;
+use scim_text::Moment;
+
+/// A cell of a part or a resource: what stands at a position of a leaf.
+#[derive(Debug, Drop)]
+pub struct Cell {
+    pub leaf: Leaf,
+    /// The place of the value among those of its attribute, from 0; 0 at a single-valued one.
+    pub position: usize,
+    pub atom: Atom,
+}
+
+impl Cell {
+    /// Where the cell stands.
+    pub fn place(&self) -> Place
+        ensures { result ≡ place_of self.now }
+    {
+        Place {
+            attribute: self.leaf.attribute,
+            position: self.position,
+            sub_attribute: self.leaf.sub_attribute,
+        }
+    }
+}
+
+/// Whether an atom has the type (RFC 7643 section 2.3): moments are dateTimes, truths booleans, and
+/// texts strings, references and binaries.
+pub fn has_type(attribute_type: AttributeType, atom: &Atom) -> bool
+    ensures { IsTrue result ↔ HasType attribute_type atom.now }
+{
+    match (attribute_type, atom) {
+        (AttributeType::Boolean, Atom::Truth(_)) => true,
+        (AttributeType::DateTime, Atom::Moment(moment)) => moment.seconds() <= Moment::LAST as u64,
+        (AttributeType::String | AttributeType::Reference | AttributeType::Binary, Atom::Text(_)) =>
+            true,
+        _ => false,
+    }
+}

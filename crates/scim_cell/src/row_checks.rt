@@ -1,0 +1,80 @@
+//! Checks of rows that come from requests, before they are put into a part.
+ghost use Rattle.std.specs.Prelude.{◌≡◌, ◌↔◌, IsTrue, None};
+ghost use Rattle.scim_cell.specs.code.Fields.{Rises, AreRising};
+ghost use Rattle.scim_cell.specs.Rows.{IsSoundField, IsSoundRow, IsValue, AreValues};
+
+use crate::cells::has_type;
+use crate::places::number_of;
+use crate::rows::{Field, Row};
+use scim_schema::characteristics::{characteristics_of, is_multi_valued};
+use scim_schema::table::has_leaf;
+use scim_schema::units::unit_of;
+use scim_schema::{Kind, Unit};
+
+// What `==` says of units.
+fn is_same_unit(a: Unit, b: Unit) -> bool
+    ensures { IsTrue result ↔ (a ≡ b) }
+{
+    a == b
+}
+
+fn is_sound_field(kind: Kind, unit: Unit, field: &Field) -> bool
+    ensures { IsTrue result ↔ IsSoundField kind unit field.now }
+{
+    is_same_unit(unit_of(field.leaf), unit)
+        && has_leaf(kind, field.leaf)
+        && has_type(
+            characteristics_of(kind, field.leaf).attribute_type,
+            &field.atom,
+        )
+}
+
+fn rises(before: Option<u8>, number: u8) -> bool
+    ensures { IsTrue result ↔ Rises before number }
+{
+    match before {
+        None => true,
+        Some(last) => last < number,
+    }
+}
+
+/// Whether the row may stand in a part of the kind: each field is of the row's unit and of the
+/// kind, with an atom of its type, and the fields come in order of sub-attribute, each once.
+///
+/// A row without fields passes, though no part has one. Takes no memory.
+pub fn is_sound_row(kind: Kind, row: &Row) -> bool
+    ensures { IsTrue result ↔ IsSoundRow kind row.now }
+{
+    are_sound_fields(kind, row.unit(), row.fields())
+}
+
+fn are_sound_fields(kind: Kind, unit: Unit, fields: &[Field]) -> bool
+    ensures { IsTrue result ↔ AreRising kind unit None fields.now }
+{
+    let mut before = None;
+    for field in fields {
+        let number = number_of(field.leaf.sub_attribute);
+        if !(is_sound_field(kind, unit, field) && rises(before, number)) {
+            return false;
+        }
+        before = Some(number);
+    }
+    true
+}
+
+fn is_value(kind: Kind, unit: Unit, row: &Row) -> bool
+    ensures { IsTrue result ↔ IsValue kind unit row.now }
+{
+    is_same_unit(row.unit(), unit) && !row.fields().is_empty() && is_sound_row(kind, row)
+}
+
+/// Whether the rows may be put into a part of the kind as the values of the unit: each is a sound
+/// row of that unit with a field, and there is one at most where the unit isn't multi-valued.
+///
+/// Takes no memory.
+pub fn are_values(kind: Kind, unit: Unit, values: &[Row]) -> bool
+    ensures { IsTrue result ↔ AreValues kind unit values.now }
+{
+    (is_multi_valued(unit.attribute) || values.len() <= 1)
+        && values.iter().all(|row| is_value(kind, unit, row))
+}

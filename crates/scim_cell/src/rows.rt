@@ -1,0 +1,152 @@
+//! Rows: the values of units, one by one.
+ghost use Rattle.std.specs.Prelude.{◌≡◌, IfOk, filter};
+ghost use Rattle.std.specs.Option.{option_copied};
+ghost use Rattle.scim_cell.specs.Rows as spec;
+
+use crate::atoms::Atom;
+use scim_schema::{Leaf, Unit};
+use scim_text::NoMemory;
+use std::alloc::Global;
+use std::marker::Model;
+
+/// A leaf of a value, and the atom that the value has there.
+#[derive(Debug, Drop)]
+pub struct Field {
+    pub leaf: Leaf,
+    pub atom: Atom,
+}
+
+/// One value of a unit: a value of a multi-valued attribute with the fields that it has, in order
+/// of sub-attribute; or the one field of a leaf that is a unit of its own.
+#[derive(Debug, Drop)]
+pub struct Row {
+    unit: Unit,
+    fields: Vec<Field>,
+}
+
+impl Model for Row {
+    ghost use Rattle.std.specs.Coded.{codes};
+    ghost use Rattle.scim_cell.specs.contracts.rows.Field as field;
+    ghost use Rattle.scim_schema.specs.contracts.Unit as written;
+    ghost use Rattle.scim_cell.specs.Rows.{Row};
+
+    ghost Value = { Row };
+
+    ghost coded = { Prim.hlevel (codes, field.the_row.coded, written.the_row.coded) };
+
+    ghost use Rattle.scim_cell.specs.code.Inside.{row_of};
+
+    ghost view = { row_of };
+}
+
+/// A test of a row and a leaf, by which `Part::restrict` keeps fields.
+pub trait RowTest {
+    /// Whether a row's field of a leaf is kept.
+    ghost keeps: { Self → spec.Test };
+
+    /// Whether the row's field of the leaf is kept.
+    fn is_kept(&self, row: &Row, leaf: Leaf) -> bool
+        ensures { result ≡ keeps self.now row.now leaf };
+}
+
+impl Field {
+    /// A copy; NoMemory where none was to be had.
+    pub fn try_copy(&self, alloc: Global) -> Result<Field, NoMemory>
+        ensures { IfOk result (λ f. f ≡ self.now) }
+    {
+        let atom = self.atom.try_copy(alloc)?;
+        Ok(Field {
+            leaf: self.leaf,
+            atom,
+        })
+    }
+}
+
+impl Row {
+    /// The row of these fields. `row_checks::is_sound_row` tells whether a part may have it.
+    pub fn new(unit: Unit, fields: Vec<Field>) -> Row
+        ensures unit { result.unit ≡ unit }
+        ensures fields { result.fields ≡ fields.items }
+    {
+        Row { unit, fields }
+    }
+
+    /// The unit that this is a value of.
+    pub fn unit(&self) -> Unit
+        ensures { result ≡ self.now.unit }
+    {
+        self.unit
+    }
+
+    /// The fields, in order of sub-attribute.
+    pub fn fields(&self) -> &[Field]
+        ensures { result.now ≡ self.now.fields }
+    {
+        self.fields.as_slice()
+    }
+
+    /// The fields, to keep.
+    pub fn into_fields(self) -> Vec<Field>
+        ensures { result.items ≡ self.fields }
+    {
+        let Row { unit: _, fields } = self;
+        fields
+    }
+
+    /// The atom at a leaf; None where the value has none there.
+    pub fn get(&self, leaf: Leaf) -> Option<&Atom>
+        ensures { option_copied result ≡ spec.atom_in leaf self.now.fields }
+    {
+        for field in self.fields() {
+            if field.leaf == leaf {
+                return Some(&field.atom);
+            }
+        }
+        None
+    }
+
+    /// A copy; NoMemory where none was to be had.
+    pub fn try_copy(&self, alloc: Global) -> Result<Row, NoMemory>
+        ensures { IfOk result (λ r. r ≡ self.now) }
+    {
+        let fields = copy_fields(alloc, self.fields())?;
+        Ok(Row {
+            unit: self.unit(),
+            fields,
+        })
+    }
+
+    /// What is left where only the fields that the test admits are kept; NoMemory where none was
+    /// to be had.
+    pub fn restrict<T: RowTest>(&self, alloc: Global, test: &T) -> Result<Row, NoMemory>
+        ensures { IfOk result (λ r. r ≡ spec.restricted_row (T.keeps test.now) self.now) }
+    {
+        let fields = kept_fields(alloc, self, test)?;
+        Ok(Row {
+            unit: self.unit(),
+            fields,
+        })
+    }
+}
+
+fn copy_fields(alloc: Global, fields: &[Field]) -> Result<Vec<Field>, NoMemory>
+    ensures { IfOk result (λ v. v.items ≡ fields.now) }
+{
+    let mut copies = Vec::with_capacity(alloc, fields.len())?;
+    for field in fields {
+        copies.push(field.try_copy(alloc)?)?;
+    }
+    Ok(copies)
+}
+
+fn kept_fields<T: RowTest>(alloc: Global, row: &Row, test: &T) -> Result<Vec<Field>, NoMemory>
+    ensures { IfOk result (λ v. v.items ≡ filter (λ f. T.keeps test.now row.now f.leaf) row.now.fields) }
+{
+    let mut copies = Vec::new(alloc);
+    for field in row.fields() {
+        if test.is_kept(row, field.leaf) {
+            copies.push(field.try_copy(alloc)?)?;
+        }
+    }
+    Ok(copies)
+}

@@ -1,0 +1,5 @@
+pub mod Cells
+pub mod Cuts
+pub mod Inside
+pub mod PathReading
+pub mod Reading

@@ -1,0 +1,57 @@
+//! The check that cells are those of a part.
+ghost use Rattle.std.specs.Prelude.{◌≡◌, ◌↔◌, IsTrue, None};
+ghost use Rattle.scim_cell.specs.Content.{entry_of, entries_of, IsOfKind, AreSortedPartCells};
+ghost use Rattle.scim_value.specs.code.Chain.{Follows, GoesOn, IsChain};
+
+use scim_cell::cells::{Cell, has_type};
+use scim_cell::places::Place;
+use scim_schema::Kind;
+use scim_schema::characteristics::{characteristics_of, is_multi_valued};
+use scim_schema::table::has_leaf;
+
+fn is_of_kind(kind: Kind, cell: &Cell) -> bool
+    ensures { IsTrue result ↔ IsOfKind kind (entry_of cell.now) }
+{
+    has_leaf(kind, cell.leaf)
+        && has_type(
+            characteristics_of(kind, cell.leaf).attribute_type,
+            &cell.atom,
+        )
+}
+
+fn follows(before: Option<Place>, place: Place) -> bool
+    ensures { IsTrue result ↔ Follows before place }
+{
+    match before {
+        None => place.position == 0,
+        Some(last) => last.compare(place).is_lt() && (place.position == 0 || goes_on(last, place)),
+    }
+}
+
+fn goes_on(last: Place, place: Place) -> bool
+    ensures { IsTrue result ↔ GoesOn last place }
+{
+    is_multi_valued(place.attribute)
+        && last.attribute == place.attribute
+        && (place.position <= last.position || place.position - last.position == 1)
+}
+
+fn is_chain(kind: Kind, cells: &[Cell]) -> bool
+    ensures { IsTrue result ↔ IsChain kind None (entries_of cells.now) }
+{
+    let mut before = None;
+    for cell in cells {
+        if !(is_of_kind(kind, cell) && follows(before, cell.place())) {
+            return false;
+        }
+        before = Some(cell.place());
+    }
+    true
+}
+
+/// Whether the cells are those of a part of the kind, in order of place.
+pub(crate) fn are_sorted_part_cells(kind: Kind, cells: &[Cell]) -> bool
+    ensures { IsTrue result ↔ AreSortedPartCells kind (entries_of cells.now) }
+{
+    is_chain(kind, cells)
+}

@@ -1,0 +1,36 @@
+//! Lists of rows: copies, and what a test leaves of them.
+ghost use Rattle.std.specs.Prelude.{◌≡◌, IfOk};
+ghost use Rattle.scim_cell.specs.Rows as spec;
+
+use scim_cell::rows::{Row, RowTest};
+use scim_text::NoMemory;
+use std::alloc::Global;
+
+/// What the test leaves of rows, those without a field left out.
+pub(crate) fn kept_rows<T: RowTest>(
+    alloc: Global,
+    own: &[Row],
+    test: &T,
+) -> Result<Vec<Row>, NoMemory>
+    ensures { IfOk result (λ v. v.items ≡ spec.restricted (T.keeps test.now) own.now) }
+{
+    let mut copies = Vec::new(alloc);
+    for row in own {
+        let rest = row.restrict(alloc, test)?;
+        if !rest.fields().is_empty() {
+            copies.push(rest)?;
+        }
+    }
+    Ok(copies)
+}
+
+/// Copies of rows.
+pub(crate) fn copy_rows(alloc: Global, own: &[Row]) -> Result<Vec<Row>, NoMemory>
+    ensures { IfOk result (λ v. v.items ≡ own.now) }
+{
+    let mut copies = Vec::with_capacity(alloc, own.len())?;
+    for row in own {
+        copies.push(row.try_copy(alloc)?)?;
+    }
+    Ok(copies)
+}
