@@ -9,11 +9,13 @@ mod arguments;
 mod case;
 mod faults;
 mod folder;
+mod policy_calls;
 mod samples_calls;
 mod schema_calls;
 mod tally;
 mod text_calls;
 mod vectors;
+mod view_calls;
 
 use crate::case::Case;
 use crate::faults::{CaseFault, FolderFault};
@@ -81,6 +83,12 @@ fn answer(case: &Case<'_>) -> Result<String, CaseFault> {
         return found;
     }
     if let Some(found) = schema_calls::answer(case, call) {
+        return found;
+    }
+    if let Some(found) = policy_calls::answer(case, call) {
+        return found;
+    }
+    if let Some(found) = view_calls::answer(case, call) {
         return found;
     }
     Err(CaseFault::NoSuchCall)
