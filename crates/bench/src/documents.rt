@@ -3,6 +3,7 @@ use crate::values::value_of;
 use anyhow::{Result, bail};
 use scim_cell::ids::Id;
 use scim_json::{read_documents, read_stored, stored_text, to_json};
+use scim_samples::BASE;
 use scim_value::resources::Resource;
 use serde_json::Value;
 use std::alloc::Global;
@@ -15,8 +16,6 @@ const ROUNDS: usize = 20_000;
 
 /// How many users the files have.
 const USERS: [usize; 2] = [1_000, 10_000];
-
-pub const BASE: &str = "http://127.0.0.1:8080";
 
 /// The stored document, with 14 cells; `meta.location` is the fifteenth.
 const STORED: &str =

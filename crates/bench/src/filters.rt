@@ -131,7 +131,7 @@ fn short_filters(rt: &(impl Clock + Print), alloc: Global) -> Result<()> {
     let untitled =
         "userName eq \"user7\" and emails[type eq \"work\" and value co \"example.com\"]";
     let untitled = read_filter(alloc, Kind::User, untitled)?;
-    let user = user(alloc, 7)?;
+    let user = user(alloc, 7, "Jensen")?.into_part();
     if holds(alloc, &filter, &user)? {
         bail!("the filter is not to hold");
     }
@@ -153,7 +153,7 @@ fn short_filters(rt: &(impl Clock + Print), alloc: Global) -> Result<()> {
 fn many_users(rt: &(impl Clock + Print), alloc: Global) -> Result<()> {
     let mut users = Vec::new(alloc);
     for number in 0..USERS {
-        users.push(user(alloc, number)?)?;
+        users.push(user(alloc, number, "Jensen")?.into_part())?;
     }
     for (written, wanted) in [
         ("userName eq \"user9999\"", 1),

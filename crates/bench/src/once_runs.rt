@@ -1,9 +1,10 @@
 //! One GET over a users file, beside what serde_json takes to read the file.
-use crate::documents::{BASE, users_file};
+use crate::documents::users_file;
 use crate::timing::{fastest, ratio};
 use anyhow::{Result, bail};
 use scim_cell::ids::Id;
 use scim_command::{Setting, once};
+use scim_samples::BASE;
 use serde_json::Value;
 use std::alloc::Global;
 use std::io::Print;

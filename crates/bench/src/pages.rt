@@ -1,14 +1,13 @@
 //! Pages of what a client sees of many users, their groups among it.
 use crate::decisions::{CLIENT, FEW, MANY, OTHER_CLIENT, policy_text};
-use crate::documents::BASE;
-use crate::filters::samples::id_of;
+use crate::filters::samples::{id_of, user};
 use crate::timing::{fastest, ratio};
 use anyhow::{Result, bail};
 use scim_filter::reading::read_filter;
-use scim_json::read_stored;
 use scim_policy::{Policy, read_policy};
 use scim_query::client_searches::search_view;
 use scim_query::queries::{Page, Query};
+use scim_samples::{BASE, resource};
 use scim_schema::{Attribute, Kind, Leaf, SubAttribute};
 use scim_value::resources::Resource;
 use scim_view::Wanted;
@@ -41,47 +40,30 @@ struct Directory {
     groups: Vec<Resource>,
 }
 
-fn stored(alloc: Global, document: &str) -> Result<Resource> {
-    let Ok(resource) = read_stored(alloc, BASE, document) else {
-        bail!("a document was refused: {document}")
-    };
-    Ok(resource)
-}
-
-/// A user of 15 cells, whose family name is one of some 10,000.
-fn user(alloc: Global, number: usize) -> Result<Resource> {
-    let id = id_of(number).text(alloc)?;
-    let id = id.as_str();
-    let name = number.wrapping_mul(7_919) % 10_007;
-    let document = format!(in alloc;
-        "{{\"active\":true,\"displayName\":\"Barbara Jensen\",\"emails\":[{{\"primary\":true,\"type\":\"work\",\"value\":\"user{number}@example.com\"}}],\"id\":\"{id}\",\"meta\":{{\"created\":\"2024-01-01T00:00:00Z\",\"lastModified\":\"2024-01-01T00:00:00Z\",\"resourceType\":\"User\"}},\"name\":{{\"familyName\":\"Jensen{name}\",\"givenName\":\"Barbara\"}},\"title\":\"Tour Guide\",\"urn:ietf:params:scim:schemas:extension:enterprise:2.0:User\":{{\"department\":\"Tours\"}},\"userName\":\"user{number}\"}}"
-    )?;
-    stored(alloc, document.as_str())
-}
-
 /// A group of the users that follow those of the group before it.
 fn group(alloc: Global, number: usize, users: usize) -> Result<Resource> {
     let id = id_of(number.saturating_add(1_000_000)).text(alloc)?;
-    let id = id.as_str();
-    let mut document = format!(in alloc;
-        "{{\"displayName\":\"Team {number}\",\"id\":\"{id}\",\"meta\":{{\"created\":\"2024-01-01T00:00:00Z\",\"lastModified\":\"2024-01-01T00:00:00Z\",\"resourceType\":\"Group\"}},\"members\":["
-    )?;
+    let mut cells = format!(in alloc; "displayName=Team {number}")?;
     for place in 0..MEMBERS {
         let first = number.saturating_mul(MEMBERS);
         let member = id_of(first.saturating_add(place) % users.max(1)).text(alloc)?;
-        let member = member.as_str();
-        let comma = if place == 0 { "" } else { "," };
-        let value = format!(in alloc; "{comma}{{\"value\":\"{member}\"}}")?;
-        document.push_str(value.as_str())?;
+        let value = format!(in alloc; "; members[{place}].value={}", member.as_str())?;
+        cells.push_str(value.as_str())?;
     }
-    document.push_str("]}")?;
-    stored(alloc, document.as_str())
+    Ok(resource(alloc, Kind::Group, id.as_str(), cells.as_str())?)
+}
+
+/// A user whose family name is one of some 10,000.
+fn named_user(alloc: Global, number: usize) -> Result<Resource> {
+    let name = number.wrapping_mul(7_919) % 10_007;
+    let family_name = format!(in alloc; "Jensen{name}")?;
+    user(alloc, number, family_name.as_str())
 }
 
 fn directory_of(alloc: Global, count: usize) -> Result<Directory> {
     let mut users = Vec::new(alloc);
     for number in 0..count {
-        users.push(user(alloc, number)?)?;
+        users.push(named_user(alloc, number)?)?;
     }
     let mut groups = Vec::new(alloc);
     for number in 0..GROUPS {

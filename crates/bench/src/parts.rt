@@ -1,11 +1,10 @@
 //! Parts: groups of more and more members, each with four sub-attributes.
 use anyhow::{Result, bail};
-use scim_cell::atoms::{Atom, Text};
 use scim_cell::cells::Cell;
 use scim_cell::ids::Id;
 use scim_cell::rows::{Row, RowTest};
+use scim_samples::{ALICE, BASE, read_cells};
 use scim_schema::{Attribute, Kind, Leaf, SubAttribute};
-use scim_text::NoMemory;
 use scim_value::parts::Part;
 use std::alloc::Global;
 use std::io::Print;
@@ -18,48 +17,19 @@ const SIZES: [usize; 3] = [2, 250, 10_000];
 /// At each size about so many cells are gone over, in as many rounds as that takes.
 const CELLS: usize = 400_000;
 
-fn text(alloc: Global, written: &str) -> Result<Atom, NoMemory> {
-    Ok(Atom::Text(Text::copy_of(alloc, written)?))
-}
-
-fn push(cells: &mut Vec<Cell>, leaf: Leaf, position: usize, atom: Atom) -> Result<(), NoMemory> {
-    cells.push(Cell {
-        leaf,
-        position,
-        atom,
-    })?;
-    Ok(())
-}
-
 /// The cells of a group with so many members, the last member first.
-fn group(alloc: Global, members: usize) -> Result<Vec<Cell>, NoMemory> {
-    let mut cells = Vec::new(alloc);
-    for position in (0..members).rev() {
-        for (sub_attribute, written) in [
-            (SubAttribute::Display, "Alice"),
-            (SubAttribute::Value, "00000000-0000-4000-8000-00000000000a"),
-            (SubAttribute::TypeName, "User"),
-            (
-                SubAttribute::Reference,
-                "http://127.0.0.1:8080/Users/00000000-0000-4000-8000-00000000000a",
-            ),
-        ] {
-            let member = Leaf::of(Attribute::Members, sub_attribute);
-            push(&mut cells, member, position, text(alloc, written)?)?;
-        }
+fn group(alloc: Global, members: usize) -> Result<Vec<Cell>> {
+    let mut cells = read_cells(
+        alloc,
+        "displayName=Team; id=00000000-0000-4000-8000-0000000000aa",
+    )?;
+    for position in 0..members {
+        let member = format!(in alloc;
+            "members[{position}].display=Alice; members[{position}].value={ALICE}; members[{position}].type=User; members[{position}].$ref={BASE}/Users/{ALICE}"
+        )?;
+        cells.append(&mut read_cells(alloc, member.as_str())?)?;
     }
-    push(
-        &mut cells,
-        Leaf::simple(Attribute::DisplayName),
-        0,
-        text(alloc, "Team")?,
-    )?;
-    push(
-        &mut cells,
-        Leaf::simple(Attribute::Id),
-        0,
-        text(alloc, "team")?,
-    )?;
+    cells.reverse();
     Ok(cells)
 }
 

@@ -28,10 +28,15 @@ impl Case<'_> {
         if self.value.get("said").is_none() {
             return self.text("call");
         }
-        if self.value.get("policy").is_some() {
-            Ok("policy_file")
-        } else {
+        if self
+            .value
+            .get("users")
+            .or(self.value.get("users_hex"))
+            .is_some()
+        {
             Ok("users_file")
+        } else {
+            Ok("policy_file")
         }
     }
 

@@ -11,12 +11,14 @@ mod faults;
 mod filter_calls;
 mod folder;
 mod path_calls;
+mod policy_calls;
 mod query_calls;
 mod samples_calls;
 mod schema_calls;
 mod tally;
 mod text_calls;
 mod vectors;
+mod view_calls;
 
 use crate::case::Case;
 use crate::faults::{CaseFault, FolderFault};
@@ -93,6 +95,12 @@ fn answer(case: &Case<'_>) -> Result<String, CaseFault> {
         return found;
     }
     if let Some(found) = query_calls::answer(case, call) {
+        return found;
+    }
+    if let Some(found) = policy_calls::answer(case, call) {
+        return found;
+    }
+    if let Some(found) = view_calls::answer(case, call) {
         return found;
     }
     Err(CaseFault::NoSuchCall)

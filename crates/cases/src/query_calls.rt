@@ -3,19 +3,19 @@ use crate::arguments::said;
 use crate::case::Case;
 use crate::faults::CaseFault;
 use crate::filter_calls::{filter_of, spaced_text};
+use crate::policy_calls::policy;
+use crate::view_calls::wanted;
 use scim_filter::tree::Filter;
 use scim_json::to_json;
-use scim_policy::{Policy, PolicyFault, read_policy};
 use scim_query::client_searches::search_view;
 use scim_query::queries::{Page, Query, search};
 use scim_query::sort_keys::read_sort_by;
 use scim_samples::{
-    BASE, POLICY, atom_text, leaf_text, part, read_leaf, resource, sample_groups, sample_users,
+    BASE, atom_text, leaf_text, part, read_leaf, resource, sample_groups, sample_users,
 };
 use scim_schema::{Kind, Leaf};
 use scim_value::parts::Part;
 use scim_value::resources::Resource;
-use scim_view::{Names, Wanted};
 use std::alloc::Global;
 
 /// What a call of `scim_query` gives; None where it isn't one.
@@ -51,29 +51,6 @@ fn wanted_filter(case: &Case<'_>) -> Result<Option<Filter>, CaseFault> {
 /// The argument `sortBy` as it is read, if it is given.
 fn sort_leaf(case: &Case<'_>) -> Option<Leaf> {
     read_sort_by(case.kind(), case.text("sortBy").ok()?)
-}
-
-/// The names of the list `attributes`, or all but those of the list `excludedAttributes`.
-fn wanted(case: &Case<'_>) -> Result<Wanted, CaseFault> {
-    let mut texts = Vec::new(case.alloc);
-    let excludes = case.value.get("excludedAttributes").is_some();
-    let list = if excludes {
-        "excludedAttributes"
-    } else {
-        "attributes"
-    };
-    for value in case.list(list) {
-        texts.push(value.as_str().unwrap_or(""))?;
-    }
-    if case.value.get(list).is_none() {
-        return Ok(Wanted::Default);
-    }
-    let names = Names::of(case.alloc, case.kind(), texts.as_slice())?;
-    Ok(if excludes {
-        Wanted::Without(names)
-    } else {
-        Wanted::Only(names)
-    })
 }
 
 /// The argument of this name as a position or a count.
@@ -137,18 +114,9 @@ fn resources_of(case: &Case<'_>) -> Result<Vec<Resource>, CaseFault> {
     }
 }
 
-/// The policy of the argument `policy`, or the sample policy.
-fn policy_of(case: &Case<'_>) -> Result<Policy, CaseFault> {
-    match read_policy(case.alloc, case.text_or("policy", POLICY)) {
-        Ok(policy) => Ok(policy),
-        Err(PolicyFault::NoMemory) => Err(CaseFault::NoMemory),
-        Err(_) => Err(CaseFault::Missing("policy")),
-    }
-}
-
 fn search_view_call(case: &Case<'_>) -> Result<String, CaseFault> {
     let query = query_of(case)?;
-    let policy = policy_of(case)?;
+    let policy = policy(case)?;
     let groups = sample_groups(case.alloc)?;
     let resources = resources_of(case)?;
     let page = search_view(

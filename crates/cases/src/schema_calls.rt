@@ -1,40 +1,212 @@
 //! The calls of `scim_schema`.
-use crate::arguments::said;
+use crate::arguments::{said, truth};
 use crate::case::Case;
 use crate::faults::CaseFault;
-use scim_schema::lookup::{attribute, schema, sub_attribute};
+use scim_samples::{leaf_text, read_leaf};
+use scim_schema::characteristics::{
+    AttributeType, Characteristics, Mutability, Returned, Uniqueness, attribute_characteristics,
+    characteristics_of, is_multi_valued,
+};
+use scim_schema::lookup::{attribute, attribute_in, schema, sub_attribute};
+use scim_schema::schemas::{Schema, core_schema, extension_of, extensions, schema_of, schemas};
+use scim_schema::table::{attributes, has_leaf, leaves, sub_attributes};
+use scim_schema::units::unit_of;
+use scim_schema::{Attribute, Leaf};
+use std::alloc::Global;
 
 /// What a call of `scim_schema` gives; None where it isn't one.
 pub fn answer(case: &Case<'_>, call: &str) -> Option<Result<String, CaseFault>> {
     match call {
-        "attribute" => Some(attribute_call(case)),
-        "sub_attribute" => Some(sub_attribute_call(case)),
-        "schema" => Some(schema_call(case)),
+        "attribute" | "attribute_in" | "sub_attribute" => Some(look_up(case, call)),
+        "schema" | "core_schema" | "schema_of" | "extension_of" => Some(schema_call(case, call)),
+        "name" => Some(name(case)),
+        "schemas" | "extensions" => Some(urns(case, call)),
+        "attributes" => Some(attribute_list(case)),
+        "sub_attributes" => Some(sub_attribute_list(case)),
+        "leaf" => Some(leaf(case)),
+        "whole_attribute" => Some(whole_attribute(case)),
+        "has_leaf" => Some(has_leaf_call(case)),
+        "unit_of" => Some(unit_call(case)),
         _ => None,
     }
 }
 
-/// The name of the attribute as it is printed.
-fn attribute_call(case: &Case<'_>) -> Result<String, CaseFault> {
-    match attribute(case.kind(), case.text("name")?) {
-        Some(found) => said(case.alloc, found.name()),
-        None => said(case.alloc, "none"),
+fn type_word(attribute_type: AttributeType) -> &'static str {
+    match attribute_type {
+        AttributeType::String => "string",
+        AttributeType::Boolean => "boolean",
+        AttributeType::DateTime => "dateTime",
+        AttributeType::Reference => "reference",
+        AttributeType::Binary => "binary",
+        AttributeType::Complex => "complex",
     }
 }
 
-fn sub_attribute_call(case: &Case<'_>) -> Result<String, CaseFault> {
-    let Some(attribute) = attribute(case.kind(), case.text("attribute")?) else {
-        return Err(CaseFault::Missing("attribute"));
+fn schema_word(schema: Schema) -> &'static str {
+    match schema {
+        Schema::User => "User",
+        Schema::Group => "Group",
+        Schema::EnterpriseUser => "EnterpriseUser",
+    }
+}
+
+fn mutability_word(mutability: Mutability) -> &'static str {
+    match mutability {
+        Mutability::ReadOnly => "readOnly",
+        Mutability::ReadWrite => "readWrite",
+        Mutability::Immutable => "immutable",
+        Mutability::WriteOnly => "writeOnly",
+    }
+}
+
+fn returned_word(returned: Returned) -> &'static str {
+    match returned {
+        Returned::Always => "always",
+        Returned::Never => "never",
+        Returned::Default => "default",
+        Returned::Request => "request",
+    }
+}
+
+/// Type, `multi` or `single`, `required` or `optional`, `caseExact` or `caseInexact`, mutability, when it is
+/// returned, and uniqueness.
+fn characteristics_text(
+    alloc: Global,
+    multi_valued: bool,
+    of: &Characteristics,
+) -> Result<String, CaseFault> {
+    let plurality = if multi_valued { "multi" } else { "single" };
+    let need = if of.required { "required" } else { "optional" };
+    let case = if of.case_exact {
+        "caseExact"
+    } else {
+        "caseInexact"
     };
-    match sub_attribute(attribute, case.text("name")?) {
-        Some(found) => said(case.alloc, found.name()),
-        None => said(case.alloc, "none"),
-    }
+    let uniqueness = match of.uniqueness {
+        Uniqueness::NotUnique => "none",
+        Uniqueness::Server => "server",
+    };
+    Ok(format!(in alloc;
+        "{} {plurality} {need} {case} {} {} {uniqueness}",
+        type_word(of.attribute_type),
+        mutability_word(of.mutability),
+        returned_word(of.returned)
+    )?)
 }
 
-fn schema_call(case: &Case<'_>) -> Result<String, CaseFault> {
-    match schema(case.text("urn")?) {
-        Some(found) => said(case.alloc, found.urn()),
-        None => said(case.alloc, "none"),
+/// The attribute of either kind that the case names.
+fn attribute_of(case: &Case<'_>) -> Result<Attribute, CaseFault> {
+    Ok(read_leaf(case.text("attribute")?)?.attribute)
+}
+
+/// The schema that the case names by its URN.
+fn schema_named(case: &Case<'_>) -> Result<Schema, CaseFault> {
+    schema(case.text("urn")?).ok_or(CaseFault::Missing("urn"))
+}
+
+/// The printed name of what a name finds.
+fn look_up(case: &Case<'_>, call: &str) -> Result<String, CaseFault> {
+    let name = case.text("name")?;
+    let found = match call {
+        "attribute" => attribute(case.kind(), name).map(|found| found.name()),
+        "attribute_in" => attribute_in(case.kind(), schema_named(case)?, name).map(
+            |found| found.name(),
+        ),
+        _ => sub_attribute(attribute_of(case)?, name).map(|found| found.name()),
+    };
+    said(case.alloc, found.unwrap_or("none"))
+}
+
+/// The URN of a schema.
+fn schema_call(case: &Case<'_>, call: &str) -> Result<String, CaseFault> {
+    let found = match call {
+        "schema" => schema(case.text("urn")?),
+        "core_schema" => Some(core_schema(case.kind())),
+        "schema_of" => Some(schema_of(case.kind(), attribute_of(case)?)),
+        _ => extension_of(attribute_of(case)?),
+    };
+    said(case.alloc, found.map_or("none", |schema| schema.urn()))
+}
+
+/// The printed name of a kind, its endpoint, or the printed name of an operation.
+fn name(case: &Case<'_>) -> Result<String, CaseFault> {
+    let name = match case.text("of")? {
+        "kind" => case.kind().name(),
+        "endpoint" => case.kind().endpoint(),
+        _ => case.op().name(),
+    };
+    said(case.alloc, name)
+}
+
+/// URNs, with a space between two.
+fn urns(case: &Case<'_>, call: &str) -> Result<String, CaseFault> {
+    let found = if call == "schemas" {
+        schemas()
+    } else {
+        extensions(case.kind())
+    };
+    let mut text = String::new(case.alloc);
+    for schema in found {
+        text.push_str(schema.urn())?;
+        text.push(' ')?;
     }
+    Ok(text)
+}
+
+/// The names of a kind's attributes, with a space behind each.
+fn attribute_list(case: &Case<'_>) -> Result<String, CaseFault> {
+    let mut text = String::new(case.alloc);
+    for attribute in attributes(case.kind()) {
+        text.push_str(attribute.name())?;
+        text.push(' ')?;
+    }
+    Ok(text)
+}
+
+/// The names of an attribute's sub-attributes, with a space behind each.
+fn sub_attribute_list(case: &Case<'_>) -> Result<String, CaseFault> {
+    let mut text = String::new(case.alloc);
+    for sub_attribute in sub_attributes(attribute_of(case)?) {
+        text.push_str(sub_attribute.name())?;
+        text.push(' ')?;
+    }
+    Ok(text)
+}
+
+/// Schema, path and characteristics of the leaf at a place in leaf order, from 1.
+fn leaf(case: &Case<'_>) -> Result<String, CaseFault> {
+    let kind = case.kind();
+    let place = usize::try_from(case.number("place")?).unwrap_or(0);
+    let Some(leaf) = leaves(kind).get(place.wrapping_sub(1)).copied() else {
+        return said(case.alloc, "none");
+    };
+    let schema = schema_word(schema_of(kind, leaf.attribute));
+    let path = leaf_text(case.alloc, leaf)?;
+    let of = characteristics_of(kind, leaf);
+    let text = characteristics_text(case.alloc, is_multi_valued(leaf.attribute), &of)?;
+    Ok(format!(in case.alloc; "{schema} {path} {text}")?)
+}
+
+/// The characteristics of a whole complex attribute.
+fn whole_attribute(case: &Case<'_>) -> Result<String, CaseFault> {
+    let of = attribute_characteristics(case.kind(), attribute_of(case)?);
+    characteristics_text(case.alloc, of.multi_valued, &of)
+}
+
+/// Whether the kind has the leaf.
+fn has_leaf_call(case: &Case<'_>) -> Result<String, CaseFault> {
+    truth(
+        case.alloc,
+        has_leaf(case.kind(), read_leaf(case.text("leaf")?)?),
+    )
+}
+
+/// The path of a unit: of the whole attribute where it is multi-valued.
+fn unit_call(case: &Case<'_>) -> Result<String, CaseFault> {
+    let unit = unit_of(read_leaf(case.text("leaf")?)?);
+    let leaf = Leaf {
+        attribute: unit.attribute,
+        sub_attribute: unit.sub_attribute,
+    };
+    Ok(leaf_text(case.alloc, leaf)?)
 }

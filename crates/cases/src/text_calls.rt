@@ -12,6 +12,7 @@ pub fn answer(case: &Case<'_>, call: &str) -> Option<Result<String, CaseFault>> 
         "print_moment" => Some(print_moment_call(case)),
         "read_moment" => Some(read_moment_call(case)),
         "read_printed_moment" => Some(read_printed_moment_call(case)),
+        "order_of_readings" => Some(order_call(case)),
         _ => None,
     }
 }
@@ -48,5 +49,16 @@ fn read_printed_moment_call(case: &Case<'_>) -> Result<String, CaseFault> {
     match read_printed_moment(case.alloc, case.text("text")?)? {
         Some(moment) => Ok(format!(in case.alloc; "{}", moment.seconds())?),
         None => said(case.alloc, "none"),
+    }
+}
+
+/// How the readings of two texts compare.
+fn order_call(case: &Case<'_>) -> Result<String, CaseFault> {
+    match (
+        read_moment(case.text("text")?),
+        read_moment(case.text("other")?),
+    ) {
+        (Ok(first), Ok(second)) => Ok(format!(in case.alloc; "{:?}", first.cmp(&second))?),
+        _ => said(case.alloc, "BadMoment"),
     }
 }

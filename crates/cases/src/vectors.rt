@@ -15,9 +15,27 @@ pub fn answer(case: &Case<'_>, call: &str) -> Option<Result<String, CaseFault>> 
     }
 }
 
-/// `ok, N rules`, or `rule N: CAUSE`.
+/// The text of a file, which a line holds as it stands or in hex; None where it isn't in UTF-8.
+fn file_text(
+    case: &Case<'_>,
+    name: &'static str,
+    hex_name: &'static str,
+) -> Result<Option<String>, CaseFault> {
+    if let Ok(text) = case.text(name) {
+        return Ok(Some(String::from_str(case.alloc, text)?));
+    }
+    match hex::decode(case.alloc, case.text(hex_name)?) {
+        Ok(bytes) => Ok(String::from_utf8(bytes).ok()),
+        Err(_) => Err(CaseFault::Missing(hex_name)),
+    }
+}
+
+/// `ok, N rules`, or `rule N: CAUSE`. A file that isn't in UTF-8 is refused before it is read, as no JSON.
 fn policy_file(case: &Case<'_>) -> Result<String, CaseFault> {
-    match read_policy(case.alloc, case.text("policy")?) {
+    let Some(text) = file_text(case, "policy", "policy_hex")? else {
+        return said(case.alloc, "rule 0: json");
+    };
+    match read_policy(case.alloc, text.as_str()) {
         Ok(policy) => Ok(format!(in case.alloc; "ok, {} rules", policy.rules())?),
         Err(PolicyFault::Faulty { rule, cause }) => Ok(format!(in case.alloc;
             "rule {rule}: {cause}"
@@ -26,9 +44,12 @@ fn policy_file(case: &Case<'_>) -> Result<String, CaseFault> {
     }
 }
 
-/// `ok, N resources`, or `item N`.
+/// `ok, N resources`, or `item N`. A file that isn't in UTF-8 is refused before it is read, as item 0.
 fn users_file(case: &Case<'_>) -> Result<String, CaseFault> {
-    match read_documents(case.alloc, case.text_or("base", BASE), case.text("users")?) {
+    let Some(text) = file_text(case, "users", "users_hex")? else {
+        return said(case.alloc, "item 0");
+    };
+    match read_documents(case.alloc, case.text_or("base", BASE), text.as_str()) {
         Ok(resources) => Ok(format!(in case.alloc; "ok, {} resources", resources.len())?),
         Err(DocumentFault::Damaged(item)) => Ok(format!(in case.alloc; "item {item}")?),
         Err(DocumentFault::NoMemory) => Err(CaseFault::NoMemory),

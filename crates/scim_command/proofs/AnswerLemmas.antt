@@ -1,7 +1,6 @@
 -- What the exits of `once` show.
-use Rattle.std.proofs.Common.{◌≡◌, inl, inr, ℕ, List, Result, Ok, Err, IfOk, IfSome, OnOk, Option, None, Some, String, string_bytes, refl}
+use Rattle.std.proofs.Common.{◌≡◌, inl, inr, ℕ, List, Result, Ok, Err, IfOk, IfSome, OnOk, OnErr, Option, None, Some, String, string_bytes, refl}
 use Rattle.std.specs.declared.alloc.Global.{Global}
-use Rattle.std.specs.Io.KnownBytes.{Appends}
 use Rattle.scim_text.specs.declared.memory.NoMemory.{NoMemory}
 use Rattle.scim_cell.specs.Content.{Content}
 use Rattle.scim_policy.specs.Rules.{Rule}
@@ -9,6 +8,7 @@ use Rattle.scim_policy.specs.File.{policy_of}
 use Rattle.scim_wire.specs.declared.heads.Head.{Head}
 use Rattle.scim_wire.specs.Streams.{OpensWith, OpensBadly}
 use Rattle.scim_command.specs.declared.refusals.Refusal.TheVariants.{BadHead}
+use Rattle.scim_command.specs.declared.run_once.Setting.{Setting}
 use Rattle.scim_command.specs.Refusals.{refusal_text}
 use Rattle.scim_command.specs.Replies.{IsReplyTo}
 use Rattle.scim_command.specs.Once.{Answers, AreSortedResourcesOf, IsAnswer, text_or_store}
@@ -34,12 +34,3 @@ pub answers_store : (policy : List Rule) (client base : List ℕ) (cs : List Con
     → IfSome known (λ input. IsAnswer policy client base cs input (text_or_store (Err e)))
 answers_store policy client base cs None e = tt
 answers_store policy client base cs (Some input) e = inr (inr refl)
-
--- the reply that was written answers the input by the two files
-pub answered : {T E : Type 0} (result : Result T E) (policy_text users_text base client : List ℕ) (policy : List Rule) (cs : List Content) (known old new : Option (List ℕ)) (text : List ℕ)
-    → policy_of policy_text ≡ Ok policy → AreSortedResourcesOf base users_text cs → IfSome known (λ input. IsAnswer policy client base cs input text) → OnOk result (Appends old new text)
-    → OnOk result (IfSome known (λ input. (output : List ℕ) × Answers policy_text users_text base client input output × Appends old new output))
-answered (Err e) policy_text users_text base client policy cs known old new text allows holds is wrote = tt
-answered (Ok u) policy_text users_text base client policy cs None old new text allows holds is wrote = tt
-answered (Ok u) policy_text users_text base client policy cs (Some input) old new text allows holds is wrote =
-    (text, record { policy = policy; resources = cs; allows = allows; holds = holds; answer = is }, wrote)

@@ -1,17 +1,34 @@
 -- What is found in a directory.
-use Rattle.std.proofs.Common.{◌≡◌, ◌∙◌, ℕ, Bool, true, false, ◌&&◌, List, [], ◌∷◌, Option, Some, nat_eq, cond, ap, sym, refl}
-use Rattle.std.specs.Cmp.Lexicographic.{pointwise}
+use Rattle.std.proofs.Common.{◌≡◌, ◌∙◌, ℕ, Bool, true, false, ◌&&◌, List, [], ◌∷◌, Option, None, Some, cond, ap, sym, refl, is_lt}
+use Rattle.std.specs.Prelude.{find, All}
+use Rattle.std.specs.Option.{option_copied}
+use Rattle.std.specs.List.Sorted.{IsPermutation}
+use Rattle.std.proofs.lemmas.Cmp.{nat_list_cmp_total}
+use Rattle.std.proofs.lemmas.List.Elements.{All-filter}
+use Rattle.std.proofs.lemmas.List.Kept.{IsSortedBy-filter}
+use Rattle.std.proofs.lemmas.List.Sorted.{All-permutation, ranks_by}
 use Rattle.scim_schema.specs.declared.Kind.{Kind}
 use Rattle.scim_cell.specs.Content.{Content}
-use Rattle.scim_cell.specs.Ids.{id_text}
-use Rattle.scim_command.specs.Directories.{is_of, of_kind, is_named, found}
+use Rattle.scim_cell.specs.Ids.{IsId, id_text}
+use Rattle.scim_command.specs.Directories.{id_cmp, is_of, of_kind, has_id, found, AreInOrder, IsInOrder}
 
--- the resource that is named stands among those of its kind
-pub found-of_kind : (kind : Kind) (segment : List ℕ) (cs : List Content) → found kind segment (of_kind kind cs) ≡ found kind segment cs
-found-of_kind kind segment [] = refl
-found-of_kind kind segment (c ∷ cs) = step (is_of kind c) refl (found-of_kind kind segment cs)
+-- resources whose ids are ids, put in order of id
+pub in_order : (cs sorted : List Content) → All (λ c. IsId c.id) cs → IsInOrder cs sorted → AreInOrder sorted
+in_order cs sorted ids order = record { identified = All-permutation (λ (c : Content). IsId c.id) cs sorted order.members ids; in_order = order.in_order }
+
+-- those of a kind stay in order
+pub of_kind_in_order : (kind : Kind) (cs : List Content) → AreInOrder cs → AreInOrder (of_kind kind cs)
+of_kind_in_order kind cs ranked = record {
+  identified = All-filter (is_of kind) (λ (c : Content). IsId c.id) cs ranked.identified;
+  in_order = IsSortedBy-filter (λ a b. is_lt (id_cmp a b)) (ranks_by nat_list_cmp_total (λ (c : Content). c.id)) (is_of kind) cs ranked.in_order;
+}
+
+-- the resource that is named is the one with the id among those of its kind
+pub found_of_kind : (kind : Kind) (segment : List ℕ) (cs : List Content) → find (has_id segment) (of_kind kind cs) ≡ found kind segment cs
+found_of_kind kind segment [] = refl
+found_of_kind kind segment (c ∷ cs) = step (is_of kind c) (found_of_kind kind segment cs)
   where
-    step : (b : Bool) → is_of kind c ≡ b → found kind segment (of_kind kind cs) ≡ found kind segment cs
-        → found kind segment (cond b (c ∷ of_kind kind cs) (of_kind kind cs)) ≡ found kind segment (c ∷ cs)
-    step true same rest = ap (λ (o : Option Content). cond (is_named kind segment c) (Some c) o) rest
-    step false same rest = rest ∙ ap (λ (b : Bool). cond (b && pointwise nat_eq (id_text c.id) segment) (Some c) (found kind segment cs)) (sym same)
+    step : (b : Bool) → find (has_id segment) (of_kind kind cs) ≡ found kind segment cs
+        → find (has_id segment) (cond b (c ∷ of_kind kind cs) (of_kind kind cs)) ≡ cond (b && has_id segment c) (Some c) (found kind segment cs)
+    step true rest = ap (λ (o : Option Content). cond (has_id segment c) (Some c) o) rest
+    step false rest = rest

@@ -11,20 +11,7 @@ use Rattle.scim_schema.specs.contracts.Kind.{the_type as the_kind}
 use Rattle.scim_cell.specs.Content.{Content}
 use Rattle.scim_command.specs.Directories.{found}
 use Rattle.scim_cell.specs.Ids.{IsId, IsIdText, IsIdCharacter, IsLowerHexDigit, id_text}
-use Rattle.scim_cell.proofs.IdLemmas.{IsIdText-id_text, id_text-injective}
-
--- two ids are one where their texts are
-pub same_ids : (a b : List ℕ) → IsId a → IsId b → pointwise nat_eq a b ≡ pointwise nat_eq (id_text a) (id_text b)
-same_ids a b is_a is_b = elim (cases_Bool (pointwise nat_eq (id_text a) (id_text b))) [
-  | inl alike ↦ rw alike ((bytes_decides a b).1 (id_text-injective a b is_a is_b ((bytes_decides (id_text a) (id_text b)).0 alike)))
-  | inr other ↦ differs (cases_Bool (pointwise nat_eq a b)) other
-]
-  where
-    differs : (pointwise nat_eq a b ≡ true) ⊎ (pointwise nat_eq a b ≡ false) → pointwise nat_eq (id_text a) (id_text b) ≡ false
-        → pointwise nat_eq a b ≡ pointwise nat_eq (id_text a) (id_text b)
-    differs (inl alike) other =
-        let one : pointwise nat_eq (id_text a) (id_text b) ≡ true = (bytes_decides (id_text a) (id_text b)).1 (ap id_text ((bytes_decides a b).0 alike)) in cc
-    differs (inr also) other = rw (also, other) refl
+use Rattle.scim_cell.proofs.IdLemmas.{IsIdText-id_text}
 
 -- a text that isn't read as an id is that of none
 pub no_id : (text : List ℕ) (r : Option (List ℕ)) → IsSome r ↔ IsIdText text → IfNone r ((id : List ℕ) → text ≡ id_text id → ⊥)

@@ -1,3 +1,5 @@
 pub mod AnswerLemmas
 pub mod DirectoryLemmas
 pub mod IdLemmas
+pub mod SearchLemmas
+pub mod RankLemmas

@@ -9,13 +9,10 @@ use Rattle.scim_policy.specs.File.{policy_of}
 use Rattle.scim_wire.specs.declared.heads.Head.{Head}
 use Rattle.scim_wire.specs.Streams.{OpensWith, OpensBadly}
 use Rattle.scim_command.specs.declared.refusals.Refusal.TheVariants.{BadHead, Store}
+use Rattle.scim_command.specs.declared.run_once.Setting.{Setting}
 use Rattle.scim_command.specs.Refusals.{refusal_text}
 use Rattle.scim_command.specs.Directories.{IsInOrder}
 use Rattle.scim_command.specs.Replies.{IsReplyTo}
-
--- the texts are a policy file, and a users file of resources below the base
-abbrev pub AreFiles : List ℕ → List ℕ → List ℕ → Type 0
-AreFiles policy_text users_text base = IsOk (policy_of policy_text) × ((cs : List Content) × IsDocumentsText base users_text cs)
 
 -- the text is a users file of resources below the base which are these in order of id
 pub record AreSortedResourcesOf (base text : List ℕ) (sorted : List Content) : Type 0 where
@@ -29,13 +26,19 @@ IsAnswer policy client base cs input text =
     ((head : Head) × OpensWith input head × IsReplyTo policy client base cs head text)
     ⊎ ((OpensBadly input × (text ≡ refusal_text BadHead)) ⊎ (text ≡ refusal_text Store))
 
--- the text is the answer to an input by a policy file and a users file
-pub record Answers (policy_text users_text base client input text : List ℕ) : Type 0 where
+-- both files are sound: a policy file, and a users file of resources below the base
+pub record AreSound (s : Setting) : Type 0 where
+  pub policy : IsOk (policy_of s.policy.now)
+  pub resources : List Content
+  pub users : IsDocumentsText s.base.now s.users.now resources
+
+-- the text is the answer to an input by the two files, for the client
+pub record Answers (s : Setting) (input text : List ℕ) : Type 0 where
   pub policy : List Rule
   pub resources : List Content
-  pub allows : policy_of policy_text ≡ Ok policy
-  pub holds : AreSortedResourcesOf base users_text resources
-  pub answer : IsAnswer policy client base resources input text
+  pub allows : policy_of s.policy.now ≡ Ok policy
+  pub holds : AreSortedResourcesOf s.base.now s.users.now resources
+  pub answer : IsAnswer policy s.client.now s.base.now resources input text
 
 -- the text of a reply, or that of want of memory
 abbrev pub text_or_store : Result (String Global) NoMemory → List ℕ

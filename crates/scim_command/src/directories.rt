@@ -1,5 +1,5 @@
 //! The resources of a users file, and those of them that are asked for.
-ghost use Rattle.std.specs.Prelude.{◌≡◌, ℕ, List, OnOk, IfOk, IfSome, IfNone};
+ghost use Rattle.std.specs.Prelude.{◌≡◌, ℕ, List, OnOk, IfOk, IfSome, IfNone, All, find};
 ghost use Rattle.std.specs.Option.{option_copied};
 ghost use Rattle.scim_cell.specs.Content.{Content};
 ghost use Rattle.scim_cell.specs.Ids.{IsId, id_text};
@@ -11,7 +11,8 @@ use scim_text::NoMemory;
 use scim_value::resources::Resource;
 use std::alloc::Global;
 
-/// The resources of a users file, each kind in order of id.
+/// The resources of a users file, users and groups apart, each in order of id: so a resource is looked up by
+/// halves, in as many steps as the count of its kind has binary digits.
 #[derive(Drop)]
 pub(crate) struct Directory {
     users: Vec<Resource>,
@@ -21,6 +22,7 @@ pub(crate) struct Directory {
 impl Directory {
     /// The directory of these resources, which may come in any order. NoMemory where none was to be had.
     pub(crate) fn of(alloc: Global, mut resources: Vec<Resource>) -> Result<Directory, NoMemory>
+        requires { All (λ c. IsId c.id) resources.items }
         ensures { IfOk result (λ d. (sorted : List Content)
             × spec.IsInOrder resources.items sorted × spec.Holds d sorted) }
     {
@@ -28,20 +30,20 @@ impl Directory {
         split_by_kind(alloc, resources)
     }
 
-    /// The groups, in order of id.
+    /// The groups, in order of id. Whose members they list isn't looked up here: `scim_view` goes over them.
     pub(crate) fn groups(&self) -> &[Resource]
         ensures { (cs : List Content) → spec.Holds self.now cs → result.now ≡ spec.groups_among cs }
     {
         self.of_kind(Kind::Group)
     }
 
-    /// The resource of the kind that the segment names by its id.
+    /// The resource of the kind that the segment names by its id, found by halves.
     pub(crate) fn found(&self, kind: Kind, segment: &[u8]) -> Option<&Resource>
         ensures { (cs : List Content) → spec.Holds self.now cs
             → option_copied result ≡ spec.found kind segment.now cs }
     {
         let id = id_of(segment)?;
-        with_id(self.of_kind(kind), kind, id)
+        with_id(self.of_kind(kind), id)
     }
 
     /// The resources of the kind, in order of id.
@@ -65,6 +67,7 @@ fn sort_by_id(resources: &mut Vec<Resource>) -> Result<(), NoMemory>
 
 /// Puts users and groups apart, each in the order that they come in. NoMemory where none was to be had.
 fn split_by_kind(alloc: Global, resources: Vec<Resource>) -> Result<Directory, NoMemory>
+    requires { spec.AreInOrder resources.items }
     ensures { IfOk result (λ d. spec.Holds d resources.items) }
 {
     let mut users = Vec::new(alloc);
@@ -89,24 +92,14 @@ fn id_of(segment: &[u8]) -> Option<Id>
     }
 }
 
-/// The resource of the kind that has the id.
-fn with_id(resources: &[Resource], kind: Kind, id: Id) -> Option<&Resource>
+/// The resource that has the id, among resources in order of id: the first whose id isn't below it, which is
+/// found by halves, if it has that one.
+fn with_id(resources: &[Resource], id: Id) -> Option<&Resource>
     requires { IsId id }
-    ensures { option_copied result ≡ spec.found kind (id_text id) resources.now }
+    ensures { spec.AreInOrder resources.now
+        → option_copied result ≡ find (spec.has_id (id_text id)) resources.now }
 {
-    for resource in resources {
-        if is_named(resource, kind, id) {
-            return Some(resource);
-        }
-    }
-    None
-}
-
-/// Whether the resource is of the kind and has the id.
-fn is_named(resource: &Resource, kind: Kind, id: Id) -> bool
-    requires { IsId id }
-    ensures { result ≡ spec.is_named kind (id_text id) resource.now }
-{
-    let part = resource.part();
-    part.kind() == kind && part.id() == id
+    let place = resources.partition_point(|resource| resource.id().cmp(&id).is_lt());
+    let resource = resources.get(place)?;
+    (resource.id() == id).then_some(resource)
 }

@@ -1,17 +1,17 @@
 //! `once`: one request, answered over a users file in memory.
-ghost use Rattle.std.specs.Prelude.{◌≡◌, ◌≢◌, ℕ, List, Err, IsOk, IfOk, IfErr, IfSome, OnOk};
+ghost use Rattle.std.specs.Prelude.{◌≡◌, ◌≢◌, ℕ, List, Err, IsOk, IfOk, IfErr, IfSome, OnOk, OnErr};
 ghost use Rattle.std.specs.Io.KnownBytes.{Appends};
 ghost use Rattle.scim_cell.specs.Content.{Content};
 ghost use Rattle.scim_json.specs.Documents.{IsDamagedAt};
 ghost use Rattle.scim_policy.specs.File.{policy_of};
 ghost use Rattle.scim_policy.specs.declared.faults.Cause.{Cause};
-ghost use Rattle.scim_wire.specs.Streams.{IsUnended};
+ghost use Rattle.scim_wire.specs.Streams.{IsUnended, AppendsFront};
 ghost use Rattle.scim_command.specs.declared.faults.OnceFault.{OnceFault};
 ghost use Rattle.scim_command.specs.declared.refusals.Refusal.{Refusal};
 ghost use Rattle.scim_command.specs.Refusals.{refusal_text};
 ghost use Rattle.scim_command.specs.Faults.{IsOfUsers, IsOfInput};
 ghost use Rattle.scim_command.specs.Directories.{Holds};
-ghost use Rattle.scim_command.specs.Once.{Answers, AreFiles, AreSortedResourcesOf, IsAnswer, text_or_store};
+ghost use Rattle.scim_command.specs.Once.{Answers, AreSound, AreSortedResourcesOf, IsAnswer, text_or_store};
 
 use crate::answers::answer;
 use crate::directories::Directory;
@@ -20,7 +20,7 @@ use crate::refusals::{Refusal, refusal_text};
 use scim_json::read_documents;
 use scim_policy::{Policy, read_policy};
 use scim_text::NoMemory;
-use scim_wire::{Head, HeadFault, read_head};
+use scim_wire::{Head, HeadFault, read_head, write_text};
 use std::alloc::Global;
 use std::io::{Read, Write};
 
@@ -47,8 +47,8 @@ pub struct Setting<'a> {
 ///
 /// Policy, where the policy file is faulty; else Users, where the users file is damaged; else
 /// InputEnded, where the head doesn't end, and InputFailed, where a read fails. These write nothing.
-/// Output, where a write fails: a part of the reply may have been written then. NoMemory where none was
-/// to be had for the files.
+/// Output, where a write fails: then a front of the reply has been written, perhaps none or all of it, and
+/// nothing else. NoMemory where none was to be had for the files; it writes nothing.
 pub fn once<R: Read, W: Write>(
     alloc: Global,
     setting: &Setting<'_>,
@@ -56,15 +56,22 @@ pub fn once<R: Read, W: Write>(
     writer: &mut W,
 ) -> Result<(), OnceFault>
     ensures answered { OnOk result (IfSome (R.remaining reader.old) (λ input. (output : List ℕ)
-        × Answers setting.now.policy.now setting.now.users.now setting.now.base.now setting.now.client.now input output
+        × Answers setting.now input output
         × Appends (W.contents writer.old) (W.contents writer.new) output)) }
     ensures policy { (rule : ℕ) (cause : Cause) → result ≡ Err (OnceFault.Policy rule cause)
         → policy_of setting.now.policy.now ≡ Err (record { rule = rule; cause = cause }) }
     ensures users { (n : ℕ) → result ≡ Err (OnceFault.Users n)
         → IsOk (policy_of setting.now.policy.now) × IsDamagedAt setting.now.base.now setting.now.users.now n }
     ensures ended { result ≡ Err OnceFault.InputEnded
-        → AreFiles setting.now.policy.now setting.now.users.now setting.now.base.now
+        → AreSound setting.now
         × IfSome (R.remaining reader.old) IsUnended }
+    ensures failed { result ≡ Err OnceFault.InputFailed
+        → AreSound setting.now }
+    ensures output { result ≡ Err OnceFault.Output
+        → AreSound setting.now
+        × IfSome (R.remaining reader.old) (λ input. (output : List ℕ)
+        × Answers setting.now input output
+        × AppendsFront (W.contents writer.old) (W.contents writer.new) output) }
     ensures silent { IfErr result (λ f. f ≢ OnceFault.Output → writer.new ≡ writer.old) }
 {
     let policy = read_policy(alloc, setting.policy)?;
@@ -109,27 +116,32 @@ fn reply_to<R: Read>(
 }
 
 /// Writes the reply, or `store`, which says that there was no memory for one.
+///
+/// Output, where a write fails: then a front of it has been written, and nothing else.
 fn write_reply<W: Write>(
     reply: Result<String, NoMemory>,
     store: &str,
     writer: &mut W,
 ) -> Result<(), OnceFault>
-    ensures written { store.now ≡ refusal_text Refusal.Store
+    ensures whole { store.now ≡ refusal_text Refusal.Store
         → OnOk result (Appends (W.contents writer.old) (W.contents writer.new) (text_or_store reply)) }
+    ensures front { store.now ≡ refusal_text Refusal.Store
+        → OnErr result (AppendsFront (W.contents writer.old) (W.contents writer.new) (text_or_store reply)) }
     ensures fault { IfErr result (λ f. f ≡ OnceFault.Output) }
 {
     match reply {
-        Ok(text) => write_text(text.as_str(), writer),
-        Err(NoMemory) => write_text(store, writer),
+        Ok(text) => write_or_fault(text.as_str(), writer),
+        Err(NoMemory) => write_or_fault(store, writer),
     }
 }
 
-/// Writes the text, or says that it can't be.
-fn write_text<W: Write>(text: &str, writer: &mut W) -> Result<(), OnceFault>
-    ensures written { OnOk result (Appends (W.contents writer.old) (W.contents writer.new) text.now) }
+/// Writes the text. Output, where a write fails: then a front of it has been written, and nothing else.
+fn write_or_fault<W: Write>(text: &str, writer: &mut W) -> Result<(), OnceFault>
+    ensures whole { OnOk result (Appends (W.contents writer.old) (W.contents writer.new) text.now) }
+    ensures front { OnErr result (AppendsFront (W.contents writer.old) (W.contents writer.new) text.now) }
     ensures fault { IfErr result (λ f. f ≡ OnceFault.Output) }
 {
-    match writer.write_all(text.as_bytes()) {
+    match write_text(text, writer) {
         Ok(()) => Ok(()),
         Err(_) => Err(OnceFault::Output),
     }

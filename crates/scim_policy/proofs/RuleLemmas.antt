@@ -1,7 +1,7 @@
 -- What rules decide one after another is what the first that fits decides.
 use Rattle.std.proofs.Common.{◌≡◌, refl, sym, ap, ◌∙◌, ℕ, ◌+◌, true, List, [], ◌∷◌, length, get_or, drop, ◌<◌, inl, inr}
 use Rattle.std.specs.Prelude.{Option, None, filter}
-use Rattle.std.specs.List.{list_any, enumerate_from}
+use Rattle.std.specs.List.{enumerate_from}
 use Rattle.std.proofs.lemmas.Bool.{cases_Bool}
 use Rattle.std.proofs.lemmas.List.{at_drop_more}
 use Rattle.scim_schema.specs.declared.Op.{Op}

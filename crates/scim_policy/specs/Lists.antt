@@ -1,5 +1,5 @@
 -- What lists give.
-use Rattle.std.specs.Prelude.{List, [], ◌∷◌, Option, None, Some, option_map, option_and_then}
+use Rattle.std.specs.Prelude.{List, [], ◌∷◌, Option, Some, option_map, option_and_then}
 
 -- what each of a list gives; none where one gives none
 abbrev pub each : {X Y : Type 0} → (X → Option Y) → List X → Option (List Y)

@@ -12,8 +12,6 @@ mod paths;
 mod reading;
 mod rules;
 mod targets;
-#[cfg(test)]
-mod tests;
 
 pub use decisions::Decisions;
 pub use faults::{Cause, PolicyFault};

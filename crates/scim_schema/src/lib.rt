@@ -113,6 +113,3 @@ pub struct Unit {
     /// None at a simple attribute and at a whole multi-valued one.
     pub sub_attribute: Option<SubAttribute>,
 }
-
-#[cfg(test)]
-mod tests;

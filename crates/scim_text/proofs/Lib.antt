@@ -3,3 +3,4 @@ pub mod Fractions
 pub mod MomentInLemmas
 pub mod Printed
 pub mod Spellings
+pub mod OrderLemmas

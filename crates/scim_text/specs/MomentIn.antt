@@ -1,13 +1,13 @@
 -- The moment that a text spells, as a function (RFC 7643 section 2.3.5). The parts of a moment stand at places that are known: what a
 -- text shows there is read off, and it is a moment's text where these parts are a moment's, and are written just so.
-use Rattle.std.specs.Prelude.{ℕ, ◌+◌, ◌*◌, ◌-◌, ◌==◌, nat_le, ◌&&◌, Bool, true, if◌then◌else◌, List, [], ◌∷◌, length, drop, take_while, slice_index, bytes_eq, Option, None, Some, pos}
+use Rattle.std.specs.Prelude.{◌≡◌, ◌↔◌, ℕ, ◌+◌, ◌*◌, ◌-◌, ◌==◌, nat_le, ◌&&◌, Bool, true, if◌then◌else◌, List, [], ◌∷◌, length, drop, take_while, slice_index, bytes_eq, Option, None, Some, pos}
 use Rattle.std.specs.Char.{is_ascii_digit}
 use Rattle.std.specs.Int.{is_in_range}
 use Rattle.std.specs.List.{list_all}
 use Rattle.jiff_core.specs.Calendar.{days_in_month}
 use Rattle.scim_text.specs.declared.readings.Reading.{Reading}
 use Rattle.scim_text.specs.Spelling.{CivilDate, Clock, Zone, absent, utc, ahead, behind, Spelling, fraction_text, spelling_text}
-use Rattle.scim_text.specs.Readings.{reading_of}
+use Rattle.scim_text.specs.Readings.{reading_of, Spells}
 
 -- the number that two digits show at a place. The digit `0` is 48
 abbrev pub two_at : ℕ → List ℕ → ℕ
@@ -75,3 +75,7 @@ unfoldable pub moment_in : List ℕ → Option Reading
 moment_in text =
     let shown = spelling_shown text in
     if is_spelling shown && bytes_eq (spelling_text shown) text then Some (reading_of shown) else None
+
+-- the moment in a text is the one that the text spells
+abbrev pub MomentInIsSpelled : Type 0
+MomentInIsSpelled = (text : List ℕ) (r : Reading) → (moment_in text ≡ Some r) ↔ Spells text r

@@ -1,6 +1,10 @@
 -- What the text of a moment stands for.
-use Rattle.std.specs.Prelude.{◌≡◌, ℕ, ◌+◌, ◌*◌, ◌==◌, not, Bool, false, List, ℤ, pos, neg_ℤ, ◌+ℤ◌, ◌-ℤ◌, ◌*ℤ◌, ◌≤◌}
+use Rattle.std.specs.Prelude.{◌≡◌, ◌↔◌, ℕ, ◌+◌, ◌*◌, ◌==◌, not, Bool, false, List, ℤ, pos, neg_ℤ, ◌+ℤ◌, ◌-ℤ◌, ◌*ℤ◌, ◌≤◌}
 use Rattle.std.specs.List.{list_any}
+use Rattle.std.specs.declared.cmp.Ordering.{Ordering}
+use Rattle.std.specs.declared.cmp.Ordering.TheVariants.{Equal}
+use Rattle.std.specs.Ordering.{nat_cmp, int_cmp, bool_cmp, on, then_cmp}
+use Rattle.std.specs.Cmp.{IsTotalOrder}
 use Rattle.jiff_core.specs.Calendar.{days_from_civil}
 use Rattle.scim_text.specs.declared.readings.Reading.{Reading}
 use Rattle.scim_text.specs.Moments.{last_moment, moment_text}
@@ -56,3 +60,20 @@ HasOneReading = (text : List ℕ) (a b : Reading) → Spells text a → Spells t
 -- the text of a moment stands for that moment, with no fraction
 abbrev pub PrintedReadsBack : Type 0
 PrintedReadsBack = (n : ℕ) → n ≤ last_moment → Spells (moment_text n) (record { second = pos n; later = false })
+
+-- readings in the order of their instants: by the second, and within a second a whole one comes before what is later
+abbrev pub reading_cmp : Reading → Reading → Ordering
+reading_cmp = then_cmp (on (λ (r : Reading). r.second) int_cmp) (on (λ (r : Reading). r.later) bool_cmp)
+
+-- a comparison of readings is that order
+abbrev pub OrdersReadings : (Reading → Reading → Ordering) → Type 0
+OrdersReadings compare = (a b : Reading) → compare a b ≡ reading_cmp a b
+
+-- it is a total order, and readings that are level in it are one
+pub record ReadingsAreOrdered : Type 0 where
+  pub total : IsTotalOrder reading_cmp
+  pub apart : (a b : Reading) → (reading_cmp a b ≡ Equal) ↔ (a ≡ b)
+
+-- what the texts of moments stand for is in the order of the moments
+abbrev pub PrintedInOrder : Type 0
+PrintedInOrder = (m n : ℕ) (a b : Reading) → m ≤ last_moment → n ≤ last_moment → Spells (moment_text m) a → Spells (moment_text n) b → reading_cmp a b ≡ nat_cmp m n

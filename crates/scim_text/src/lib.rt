@@ -8,10 +8,11 @@ mod memory;
 mod moments;
 mod names;
 mod readings;
-#[cfg(test)]
-mod tests;
 
-pub use laws::{one_reading, printed_moments_are_read, printed_reads_back};
+pub use laws::{
+    moment_in_is_spelled, one_reading, printed_moments_are_ordered, printed_moments_are_read,
+    printed_reads_back, readings_are_ordered,
+};
 pub use memory::NoMemory;
 pub use moments::{Moment, print_moment, read_printed_moment};
 pub use names::{fold, same_name};

@@ -66,10 +66,10 @@ values_first u r rs e =
     rw t refl
 
 -- the unit of a leaf of a single-valued attribute is the leaf
-abbrev leaf_unit : Leaf → AttributeUnit
+abbrev pub leaf_unit : Leaf → AttributeUnit
 leaf_unit l = record { attribute = l.attribute; sub_attribute = l.sub_attribute }
 
-unit_single : (l : Leaf) → is_multi_valued l.attribute ≡ false → unit_of l ≡ leaf_unit l
+pub unit_single : (l : Leaf) → is_multi_valued l.attribute ≡ false → unit_of l ≡ leaf_unit l
 unit_single l m = rw m refl
 
 -- such units stand in order of their leaves
@@ -77,7 +77,7 @@ leaf_less : (l k : Leaf) → l.attribute ≡ k.attribute → leaf_number l < lea
 leaf_less l k e less = ap is_lt (second_less (nat_cmp (attribute_number l.attribute) (attribute_number k.attribute)) _ (nat_tied _ _ (ap attribute_number e)) (nat_less _ _ less))
 
 -- no other row is of a single-valued row's unit
-only_row : (kind : Kind) (r : Row) (rs : List Row) → AreSound kind (r ∷ rs) → is_multi_valued r.unit.attribute ≡ false → All (λ (s : Row). r.unit ≢ s.unit) rs
+pub only_row : (kind : Kind) (r : Row) (rs : List Row) → AreSound kind (r ∷ rs) → is_multi_valued r.unit.attribute ≡ false → All (λ (s : Row). r.unit ≢ s.unit) rs
 only_row kind r rs h m i d b e =
     let tie : is_eq (unit_cmp r.unit _) ≡ true = ap is_eq (ap (unit_cmp r.unit) (sym e) ∙ tied_itself unit_total r.unit) in
     let many = (head_sound kind r rs h i d b).1 tie in

@@ -20,3 +20,5 @@ pub mod KeyLemmas
 pub mod CellLemmas
 pub mod ListingLemmas
 pub mod AttributeLemmas
+pub mod PositionLemmas
+pub mod BaseLemmas

@@ -2,6 +2,7 @@ pub mod Changes
 pub mod Equality
 pub mod Laws
 pub mod Listing
+pub mod Positions
 pub mod Resource
 pub mod UniqueNames
 pub mod code

@@ -11,6 +11,8 @@ ghost use Rattle.scim_cell.specs.Place.{place_at, unit_cmp};
 ghost use Rattle.scim_cell.specs.Content.{entries_of, IsPart, AreSortedPartCells};
 ghost use Rattle.scim_cell.specs.Rows as spec;
 ghost use Rattle.scim_cell.specs.Rows.{AreSound, AreValues};
+ghost use Rattle.scim_value.specs.Changes.{restricted_part, with_values};
+ghost use Rattle.scim_value.specs.Positions.{HasPositions};
 
 use crate::row_lists::{copy_rows, kept_rows};
 use scim_cell::atoms::Atom;
@@ -60,6 +62,7 @@ impl Part {
     /// order of unit, and a unit of a single-valued attribute has one at most.
     pub fn of_rows(kind: Kind, id: Id, rows: Vec<Row>) -> Part
         requires { AreSound kind rows.items }
+        ensures whole { result ≡ spec.content kind id rows.items }
         ensures kind { result.kind ≡ kind }
         ensures id { result.id ≡ id }
         ensures rows { spec.rows result ≡ rows.items }
@@ -152,6 +155,8 @@ impl Part {
     /// units are moved, not copied.
     pub fn put(self, unit: Unit, mut values: Vec<Row>) -> Result<Part, NoMemory>
         requires { AreValues self.kind unit values.items }
+        ensures whole { IfOk result (λ p. p ≡ with_values unit values.items self) }
+        ensures valid { IfOk result IsPart }
         ensures kind { IfOk result (λ p. p.kind ≡ self.kind) }
         ensures id { IfOk result (λ p. p.id ≡ self.id) }
         ensures rows { IfOk result (λ p. spec.rows p ≡ spec.put_values unit values.items (spec.rows self)) }
@@ -176,8 +181,10 @@ impl Part {
 
     /// How many positions of an attribute have cells: the number of values of a multi-valued
     /// attribute; of a single-valued one 1 where it has any cell, else 0.
+    #[tactic(auto, using(crate::proofs::PositionLemmas::number_filled))]
     pub fn positions(&self, attribute: Attribute) -> usize
-        ensures { result ≡ spec.positions attribute (spec.rows self.now) }
+        ensures rows { result ≡ spec.positions attribute (spec.rows self.now) }
+        ensures filled { HasPositions self.now attribute result }
     {
         if is_multi_valued(attribute) {
             self.values(Unit::whole(attribute)).len()
@@ -199,6 +206,8 @@ impl Part {
     /// What is left where only the fields that the test admits are kept: rows without a field go,
     /// so that positions close up. NoMemory where none was to be had.
     pub fn restrict<T: RowTest>(&self, alloc: Global, test: &T) -> Result<Part, NoMemory>
+        ensures whole { IfOk result (λ p. p ≡ restricted_part (T.keeps test.now) self.now) }
+        ensures valid { IfOk result IsPart }
         ensures kind { IfOk result (λ p. p.kind ≡ self.now.kind) }
         ensures id { IfOk result (λ p. p.id ≡ self.now.id) }
         ensures rows { IfOk result (λ p. spec.rows p ≡ spec.restricted (T.keeps test.now) (spec.rows self.now)) }

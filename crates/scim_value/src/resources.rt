@@ -4,6 +4,7 @@ ghost use Rattle.std.specs.Option.{option_copied};
 ghost use Rattle.std.specs.FinMap.{get};
 ghost use Rattle.scim_cell.specs.Place.{place_at};
 ghost use Rattle.scim_cell.specs.Rows.{positions, rows};
+ghost use Rattle.scim_value.specs.Positions.{HasPositions};
 ghost use Rattle.scim_value.specs.Resource as spec;
 ghost use Rattle.scim_value.specs.Resource.{IsResource, HasBase};
 
@@ -127,7 +128,8 @@ impl Resource {
     /// How many positions of an attribute have cells: the number of values of a multi-valued
     /// attribute; of a single-valued one 1 where it has any cell, else 0.
     pub fn positions(&self, attribute: Attribute) -> usize
-        ensures { result ≡ positions attribute (rows self.now) }
+        ensures rows { result ≡ positions attribute (rows self.now) }
+        ensures filled { HasPositions self.now attribute result }
     {
         self.part().positions(attribute)
     }

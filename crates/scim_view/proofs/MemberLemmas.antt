@@ -1,9 +1,7 @@
 -- Which resources a group lists, and shows.
-use Rattle.std.proofs.Common.{◌≡◌, refl, sym, ◌∙◌, ap, subst, ℕ, Bool, true, false, ◌&&◌, ◌||◌, List, [], ◌∷◌, filter, inl, inr}
-use Rattle.std.specs.Prelude.{Option, None, Some, IsSome, ◌↔◌, IfSome, not, nat_eq}
-use Rattle.std.specs.List.{list_any}
+use Rattle.std.proofs.Common.{◌≡◌, refl, sym, ◌∙◌, ap, subst, ℕ, Bool, false, ◌&&◌, List, [], inl, inr}
+use Rattle.std.specs.Prelude.{Option, None, Some, IsSome, ◌↔◌, IfSome, nat_eq}
 use Rattle.std.specs.Cmp.Lexicographic.{pointwise}
-use Rattle.std.specs.Ordering.{is_eq}
 use Rattle.std.proofs.lemmas.Bool.{cases_Bool, false≢true}
 use Rattle.std.proofs.lemmas.Bool.Decides.{same_from_decides, Decides-like}
 use Rattle.std.proofs.lemmas.Slice.Eq.{bytes_eq-Decides}
@@ -12,20 +10,11 @@ use Rattle.scim_schema.specs.declared.Kind.TheVariants.{User, Group}
 use Rattle.scim_schema.specs.declared.Leaf.{Leaf}
 use Rattle.scim_schema.specs.declared.Attribute.TheVariants.{Members}
 use Rattle.scim_schema.specs.declared.SubAttribute.TheVariants.{Value}
-use Rattle.scim_schema.specs.declared.Unit.{Unit as AttributeUnit}
 use Rattle.scim_schema.specs.Units.{leaf_at, whole}
-use Rattle.scim_schema.proofs.LeafLemmas.{leaf_one}
-use Rattle.scim_cell.specs.declared.atoms.Atom.{Atom}
 use Rattle.scim_cell.specs.declared.atoms.Atom.TheVariants.{Text}
-use Rattle.scim_cell.specs.declared.rows.Field.{Field}
 use Rattle.scim_cell.specs.Content.{Content, IsPart}
 use Rattle.scim_cell.specs.Ids.{IsId, IsIdText, id_text}
-use Rattle.scim_cell.specs.Place.{unit_cmp}
-use Rattle.scim_cell.specs.Rows.{Row, Test, rows, values, content, restricted, restricted_row, has_fields, is_leaf, atom_in}
 use Rattle.scim_cell.proofs.IdLemmas.{IsIdText-id_text, id_text-injective}
-use Rattle.scim_value.proofs.OfLemmas.{sound_part}
-use Rattle.scim_value.proofs.SoundLemmas.{restricted_sound}
-use Rattle.scim_value.proofs.TieLemmas.{rows_content}
 use Rattle.scim_policy.specs.declared.rules.Decision.{Decision}
 use Rattle.scim_view.specs.View.{may_be_seen, visible_by}
 use Rattle.scim_view.specs.Groups.{is_text, lists}

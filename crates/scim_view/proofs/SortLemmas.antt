@@ -1,5 +1,5 @@
 -- A list that was sorted, with ties as they stood, is the one that `sorted_by` gives.
-use Rattle.std.proofs.Common.{◌≡◌, ℕ, suc, ◌+◌, ◌<◌, Bool, true, false, not, cond, ◌&&◌, List, [], ◌∷◌, map, filter, refl, sym, ap, ◌∙◌, arith, inl, inr, length, Ordering, Less, Equal, Greater, is_lt, is_gt, is_eq, IsSorted, add-one}
+use Rattle.std.proofs.Common.{◌≡◌, suc, Bool, true, false, not, cond, ◌&&◌, List, [], ◌∷◌, map, filter, refl, sym, ap, ◌∙◌, arith, inl, inr, Ordering, Less, Equal, Greater, is_lt, is_gt, is_eq, IsSorted, add-one}
 use Rattle.std.proofs.Math.Path.{fun_ext}
 use Rattle.std.specs.List.{AllByRecursion}
 use Rattle.std.specs.List.Sorted.{ties, IsStable}
@@ -33,7 +33,7 @@ module _ {X : Type 0} (cmp : X → X → Ordering) (total : IsTotalOrder cmp) wh
   turned Greater h = refl
 
   turned_gt : (o : Ordering) → is_gt o ≡ true → is_gt (ordering_reverse o) ≡ false
-  turned_gt Less h = refl
+  turned_gt Less h = cc
   turned_gt Equal h = refl
   turned_gt Greater h = refl
 

@@ -8,8 +8,6 @@ mod memberships;
 mod names;
 mod projection;
 mod restrictions;
-#[cfg(test)]
-mod tests;
 mod views;
 
 pub use groups::{view_with_groups, with_groups};

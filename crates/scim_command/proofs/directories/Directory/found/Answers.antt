@@ -1,8 +1,10 @@
-use Rattle.std.proofs.Common.{◌≡◌, ◌∙◌, sym, rules, None}
+use Rattle.std.proofs.Common.{◌≡◌, ◌∙◌, ℕ, List, ap, subst, sym, rules, None}
+use Rattle.std.specs.Prelude.{find}
 use Rattle.std.specs.Option.{option_copied}
-use Rattle.scim_command.specs.Directories as spec
+use Rattle.scim_cell.specs.Ids.{id_text}
+use Rattle.scim_command.specs.Directories.{found, has_id, AreInOrder}
 use Rattle.scim_command.proofs.IdLemmas.{not_found}
-use Rattle.scim_command.proofs.DirectoryLemmas.{found-of_kind}
+use Rattle.scim_command.proofs.DirectoryLemmas.{of_kind_in_order, found_of_kind}
 use Rattle.scim_command.proofs.directories.Directory.found.Goals as goal
 
 pub returns-in_err-id : goal.returns-in_err-id
@@ -12,5 +14,7 @@ returns-in_err-id c = λ cs holds.
 
 pub returns : goal.returns
 returns c = λ cs holds.
-    c.with_id.ensures ∙ (λ i. spec.found c.args.kind (sym c.in_ok-id.ensures.id.1 i) (c.of_kind.ensures cs holds i))
-    ∙ found-of_kind c.args.kind c.args.segment.now cs
+    let kept = c.of_kind.ensures cs holds in
+    let ranked = subst AreInOrder (sym kept) (of_kind_in_order c.args.kind cs holds.ranked) in
+    c.with_id.ensures ranked ∙ ap (find (has_id (id_text c.in_ok-id.id))) kept ∙ found_of_kind c.args.kind (id_text c.in_ok-id.id) cs
+    ∙ ap (λ (segment : List ℕ). found c.args.kind segment cs) (sym c.in_ok-id.ensures.id.1)

@@ -2,7 +2,7 @@ use Rattle.std.proofs.Common.{◌≡◌, ◌∙◌, ap, List, ◌++◌, take, dr
 use Rattle.std.specs.Ordering.{is_lt, is_gt}
 use Rattle.scim_schema.specs.declared.Unit.{Unit as AttributeUnit}
 use Rattle.scim_cell.specs.Place.{unit_cmp}
-use Rattle.scim_cell.specs.Rows.{Row, put_values, rows}
+use Rattle.scim_cell.specs.Rows.{Row, put_values, rows, content}
 use Rattle.scim_value.proofs.OfLemmas.{sound_part}
 use Rattle.scim_value.proofs.SoundLemmas.{put_moved, put_sound}
 use Rattle.scim_value.proofs.parts.Part.put.Goals as goal
@@ -32,3 +32,11 @@ returns-clause-rows c =
     ∙ items_put c.args.unit (rows c.args.self) c.into_parts-kind.result.2.items c.split.result.0.now c.split.result.1.now c.split.result.2.now c.args.values.items c.split_off.new.self.items c.in_ok-after.after.items
     c.truncate.new.self.items c.append.new.self.items c.append-2.new.self.items c.into_parts-kind.ensures.rows c.in_ok-after.ensures.items c.in_ok-after.ensures.tail c.truncate.ensures.items c.in_ok-append.ensures.items
     c.in_ok-append-2.ensures.items c.split.ensures.whole c.split.ensures.before c.split.ensures.after
+
+pub returns-clause-whole : goal.returns-clause-whole
+returns-clause-whole c =
+    let e : c.append-2.new.self.items ≡ put_values c.args.unit c.args.values.items (rows c.args.self)
+    = items_put c.args.unit (rows c.args.self) c.into_parts-kind.result.2.items c.split.result.0.now c.split.result.1.now c.split.result.2.now c.args.values.items c.split_off.new.self.items c.in_ok-after.after.items
+    c.truncate.new.self.items c.append.new.self.items c.append-2.new.self.items c.into_parts-kind.ensures.rows c.in_ok-after.ensures.items c.in_ok-after.ensures.tail c.truncate.ensures.items c.in_ok-append.ensures.items
+    c.in_ok-append-2.ensures.items c.split.ensures.whole c.split.ensures.before c.split.ensures.after in
+    c.of_rows.ensures.whole ∙ (λ i. content (c.into_parts-kind.ensures.kind i) (c.into_parts-kind.ensures.id i) (e i))

@@ -1,5 +1,0 @@
-//! Worked examples.
-mod groups;
-mod index;
-mod projection;
-mod views;
