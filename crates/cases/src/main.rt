@@ -10,6 +10,7 @@ mod case;
 mod faults;
 mod filter_calls;
 mod folder;
+mod json_calls;
 mod path_calls;
 mod policy_calls;
 mod query_calls;
@@ -19,6 +20,7 @@ mod tally;
 mod text_calls;
 mod vectors;
 mod view_calls;
+mod wire_calls;
 
 use crate::case::Case;
 use crate::faults::{CaseFault, FolderFault};
@@ -86,6 +88,12 @@ fn answer(case: &Case<'_>) -> Result<String, CaseFault> {
         return found;
     }
     if let Some(found) = schema_calls::answer(case, call) {
+        return found;
+    }
+    if let Some(found) = json_calls::answer(case, call) {
+        return found;
+    }
+    if let Some(found) = wire_calls::answer(case, call) {
         return found;
     }
     if let Some(found) = filter_calls::answer(case, call) {
