@@ -7,6 +7,7 @@
 
 mod arguments;
 mod case;
+mod cell_calls;
 mod faults;
 mod filter_calls;
 mod folder;
@@ -14,10 +15,12 @@ mod json_calls;
 mod path_calls;
 mod policy_calls;
 mod query_calls;
+mod row_tests;
 mod samples_calls;
 mod schema_calls;
 mod tally;
 mod text_calls;
+mod value_calls;
 mod vectors;
 mod view_calls;
 mod wire_calls;
@@ -88,6 +91,12 @@ fn answer(case: &Case<'_>) -> Result<String, CaseFault> {
         return found;
     }
     if let Some(found) = schema_calls::answer(case, call) {
+        return found;
+    }
+    if let Some(found) = cell_calls::answer(case, call) {
+        return found;
+    }
+    if let Some(found) = value_calls::answer(case, call) {
         return found;
     }
     if let Some(found) = json_calls::answer(case, call) {
