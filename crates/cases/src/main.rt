@@ -7,6 +7,7 @@
 
 mod arguments;
 mod case;
+mod command_calls;
 mod faults;
 mod filter_calls;
 mod folder;
@@ -109,6 +110,9 @@ fn answer(case: &Case<'_>) -> Result<String, CaseFault> {
         return found;
     }
     if let Some(found) = view_calls::answer(case, call) {
+        return found;
+    }
+    if let Some(found) = command_calls::answer(case, call) {
         return found;
     }
     Err(CaseFault::NoSuchCall)
