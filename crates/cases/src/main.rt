@@ -8,6 +8,7 @@
 mod arguments;
 mod case;
 mod cell_calls;
+mod command_calls;
 mod faults;
 mod filter_calls;
 mod folder;
@@ -91,6 +92,9 @@ fn answer(case: &Case<'_>) -> Result<String, CaseFault> {
         return found;
     }
     if let Some(found) = schema_calls::answer(case, call) {
+        return found;
+    }
+    if let Some(found) = command_calls::answer(case, call) {
         return found;
     }
     if let Some(found) = cell_calls::answer(case, call) {
