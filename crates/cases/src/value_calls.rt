@@ -62,14 +62,16 @@ fn made_text(alloc: Global, made: Result<Part, Fault>) -> Result<String, CaseFau
     }
 }
 
-/// The id `id`, by default Alice's.
-fn id(case: &Case<'_>) -> Result<Id, CaseFault> {
-    Id::read(case.text_or("id", ALICE)).ok_or(CaseFault::Missing("id"))
+/// The id `id`, by default Alice's; None where it is no id.
+fn id(case: &Case<'_>) -> Option<Id> {
+    Id::read(case.text_or("id", ALICE))
 }
 
 /// The part of cells in any order, or in order of place.
 fn part_call(case: &Case<'_>, call: &str) -> Result<String, CaseFault> {
-    let id = id(case)?;
+    let Some(id) = id(case) else {
+        return Err(CaseFault::Missing("id"));
+    };
     let cells = read_cells(case.alloc, case.text("cells")?)?;
     let made = if call == "part" {
         Part::of(case.alloc, case.kind(), id, cells)
@@ -272,7 +274,9 @@ fn told_of_resource(case: &Case<'_>) -> Result<String, CaseFault> {
 }
 
 fn location_call(case: &Case<'_>) -> Result<String, CaseFault> {
-    let id = id(case)?;
+    let Some(id) = id(case) else {
+        return Err(CaseFault::Missing("id"));
+    };
     let base = case.text_or("base", BASE);
     let place: Text = location(case.alloc, base, case.kind(), id)?;
     Ok(place.into_string())
