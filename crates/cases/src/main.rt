@@ -7,13 +7,16 @@
 
 mod arguments;
 mod case;
+mod cell_calls;
 mod faults;
 mod folder;
 mod policy_calls;
+mod row_tests;
 mod samples_calls;
 mod schema_calls;
 mod tally;
 mod text_calls;
+mod value_calls;
 mod vectors;
 mod view_calls;
 
@@ -83,6 +86,12 @@ fn answer(case: &Case<'_>) -> Result<String, CaseFault> {
         return found;
     }
     if let Some(found) = schema_calls::answer(case, call) {
+        return found;
+    }
+    if let Some(found) = cell_calls::answer(case, call) {
+        return found;
+    }
+    if let Some(found) = value_calls::answer(case, call) {
         return found;
     }
     if let Some(found) = policy_calls::answer(case, call) {

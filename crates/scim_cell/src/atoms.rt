@@ -138,6 +138,3 @@ impl Eq for Atom {
 
     ghost laws = { is_same_atom-IsEquivalence };
 }
-
-#[cfg(test)]
-mod tests;

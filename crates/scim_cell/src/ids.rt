@@ -107,6 +107,3 @@ pub fn ids_read_back()
 pub fn ids_ordered_as_texts()
     ensures { OrdersIdsAsTexts ⟦<Id as Ord>⟧.cmp }
 {}
-
-#[cfg(test)]
-mod tests;

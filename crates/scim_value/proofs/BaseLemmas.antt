@@ -1,7 +1,7 @@
 -- A part with another cell changed has the same at a leaf of a single-valued attribute.
 use Rattle.std.proofs.Common.{◌≡◌, ◌≢◌, ℕ, refl, sym, ◌∙◌, ap, subst, Bool, true, false, List, [], ◌∷◌, filter, inl, inr}
-use Rattle.std.specs.Prelude.{Option, None, Some, if◌then◌else◌, not, cond}
-use Rattle.std.specs.FinMap.{entries, get, insert, get-insert}
+use Rattle.std.specs.Prelude.{Option, None, Some, if◌then◌else◌, cond}
+use Rattle.std.specs.FinMap.{entries, get, get-insert}
 use Rattle.std.specs.Ordering.{is_eq, eq_by_cmp}
 use Rattle.std.proofs.lemmas.Bool.{cases_Bool}
 use Rattle.scim_schema.specs.declared.Attribute.TheVariants.{Meta}

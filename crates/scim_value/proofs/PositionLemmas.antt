@@ -1,11 +1,11 @@
 -- The number of positions of an attribute, by rows, is that of the map.
-use Rattle.std.proofs.Common.{◌≡◌, ◌≢◌, ℕ, zero, suc, ◌+◌, ◌≤◌, ◌<◌, refl, sym, ◌∙◌, ap, subst, Bool, true, false, arith, List, [], ◌∷◌, length, filter, inl, inr}
-use Rattle.std.specs.Prelude.{Option, None, Some, is_some, IsSome, All, if◌then◌else◌}
+use Rattle.std.proofs.Common.{◌≡◌, ◌≢◌, ℕ, zero, suc, ◌≤◌, ◌<◌, refl, sym, ◌∙◌, ap, subst, Bool, true, false, arith, List, [], ◌∷◌, length, inl, inr}
+use Rattle.std.specs.Prelude.{None, Some, is_some, IsSome, All, if◌then◌else◌}
 use Rattle.std.specs.List.{list_any}
 use Rattle.std.specs.FinMap.{get}
 use Rattle.std.specs.Ordering.{is_eq}
 use Rattle.std.proofs.lemmas.Bool.{cases_Bool, cases_lt}
-use Rattle.std.proofs.lemmas.List.Elements.{All-head, All-tail, All-filter, filter_passes}
+use Rattle.std.proofs.lemmas.List.Elements.{All-head}
 use denote.Enum.Bare.{sameb, same_true, true_same}
 use Rattle.scim_schema.specs.declared.Kind.{Kind}
 use Rattle.scim_schema.specs.declared.Attribute.{Attribute}
@@ -15,12 +15,11 @@ use Rattle.scim_schema.specs.contracts.Attribute.{the_type as the_attribute}
 use Rattle.scim_schema.specs.Characteristics.{is_multi_valued}
 use Rattle.scim_schema.specs.Units.{unit_of, whole}
 use Rattle.scim_schema.proofs.LeafLemmas.{leaf_same}
-use Rattle.scim_cell.specs.declared.atoms.Atom.{Atom}
 use Rattle.scim_cell.specs.declared.rows.Field.{Field}
 use Rattle.scim_cell.specs.Place.{place_at, unit_cmp}
 use Rattle.scim_cell.specs.Content.{Content, IsPart}
-use Rattle.scim_cell.specs.Rows.{Row, rows, values, positions, is_leaf, has_fields, atom_in, atom_at, cell_at, IsSoundField, IsSoundRow, AreSound}
-use Rattle.scim_value.specs.Positions.{HasCellAt, HasPositions}
+use Rattle.scim_cell.specs.Rows.{Row, rows, values, positions, has_fields, atom_in, atom_at, cell_at, IsSoundField, IsSoundRow, AreSound}
+use Rattle.scim_value.specs.Positions.{HasPositions}
 use Rattle.scim_value.proofs.OrderLemmas.{unit_same}
 use Rattle.scim_value.proofs.TieLemmas.{attribute_of}
 use Rattle.scim_value.proofs.GetLemmas.{atom_at-beyond, values_none, tail_sound, get_cell}

@@ -68,25 +68,3 @@ impl From<AllocError> for Fault {
         NoMemory::from(error).into()
     }
 }
-
-#[cfg(test)]
-mod tests {
-    use super::*;
-    use std::test::Fail;
-
-    #[test]
-    fn says_why(rt: HostRuntime) -> Result<(), Fail> {
-        for (fault, why) in [
-            (
-                Fault::from(Invalid),
-                "these are not the cells of such a part or resource",
-            ),
-            (Fault::from(NoMemory), "no memory was to be had"),
-            (Fault::from(AllocError), "no memory was to be had"),
-        ] {
-            let said = format!(in rt.alloc(); "{fault}")?;
-            assert_eq!(rt; said.as_str(), why);
-        }
-        Ok(())
-    }
-}

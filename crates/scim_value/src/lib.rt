@@ -11,8 +11,6 @@ pub mod parts;
 pub mod resource_changes;
 pub mod resources;
 pub mod row_lists;
-#[cfg(test)]
-mod tests;
 pub mod unique_names;
 pub mod validity;
 

@@ -1,0 +1,226 @@
+//! The calls of `scim_cell`.
+use crate::arguments::{said, truth};
+use crate::case::Case;
+use crate::faults::CaseFault;
+use crate::row_tests::OfSubAttribute;
+use scim_cell::atoms::{Atom, Text};
+use scim_cell::cells::{Cell, has_type};
+use scim_cell::ids::Id;
+use scim_cell::places::{compare_units, sub_attributes_by_place};
+use scim_cell::row_checks::{are_values, is_sound_row};
+use scim_cell::rows::{Field, Row};
+use scim_samples::{atom_text, leaf_text, read_cells, read_leaf, row_text};
+use scim_schema::Leaf;
+use scim_schema::characteristics::characteristics_of;
+use scim_schema::units::unit_of;
+use serde_json::Value;
+use std::alloc::Global;
+
+/// What a call of `scim_cell` gives; None where it isn't one.
+pub fn answer(case: &Case<'_>, call: &str) -> Option<Result<String, CaseFault>> {
+    match call {
+        "id" | "written_id" | "id_bytes" => Some(id_call(case, call)),
+        "order_of_ids" => Some(order_of_ids(case)),
+        "copied_text" => Some(copied_text(case)),
+        "same_text" => Some(same_text(case)),
+        "copied_atom" => Some(copied_atom(case)),
+        "same_atom" => Some(same_atom(case)),
+        "has_type" => Some(has_type_call(case)),
+        "place" => Some(place(case)),
+        "order_of_places" => Some(order_of_places(case)),
+        "order_of_units" => Some(order_of_units(case)),
+        "sub_attributes_by_place" => Some(sub_attributes_call(case)),
+        "copied_row" => Some(copied_row(case)),
+        "copied_fields" => Some(copied_fields(case)),
+        "atom_of_row" => Some(atom_of_row(case)),
+        "is_sound_row" => Some(is_sound_row_call(case)),
+        "are_values" => Some(are_values_call(case)),
+        "same_row" => Some(same_row(case)),
+        "same_field" => Some(same_field(case)),
+        "restricted_row" => Some(restricted_row(case)),
+        _ => None,
+    }
+}
+
+/// The text of the id that a text is, as it is made or written, or its bytes in hex; `none` where it is none.
+fn id_call(case: &Case<'_>, call: &str) -> Result<String, CaseFault> {
+    let Some(id) = Id::read(case.text("text")?) else {
+        return said(case.alloc, "none");
+    };
+    match call {
+        "id" => Ok(id.text(case.alloc)?.into_string()),
+        "id_bytes" => Ok(hex::encode(case.alloc, id.uuid().into_bytes())?),
+        _ => {
+            let mut buffer = [0; 40];
+            said(case.alloc, id.write(&mut buffer))
+        }
+    }
+}
+
+/// How two ids compare.
+fn order_of_ids(case: &Case<'_>) -> Result<String, CaseFault> {
+    match (Id::read(case.text("text")?), Id::read(case.text("other")?)) {
+        (Some(first), Some(second)) => Ok(format!(in case.alloc; "{:?}", first.cmp(&second))?),
+        _ => said(case.alloc, "none"),
+    }
+}
+
+fn copied_text(case: &Case<'_>) -> Result<String, CaseFault> {
+    let text = Text::new(String::from_str(case.alloc, case.text("text")?)?);
+    Ok(text.try_copy(case.alloc)?.into_string())
+}
+
+fn same_text(case: &Case<'_>) -> Result<String, CaseFault> {
+    let first = Text::copy_of(case.alloc, case.text("text")?)?;
+    let second = Text::copy_of(case.alloc, case.text("other")?)?;
+    truth(case.alloc, first == second)
+}
+
+/// The cell that an argument has.
+pub fn cell(case: &Case<'_>, name: &'static str) -> Result<Cell, CaseFault> {
+    let mut cells = read_cells(case.alloc, case.text(name)?)?;
+    cells.pop().ok_or(CaseFault::Missing(name))
+}
+
+fn copied_atom(case: &Case<'_>) -> Result<String, CaseFault> {
+    let atom = cell(case, "cell")?.atom.try_copy(case.alloc)?;
+    Ok(atom_text(case.alloc, Some(&atom))?)
+}
+
+fn same_atom(case: &Case<'_>) -> Result<String, CaseFault> {
+    let first = cell(case, "cell")?;
+    let second = cell(case, "other")?;
+    truth(case.alloc, first.atom == second.atom)
+}
+
+/// Whether the atom of a cell has the type of a leaf of the kind, or of a whole attribute.
+fn has_type_call(case: &Case<'_>) -> Result<String, CaseFault> {
+    let leaf = read_leaf(case.text("leaf")?)?;
+    let cell = cell(case, "cell")?;
+    let attribute_type = characteristics_of(case.kind(), leaf).attribute_type;
+    truth(case.alloc, has_type(attribute_type, &cell.atom))
+}
+
+/// The leaf and the position of a cell's place.
+fn place(case: &Case<'_>) -> Result<String, CaseFault> {
+    let place = cell(case, "cell")?.place();
+    let path = leaf_text(case.alloc, place.leaf())?;
+    Ok(format!(in case.alloc; "{path} {}", place.position)?)
+}
+
+fn order_of_places(case: &Case<'_>) -> Result<String, CaseFault> {
+    let first = cell(case, "cell")?.place();
+    let second = cell(case, "other")?.place();
+    Ok(format!(in case.alloc; "{:?}", first.compare(second))?)
+}
+
+/// How the units of two leaves compare.
+fn order_of_units(case: &Case<'_>) -> Result<String, CaseFault> {
+    let first = unit_of(read_leaf(case.text("leaf")?)?);
+    let second = unit_of(read_leaf(case.text("other")?)?);
+    Ok(format!(in case.alloc; "{:?}", compare_units(first, second))?)
+}
+
+/// The names of an attribute's sub-attributes in order of place, with a space behind each.
+fn sub_attributes_call(case: &Case<'_>) -> Result<String, CaseFault> {
+    let leaf = read_leaf(case.text("attribute")?)?;
+    let mut text = String::new(case.alloc);
+    for sub_attribute in sub_attributes_by_place(leaf.attribute) {
+        text.push_str(sub_attribute.name())?;
+        text.push(' ')?;
+    }
+    Ok(text)
+}
+
+/// The fields of a text of cells.
+fn fields(alloc: Global, text: &str) -> Result<Vec<Field>, CaseFault> {
+    let mut fields = Vec::new(alloc);
+    for Cell {
+        leaf,
+        position: _,
+        atom,
+    } in read_cells(alloc, text)? {
+        fields.push(Field { leaf, atom })?;
+    }
+    Ok(fields)
+}
+
+/// A row: a leaf of its unit and its cells, with a bar between them, as `emails.value|emails.type=work`.
+fn row(alloc: Global, text: &str) -> Result<Row, CaseFault> {
+    let (path, cells) = text.split_once('|').ok_or(CaseFault::Missing("row"))?;
+    Ok(Row::new(unit_of(read_leaf(path)?), fields(alloc, cells)?))
+}
+
+/// The rows that `rows` lists.
+pub fn rows(case: &Case<'_>) -> Result<Vec<Row>, CaseFault> {
+    let mut rows = Vec::new(case.alloc);
+    for text in case.list("rows").iter().filter_map(Value::as_str) {
+        rows.push(row(case.alloc, text)?)?;
+    }
+    Ok(rows)
+}
+
+fn copied_row(case: &Case<'_>) -> Result<String, CaseFault> {
+    let copy = row(case.alloc, case.text("row")?)?.try_copy(case.alloc)?;
+    Ok(row_text(case.alloc, &copy)?)
+}
+
+/// The row of copies of the fields of a row.
+fn copied_fields(case: &Case<'_>) -> Result<String, CaseFault> {
+    let row = row(case.alloc, case.text("row")?)?;
+    let unit = row.unit();
+    let mut copies = Vec::new(case.alloc);
+    for field in row.into_fields() {
+        copies.push(field.try_copy(case.alloc)?)?;
+    }
+    Ok(row_text(case.alloc, &Row::new(unit, copies))?)
+}
+
+/// The atom that a row has at a leaf; `none` where it has none.
+fn atom_of_row(case: &Case<'_>) -> Result<String, CaseFault> {
+    let row = row(case.alloc, case.text("row")?)?;
+    let atom = row.get(read_leaf(case.text("leaf")?)?);
+    Ok(atom_text(case.alloc, atom)?)
+}
+
+fn is_sound_row_call(case: &Case<'_>) -> Result<String, CaseFault> {
+    let row = row(case.alloc, case.text("row")?)?;
+    truth(case.alloc, is_sound_row(case.kind(), &row))
+}
+
+/// Whether rows are values of a leaf's unit.
+fn are_values_call(case: &Case<'_>) -> Result<String, CaseFault> {
+    let rows = rows(case)?;
+    let unit = unit_of(read_leaf(case.text("leaf")?)?);
+    truth(case.alloc, are_values(case.kind(), unit, rows.as_slice()))
+}
+
+fn same_row(case: &Case<'_>) -> Result<String, CaseFault> {
+    let first = row(case.alloc, case.text("row")?)?;
+    let second = row(case.alloc, case.text("other")?)?;
+    truth(case.alloc, first == second)
+}
+
+/// Whether the first fields of two texts are equal.
+fn same_field(case: &Case<'_>) -> Result<String, CaseFault> {
+    let first = fields(case.alloc, case.text("cell")?)?;
+    let second = fields(case.alloc, case.text("other")?)?;
+    truth(case.alloc, first.first() == second.first())
+}
+
+/// What is left of a row where the fields of one sub-attribute are kept.
+fn restricted_row(case: &Case<'_>) -> Result<String, CaseFault> {
+    let row = row(case.alloc, case.text("row")?)?;
+    let test = of_sub_attribute(case)?;
+    Ok(row_text(case.alloc, &row.restrict(case.alloc, &test)?)?)
+}
+
+/// The test that keeps the sub-attribute of the leaf `keep`.
+pub fn of_sub_attribute(case: &Case<'_>) -> Result<OfSubAttribute, CaseFault> {
+    let Leaf {
+        attribute: _,
+        sub_attribute,
+    } = read_leaf(case.text("keep")?)?;
+    let sub_attribute = sub_attribute.ok_or(CaseFault::Missing("keep"))?;
+    Ok(OfSubAttribute { sub_attribute })
+}
