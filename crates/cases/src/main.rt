@@ -8,9 +8,14 @@
 mod arguments;
 mod case;
 mod cell_calls;
+mod command_calls;
 mod faults;
+mod filter_calls;
 mod folder;
+mod json_calls;
+mod path_calls;
 mod policy_calls;
+mod query_calls;
 mod row_tests;
 mod samples_calls;
 mod schema_calls;
@@ -19,6 +24,7 @@ mod text_calls;
 mod value_calls;
 mod vectors;
 mod view_calls;
+mod wire_calls;
 
 use crate::case::Case;
 use crate::faults::{CaseFault, FolderFault};
@@ -88,10 +94,28 @@ fn answer(case: &Case<'_>) -> Result<String, CaseFault> {
     if let Some(found) = schema_calls::answer(case, call) {
         return found;
     }
+    if let Some(found) = command_calls::answer(case, call) {
+        return found;
+    }
     if let Some(found) = cell_calls::answer(case, call) {
         return found;
     }
     if let Some(found) = value_calls::answer(case, call) {
+        return found;
+    }
+    if let Some(found) = json_calls::answer(case, call) {
+        return found;
+    }
+    if let Some(found) = wire_calls::answer(case, call) {
+        return found;
+    }
+    if let Some(found) = filter_calls::answer(case, call) {
+        return found;
+    }
+    if let Some(found) = path_calls::answer(case, call) {
+        return found;
+    }
+    if let Some(found) = query_calls::answer(case, call) {
         return found;
     }
     if let Some(found) = policy_calls::answer(case, call) {

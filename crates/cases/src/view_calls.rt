@@ -125,7 +125,7 @@ fn texts<'c>(alloc: Global, values: &'c [Value]) -> Result<Vec<&'c str>, CaseFau
 }
 
 /// What is wanted: by the list `attributes`, by the list `excludedAttributes`, or the default.
-fn wanted(case: &Case<'_>) -> Result<Wanted, CaseFault> {
+pub fn wanted(case: &Case<'_>) -> Result<Wanted, CaseFault> {
     let kind = case.kind();
     if case.value.get("attributes").is_some() {
         let texts = texts(case.alloc, case.list("attributes"))?;

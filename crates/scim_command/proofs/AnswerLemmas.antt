@@ -11,7 +11,8 @@ use Rattle.scim_command.specs.declared.refusals.Refusal.TheVariants.{BadHead}
 use Rattle.scim_command.specs.declared.run_once.Setting.{Setting}
 use Rattle.scim_command.specs.Refusals.{refusal_text}
 use Rattle.scim_command.specs.Replies.{IsReplyTo}
-use Rattle.scim_command.specs.Once.{Answers, AreSortedResourcesOf, IsAnswer, text_or_store}
+use Rattle.scim_command.specs.Once.{Answers, AreSortedResourcesOf, IsAnswer}
+use Rattle.scim_command.specs.code.Exits.{text_or_store}
 
 -- a reply to the head that was read
 pub answers_head : (policy : List Rule) (client base : List ℕ) (cs : List Content) (known : Option (List ℕ)) (head : Head) (reply : Result (String Global) NoMemory)

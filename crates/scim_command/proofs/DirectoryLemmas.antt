@@ -10,7 +10,8 @@ use Rattle.std.proofs.lemmas.List.Sorted.{All-permutation, ranks_by}
 use Rattle.scim_schema.specs.declared.Kind.{Kind}
 use Rattle.scim_cell.specs.Content.{Content}
 use Rattle.scim_cell.specs.Ids.{IsId, id_text}
-use Rattle.scim_command.specs.Directories.{id_cmp, is_of, of_kind, has_id, found, AreInOrder, IsInOrder}
+use Rattle.scim_command.specs.Directories.{id_cmp, is_of, of_kind, has_id, found, IsInOrder}
+use Rattle.scim_command.specs.code.Held.{AreInOrder}
 
 -- resources whose ids are ids, put in order of id
 pub in_order : (cs sorted : List Content) → All (λ c. IsId c.id) cs → IsInOrder cs sorted → AreInOrder sorted

@@ -12,7 +12,8 @@ use Rattle.std.proofs.lemmas.Map.Text.{is_eq-slice_cmp}
 use Rattle.scim_cell.specs.Content.{Content}
 use Rattle.scim_cell.specs.Ids.{IsId, id_text}
 use Rattle.scim_cell.proofs.IdOrderLemmas.{slice_cmp-id_text}
-use Rattle.scim_command.specs.Directories.{has_id, AreInOrder}
+use Rattle.scim_command.specs.Directories.{has_id}
+use Rattle.scim_command.specs.code.Held.{AreInOrder}
 use Rattle.scim_command.proofs.SearchLemmas.{less_first, find_by_halves, find_same}
 
 module _ (id : List ℕ) where

@@ -1,16 +1,15 @@
 -- The resources of a users file: their order, those of a kind, and the one that a segment names.
-use Rattle.std.specs.Prelude.{◌≡◌, ℕ, Bool, ◌&&◌, List, filter, find, nat_eq, Option, All}
+use Rattle.std.specs.Prelude.{ℕ, Bool, ◌&&◌, List, filter, find, nat_eq, Option}
 use Rattle.std.specs.declared.cmp.Ordering.{Ordering}
 use Rattle.std.specs.Ordering.{nat_cmp}
 use Rattle.std.specs.Cmp.Lexicographic.{pointwise, slice_cmp}
 use Rattle.std.specs.List.Sorted.{IsPermutation, IsSorted}
 use denote.Enum.Bare.{sameb}
 use Rattle.scim_schema.specs.declared.Kind.{Kind}
-use Rattle.scim_schema.specs.declared.Kind.TheVariants.{User, Group}
+use Rattle.scim_schema.specs.declared.Kind.TheVariants.{Group}
 use Rattle.scim_schema.specs.contracts.Kind.{the_type as the_kind}
 use Rattle.scim_cell.specs.Content.{Content}
-use Rattle.scim_cell.specs.Ids.{IsId, id_text}
-use Rattle.scim_command.specs.declared.directories.Directory.{Directory}
+use Rattle.scim_cell.specs.Ids.{id_text}
 
 -- the order of resources by id
 abbrev pub id_cmp : Content → Content → Ordering
@@ -29,6 +28,7 @@ is_of kind c = sameb the_kind c.kind kind
 abbrev pub of_kind : Kind → List Content → List Content
 of_kind kind cs = filter (is_of kind) cs
 
+-- the groups, in the order of the list
 abbrev pub groups_among : List Content → List Content
 groups_among cs = of_kind Group cs
 
@@ -43,14 +43,3 @@ is_named kind segment c = is_of kind c && has_id segment c
 -- the resource of the kind that the segment names
 abbrev pub found : Kind → List ℕ → List Content → Option Content
 found kind segment cs = find (is_named kind segment) cs
-
--- resources in order of id
-pub record AreInOrder (cs : List Content) : Type 0 where
-  pub identified : All (λ c. IsId c.id) cs
-  pub in_order : IsSorted id_cmp cs
-
--- the directory keeps these resources, which are in order of id, users and groups apart
-pub record Holds (d : Directory) (cs : List Content) : Type 0 where
-  pub ranked : AreInOrder cs
-  pub users : d.users.items ≡ of_kind User cs
-  pub groups : d.groups.items ≡ groups_among cs

@@ -4,3 +4,4 @@ pub mod Directories
 pub mod Replies
 pub mod Once
 pub mod Faults
+pub mod code

@@ -1,7 +1,5 @@
 -- What `once` writes for what it reads.
-use Rattle.std.specs.Prelude.{◌≡◌, ◌⊎◌, ℕ, List, Result, Ok, Err, IsOk, String, string_bytes}
-use Rattle.std.specs.declared.alloc.Global.{Global}
-use Rattle.scim_text.specs.declared.memory.NoMemory.{NoMemory}
+use Rattle.std.specs.Prelude.{◌≡◌, ◌⊎◌, ℕ, List, Ok, IsOk}
 use Rattle.scim_cell.specs.Content.{Content}
 use Rattle.scim_json.specs.Documents.{IsDocumentsText}
 use Rattle.scim_policy.specs.Rules.{Rule}
@@ -39,8 +37,3 @@ pub record Answers (s : Setting) (input text : List ℕ) : Type 0 where
   pub allows : policy_of s.policy.now ≡ Ok policy
   pub holds : AreSortedResourcesOf s.base.now s.users.now resources
   pub answer : IsAnswer policy s.client.now s.base.now resources input text
-
--- the text of a reply, or that of want of memory
-abbrev pub text_or_store : Result (String Global) NoMemory → List ℕ
-text_or_store (Ok t) = string_bytes t
-text_or_store (Err e) = refusal_text Store

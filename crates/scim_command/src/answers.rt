@@ -2,7 +2,7 @@
 ghost use Rattle.std.specs.Prelude.{◌≡◌, List, IfOk, string_bytes};
 ghost use Rattle.std.specs.Option.{option_copied};
 ghost use Rattle.scim_cell.specs.Content.{Content};
-ghost use Rattle.scim_command.specs.Directories.{Holds};
+ghost use Rattle.scim_command.specs.code.Held.{Holds};
 ghost use Rattle.scim_command.specs.Replies as spec;
 
 use crate::directories::Directory;

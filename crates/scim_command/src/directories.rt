@@ -4,6 +4,7 @@ ghost use Rattle.std.specs.Option.{option_copied};
 ghost use Rattle.scim_cell.specs.Content.{Content};
 ghost use Rattle.scim_cell.specs.Ids.{IsId, id_text};
 ghost use Rattle.scim_command.specs.Directories as spec;
+ghost use Rattle.scim_command.specs.code.Held.{Holds, AreInOrder};
 
 use scim_cell::ids::Id;
 use scim_schema::Kind;
@@ -24,7 +25,7 @@ impl Directory {
     pub(crate) fn of(alloc: Global, mut resources: Vec<Resource>) -> Result<Directory, NoMemory>
         requires { All (λ c. IsId c.id) resources.items }
         ensures { IfOk result (λ d. (sorted : List Content)
-            × spec.IsInOrder resources.items sorted × spec.Holds d sorted) }
+            × spec.IsInOrder resources.items sorted × Holds d sorted) }
     {
         sort_by_id(&mut resources)?;
         split_by_kind(alloc, resources)
@@ -32,14 +33,14 @@ impl Directory {
 
     /// The groups, in order of id. Whose members they list isn't looked up here: `scim_view` goes over them.
     pub(crate) fn groups(&self) -> &[Resource]
-        ensures { (cs : List Content) → spec.Holds self.now cs → result.now ≡ spec.groups_among cs }
+        ensures { (cs : List Content) → Holds self.now cs → result.now ≡ spec.groups_among cs }
     {
         self.of_kind(Kind::Group)
     }
 
     /// The resource of the kind that the segment names by its id, found by halves.
     pub(crate) fn found(&self, kind: Kind, segment: &[u8]) -> Option<&Resource>
-        ensures { (cs : List Content) → spec.Holds self.now cs
+        ensures { (cs : List Content) → Holds self.now cs
             → option_copied result ≡ spec.found kind segment.now cs }
     {
         let id = id_of(segment)?;
@@ -48,7 +49,7 @@ impl Directory {
 
     /// The resources of the kind, in order of id.
     fn of_kind(&self, kind: Kind) -> &[Resource]
-        ensures { (cs : List Content) → spec.Holds self.now cs → result.now ≡ spec.of_kind kind cs }
+        ensures { (cs : List Content) → Holds self.now cs → result.now ≡ spec.of_kind kind cs }
     {
         match kind {
             Kind::User => self.users.as_slice(),
@@ -67,8 +68,8 @@ fn sort_by_id(resources: &mut Vec<Resource>) -> Result<(), NoMemory>
 
 /// Puts users and groups apart, each in the order that they come in. NoMemory where none was to be had.
 fn split_by_kind(alloc: Global, resources: Vec<Resource>) -> Result<Directory, NoMemory>
-    requires { spec.AreInOrder resources.items }
-    ensures { IfOk result (λ d. spec.Holds d resources.items) }
+    requires { AreInOrder resources.items }
+    ensures { IfOk result (λ d. Holds d resources.items) }
 {
     let mut users = Vec::new(alloc);
     let mut groups = Vec::new(alloc);
@@ -96,7 +97,7 @@ fn id_of(segment: &[u8]) -> Option<Id>
 /// found by halves, if it has that one.
 fn with_id(resources: &[Resource], id: Id) -> Option<&Resource>
     requires { IsId id }
-    ensures { spec.AreInOrder resources.now
+    ensures { AreInOrder resources.now
         → option_copied result ≡ find (spec.has_id (id_text id)) resources.now }
 {
     let place = resources.partition_point(|resource| resource.id().cmp(&id).is_lt());

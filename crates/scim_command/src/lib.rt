@@ -7,8 +7,6 @@ mod faults;
 mod refusals;
 mod requests;
 mod run_once;
-#[cfg(test)]
-mod tests;
 
 pub use faults::OnceFault;
 pub use run_once::{Setting, once};

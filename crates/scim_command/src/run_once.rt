@@ -9,9 +9,9 @@ ghost use Rattle.scim_wire.specs.Streams.{IsUnended, AppendsFront};
 ghost use Rattle.scim_command.specs.declared.faults.OnceFault.{OnceFault};
 ghost use Rattle.scim_command.specs.declared.refusals.Refusal.{Refusal};
 ghost use Rattle.scim_command.specs.Refusals.{refusal_text};
-ghost use Rattle.scim_command.specs.Faults.{IsOfUsers, IsOfInput};
-ghost use Rattle.scim_command.specs.Directories.{Holds};
-ghost use Rattle.scim_command.specs.Once.{Answers, AreSound, AreSortedResourcesOf, IsAnswer, text_or_store};
+ghost use Rattle.scim_command.specs.code.Exits.{IsOfUsers, IsOfInput, text_or_store};
+ghost use Rattle.scim_command.specs.code.Held.{Holds};
+ghost use Rattle.scim_command.specs.Once.{Answers, AreSound, AreSortedResourcesOf, IsAnswer};
 
 use crate::answers::answer;
 use crate::directories::Directory;

@@ -13,8 +13,6 @@ mod names;
 pub mod reading;
 mod relation;
 pub mod string_literals;
-#[cfg(test)]
-mod tests;
 pub mod tokens;
 pub mod tree;
 pub mod truth;

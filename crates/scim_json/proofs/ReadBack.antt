@@ -1,11 +1,8 @@
 -- What is stored of a resource is read as that resource.
-use Rattle.std.proofs.Common.{◌≡◌, ◌⊎◌, ◌∙◌, inl, inr, ℕ, List, Option, Some, Result, Ok, Err, refl, sym, ap}
+use Rattle.std.proofs.Common.{◌≡◌, ◌∙◌, inl, inr, Some, Ok, Err, refl, sym, ap}
 use Rattle.serde_json.specs.Data.{Data}
-use Rattle.scim_cell.specs.Content.{Content}
-use Rattle.scim_json.specs.declared.faults.StoredFault.{StoredFault}
 use Rattle.scim_json.specs.declared.faults.StoredFault.TheVariants.{Damaged, NoMemory}
 use Rattle.scim_json.specs.PartData.{stored_data}
-use Rattle.scim_json.specs.Stored.{IsResourceBelow, GivesStored, stored_text}
 use Rattle.scim_json.specs.Laws.{StoredResourcesReadBack}
 use Rattle.scim_json.proofs.Back.{documents_are_apart}
 use Rattle.scim_json.proofs.Kept.{kept_reads_back}

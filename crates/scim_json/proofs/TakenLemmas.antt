@@ -15,7 +15,7 @@ use Rattle.scim_value.specs.declared.unique_names.UniqueName.{UniqueName}
 use Rattle.scim_cell.specs.Content.{Content}
 use Rattle.scim_value.specs.UniqueNames.{Name, unique_names, AreApart, name_of}
 use Rattle.scim_json.specs.declared.documents.Taken.{Taken}
-use Rattle.scim_json.specs.Taken.{same_id, same_name, Records}
+use Rattle.scim_json.specs.code.Taken.{same_id, same_name, Records}
 
 -- two ids compare equal where they are one
 pub same_id-Decides : (a b : List ℕ) → Decides (same_id a b) (a ≡ b)

@@ -4,5 +4,4 @@ pub mod Keys
 pub mod Laws
 pub mod PartData
 pub mod Stored
-pub mod Taken
-pub mod Tokens
+pub mod code

@@ -7,7 +7,7 @@ ghost use Rattle.scim_cell.specs.Content.{Content};
 ghost use Rattle.scim_value.specs.UniqueNames.{AreApart};
 ghost use Rattle.scim_json.specs.declared.faults.DocumentFault.{DocumentFault};
 ghost use Rattle.scim_json.specs.Documents.{IsDocumentsText, IsDamagedAt};
-ghost use Rattle.scim_json.specs.Taken.{Records};
+ghost use Rattle.scim_json.specs.code.Taken.{Records};
 
 use crate::faults::{DocumentFault, StoredFault};
 use crate::reading::{parse, read_document};

@@ -7,8 +7,6 @@ mod faults;
 mod keys;
 mod laws;
 mod reading;
-#[cfg(test)]
-mod tests;
 mod writing;
 
 pub use documents::read_documents;

@@ -5,8 +5,6 @@ mod faults;
 pub mod laws;
 mod paths;
 mod reading;
-#[cfg(test)]
-mod tests;
 
 pub use faults::PathFault;
 pub use paths::{Path, ValuePath};

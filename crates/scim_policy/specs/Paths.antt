@@ -7,6 +7,7 @@ use Rattle.scim_schema.specs.declared.Kind.TheVariants.{User, Group}
 use Rattle.scim_schema.specs.declared.Op.{Op}
 use Rattle.scim_schema.specs.declared.Op.TheVariants.{Read, Create, Modify, Delete}
 use Rattle.scim_schema.specs.Names.{kind_name, op_name}
+use Rattle.scim_filter.specs.declared.limits.TheConstants.{LONGEST_TEXT}
 use Rattle.scim_filter.specs.declared.tree.Meant.{Meant}
 use Rattle.scim_filter.specs.declared.tree.Meant.TheVariants as meant
 use Rattle.scim_filter.specs.declared.tree.Path.{Path}
@@ -54,7 +55,7 @@ path_on t kind = option_and_then (λ (path : Path). covered_by path.meant) (path
 -- what a word of `paths` covers on resources of a kind: everything by `*`, else the attribute or sub-attribute of the kind that it names
 abbrev pub path_named : List ℕ → Kind → Option PolicyPath
 path_named t kind =
-    if same_text t (codes "*") then Some Everything else (if nat_le (length t) 4096 then path_on t kind else None)
+    if same_text t (codes "*") then Some Everything else (if nat_le (length t) LONGEST_TEXT then path_on t kind else None)
 
 -- whether one of these kinds has what a word names
 abbrev pub is_path : List Kind → List ℕ → Bool

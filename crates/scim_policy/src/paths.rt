@@ -7,13 +7,11 @@ ghost use Rattle.scim_policy.specs.code.Written.{text_at};
 use crate::rules::{ClientName, KindPaths, PolicyPath};
 use scim_cell::atoms::Text;
 use scim_filter::attribute_paths::attribute_path;
+use scim_filter::limits::LONGEST_TEXT;
 use scim_filter::tree::Meant;
 use scim_schema::{Kind, Op};
 use scim_text::NoMemory;
 use std::alloc::Global;
-
-/// The most bytes that a path has.
-const LONGEST_PATH: usize = 4096;
 
 /// Whether the text may be the name of a client: 1 to 64 ASCII letters, digits, `-`, `_` and `.`.
 #[tactic(auto, unfolding(crate::specs::Paths::is_client_name))]
@@ -94,7 +92,7 @@ fn path_named(text: &str, kind: Kind) -> Option<PolicyPath>
 {
     if text == "*" {
         Some(PolicyPath::Everything)
-    } else if text.len() <= LONGEST_PATH {
+    } else if text.len() <= LONGEST_TEXT {
         path_on(text, kind)
     } else {
         None

@@ -8,5 +8,3 @@ mod keys;
 pub mod laws;
 pub mod queries;
 pub mod sort_keys;
-#[cfg(test)]
-mod tests;

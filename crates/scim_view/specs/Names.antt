@@ -12,6 +12,7 @@ use Rattle.scim_schema.specs.contracts.SubAttribute.{the_type as the_sub_attribu
 use Rattle.scim_schema.specs.contracts.schemas.Schema.{the_type as the_schema}
 use Rattle.scim_schema.specs.Schemas.{extension_of}
 use Rattle.scim_schema.specs.Units.{leaf_at}
+use Rattle.scim_filter.specs.declared.limits.TheConstants.{LONGEST_TEXT}
 use Rattle.scim_filter.specs.declared.tree.Meant.{Meant}
 use Rattle.scim_filter.specs.declared.tree.Meant.TheVariants.{Nothing, Attribute as AnAttribute, SubAttribute as ASubAttribute}
 use Rattle.scim_filter.specs.declared.tree.Path.{Path}
@@ -46,7 +47,7 @@ is_meant (ASubAttribute a b) l = same_leaf (leaf_at a b) l
 
 -- what a text of at most 4,096 bytes that is a path means for a kind; any other text means nothing
 abbrev pub meant_by : Kind → List ℕ → Meant
-meant_by kind t = if nat_le (length t) 4096 then unwrap_or (option_map (λ (p : Path). p.meant) (path_in kind t)) Nothing else Nothing
+meant_by kind t = if nat_le (length t) LONGEST_TEXT then unwrap_or (option_map (λ (p : Path). p.meant) (path_in kind t)) Nothing else Nothing
 
 -- whether a text names a leaf of a kind: it is the URN of the leaf's extension, or a path that means the leaf or its attribute
 abbrev pub names_leaf : Kind → List ℕ → Leaf → Bool

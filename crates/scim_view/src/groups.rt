@@ -13,7 +13,6 @@ ghost use Rattle.scim_view.specs.Sorted.{sorted_by};
 ghost use Rattle.scim_view.specs.Groups as spec;
 
 use crate::memberships::membership;
-use crate::restrictions::with_values;
 use crate::views::{MayBeSeen, visible_by};
 use scim_cell::atoms::{Atom, Text};
 use scim_cell::ids::Id;
@@ -96,7 +95,7 @@ pub(crate) fn visible_with(
     let part = visible_by(alloc, decisions, resource)?;
     if resource.part().kind() == Kind::User {
         let values = memberships(alloc, decisions, groups, base)?;
-        with_values(part, Unit::whole(Attribute::Groups), values)
+        part.put(Unit::whole(Attribute::Groups), values)
     } else {
         Ok(part)
     }

@@ -7,7 +7,6 @@ pub mod lists;
 mod memberships;
 mod names;
 mod projection;
-mod restrictions;
 mod views;
 
 pub use groups::{view_with_groups, with_groups};

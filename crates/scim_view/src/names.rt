@@ -5,6 +5,7 @@ ghost use Rattle.scim_schema.specs.declared.Leaf.{Leaf};
 ghost use Rattle.scim_view.specs.Names as spec;
 
 use scim_filter::attribute_paths::attribute_path;
+use scim_filter::limits::LONGEST_TEXT;
 use scim_filter::tree::Meant;
 use scim_path::extension_named;
 use scim_schema::schemas::{Schema, extension_of};
@@ -12,9 +13,6 @@ use scim_schema::{Attribute, Kind, Leaf};
 use scim_text::NoMemory;
 use std::alloc::Global;
 use std::collections::HashSet;
-
-/// The most bytes that a path has.
-const LONGEST_PATH: usize = 4096;
 
 /// What the texts of an attribute list name: all attributes of an extension, whole attributes, and
 /// sub-attributes alone.
@@ -133,7 +131,7 @@ impl Names {
 fn meant(kind: Kind, text: &str) -> Meant
     ensures { result ≡ spec.meant_by kind text.now }
 {
-    if text.len() <= LONGEST_PATH {
+    if text.len() <= LONGEST_TEXT {
         attribute_path(kind, text).unwrap_or(Meant::Nothing)
     } else {
         Meant::Nothing

@@ -5,7 +5,6 @@ ghost use Rattle.scim_cell.specs.Rows.{rows};
 ghost use Rattle.scim_view.specs.Shown as spec;
 
 use crate::names::Names;
-use crate::restrictions::restricted;
 use scim_cell::rows::{Row, RowTest};
 use scim_schema::characteristics::{Returned, characteristics_of};
 use scim_schema::{Kind, Leaf};
@@ -92,7 +91,7 @@ pub fn project(alloc: Global, visible: Part, wanted: &Wanted) -> Result<Part, No
     if shows_all(visible.rows(), &shown) {
         Ok(visible)
     } else {
-        restricted(alloc, &visible, &shown)
+        visible.restrict(alloc, &shown)
     }
 }
 

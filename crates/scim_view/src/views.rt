@@ -2,11 +2,9 @@
 ghost use Rattle.std.specs.Prelude.{◌≡◌, ◌&&◌, not, IfOk};
 ghost use Rattle.scim_schema.specs.declared.Leaf.{Leaf};
 ghost use Rattle.scim_schema.specs.declared.Kind.{Kind};
-ghost use Rattle.scim_cell.specs.Rows.{rows, restricted};
 ghost use Rattle.scim_policy.specs.code.Table.{decision};
 ghost use Rattle.scim_view.specs.View as spec;
 
-use crate::restrictions::restricted;
 use scim_cell::rows::{Row, RowTest};
 use scim_policy::{Decisions, Policy};
 use scim_schema::characteristics::{Mutability, characteristics_of};
@@ -122,5 +120,5 @@ pub(crate) fn visible_by(
         kind: resource.kind(),
         decisions,
     };
-    restricted(alloc, resource.part(), &test)
+    resource.part().restrict(alloc, &test)
 }

@@ -10,7 +10,7 @@ use Rattle.scim_wire.specs.declared.heads.HeadFault.TheVariants.{BadHead, Ended,
 use Rattle.scim_wire.specs.Parts.{EndsHead, IsHeadText, IsEmptyLine, feeds}
 use Rattle.scim_wire.specs.Heads.{GivesHead}
 use Rattle.scim_wire.specs.Streams.{Opens, IsOpening, OpensBadly}
-use Rattle.scim_wire.specs.Steps.{Leads}
+use Rattle.scim_wire.specs.code.Steps.{Leads}
 use Rattle.scim_wire.proofs.PartLemmas.{part_start, part_push, feeds_push}
 
 -- what opens bytes opens them whatever follows

@@ -1,5 +1,5 @@
 pub mod Heads
 pub mod Parts
 pub mod Replies
-pub mod Steps
 pub mod Streams
+pub mod code

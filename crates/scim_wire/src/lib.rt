@@ -9,8 +9,6 @@ mod octets;
 mod parts;
 mod replies;
 mod steps;
-#[cfg(test)]
-mod tests;
 mod texts;
 mod writing;
 

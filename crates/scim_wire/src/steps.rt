@@ -3,7 +3,7 @@ ghost use Rattle.std.specs.Prelude.{◌≡◌, ℕ, List, ◌∷◌, ◌++◌, [
 ghost use Rattle.httparse.specs.Grammar.{LineEnd, print_blank};
 ghost use Rattle.scim_wire.specs.Parts.{IsHeadText};
 ghost use Rattle.scim_wire.specs.Streams.{OpensWith, OpensBadly, IsUnended};
-ghost use Rattle.scim_wire.specs.Steps.{StandsAt, Leads};
+ghost use Rattle.scim_wire.specs.code.Steps.{StandsAt, Leads};
 
 use crate::ends::{ends_head, is_empty_line};
 use crate::heads::{Head, HeadFault};

@@ -15,6 +15,7 @@ use anyhow::Result;
 use clap::ArgMatches;
 use scim_command::{OnceFault, once};
 use std::env;
+use std::io::ErrorKind;
 use std::process::ExitCode;
 
 fn main(rt: HostRuntime) -> ExitCode {
@@ -27,7 +28,11 @@ fn main(rt: HostRuntime) -> ExitCode {
 /// Carries out the command line. An error is one of printing, or want of memory.
 fn run(rt: &HostRuntime) -> Result<ExitCode> {
     let alloc = rt.alloc();
-    let words: Vec<String> = env::args(rt)?.collect(alloc)?;
+    let words: Vec<String> = match env::args(rt) {
+        Ok(words) => words.collect(alloc)?,
+        Err(error) if error.kind() == ErrorKind::InvalidData => return tell(rt, &Fault::NotText),
+        Err(error) => return Err(error.into()),
+    };
     let matches = match command(alloc)?.try_get_matches_from(words.as_slice()) {
         Ok(matches) => matches,
         Err(error) => {
@@ -43,11 +48,14 @@ fn run(rt: &HostRuntime) -> Result<ExitCode> {
         Ok(()) => Ok(ExitCode::SUCCESS),
         // Where standard output fails there may be nobody who reads.
         Err(Fault::Once(OnceFault::Output)) => Ok(ExitCode::FAILURE),
-        Err(fault) => {
-            eprintln!(rt; "scimd: {fault}")?;
-            Ok(ExitCode::from(fault.exit_status()))
-        }
+        Err(fault) => tell(rt, &fault),
     }
+}
+
+/// Tells a fault in a line on standard error, and gives its exit status.
+fn tell(rt: &HostRuntime, fault: &Fault) -> Result<ExitCode> {
+    eprintln!(rt; "scimd: {fault}")?;
+    Ok(ExitCode::from(fault.exit_status()))
 }
 
 /// `once`: answers one request from standard input.

@@ -63,6 +63,9 @@ fn tells_faults_in_a_line(rt: HostRuntime) -> Result<(), Fail> {
     says(&rt, Fault::BadOption, "bad option", 2)?;
     let unread = Fault::cannot_read(rt.alloc(), "users.json");
     says(&rt, unread, "cannot read users.json", 1)?;
+    let odd = Fault::cannot_read(rt.alloc(), "straße\n\u{1b}[2J\\ \u{7f}");
+    says(&rt, odd, "cannot read straße\\n\\u{1b}[2J\\ \\u{7f}", 1)?;
+    says(&rt, Fault::NotText, "an argument is not in UTF-8", 2)?;
     let policy = OnceFault::Policy {
         rule: 2,
         cause: Cause::Name,

@@ -1,5 +1,5 @@
 use Rattle.std.proofs.Common.{◌≡◌, length}
-use Rattle.scim_json.specs.Taken.{Records}
+use Rattle.scim_json.specs.code.Taken.{Records}
 use Rattle.scim_json.proofs.DocumentLemmas.{HaveRead}
 use Rattle.scim_json.proofs.documents.read_items.Given as goal
 

@@ -14,8 +14,8 @@ use Rattle.scim_view.specs.Groups as spec
 use Rattle.scim_view.proofs.GroupLemmas.{membership_values, user_visible, other_visible, visible_kind}
 use Rattle.scim_view.proofs.groups.visible_with.Goals as goal
 
-pub with_values-requires : goal.with_values-requires
-with_values-requires c =
+pub put-requires : goal.put-requires
+put-requires c =
     let d = decision c.args.decisions.now in
     let whose = sym (same_true the_kind tt _ _ (sym c.eq.ensures ∙ c.if-eq.true)) ∙ c.kind.ensures ∙ ap (λ (p : Content). p.kind) c.part.ensures.value ∙ sym (visible_kind d c.args.resource.now) ∙ ap (λ (p : Content). p.kind) (sym c.in_ok-part.ensures) in
     rw (c.whole.ensures, c.in_ok-values.ensures)
@@ -28,13 +28,13 @@ returns-in_ok-values c =
     let own = c.args.resource.now in
     let ms = map (spec.membership_at c.args.base.now) c.args.groups.now in
     let user : own.kind ≡ User = sym (c.kind.ensures ∙ ap (λ (p : Content). p.kind) c.part.ensures.value) ∙ same_true the_kind tt _ _ (sym c.eq.ensures ∙ c.if-eq.true) in
-    IfOk-weaker c.with_values.result
+    IfOk-weaker c.put.result
     (λ (p : Content). p ≡ content c.in_ok-part.part.kind c.in_ok-part.part.id (put_values c.whole.result c.in_ok-values.values.items (rows c.in_ok-part.part)))
     (λ (p : Content). p ≡ spec.visible_with d ms own)
     (λ p e.
     e ∙ (λ i. content (c.in_ok-part.ensures i).kind (c.in_ok-part.ensures i).id (put_values (c.whole.ensures i) (c.in_ok-values.ensures i) (rows (c.in_ok-part.ensures i))))
     ∙ user_visible d ms own c.part.ensures.valid.part user)
-    c.with_values.ensures
+    c.put.ensures.whole
 
 pub returns-else-eq : goal.returns-else-eq
 returns-else-eq c =

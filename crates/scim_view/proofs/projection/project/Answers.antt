@@ -9,4 +9,4 @@ returns-then-shows_all c =
 
 pub returns-else-shows_all : goal.returns-else-shows_all
 unfolding shown
-returns-else-shows_all c = rw c.kind.ensures at c.restricted.ensures
+returns-else-shows_all c = rw c.kind.ensures at c.restrict.ensures.whole

@@ -1,6 +1,6 @@
 use Rattle.std.proofs.Common.{ℕ, List}
 use Rattle.std.specs.Io.KnownBytes.{Consumes}
-use Rattle.scim_wire.specs.Steps.{StandsAt}
+use Rattle.scim_wire.specs.code.Steps.{StandsAt}
 use Rattle.scim_wire.proofs.steps.read_head.Given as goal
 
 -- what is kept is what the bytes lead to that were read so far

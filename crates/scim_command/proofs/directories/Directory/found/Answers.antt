@@ -2,7 +2,8 @@ use Rattle.std.proofs.Common.{◌≡◌, ◌∙◌, ℕ, List, ap, subst, sym, r
 use Rattle.std.specs.Prelude.{find}
 use Rattle.std.specs.Option.{option_copied}
 use Rattle.scim_cell.specs.Ids.{id_text}
-use Rattle.scim_command.specs.Directories.{found, has_id, AreInOrder}
+use Rattle.scim_command.specs.Directories.{found, has_id}
+use Rattle.scim_command.specs.code.Held.{AreInOrder}
 use Rattle.scim_command.proofs.IdLemmas.{not_found}
 use Rattle.scim_command.proofs.DirectoryLemmas.{of_kind_in_order, found_of_kind}
 use Rattle.scim_command.proofs.directories.Directory.found.Goals as goal

@@ -8,7 +8,7 @@ use Rattle.std.proofs.lemmas.Iterator.{YieldsList-from_slice}
 use Rattle.std.proofs.lemmas.Iterator.Adapters.{fact_from_extend, YieldsList-from_vec}
 use Rattle.std.proofs.lemmas.Iterator.Search.{any_from_yields_List}
 use Rattle.scim_value.specs.declared.unique_names.UniqueName.{UniqueName}
-use Rattle.scim_json.specs.Taken.{same_id, same_name}
+use Rattle.scim_json.specs.code.Taken.{same_id, same_name}
 use Rattle.scim_json.proofs.TakenLemmas.{clash, free, added}
 use Rattle.scim_json.proofs.documents.Taken.add.Goals as goal
 

@@ -2,7 +2,7 @@
 use Rattle.std.proofs.Common.{◌≡◌, ◌<◌, ◌+◌, ◌++◌, ◌∷◌, [], length, inl, inr, ap, arith}
 use Rattle.std.proofs.lemmas.List.{length-append}
 use Rattle.scim_wire.specs.Parts.{EndsHead, IsEmptyLine, feeds}
-use Rattle.scim_wire.specs.Steps.{Leads}
+use Rattle.scim_wire.specs.code.Steps.{Leads}
 use Rattle.scim_wire.proofs.StepLemmas.{opening_push, opening_empty, opening_overlong, at_head, feeds_is}
 use Rattle.scim_wire.proofs.parts.HeadPart.take.Goals as goal
 

@@ -1,5 +1,5 @@
 use Rattle.std.proofs.Common.{◌++◌, take, subst, Err}
-use Rattle.scim_wire.specs.Steps.{StandsAt, Leads}
+use Rattle.scim_wire.specs.code.Steps.{StandsAt, Leads}
 use Rattle.scim_wire.specs.Streams.{OpensWith}
 use Rattle.scim_wire.proofs.StepLemmas.{opens_more, fault_more, piece_push, piece_rest}
 use Rattle.scim_wire.proofs.parts.HeadPart.take_all.Goals as goal

@@ -1,5 +1,5 @@
 use Rattle.std.proofs.Common.{ℕ, List, ◌++◌, take}
-use Rattle.scim_wire.specs.Steps.{StandsAt}
+use Rattle.scim_wire.specs.code.Steps.{StandsAt}
 use Rattle.scim_wire.proofs.parts.HeadPart.take_all.Given as goal
 
 abbrev pub invariant-loop-byte : goal.invariant-loop-byte

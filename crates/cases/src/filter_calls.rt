@@ -1,0 +1,270 @@
+//! The calls of `scim_filter`.
+use crate::arguments::{said, truth};
+use crate::case::Case;
+use crate::faults::CaseFault;
+use scim_filter::attribute_paths::{attribute_path, lone_word};
+use scim_filter::faults::FilterFault;
+use scim_filter::mentions::{knows_names, names};
+use scim_filter::reading::read_filter;
+use scim_filter::tokens::tokens;
+use scim_filter::tree::{Filter, Literal, Meant, Node};
+use scim_filter::truth::{holds, holds_at};
+use scim_filter::written_paths::{WrittenPath, written_path};
+use scim_samples::leaf_text;
+use scim_schema::{Attribute, Leaf};
+use std::alloc::Global;
+use std::str;
+
+/// What a call of `scim_filter` gives; None where it isn't one.
+pub fn answer(case: &Case<'_>, call: &str) -> Option<Result<String, CaseFault>> {
+    match call {
+        "read_filter" => Some(read_filter_call(case)),
+        "holds" => Some(holds_call(case)),
+        "holds_at" => Some(holds_at_call(case)),
+        "names" => Some(names_call(case)),
+        "knows_names" => Some(knows_names_call(case)),
+        "string_literal" => Some(string_literal_call(case)),
+        "tokens" => Some(tokens_call(case)),
+        "attribute_path" => Some(attribute_path_call(case)),
+        "lone_word" => Some(lone_word_call(case)),
+        "written_path" => Some(written_path_call(case)),
+        _ => None,
+    }
+}
+
+/// The argument of this name, with so many spaces behind it as the argument `spaces` says.
+pub fn spaced_text(case: &Case<'_>, name: &'static str) -> Result<String, CaseFault> {
+    let mut text = said(case.alloc, case.text(name)?)?;
+    for _ in 0..case.number("spaces").unwrap_or(0) {
+        text.push(' ')?;
+    }
+    Ok(text)
+}
+
+/// The filter of the argument `filter`.
+pub fn filter_of(case: &Case<'_>) -> Result<Result<Filter, FilterFault>, CaseFault> {
+    let text = spaced_text(case, "filter")?;
+    Ok(read_filter(case.alloc, case.kind(), text.as_str()))
+}
+
+/// A fault by its name, `Syntax` with its byte.
+fn fault_text(alloc: Global, fault: FilterFault) -> Result<String, CaseFault> {
+    match fault {
+        FilterFault::Syntax(at) => Ok(format!(in alloc; "Syntax {at}")?),
+        FilterFault::WrongType => said(alloc, "WrongType"),
+        FilterFault::TooDeep => said(alloc, "TooDeep"),
+        FilterFault::TooLong => said(alloc, "TooLong"),
+        FilterFault::NoMemory => Err(CaseFault::NoMemory),
+    }
+}
+
+/// What a path names, as `emails.value`; `nothing` of what the kind lacks.
+fn meant_text(alloc: Global, meant: Meant) -> Result<String, CaseFault> {
+    match meant {
+        Meant::Nothing => said(alloc, "nothing"),
+        Meant::Attribute(attribute) => said(alloc, attribute.name()),
+        Meant::SubAttribute(attribute, sub_attribute) => {
+            Ok(leaf_text(alloc, Leaf::of(attribute, sub_attribute))?)
+        }
+    }
+}
+
+fn push_meant(alloc: Global, meant: Meant, text: &mut String) -> Result<(), CaseFault> {
+    let name = meant_text(alloc, meant)?;
+    text.push_str(name.as_str())?;
+    Ok(())
+}
+
+fn literal_text(alloc: Global, literal: &Literal) -> Result<String, CaseFault> {
+    match literal {
+        Literal::Text(string) => Ok(format!(in alloc; "\"{}\"", string.as_str())?),
+        Literal::Number(number) => Ok(format!(in alloc; "{number}")?),
+        Literal::Truth(truth) => Ok(format!(in alloc; "{truth}")?),
+        Literal::Null => said(alloc, "null"),
+    }
+}
+
+/// Writes a tree with its operators in front, as `(and (pr title) (Eq emails.value "a"))`, by what its paths
+/// name; a value path as `(of emails (pr emails.type))`.
+pub fn push_tree(alloc: Global, node: &Node, text: &mut String) -> Result<(), CaseFault> {
+    match node {
+        Node::Or(a, b) | Node::And(a, b) => {
+            let word = if let Node::Or(_, _) = node {
+                "(or "
+            } else {
+                "(and "
+            };
+            text.push_str(word)?;
+            push_tree(alloc, a, text)?;
+            text.push(' ')?;
+            push_tree(alloc, b, text)?;
+        }
+        Node::Not(a) => {
+            text.push_str("(not ")?;
+            push_tree(alloc, a, text)?;
+        }
+        Node::Present(path) => {
+            text.push_str("(pr ")?;
+            push_meant(alloc, path.meant, text)?;
+        }
+        Node::Compare(path, operator, literal) => {
+            let value = literal_text(alloc, literal)?;
+            let operator = format!(in alloc; "({operator:?} ")?;
+            text.push_str(operator.as_str())?;
+            push_meant(alloc, path.meant, text)?;
+            text.push(' ')?;
+            text.push_str(value.as_str())?;
+        }
+        Node::Values(path, inner) => {
+            text.push_str("(of ")?;
+            push_meant(alloc, path.meant, text)?;
+            text.push(' ')?;
+            push_tree(alloc, inner, text)?;
+        }
+    }
+    text.push(')')?;
+    Ok(())
+}
+
+/// The tree of the filter, or its fault.
+fn read_filter_call(case: &Case<'_>) -> Result<String, CaseFault> {
+    match filter_of(case)? {
+        Ok(filter) => {
+            let mut text = String::new(case.alloc);
+            push_tree(case.alloc, filter.tree(), &mut text)?;
+            Ok(text)
+        }
+        Err(fault) => fault_text(case.alloc, fault),
+    }
+}
+
+fn holds_call(case: &Case<'_>) -> Result<String, CaseFault> {
+    let part = case.part()?;
+    match filter_of(case)? {
+        Ok(filter) => truth(case.alloc, holds(case.alloc, &filter, &part)?),
+        Err(fault) => fault_text(case.alloc, fault),
+    }
+}
+
+/// Whether the filter holds at the position `position`.
+fn holds_at_call(case: &Case<'_>) -> Result<String, CaseFault> {
+    let part = case.part()?;
+    let position = usize::try_from(case.number("position")?).unwrap_or(0);
+    match filter_of(case)? {
+        Ok(filter) => truth(case.alloc, holds_at(case.alloc, &filter, &part, position)?),
+        Err(fault) => fault_text(case.alloc, fault),
+    }
+}
+
+fn attribute_text(attribute: Option<Attribute>) -> &'static str {
+    match attribute {
+        Some(attribute) => attribute.name(),
+        None => "none",
+    }
+}
+
+/// The names in the order of the text, each as it is written and with its attribute.
+fn names_call(case: &Case<'_>) -> Result<String, CaseFault> {
+    let Ok(filter) = filter_of(case)? else {
+        return said(case.alloc, "no filter");
+    };
+    let mut text = String::new(case.alloc);
+    for name in &names(case.alloc, &filter)? {
+        if !text.is_empty() {
+            text.push_str(", ")?;
+        }
+        text.push_str(name.text.as_str())?;
+        text.push(' ')?;
+        text.push_str(attribute_text(name.attribute))?;
+    }
+    Ok(text)
+}
+
+fn knows_names_call(case: &Case<'_>) -> Result<String, CaseFault> {
+    match filter_of(case)? {
+        Ok(filter) => truth(case.alloc, knows_names(filter.tree())),
+        Err(fault) => fault_text(case.alloc, fault),
+    }
+}
+
+/// Of a comparison with a string the text, its folding, and the second of the moment that it spells.
+fn string_literal_call(case: &Case<'_>) -> Result<String, CaseFault> {
+    let filter = match filter_of(case)? {
+        Ok(filter) => filter,
+        Err(fault) => return fault_text(case.alloc, fault),
+    };
+    let Node::Compare(_, _, Literal::Text(string)) = filter.tree() else {
+        return said(case.alloc, "no string");
+    };
+    let (text, folded) = (string.as_str(), string.folded());
+    match string.moment() {
+        Some(reading) => Ok(format!(in case.alloc; "{text}|{folded}|{}", reading.second)?),
+        None => Ok(format!(in case.alloc; "{text}|{folded}|none")?),
+    }
+}
+
+/// Each token with where it begins and ends, as `0-5 title|6-8 pr`.
+fn tokens_call(case: &Case<'_>) -> Result<String, CaseFault> {
+    let source = spaced_text(case, "text")?;
+    let found = match tokens(case.alloc, source.as_str()) {
+        Ok(found) => found,
+        Err(fault) => return fault_text(case.alloc, fault),
+    };
+    let mut text = String::new(case.alloc);
+    for token in &found {
+        if !text.is_empty() {
+            text.push('|')?;
+        }
+        let span = format!(in case.alloc; "{}-{} ", token.start, token.end)?;
+        text.push_str(span.as_str())?;
+        text.push_str(token.slice)?;
+    }
+    Ok(text)
+}
+
+/// What the path names; the attribute whose sub-attributes may stand between brackets, the attribute that is
+/// named, and the leaf that is compared.
+fn attribute_path_call(case: &Case<'_>) -> Result<String, CaseFault> {
+    let Some(meant) = attribute_path(case.kind(), case.text("text")?) else {
+        return said(case.alloc, "none");
+    };
+    let named = meant_text(case.alloc, meant)?;
+    let leaf = match meant.compared_leaf() {
+        Some(leaf) => leaf_text(case.alloc, leaf)?,
+        None => said(case.alloc, "none")?,
+    };
+    let (inside, own) = (
+        attribute_text(meant.attribute()),
+        attribute_text(meant.attribute_named()),
+    );
+    Ok(format!(in case.alloc; "{named}, {inside}, {own}, {leaf}")?)
+}
+
+fn lone_word_call(case: &Case<'_>) -> Result<String, CaseFault> {
+    let word = lone_word(case.text("text")?).and_then(|word| str::from_utf8(word).ok());
+    said(case.alloc, word.unwrap_or("none"))
+}
+
+/// What the path names, or the tree of the value path and the name behind it; `wrong types` before it where
+/// the filter compares values of wrong types.
+fn written_path_call(case: &Case<'_>) -> Result<String, CaseFault> {
+    let source = spaced_text(case, "text")?;
+    let Some(path) = written_path(case.alloc, case.kind(), source.as_str())? else {
+        return said(case.alloc, "none");
+    };
+    let mut text = String::new(case.alloc);
+    match path {
+        WrittenPath::Plain(path) => push_meant(case.alloc, path.meant, &mut text)?,
+        WrittenPath::Filtered(filter, sub_name) => {
+            if !filter.has_right_types() {
+                text.push_str("wrong types ")?;
+            }
+            push_tree(case.alloc, filter.tree(), &mut text)?;
+            if let Some(name) = sub_name {
+                text.push('.')?;
+                text.push_str(name.as_str())?;
+            }
+        }
+    }
+    Ok(text)
+}

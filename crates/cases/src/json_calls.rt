@@ -1,0 +1,56 @@
+//! The calls of `scim_json`. Users files stand in lines of their own, with what is said of them.
+use crate::arguments::said;
+use crate::case::Case;
+use crate::faults::CaseFault;
+use scim_json::{StoredFault, read_stored, stored_text, to_json};
+use scim_samples::{BASE, part_text};
+use scim_value::resources::Resource;
+
+/// What a call of `scim_json` gives; None where it isn't one.
+pub fn answer(case: &Case<'_>, call: &str) -> Option<Result<String, CaseFault>> {
+    match call {
+        "to_json" => Some(to_json_call(case)),
+        "stored_text" => Some(stored_text_call(case)),
+        "read_stored" | "stored_again" => Some(read_stored_call(case, call)),
+        "reads_back" => Some(reads_back(case)),
+        _ => None,
+    }
+}
+
+fn to_json_call(case: &Case<'_>) -> Result<String, CaseFault> {
+    let part = case.part()?;
+    Ok(to_json(case.alloc, &part)?)
+}
+
+fn stored_text_call(case: &Case<'_>) -> Result<String, CaseFault> {
+    let resource = case.resource()?;
+    Ok(stored_text(case.alloc, &resource)?)
+}
+
+/// The cells of the resource that a text is the document of, or its document as it is written; `Damaged`.
+fn read_stored_call(case: &Case<'_>, call: &str) -> Result<String, CaseFault> {
+    match read_stored(case.alloc, case.text_or("base", BASE), case.text("text")?) {
+        Ok(resource) => resource_text(case, call, &resource),
+        Err(StoredFault::Damaged) => said(case.alloc, "Damaged"),
+        Err(StoredFault::NoMemory) => Err(CaseFault::NoMemory),
+    }
+}
+
+fn resource_text(case: &Case<'_>, call: &str, resource: &Resource) -> Result<String, CaseFault> {
+    if call == "stored_again" {
+        Ok(stored_text(case.alloc, resource)?)
+    } else {
+        Ok(part_text(case.alloc, resource.part())?)
+    }
+}
+
+/// Whether what is read of a resource's document is the resource.
+fn reads_back(case: &Case<'_>) -> Result<String, CaseFault> {
+    let resource = case.resource()?;
+    let text = stored_text(case.alloc, &resource)?;
+    match read_stored(case.alloc, BASE, text.as_str()) {
+        Ok(again) if again == resource => said(case.alloc, "true"),
+        Ok(_) => said(case.alloc, "another resource"),
+        Err(_) => said(case.alloc, "Damaged"),
+    }
+}

@@ -1,0 +1,147 @@
+//! The calls of `scim_query`.
+use crate::arguments::said;
+use crate::case::Case;
+use crate::faults::CaseFault;
+use crate::filter_calls::{filter_of, spaced_text};
+use crate::policy_calls::policy;
+use crate::view_calls::wanted;
+use scim_filter::tree::Filter;
+use scim_json::to_json;
+use scim_query::client_searches::search_view;
+use scim_query::queries::{Page, Query, search};
+use scim_query::sort_keys::read_sort_by;
+use scim_samples::{
+    BASE, atom_text, leaf_text, part, read_leaf, resource, sample_groups, sample_users,
+};
+use scim_schema::{Kind, Leaf};
+use scim_value::parts::Part;
+use scim_value::resources::Resource;
+use std::alloc::Global;
+
+/// What a call of `scim_query` gives; None where it isn't one.
+pub fn answer(case: &Case<'_>, call: &str) -> Option<Result<String, CaseFault>> {
+    match call {
+        "search" => Some(search_call(case)),
+        "search_view" => Some(search_view_call(case)),
+        "read_sort_by" => Some(read_sort_by_call(case)),
+        _ => None,
+    }
+}
+
+/// The leaf that is sorted by.
+fn read_sort_by_call(case: &Case<'_>) -> Result<String, CaseFault> {
+    let text = spaced_text(case, "text")?;
+    match read_sort_by(case.kind(), text.as_str()) {
+        Some(leaf) => Ok(leaf_text(case.alloc, leaf)?),
+        None => said(case.alloc, "none"),
+    }
+}
+
+/// The filter of the argument `filter`, if it is given.
+fn wanted_filter(case: &Case<'_>) -> Result<Option<Filter>, CaseFault> {
+    if case.text("filter").is_err() {
+        return Ok(None);
+    }
+    match filter_of(case)? {
+        Ok(filter) => Ok(Some(filter)),
+        Err(_) => Err(CaseFault::Missing("filter")),
+    }
+}
+
+/// The argument `sortBy` as it is read, if it is given.
+fn sort_leaf(case: &Case<'_>) -> Option<Leaf> {
+    read_sort_by(case.kind(), case.text("sortBy").ok()?)
+}
+
+/// The argument of this name as a position or a count.
+fn count_of(case: &Case<'_>, name: &'static str, other: usize) -> usize {
+    match case.number(name) {
+        Ok(number) => usize::try_from(number).unwrap_or(0),
+        Err(_) => other,
+    }
+}
+
+/// The query of a case, by default all by id.
+fn query_of(case: &Case<'_>) -> Result<Query, CaseFault> {
+    Ok(Query {
+        filter: wanted_filter(case)?,
+        sort_by: sort_leaf(case),
+        descending: case.is_true("descending"),
+        start: count_of(case, "startIndex", 1),
+        count: count_of(case, "count", 100),
+        wanted: wanted(case)?,
+    })
+}
+
+/// The parts of the list `parts`, each by the last two digits of its id and its cells.
+fn parts_of(case: &Case<'_>) -> Result<Vec<Part>, CaseFault> {
+    let mut parts = Vec::new(case.alloc);
+    for value in case.list("parts") {
+        let text = value.as_str().unwrap_or("");
+        let (digits, cells) = text.split_once(' ').unwrap_or((text, ""));
+        let id = format!(in case.alloc; "00000000-0000-4000-8000-0000000000{digits}")?;
+        parts.push(part(case.alloc, case.kind(), id.as_str(), cells)?)?;
+    }
+    Ok(parts)
+}
+
+fn search_call(case: &Case<'_>) -> Result<String, CaseFault> {
+    let query = query_of(case)?;
+    let parts = parts_of(case)?;
+    let page = search(case.alloc, parts.as_slice(), &query)?;
+    page_text(case, &page)
+}
+
+/// So many users, whose names are `user0`, `user1` and so on, by their ids.
+fn numbered_users(alloc: Global, number: i64) -> Result<Vec<Resource>, CaseFault> {
+    let mut users = Vec::new(alloc);
+    for index in 0..number {
+        let id = format!(in alloc; "00000000-0000-4000-8000-000000000{index:03}")?;
+        let cells = format!(in alloc; "userName=user{index}")?;
+        users.push(resource(alloc, Kind::User, id.as_str(), cells.as_str())?)?;
+    }
+    Ok(users)
+}
+
+/// So many users as the argument `users` says, or the samples of the kind.
+fn resources_of(case: &Case<'_>) -> Result<Vec<Resource>, CaseFault> {
+    if let Ok(number) = case.number("users") {
+        return numbered_users(case.alloc, number);
+    }
+    match case.kind() {
+        Kind::User => Ok(sample_users(case.alloc)?),
+        Kind::Group => Ok(sample_groups(case.alloc)?),
+    }
+}
+
+fn search_view_call(case: &Case<'_>) -> Result<String, CaseFault> {
+    let query = query_of(case)?;
+    let policy = policy(case)?;
+    let groups = sample_groups(case.alloc)?;
+    let resources = resources_of(case)?;
+    let page = search_view(
+        case.alloc,
+        &policy,
+        case.text("client")?,
+        groups.as_slice(),
+        resources.as_slice(),
+        BASE,
+        &query,
+    )?;
+    page_text(case, &page)
+}
+
+/// A page as its total, its start and its items: of each its JSON, or where the argument `tell` names a leaf
+/// what stands there.
+fn page_text(case: &Case<'_>, page: &Page) -> Result<String, CaseFault> {
+    let mut text = format!(in case.alloc; "{} from {}:", page.total, page.start)?;
+    for item in &page.items {
+        let told = match case.text("tell") {
+            Ok(path) => atom_text(case.alloc, item.get(read_leaf(path)?, 0))?,
+            Err(_) => to_json(case.alloc, item)?,
+        };
+        text.push(' ')?;
+        text.push_str(told.as_str())?;
+    }
+    Ok(text)
+}

@@ -1,0 +1,25 @@
+-- How functions end: the faults that they may answer, and the text that is written.
+use Rattle.std.specs.Prelude.{ℕ, List, Result, Ok, Err, String, string_bytes}
+use Rattle.std.specs.declared.alloc.Global.{Global}
+use Rattle.scim_text.specs.declared.memory.NoMemory.{NoMemory}
+use Rattle.scim_command.specs.declared.faults.OnceFault.{OnceFault}
+use Rattle.scim_command.specs.declared.faults.OnceFault.TheVariants.{Users, InputEnded, InputFailed, NoMemory as WantOfMemory}
+use Rattle.scim_command.specs.declared.refusals.Refusal.TheVariants.{Store}
+use Rattle.scim_command.specs.Refusals.{refusal_text}
+
+-- a fault of the users file, or want of memory
+abbrev pub IsOfUsers : OnceFault → Type 0
+IsOfUsers (Users n) = Unit {0}
+IsOfUsers WantOfMemory = Unit {0}
+IsOfUsers _ = ⊥
+
+-- a fault of the input
+abbrev pub IsOfInput : OnceFault → Type 0
+IsOfInput InputEnded = Unit {0}
+IsOfInput InputFailed = Unit {0}
+IsOfInput _ = ⊥
+
+-- the text of a reply, or that of want of memory
+abbrev pub text_or_store : Result (String Global) NoMemory → List ℕ
+text_or_store (Ok t) = string_bytes t
+text_or_store (Err e) = refusal_text Store

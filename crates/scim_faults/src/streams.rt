@@ -1,0 +1,64 @@
+//! A reader and a writer that fail when they are told to.
+use std::alloc::Global;
+use std::io;
+use std::io::{ErrorKind, Read, Write};
+
+/// Gives a byte at a time, and fails where the bytes are at an end.
+#[derive(Drop)]
+pub(crate) struct Trickle<'a> {
+    pub(crate) bytes: &'a [u8],
+}
+
+impl<'a> Read for Trickle<'a> {
+    fn read(&mut self, buf: &mut [u8]) -> io::Result<usize> {
+        if buf.is_empty() {
+            return Ok(0);
+        }
+        let Some((first, rest)) = self.bytes.split_first() else {
+            return Err(ErrorKind::Other.into());
+        };
+        buf[0] = *first;
+        self.bytes = rest;
+        Ok(1)
+    }
+}
+
+/// Takes `step` bytes at a call; the call with the number `failing`, from 0, fails so, and later ones take
+/// bytes again.
+#[derive(Drop)]
+pub(crate) struct Stutter {
+    pub(crate) taken: Vec<u8>,
+    step: usize,
+    calls: u32,
+    failing: u32,
+    kind: ErrorKind,
+}
+
+impl Stutter {
+    pub(crate) fn new(alloc: Global, step: usize, failing: u32, kind: ErrorKind) -> Stutter {
+        Stutter {
+            taken: Vec::new(alloc),
+            step,
+            calls: 0,
+            failing,
+            kind,
+        }
+    }
+}
+
+impl Write for Stutter {
+    fn write(&mut self, buf: &[u8]) -> io::Result<usize> {
+        let call = self.calls;
+        self.calls = call.wrapping_add(1);
+        if call == self.failing {
+            return Err(self.kind.into());
+        }
+        let count = buf.len().min(self.step);
+        self.taken.extend_from_slice(&buf[..count])?;
+        Ok(count)
+    }
+
+    fn flush(&mut self) -> io::Result<()> {
+        Ok(())
+    }
+}

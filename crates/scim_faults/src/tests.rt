@@ -1,0 +1,108 @@
+//! What `once` does where a read or a write fails.
+use crate::streams::{Stutter, Trickle};
+use scim_command::{OnceFault, Setting, once};
+use scim_samples::{BASE, POLICY};
+use std::alloc::Global;
+use std::io::{ErrorKind, Read};
+use std::test::Fail;
+
+/// To get a user who isn't there, with another request behind it.
+const REQUEST: &str =
+    "GET /Users/00000000-0000-4000-8000-00000000000a HTTP/1.1\r\n\r\nGET / HTTP/1.1\r\n\r\n";
+
+/// What is answered to that.
+const REPLY: &str =
+    "HTTP/1.1 404 Not Found\r\nContent-Type: application/scim+json\r\nContent-Length: 105\r\n\r\n{\"detail\":\"Resource not found.\",\"schemas\":[\"urn:ietf:params:scim:api:messages:2.0:Error\"],\"status\":\"404\"}";
+
+/// What comes of a request over a users file without users.
+fn answer<R: Read>(alloc: Global, reader: &mut R, writer: &mut Stutter) -> Result<(), OnceFault> {
+    let setting = Setting {
+        policy: POLICY,
+        users: "[]",
+        client: "hr",
+        base: BASE,
+    };
+    once(alloc, &setting, reader, writer)
+}
+
+/// Whether the writer took the first bytes of the reply, so many, and nothing else.
+fn took(writer: &Stutter, count: usize) -> bool {
+    writer.taken.len() == count && REPLY.as_bytes().starts_with(writer.taken.as_slice())
+}
+
+#[test]
+fn replies_are_written_whole_in_small_steps(rt: HostRuntime) {
+    for step in [1, 7, 1_000] {
+        let mut writer = Stutter::new(rt.alloc(), step, u32::MAX, ErrorKind::Other);
+        let done = answer(rt.alloc(), &mut REQUEST.as_bytes(), &mut writer);
+        assert!(rt; done.is_ok() && took(&writer, REPLY.len()), "step {step}");
+    }
+}
+
+#[test]
+fn nothing_is_written_after_a_write_that_failed(rt: HostRuntime) {
+    for failing in [0, 1, 20, 188] {
+        let mut writer = Stutter::new(rt.alloc(), 1, failing, ErrorKind::Other);
+        let done = answer(rt.alloc(), &mut REQUEST.as_bytes(), &mut writer);
+        let told = done == Err(OnceFault::Output);
+        assert!(rt; told && took(&writer, failing as usize), "write {failing}");
+    }
+}
+
+#[test]
+fn an_interrupted_write_is_tried_again(rt: HostRuntime) {
+    for failing in [0, 1, 20] {
+        let mut writer = Stutter::new(rt.alloc(), 10, failing, ErrorKind::Interrupted);
+        let done = answer(rt.alloc(), &mut REQUEST.as_bytes(), &mut writer);
+        assert!(rt;
+            done.is_ok() && took(&writer, REPLY.len()),
+            "write {failing}"
+        );
+    }
+}
+
+#[test]
+fn a_writer_that_takes_nothing_is_a_failed_one(rt: HostRuntime) {
+    let mut writer = Stutter::new(rt.alloc(), 0, u32::MAX, ErrorKind::Other);
+    let done = answer(rt.alloc(), &mut REQUEST.as_bytes(), &mut writer);
+    assert!(rt; done == Err(OnceFault::Output) && took(&writer, 0));
+}
+
+#[test]
+fn nothing_is_read_past_the_head(rt: HostRuntime) {
+    let mut reader = Trickle {
+        bytes: REQUEST.as_bytes(),
+    };
+    let mut writer = Stutter::new(rt.alloc(), 1_000, u32::MAX, ErrorKind::Other);
+    let done = answer(rt.alloc(), &mut reader, &mut writer);
+    assert!(rt; done.is_ok() && took(&writer, REPLY.len()));
+    assert_eq!(rt; reader.bytes, b"GET / HTTP/1.1\r\n\r\n".as_slice());
+}
+
+#[test]
+fn a_read_that_fails_is_told_and_answered_by_nothing(rt: HostRuntime) {
+    for text in ["", "\r\n", "GET /Users", "GET /Users HTTP/1.1\r\n"] {
+        let mut reader = Trickle {
+            bytes: text.as_bytes(),
+        };
+        let mut writer = Stutter::new(rt.alloc(), 1_000, u32::MAX, ErrorKind::Other);
+        let done = answer(rt.alloc(), &mut reader, &mut writer);
+        assert!(rt;
+            done == Err(OnceFault::InputFailed) && took(&writer, 0),
+            "after {text:?}"
+        );
+    }
+}
+
+#[test]
+fn faults_say_why(rt: HostRuntime) -> Result<(), Fail> {
+    for (fault, told) in [
+        (OnceFault::InputEnded, "input ended early"),
+        (OnceFault::InputFailed, "input ended early"),
+        (OnceFault::Output, "output cannot be written"),
+        (OnceFault::NoMemory, "out of memory"),
+    ] {
+        assert_eq!(rt; format!(in rt.alloc(); "{fault}")?.as_str(), told);
+    }
+    Ok(())
+}

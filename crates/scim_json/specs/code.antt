@@ -1,0 +1,3 @@
+-- How the code writes JSON, and what it remembers of the items before.
+pub mod Taken
+pub mod Tokens

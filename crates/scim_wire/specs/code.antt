@@ -1,0 +1,2 @@
+-- What the reader has taken of a stream.
+pub mod Steps
