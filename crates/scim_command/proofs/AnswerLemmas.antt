@@ -1,17 +1,15 @@
 -- What the exits of `once` show.
-use Rattle.std.proofs.Common.{◌≡◌, inl, inr, ℕ, List, Result, Ok, Err, IfOk, IfSome, OnOk, OnErr, Option, None, Some, String, string_bytes, refl}
+use Rattle.std.proofs.Common.{◌≡◌, inl, inr, ℕ, List, Result, Ok, Err, IfOk, IfSome, Option, None, Some, String, string_bytes, refl}
 use Rattle.std.specs.declared.alloc.Global.{Global}
 use Rattle.scim_text.specs.declared.memory.NoMemory.{NoMemory}
 use Rattle.scim_cell.specs.Content.{Content}
 use Rattle.scim_policy.specs.Rules.{Rule}
-use Rattle.scim_policy.specs.File.{policy_of}
 use Rattle.scim_wire.specs.declared.heads.Head.{Head}
 use Rattle.scim_wire.specs.Streams.{OpensWith, OpensBadly}
 use Rattle.scim_command.specs.declared.refusals.Refusal.TheVariants.{BadHead}
-use Rattle.scim_command.specs.declared.run_once.Setting.{Setting}
 use Rattle.scim_command.specs.Refusals.{refusal_text}
 use Rattle.scim_command.specs.Replies.{IsReplyTo}
-use Rattle.scim_command.specs.Once.{Answers, AreSortedResourcesOf, IsAnswer}
+use Rattle.scim_command.specs.Once.{IsAnswer}
 use Rattle.scim_command.specs.code.Exits.{text_or_store}
 
 -- a reply to the head that was read

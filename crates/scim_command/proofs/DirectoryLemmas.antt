@@ -1,15 +1,13 @@
 -- What is found in a directory.
-use Rattle.std.proofs.Common.{◌≡◌, ◌∙◌, ℕ, Bool, true, false, ◌&&◌, List, [], ◌∷◌, Option, None, Some, cond, ap, sym, refl, is_lt}
+use Rattle.std.proofs.Common.{◌≡◌, ℕ, Bool, true, false, ◌&&◌, List, [], ◌∷◌, Option, Some, cond, ap, refl, is_lt}
 use Rattle.std.specs.Prelude.{find, All}
-use Rattle.std.specs.Option.{option_copied}
-use Rattle.std.specs.List.Sorted.{IsPermutation}
 use Rattle.std.proofs.lemmas.Cmp.{nat_list_cmp_total}
 use Rattle.std.proofs.lemmas.List.Elements.{All-filter}
 use Rattle.std.proofs.lemmas.List.Kept.{IsSortedBy-filter}
 use Rattle.std.proofs.lemmas.List.Sorted.{All-permutation, ranks_by}
 use Rattle.scim_schema.specs.declared.Kind.{Kind}
 use Rattle.scim_cell.specs.Content.{Content}
-use Rattle.scim_cell.specs.Ids.{IsId, id_text}
+use Rattle.scim_cell.specs.Ids.{IsId}
 use Rattle.scim_command.specs.Directories.{id_cmp, is_of, of_kind, has_id, found, IsInOrder}
 use Rattle.scim_command.specs.code.Held.{AreInOrder}
 

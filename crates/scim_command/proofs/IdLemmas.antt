@@ -1,5 +1,5 @@
 -- Ids and their texts.
-use Rattle.std.proofs.Common.{◌≡◌, ◌↔◌, ℕ, ◌<◌, ◌⊎◌, inl, inr, Bool, true, false, List, Option, None, Some, IsSome, IfNone, nat_eq, ap, sym, refl, arith, length, slice_index, [], ◌∷◌, ◌&&◌, cond, MatchBool, IsUtf8, IsAscii}
+use Rattle.std.proofs.Common.{◌≡◌, ◌↔◌, ℕ, ◌<◌, inl, inr, Bool, true, false, List, Option, None, Some, IsSome, IfNone, nat_eq, sym, refl, arith, length, slice_index, [], ◌∷◌, ◌&&◌, cond, MatchBool, IsUtf8, IsAscii}
 use Rattle.std.specs.Cmp.Lexicographic.{pointwise, bytes_decides}
 use Rattle.std.proofs.lemmas.Bool.{cases_Bool, cases_lt}
 use Rattle.std.proofs.lemmas.List.{get_or_past}
@@ -10,7 +10,7 @@ use Rattle.scim_schema.specs.declared.Kind.{Kind}
 use Rattle.scim_schema.specs.contracts.Kind.{the_type as the_kind}
 use Rattle.scim_cell.specs.Content.{Content}
 use Rattle.scim_command.specs.Directories.{found}
-use Rattle.scim_cell.specs.Ids.{IsId, IsIdText, IsIdCharacter, IsLowerHexDigit, id_text}
+use Rattle.scim_cell.specs.Ids.{IsIdText, IsIdCharacter, IsLowerHexDigit, id_text}
 use Rattle.scim_cell.proofs.IdLemmas.{IsIdText-id_text}
 
 -- a text that isn't read as an id is that of none

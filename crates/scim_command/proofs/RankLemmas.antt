@@ -1,6 +1,6 @@
 -- A resource is found by its id by halves.
-use Rattle.std.proofs.Common.{◌≡◌, ◌∙◌, ℕ, Bool, true, false, List, Option, Some, get_or, option_and_then, ap, sym, is_lt, is_eq}
-use Rattle.std.specs.Prelude.{All, find, slice_get}
+use Rattle.std.proofs.Common.{◌≡◌, ◌∙◌, ℕ, true, false, List, Option, get_or, option_and_then, ap, sym, is_lt, is_eq}
+use Rattle.std.specs.Prelude.{find, slice_get}
 use Rattle.std.specs.Bool.{then_some}
 use Rattle.std.specs.declared.cmp.Ordering.{Ordering}
 use Rattle.std.specs.Ordering.{nat_cmp, ordering_index}

@@ -1,5 +1,5 @@
 -- What is found by halves.
-use Rattle.std.proofs.Common.{◌≡◌, ◌∙◌, ℕ, zero, suc, ◌+◌, ◌<◌, ◌≤◌, Bool, true, false, cond, List, [], ◌∷◌, Option, Some, None, length, get_or, option_and_then, ap, sym, refl, arith}
+use Rattle.std.proofs.Common.{◌≡◌, ◌∙◌, ℕ, zero, suc, ◌≤◌, Bool, true, false, cond, List, [], ◌∷◌, Option, Some, None, get_or, option_and_then, sym, refl, arith}
 use Rattle.std.specs.Prelude.{All, find, slice_get}
 use denote.Ref.{Bor}
 use Rattle.std.specs.Bool.{then_some}
