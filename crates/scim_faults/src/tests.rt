@@ -80,17 +80,17 @@ fn nothing_is_read_past_the_head(rt: HostRuntime) {
 }
 
 #[test]
-fn a_read_that_fails_is_told_and_answered_by_nothing(rt: HostRuntime) {
+fn reads_that_fail_and_that_end_are_told_apart(rt: HostRuntime) {
     for text in ["", "\r\n", "GET /Users", "GET /Users HTTP/1.1\r\n"] {
         let mut reader = Trickle {
             bytes: text.as_bytes(),
         };
         let mut writer = Stutter::new(rt.alloc(), 1_000, u32::MAX, ErrorKind::Other);
-        let done = answer(rt.alloc(), &mut reader, &mut writer);
-        assert!(rt;
-            done == Err(OnceFault::InputFailed) && took(&writer, 0),
-            "after {text:?}"
-        );
+        let failed = answer(rt.alloc(), &mut reader, &mut writer);
+        let ended = answer(rt.alloc(), &mut text.as_bytes(), &mut writer);
+        assert!(rt; failed == Err(OnceFault::InputFailed), "after {text:?}");
+        assert!(rt; ended == Err(OnceFault::InputEnded), "after {text:?}");
+        assert!(rt; took(&writer, 0), "after {text:?}");
     }
 }
 
