@@ -84,7 +84,7 @@ fn rule_of<'p>(case: &Case<'_>, policy: &'p Policy) -> Result<&'p Rule, CaseFaul
         None => 1,
     };
     let mut rules = policy.listed().iter();
-    match usize::try_from(number - 1) {
+    match usize::try_from(number.wrapping_sub(1)) {
         Ok(position) => rules.nth(position).ok_or(CaseFault::Missing("number")),
         Err(_) => Err(CaseFault::Missing("number")),
     }

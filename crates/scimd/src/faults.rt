@@ -47,6 +47,7 @@ impl fmt::Display for Fault {
 
 /// A text in one line: each control character, as a line feed, is escaped as in a string of Rust's, and all
 /// else stands as it is.
+#[derive(Clone, Copy)]
 struct OneLine<'a>(&'a str);
 
 impl fmt::Display for OneLine<'_> {
