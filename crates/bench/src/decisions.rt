@@ -2,10 +2,11 @@
 use crate::documents::sample_user;
 use crate::timing::{fastest, ratio};
 use anyhow::{Result, bail};
-use scim_policy::{Policy, read_policy};
+use scim_policy::read_policy;
+use scim_samples::BASE;
 use scim_schema::Op;
-use scim_value::resources::Resource;
-use scim_view::view;
+use scim_value::Resource;
+use scim_view::Viewer;
 use std::alloc::Global;
 use std::io::Print;
 use std::time::Clock;
@@ -88,21 +89,31 @@ fn measure(
 ) -> Result<Figures> {
     let text = policy_text(alloc, rules, client_before)?;
     let policy = read_policy(alloc, text.as_str())?;
-    check_view(alloc, user, &policy, client_before)?;
+    let viewer = Viewer {
+        policy: &policy,
+        client: CLIENT,
+        base: BASE,
+    };
+    check_view(alloc, user, &viewer, client_before)?;
     let decisions = fastest(rt, PASSES, CALLS, || {
         policy.decisions(alloc, CLIENT, Op::Read, user)?;
         Ok(())
     })?;
     let view = fastest(rt, PASSES, CALLS, || {
-        view(alloc, &policy, CLIENT, user)?;
+        viewer.view(alloc, user)?;
         Ok(())
     })?;
     Ok(Figures { decisions, view })
 }
 
 /// Checks that the client sees all of the user where all rules are for it, and `id` alone else.
-fn check_view(alloc: Global, user: &Resource, policy: &Policy, client_before: &str) -> Result<()> {
-    let Some(seen) = view(alloc, policy, CLIENT, user)? else {
+fn check_view(
+    alloc: Global,
+    user: &Resource,
+    viewer: &Viewer<'_>,
+    client_before: &str,
+) -> Result<()> {
+    let Some(seen) = viewer.view(alloc, user)? else {
         bail!("the user is not seen")
     };
     let wanted = if client_before == CLIENT {

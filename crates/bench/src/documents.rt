@@ -1,10 +1,10 @@
 //! The JSON of a user of 15 cells, beside what serde_json takes for the same texts, and users files.
 use crate::values::value_of;
 use anyhow::{Result, bail};
-use scim_cell::ids::Id;
+use scim_cell::Id;
 use scim_json::{read_documents, read_stored, stored_text, to_json};
 use scim_samples::BASE;
-use scim_value::resources::Resource;
+use scim_value::Resource;
 use serde_json::Value;
 use std::alloc::Global;
 use std::io::Print;

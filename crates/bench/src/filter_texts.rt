@@ -11,11 +11,7 @@ use crate::filter_texts::dice::Dice;
 use crate::filter_texts::printing::plain_text;
 use crate::filter_texts::texts::{Sample, Sort, random_sample};
 use anyhow::{Result, bail, ensure};
-use scim_filter::faults::FilterFault;
-use scim_filter::mentions::names;
-use scim_filter::reading::read_filter;
-use scim_filter::tokens::tokens;
-use scim_filter::tree::Node;
+use scim_filter::{FilterFault, Node, mentioned_names, read_filter, read_tokens};
 use std::alloc::Global;
 use std::io::Print;
 
@@ -88,10 +84,10 @@ fn check_tree(alloc: Global, sample: &Sample, tree: &Node) -> Result<()> {
         "another tree was read again"
     );
     ensure!(
-        names(alloc, &filter)?.len() == paths_in(tree),
+        mentioned_names(alloc, &filter)?.len() == paths_in(tree),
         "names are missing"
     );
-    ensure!(tokens(alloc, text).is_ok(), "a filter has no tokens");
+    ensure!(read_tokens(alloc, text).is_ok(), "a filter has no tokens");
     Ok(())
 }
 
@@ -110,7 +106,7 @@ fn check_fault(sample: &Sample, fault: FilterFault) -> Result<()> {
         }
         FilterFault::TooDeep => ensure!(most_open(text) > DEEPEST, "no text is too deep"),
         FilterFault::TooLong => ensure!(text.len() > LONGEST, "no text is too long"),
-        FilterFault::NoMemory => bail!("no memory was to be had"),
+        FilterFault::NoMemory => bail!("out of memory"),
     }
     Ok(())
 }

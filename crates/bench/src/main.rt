@@ -25,7 +25,7 @@ fn main(rt: HostRuntime) -> Result<()> {
     match scenario {
         None => {
             println!(rt;
-                "bench documents: writing and reading the JSON of a user, beside serde_json, and users files\nbench parts: making, copying, restricting and looking up parts of 10, 1,000 and 40,000 cells\nbench decisions: what policies of 10 and of 1,000 rules decide of a user, and what a client sees by them\nbench filters: reading filters, and holding them on users and on groups of 1,000 and of 10,000 members\nbench filter-texts: 1,000,000 generated texts, each read as a filter, and what is read checked\nbench once: one GET over a users file of 10,000 users, beside serde_json's reading of the file\nbench pages: a page of 100 out of 10,000 and out of 100,000 users with groups, and by policies of 10 and of 1,000 rules"
+                "bench documents: writing and reading the JSON of a user, beside serde_json, and users files\nbench parts: making, copying, restricting and looking up parts of 10, 1,000 and 40,000 cells\nbench decisions: what policies of 10 and of 1,000 rules decide of a user, and what a client sees by them\nbench filters: reading filters, and holding them on users and on groups of 1,000 and of 10,000 members\nbench filter-texts: 1,000,000 generated texts, each read as a filter, and what is read checked\nbench once: one GET over users files of 10,000 and of 100,000 users, beside serde_json's reading of the file\nbench pages: a page of 100 out of 10,000 and out of 100,000 users with groups, and by policies of 10 and of 1,000 rules"
             )?;
             Ok(())
         }

@@ -2,7 +2,7 @@
 use crate::documents::users_file;
 use crate::timing::{fastest, ratio};
 use anyhow::{Result, bail};
-use scim_cell::ids::Id;
+use scim_cell::Id;
 use scim_command::{Setting, once};
 use scim_samples::BASE;
 use serde_json::Value;
@@ -11,17 +11,19 @@ use std::io::Print;
 use std::time::Clock;
 use uuid::Uuid;
 
-const USERS: usize = 10_000;
+const FEW: usize = 10_000;
+
+const MANY: usize = 100_000;
 
 /// Of so many runs the fastest counts.
-const RUNS: usize = 15;
+const RUNS: usize = 9;
 
 const POLICY: &str =
     "{\"version\":1,\"rules\":[{\"allow\":true,\"clients\":[\"reader\"],\"ops\":[\"read\"],\"types\":[\"User\"],\"paths\":[\"*\"]}]}";
 
-/// The head of a GET of the last user of the file.
-fn request(alloc: Global) -> Result<String> {
-    let last = Id::of(Uuid::from_u128(USERS as u128 - 1)).text(alloc)?;
+/// The head of a GET of the last of so many users of a file.
+fn request(alloc: Global, users: usize) -> Result<String> {
+    let last = Id::of(Uuid::from_u128(users.saturating_sub(1) as u128)).text(alloc)?;
     let last = last.as_str();
     let head = format!(in alloc; "GET /Users/{last} HTTP/1.1\r\nHost: 127.0.0.1:8080\r\n\r\n")?;
     Ok(head)
@@ -60,13 +62,14 @@ fn measure(
     Ok((answered, read))
 }
 
-/// Prints what a run takes, in microseconds.
-pub fn run(rt: &(impl Clock + Print), alloc: Global) -> Result<()> {
-    let users = users_file(alloc, USERS)?;
-    let request = request(alloc)?;
+/// What a GET over a users file of so many users takes, and what serde_json takes to read the file, as
+/// [`measure`].
+fn measure_users(rt: &impl Clock, alloc: Global, users: usize) -> Result<(u128, u128)> {
+    let file = users_file(alloc, users)?;
+    let request = request(alloc, users)?;
     let setting = Setting {
         policy: POLICY,
-        users: users.as_str(),
+        users: file.as_str(),
         client: "reader",
         base: BASE,
     };
@@ -74,10 +77,24 @@ pub fn run(rt: &(impl Clock + Print), alloc: Global) -> Result<()> {
     if !reply.starts_with(b"HTTP/1.1 200 ") {
         bail!("the user was not found");
     }
-    let (answered, read) = measure(rt, alloc, &setting, request.as_str())?;
-    println!(rt; "microseconds, for one GET over a users file of {USERS} users")?;
+    measure(rt, alloc, &setting, request.as_str())
+}
+
+/// Prints what a run takes, in microseconds.
+pub fn run(rt: &(impl Clock + Print), alloc: Global) -> Result<()> {
+    println!(rt; "microseconds, for one GET over a users file")?;
+    let (few, few_read) = measure_users(rt, alloc, FEW)?;
+    print_line(rt, FEW, few, few_read)?;
+    let (many, many_read) = measure_users(rt, alloc, MANY)?;
+    print_line(rt, MANY, many, many_read)?;
+    println!(rt; "once of {MANY} / once of {FEW} = {:.1}", ratio(many, few))?;
+    Ok(())
+}
+
+/// Prints the figures of a file of so many users.
+fn print_line(rt: &impl Print, users: usize, answered: u128, read: u128) -> Result<()> {
     println!(rt;
-        "once {}, Value::from_str of the file {}, once/Value::from_str = {:.1}",
+        "{users} users: once {}, Value::from_str of the file {}, once/Value::from_str = {:.1}",
         answered / 1_000,
         read / 1_000,
         ratio(answered, read)

@@ -3,14 +3,13 @@ use crate::decisions::{CLIENT, FEW, MANY, OTHER_CLIENT, policy_text};
 use crate::filters::samples::{id_of, user};
 use crate::timing::{fastest, ratio};
 use anyhow::{Result, bail};
-use scim_filter::reading::read_filter;
+use scim_filter::read_filter;
 use scim_policy::{Policy, read_policy};
-use scim_query::client_searches::search_view;
-use scim_query::queries::{Page, Query};
+use scim_query::{Page, Query, search_view};
 use scim_samples::{BASE, resource};
 use scim_schema::{Attribute, Kind, Leaf, SubAttribute};
-use scim_value::resources::Resource;
-use scim_view::Wanted;
+use scim_value::Resource;
+use scim_view::{Viewer, Wanted};
 use std::alloc::Global;
 use std::io::Print;
 use std::time::Clock;
@@ -86,7 +85,12 @@ fn query_by_name(alloc: Global) -> Result<Query> {
 
 fn page_of(alloc: Global, directory: &Directory, policy: &Policy, query: &Query) -> Result<Page> {
     let (users, groups) = (directory.users.as_slice(), directory.groups.as_slice());
-    let page = search_view(alloc, policy, CLIENT, groups, users, BASE, query)?;
+    let viewer = Viewer {
+        policy,
+        client: CLIENT,
+        base: BASE,
+    };
+    let page = search_view(alloc, &viewer, groups, users, query)?;
     Ok(page)
 }
 

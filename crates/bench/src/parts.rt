@@ -1,11 +1,9 @@
 //! Parts: groups of more and more members, each with four sub-attributes.
 use anyhow::{Result, bail};
-use scim_cell::cells::Cell;
-use scim_cell::ids::Id;
-use scim_cell::rows::{Row, RowTest};
+use scim_cell::{Cell, Id, Row, RowTest};
 use scim_samples::{ALICE, BASE, read_cells};
 use scim_schema::{Attribute, Kind, Leaf, SubAttribute};
-use scim_value::parts::Part;
+use scim_value::Part;
 use std::alloc::Global;
 use std::io::Print;
 use std::time::{Clock, Duration, Instant};

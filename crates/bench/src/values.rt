@@ -1,11 +1,8 @@
 //! The JSON of a part as a value of serde_json, as a server without a writer of its own makes it.
-use scim_cell::atoms::Atom;
-use scim_cell::rows::{Field, Row};
-use scim_schema::Attribute;
-use scim_schema::characteristics::is_multi_valued;
-use scim_schema::schemas::{Schema, core_schema, extension_of, extensions};
+use scim_cell::{Atom, Field, Row};
+use scim_schema::{Attribute, Schema, core_schema, extension_of, extensions, is_multi_valued};
 use scim_text::{NoMemory, print_moment};
-use scim_value::parts::Part;
+use scim_value::Part;
 use serde_json::{Map, Value};
 use std::alloc::Global;
 

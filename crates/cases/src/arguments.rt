@@ -3,8 +3,7 @@ use crate::case::Case;
 use crate::faults::CaseFault;
 use scim_samples::{ALICE, part, sample};
 use scim_schema::{Kind, Op};
-use scim_value::parts::Part;
-use scim_value::resources::Resource;
+use scim_value::{Part, Resource};
 use std::alloc::Global;
 
 impl Case<'_> {

@@ -3,16 +3,11 @@ use crate::arguments::{said, truth};
 use crate::case::Case;
 use crate::faults::CaseFault;
 use crate::row_tests::OfSubAttribute;
-use scim_cell::atoms::{Atom, Text};
-use scim_cell::cells::{Cell, has_type};
-use scim_cell::ids::Id;
-use scim_cell::places::{compare_units, sub_attributes_by_place};
-use scim_cell::row_checks::{are_values, is_sound_row};
-use scim_cell::rows::{Field, Row};
+use scim_cell::{
+    Atom, Cell, Field, Id, Row, Text, are_values, compare_units, has_type, sub_attributes_by_place,
+};
 use scim_samples::{atom_text, leaf_text, read_cells, read_leaf, row_text};
-use scim_schema::Leaf;
-use scim_schema::characteristics::characteristics_of;
-use scim_schema::units::unit_of;
+use scim_schema::{Leaf, characteristics_of, unit_of};
 use serde_json::Value;
 use std::alloc::Global;
 
@@ -33,7 +28,6 @@ pub fn answer(case: &Case<'_>, call: &str) -> Option<Result<String, CaseFault>> 
         "copied_row" => Some(copied_row(case)),
         "copied_fields" => Some(copied_fields(case)),
         "atom_of_row" => Some(atom_of_row(case)),
-        "is_sound_row" => Some(is_sound_row_call(case)),
         "are_values" => Some(are_values_call(case)),
         "same_row" => Some(same_row(case)),
         "same_field" => Some(same_field(case)),
@@ -181,11 +175,6 @@ fn atom_of_row(case: &Case<'_>) -> Result<String, CaseFault> {
     let row = row(case.alloc, case.text("row")?)?;
     let atom = row.get(read_leaf(case.text("leaf")?)?);
     Ok(atom_text(case.alloc, atom)?)
-}
-
-fn is_sound_row_call(case: &Case<'_>) -> Result<String, CaseFault> {
-    let row = row(case.alloc, case.text("row")?)?;
-    truth(case.alloc, is_sound_row(case.kind(), &row))
 }
 
 /// Whether rows are values of a leaf's unit.

@@ -2,14 +2,10 @@
 use crate::arguments::{said, truth};
 use crate::case::Case;
 use crate::faults::CaseFault;
-use scim_filter::attribute_paths::{attribute_path, lone_word};
-use scim_filter::faults::FilterFault;
-use scim_filter::mentions::{knows_names, names};
-use scim_filter::reading::read_filter;
-use scim_filter::tokens::tokens;
-use scim_filter::tree::{Filter, Literal, Meant, Node};
-use scim_filter::truth::{holds, holds_at};
-use scim_filter::written_paths::{WrittenPath, written_path};
+use scim_filter::{
+    Filter, FilterFault, Literal, Meant, Node, WrittenPath, attribute_path, holds, holds_at,
+    knows_names, lone_word, mentioned_names, read_filter, read_tokens, written_path,
+};
 use scim_samples::leaf_text;
 use scim_schema::{Attribute, Leaf};
 use std::alloc::Global;
@@ -169,7 +165,7 @@ fn names_call(case: &Case<'_>) -> Result<String, CaseFault> {
         return said(case.alloc, "no filter");
     };
     let mut text = String::new(case.alloc);
-    for name in &names(case.alloc, &filter)? {
+    for name in &mentioned_names(case.alloc, &filter)? {
         if !text.is_empty() {
             text.push_str(", ")?;
         }
@@ -206,7 +202,7 @@ fn string_literal_call(case: &Case<'_>) -> Result<String, CaseFault> {
 /// Each token with where it begins and ends, as `0-5 title|6-8 pr`.
 fn tokens_call(case: &Case<'_>) -> Result<String, CaseFault> {
     let source = spaced_text(case, "text")?;
-    let found = match tokens(case.alloc, source.as_str()) {
+    let found = match read_tokens(case.alloc, source.as_str()) {
         Ok(found) => found,
         Err(fault) => return fault_text(case.alloc, fault),
     };
@@ -235,7 +231,7 @@ fn attribute_path_call(case: &Case<'_>) -> Result<String, CaseFault> {
     };
     let (inside, own) = (
         attribute_text(meant.attribute()),
-        attribute_text(meant.attribute_named()),
+        attribute_text(meant.mentioned_attribute()),
     );
     Ok(format!(in case.alloc; "{named}, {inside}, {own}, {leaf}")?)
 }

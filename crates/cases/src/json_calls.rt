@@ -4,7 +4,7 @@ use crate::case::Case;
 use crate::faults::CaseFault;
 use scim_json::{StoredFault, read_stored, stored_text, to_json};
 use scim_samples::{BASE, part_text};
-use scim_value::resources::Resource;
+use scim_value::Resource;
 
 /// What a call of `scim_json` gives; None where it isn't one.
 pub fn answer(case: &Case<'_>, call: &str) -> Option<Result<String, CaseFault>> {

@@ -31,7 +31,7 @@ fn is_client_name_call(case: &Case<'_>) -> Result<String, CaseFault> {
 fn read_policy_call(case: &Case<'_>) -> Result<String, CaseFault> {
     let text = policy_text(case)?;
     match read_policy(case.alloc, text.as_str()) {
-        Ok(policy) => Ok(format!(in case.alloc; "ok, {} rules", policy.rules())?),
+        Ok(policy) => Ok(format!(in case.alloc; "ok, {} rules", policy.rule_count())?),
         Err(fault) => Ok(format!(in case.alloc; "{fault}")?),
     }
 }
@@ -83,7 +83,7 @@ fn rule_of<'p>(case: &Case<'_>, policy: &'p Policy) -> Result<&'p Rule, CaseFaul
         Some(_) => case.number("number")?,
         None => 1,
     };
-    let mut rules = policy.listed().iter();
+    let mut rules = policy.rules().iter();
     match usize::try_from(number.wrapping_sub(1)) {
         Ok(position) => rules.nth(position).ok_or(CaseFault::Missing("number")),
         Err(_) => Err(CaseFault::Missing("number")),
@@ -163,7 +163,7 @@ fn misfit_call(case: &Case<'_>) -> Result<String, CaseFault> {
     let leaf = read_leaf(case.text("leaf")?)?;
     let client = case.text("client")?;
     match usize::try_from(case.number("number")?) {
-        Ok(number) if 1 <= number && number <= policy.rules() => {
+        Ok(number) if 1 <= number && number <= policy.rule_count() => {
             let misfit = policy.misfit(case.alloc, number, client, case.op(), &resource, leaf)?;
             Ok(format!(in case.alloc; "{misfit:?}")?)
         }
@@ -178,7 +178,7 @@ fn misfits_call(case: &Case<'_>) -> Result<String, CaseFault> {
     let leaf = read_leaf(case.text("leaf")?)?;
     let client = case.text("client")?;
     let mut text = String::new(case.alloc);
-    for rule in policy.listed() {
+    for rule in policy.rules() {
         let misfit = rule.misfit(case.alloc, client, case.op(), &resource, leaf)?;
         text.push_str(format!(in case.alloc; "{misfit:?} ")?.as_str())?;
     }

@@ -4,18 +4,13 @@ use crate::case::Case;
 use crate::faults::CaseFault;
 use crate::filter_calls::{filter_of, spaced_text};
 use crate::policy_calls::policy;
-use crate::view_calls::wanted;
-use scim_filter::tree::Filter;
+use crate::view_calls::{viewer, wanted};
+use scim_filter::Filter;
 use scim_json::to_json;
-use scim_query::client_searches::search_view;
-use scim_query::queries::{Page, Query, search};
-use scim_query::sort_keys::read_sort_by;
-use scim_samples::{
-    BASE, atom_text, leaf_text, part, read_leaf, resource, sample_groups, sample_users,
-};
+use scim_query::{Page, Query, read_sort_by, search, search_view};
+use scim_samples::{atom_text, leaf_text, part, read_leaf, resource, sample_groups, sample_users};
 use scim_schema::{Kind, Leaf};
-use scim_value::parts::Part;
-use scim_value::resources::Resource;
+use scim_value::{Part, Resource};
 use std::alloc::Global;
 
 /// What a call of `scim_query` gives; None where it isn't one.
@@ -121,11 +116,9 @@ fn search_view_call(case: &Case<'_>) -> Result<String, CaseFault> {
     let resources = resources_of(case)?;
     let page = search_view(
         case.alloc,
-        &policy,
-        case.text("client")?,
+        &viewer(case, &policy)?,
         groups.as_slice(),
         resources.as_slice(),
-        BASE,
         &query,
     )?;
     page_text(case, &page)

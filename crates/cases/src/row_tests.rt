@@ -6,8 +6,7 @@ ghost use Rattle.scim_schema.specs.contracts.SubAttribute.{the_type as the_sub_a
 ghost use Rattle.scim_cell.specs.Atoms.{is_same_atom};
 ghost use Rattle.scim_cell.specs.Rows.{atom_in};
 
-use scim_cell::atoms::Atom;
-use scim_cell::rows::{Row, RowTest};
+use scim_cell::{Atom, Row, RowTest};
 use scim_schema::{Leaf, SubAttribute};
 
 /// Keeps the fields of one sub-attribute.

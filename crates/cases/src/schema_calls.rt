@@ -3,15 +3,12 @@ use crate::arguments::{said, truth};
 use crate::case::Case;
 use crate::faults::CaseFault;
 use scim_samples::{leaf_text, read_leaf};
-use scim_schema::characteristics::{
-    AttributeType, Characteristics, Mutability, Returned, Uniqueness, attribute_characteristics,
-    characteristics_of, is_multi_valued,
+use scim_schema::{
+    Attribute, AttributeType, Characteristics, Leaf, Mutability, Returned, Schema, Uniqueness,
+    attribute_characteristics, attribute_named, attribute_named_in, attributes, characteristics_of,
+    core_schema, extension_of, extensions, has_leaf, is_multi_valued, leaves, schema_of,
+    sub_attribute_named, sub_attributes, unit_of,
 };
-use scim_schema::lookup::{attribute, attribute_in, schema, sub_attribute};
-use scim_schema::schemas::{Schema, core_schema, extension_of, extensions, schema_of, schemas};
-use scim_schema::table::{attributes, has_leaf, leaves, sub_attributes};
-use scim_schema::units::unit_of;
-use scim_schema::{Attribute, Leaf};
 use std::alloc::Global;
 
 /// What a call of `scim_schema` gives; None where it isn't one.
@@ -101,18 +98,18 @@ fn attribute_of(case: &Case<'_>) -> Result<Attribute, CaseFault> {
 
 /// The schema that the case names by its URN.
 fn schema_named(case: &Case<'_>) -> Result<Schema, CaseFault> {
-    schema(case.text("urn")?).ok_or(CaseFault::Missing("urn"))
+    Schema::named(case.text("urn")?).ok_or(CaseFault::Missing("urn"))
 }
 
 /// The printed name of what a name finds.
 fn look_up(case: &Case<'_>, call: &str) -> Result<String, CaseFault> {
     let name = case.text("name")?;
     let found = match call {
-        "attribute" => attribute(case.kind(), name).map(|found| found.name()),
-        "attribute_in" => attribute_in(case.kind(), schema_named(case)?, name).map(
+        "attribute" => attribute_named(case.kind(), name).map(|found| found.name()),
+        "attribute_in" => attribute_named_in(case.kind(), schema_named(case)?, name).map(
             |found| found.name(),
         ),
-        _ => sub_attribute(attribute_of(case)?, name).map(|found| found.name()),
+        _ => sub_attribute_named(attribute_of(case)?, name).map(|found| found.name()),
     };
     said(case.alloc, found.unwrap_or("none"))
 }
@@ -120,7 +117,7 @@ fn look_up(case: &Case<'_>, call: &str) -> Result<String, CaseFault> {
 /// The URN of a schema.
 fn schema_call(case: &Case<'_>, call: &str) -> Result<String, CaseFault> {
     let found = match call {
-        "schema" => schema(case.text("urn")?),
+        "schema" => Schema::named(case.text("urn")?),
         "core_schema" => Some(core_schema(case.kind())),
         "schema_of" => Some(schema_of(case.kind(), attribute_of(case)?)),
         _ => extension_of(attribute_of(case)?),
@@ -141,7 +138,7 @@ fn name(case: &Case<'_>) -> Result<String, CaseFault> {
 /// URNs, with a space between two.
 fn urns(case: &Case<'_>, call: &str) -> Result<String, CaseFault> {
     let found = if call == "schemas" {
-        schemas()
+        Schema::all()
     } else {
         extensions(case.kind())
     };

@@ -4,21 +4,12 @@ use crate::case::Case;
 use crate::cell_calls::{cell, of_sub_attribute, rows};
 use crate::faults::CaseFault;
 use crate::row_tests::WithAtom;
-use scim_cell::atoms::{Atom, Text};
-use scim_cell::cells::Cell;
-use scim_cell::ids::Id;
-use scim_cell::row_checks::are_values;
-use scim_cell::rows::Row;
+use scim_cell::{Atom, Cell, Id, Row, Text, are_values};
 use scim_samples::{
     ALICE, BASE, atom_text, leaf_text, part, part_text, read_cells, read_leaf, row_text,
 };
-use scim_schema::units::unit_of;
-use scim_schema::{Attribute, Kind, Leaf, SubAttribute};
-use scim_value::faults::{Fault, Invalid};
-use scim_value::parts::Part;
-use scim_value::resources::{Resource, location};
-use scim_value::unique_names::{known_text, unique_leaves, unique_names};
-use scim_value::validity::is_resource;
+use scim_schema::{Attribute, Kind, Leaf, SubAttribute, unique_leaves, unit_of};
+use scim_value::{Fault, Invalid, Part, Resource, is_resource, known_text, location, unique_names};
 use std::alloc::Global;
 
 /// What a call of `scim_value` gives; None where it isn't one.

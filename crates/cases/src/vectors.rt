@@ -36,7 +36,7 @@ fn policy_file(case: &Case<'_>) -> Result<String, CaseFault> {
         return said(case.alloc, "rule 0: json");
     };
     match read_policy(case.alloc, text.as_str()) {
-        Ok(policy) => Ok(format!(in case.alloc; "ok, {} rules", policy.rules())?),
+        Ok(policy) => Ok(format!(in case.alloc; "ok, {} rules", policy.rule_count())?),
         Err(PolicyFault::Faulty { rule, cause }) => Ok(format!(in case.alloc;
             "rule {rule}: {cause}"
         )?),

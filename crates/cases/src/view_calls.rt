@@ -3,12 +3,11 @@ use crate::arguments::{said, truth};
 use crate::case::Case;
 use crate::faults::CaseFault;
 use crate::policy_calls::policy;
+use scim_policy::Policy;
 use scim_samples::{BASE, part_text, read_leaf, sample};
 use scim_schema::Kind;
-use scim_value::parts::Part;
-use scim_value::resources::Resource;
-use scim_view::lists::views;
-use scim_view::{Names, Wanted, project, sees, view, view_with_groups, visible, with_groups};
+use scim_value::{Part, Resource};
+use scim_view::{Names, Viewer, Wanted, project};
 use serde_json::Value;
 use std::alloc::Global;
 
@@ -27,17 +26,26 @@ pub fn answer(case: &Case<'_>, call: &str) -> Option<Result<String, CaseFault>> 
     }
 }
 
+/// The client of a case, by this policy.
+pub fn viewer<'c>(case: &'c Case<'_>, policy: &'c Policy) -> Result<Viewer<'c>, CaseFault> {
+    Ok(Viewer {
+        policy,
+        client: case.text("client")?,
+        base: BASE,
+    })
+}
+
 fn sees_call(case: &Case<'_>) -> Result<String, CaseFault> {
     let policy = policy(case)?;
     let resource = case.resource()?;
-    let seen = sees(case.alloc, &policy, case.text("client")?, &resource)?;
+    let seen = viewer(case, &policy)?.sees(case.alloc, &resource)?;
     truth(case.alloc, seen)
 }
 
 fn visible_call(case: &Case<'_>) -> Result<String, CaseFault> {
     let policy = policy(case)?;
     let resource = case.resource()?;
-    let part = visible(case.alloc, &policy, case.text("client")?, &resource)?;
+    let part = viewer(case, &policy)?.visible(case.alloc, &resource)?;
     Ok(part_text(case.alloc, &part)?)
 }
 
@@ -45,10 +53,8 @@ fn visible_call(case: &Case<'_>) -> Result<String, CaseFault> {
 fn view_call(case: &Case<'_>) -> Result<String, CaseFault> {
     let policy = policy(case)?;
     let resource = case.resource()?;
-    seen_text(
-        case.alloc,
-        view(case.alloc, &policy, case.text("client")?, &resource)?,
-    )
+    let part = viewer(case, &policy)?.view(case.alloc, &resource)?;
+    seen_text(case.alloc, part)
 }
 
 fn seen_text(alloc: Global, part: Option<Part>) -> Result<String, CaseFault> {
@@ -83,9 +89,8 @@ fn with_groups_call(case: &Case<'_>) -> Result<String, CaseFault> {
     let policy = policy(case)?;
     let groups = resources(case.alloc, Kind::Group, case.list("groups"))?;
     let resource = case.resource()?;
-    let client = case.text("client")?;
-    let groups = groups.as_slice();
-    let part = with_groups(case.alloc, &policy, client, groups, &resource, BASE)?;
+    let viewer = viewer(case, &policy)?;
+    let part = viewer.with_groups(case.alloc, groups.as_slice(), &resource)?;
     Ok(part_text(case.alloc, &part)?)
 }
 
@@ -93,9 +98,7 @@ fn view_with_groups_call(case: &Case<'_>) -> Result<String, CaseFault> {
     let policy = policy(case)?;
     let groups = resources(case.alloc, Kind::Group, case.list("groups"))?;
     let resource = case.resource()?;
-    let client = case.text("client")?;
-    let groups = groups.as_slice();
-    let part = view_with_groups(case.alloc, &policy, client, groups, &resource, BASE)?;
+    let part = viewer(case, &policy)?.view_with_groups(case.alloc, groups.as_slice(), &resource)?;
     seen_text(case.alloc, part)
 }
 
@@ -105,10 +108,9 @@ fn views_call(case: &Case<'_>) -> Result<String, CaseFault> {
     let policy = policy(case)?;
     let groups = resources(alloc, Kind::Group, case.list("groups"))?;
     let resources = resources(alloc, case.kind(), case.list("resources"))?;
-    let client = case.text("client")?;
-    let groups = groups.as_slice();
+    let viewer = viewer(case, &policy)?;
     let mut text = String::new(alloc);
-    for part in views(alloc, &policy, client, groups, resources.as_slice(), BASE)? {
+    for part in viewer.views(alloc, groups.as_slice(), resources.as_slice())? {
         text.push_str(part_text(alloc, &part)?.as_str())?;
         text.push_str(" | ")?;
     }

@@ -1,27 +1,23 @@
 -- When two fields or rows are equal.
-use Rattle.std.specs.Prelude.{◌≡◌, ◌&&◌, Bool, refl}
+use Rattle.std.specs.Prelude.{◌≡◌, ◌&&◌, Bool, List, ℕ, refl}
 use Rattle.std.specs.Bool.{Decides}
 use Rattle.std.specs.Cmp.{IsEquivalence, decided}
 use Rattle.std.specs.Cmp.Lexicographic.{pointwise, pointwise_decides}
-use Rattle.std.specs.Option.{option_eq}
 use Rattle.std.proofs.Common.{ap}
-use denote.Enum.Bare.{sameb}
-use Rattle.scim_schema.specs.declared.Leaf.{Leaf}
-use Rattle.scim_schema.specs.declared.Unit.{Unit as AttributeUnit}
-use Rattle.scim_schema.specs.contracts.Attribute.{the_type as the_attribute}
-use Rattle.scim_schema.specs.contracts.SubAttribute.{the_type as the_sub_attribute}
-use Rattle.scim_schema.proofs.LeafLemmas.{leaf_eq, Decides-leaf_eq, and_first, and_second}
+use Rattle.scim_schema.specs.Units.{is_same_leaf, is_same_unit}
+use Rattle.scim_schema.proofs.Facts.{is_same_leaf-Decides, is_same_unit-Decides, and_first, and_second}
 use Rattle.scim_cell.specs.declared.rows.Field.{Field}
 use Rattle.scim_cell.specs.Atoms.{is_same_atom, is_same_atom-Decides}
+use Rattle.scim_cell.specs.contracts.ids.IdPartialEq.TheImpl as id_eq
 use Rattle.scim_cell.specs.Rows.{Row}
+
+-- whether two ids are one
+abbrev pub is_same_id : List ℕ → List ℕ → Bool
+is_same_id = (id_eq.ghosts).eq
 
 -- whether two fields are of one leaf, and have one atom
 abbrev pub is_same_field : Field → Field → Bool
-is_same_field f g = leaf_eq f.leaf g.leaf && is_same_atom f.atom g.atom
-
--- whether two units are one
-abbrev pub is_same_unit : AttributeUnit → AttributeUnit → Bool
-is_same_unit u v = sameb the_attribute u.attribute v.attribute && option_eq (sameb the_sub_attribute) u.sub_attribute v.sub_attribute
+is_same_field f g = is_same_leaf f.leaf g.leaf && is_same_atom f.atom g.atom
 
 -- whether two rows are of one unit, and have the same fields
 abbrev pub is_same_row : Row → Row → Bool
@@ -34,22 +30,11 @@ both p q first second make one two = (λ t. make (first.0 (and_first p q t)) (se
 -- each test decides whether the two are one
 pub is_same_field-Decides : (f g : Field) → Decides (is_same_field f g) (f ≡ g)
 is_same_field-Decides f g =
-    both _ _ (Decides-leaf_eq f.leaf g.leaf) (is_same_atom-Decides f.atom g.atom)
+    both _ _ (is_same_leaf-Decides f.leaf g.leaf) (is_same_atom-Decides f.atom g.atom)
     (λ p q. λ i. record { leaf = p i; atom = q i }) (ap (λ (x : Field). x.leaf)) (ap (λ (x : Field). x.atom))
 
 pub is_same_field-IsEquivalence : IsEquivalence is_same_field
 is_same_field-IsEquivalence = decided is_same_field is_same_field-Decides
-
-leaf_like : AttributeUnit → Leaf
-leaf_like u = record { attribute = u.attribute; sub_attribute = u.sub_attribute }
-
-unit_like : Leaf → AttributeUnit
-unit_like l = record { attribute = l.attribute; sub_attribute = l.sub_attribute }
-
-pub is_same_unit-Decides : (u v : AttributeUnit) → Decides (is_same_unit u v) (u ≡ v)
-unfolding leaf_like unit_like
-is_same_unit-Decides u v =
-    let d = Decides-leaf_eq (leaf_like u) (leaf_like v) in (λ t. ap unit_like (d.0 t), λ e. d.1 (ap leaf_like e))
 
 pub is_same_row-Decides : (r s : Row) → Decides (is_same_row r s) (r ≡ s)
 is_same_row-Decides r s =

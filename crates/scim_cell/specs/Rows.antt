@@ -3,19 +3,19 @@ use Rattle.std.specs.Prelude.{◌≡◌, ◌≤◌, ◌<◌, ◌⊎◌, length, 
 use Rattle.std.specs.List.{list_any}
 use Rattle.std.specs.Ordering.{is_lt, is_eq, is_gt}
 use denote.Enum.Bare.{sameb}
-use Rattle.std.specs.Option.{option_eq}
 use Rattle.std.specs.FinMap.{entries, from_sorted}
 use Rattle.scim_schema.specs.declared.Kind.{Kind}
 use Rattle.scim_schema.specs.declared.Attribute.{Attribute}
 use Rattle.scim_schema.specs.declared.Leaf.{Leaf}
 use Rattle.scim_schema.specs.declared.Unit.{Unit as AttributeUnit}
 use Rattle.scim_schema.specs.contracts.Attribute.{the_type as the_attribute}
-use Rattle.scim_schema.specs.contracts.SubAttribute.{the_type as the_sub_attribute}
 use Rattle.scim_schema.specs.Table.{HasLeaf}
 use Rattle.scim_schema.specs.Characteristics.{characteristics_of, is_multi_valued}
-use Rattle.scim_schema.specs.Units.{whole, unit_of}
+use Rattle.scim_schema.specs.declared.SubAttribute.TheVariants.{Primary}
+use Rattle.scim_schema.specs.Units.{whole, unit_of, leaf_at, is_same_leaf}
 use Rattle.scim_cell.specs.declared.places.Place.{Place}
 use Rattle.scim_cell.specs.declared.atoms.Atom.{Atom}
+use Rattle.scim_cell.specs.declared.atoms.Atom.TheVariants.{Truth}
 use Rattle.scim_cell.specs.declared.rows.Field.{Field}
 use Rattle.scim_cell.specs.Place.{unit_cmp, leaf_of, place_at, sub_attribute_number}
 use Rattle.scim_cell.specs.Content.{Content, Entry, HasType}
@@ -91,18 +91,23 @@ put_values u vs rs = filter (λ (r : Row). is_lt (unit_cmp r.unit u)) rs ++ (vs 
 abbrev pub positions : Attribute → List Row → ℕ
 positions a rs = if is_multi_valued a then length (values (whole a) rs) else (if list_any (λ (r : Row). sameb the_attribute r.unit.attribute a) rs then 1 else 0)
 
--- whether the second leaf is the first
-abbrev pub is_leaf : Leaf → Leaf → Bool
-is_leaf l m = sameb the_attribute m.attribute l.attribute && option_eq (sameb the_sub_attribute) m.sub_attribute l.sub_attribute
-
 -- the atom of a leaf in one value
 abbrev pub atom_in : Leaf → List Field → Option Atom
 atom_in l [] = None
-atom_in l (f ∷ fs) = by (is_leaf l f.leaf) f.atom (atom_in l fs)
+atom_in l (f ∷ fs) = by (is_same_leaf f.leaf l) f.atom (atom_in l fs)
   where
     by : Bool → Atom → Option Atom → Option Atom
     by true a o = Some a
     by false a o = o
+
+-- whether an atom is there and is true
+abbrev pub is_truth : Option Atom → Bool
+is_truth (Some (Truth b)) = b
+is_truth _ = false
+
+-- whether a value is marked as the primary one (RFC 7643 section 2.4)
+abbrev pub is_primary : Row → Bool
+is_primary r = is_truth (atom_in (leaf_at r.unit.attribute Primary) r.fields)
 
 -- the atom of a leaf in the k-th of some values, from 0
 abbrev pub atom_at : Leaf → ℕ → List Row → Option Atom

@@ -4,8 +4,7 @@ ghost use Rattle.scim_cell.specs.Content.{place_of, HasType};
 
 use crate::atoms::Atom;
 use crate::places::Place;
-use scim_schema::Leaf;
-use scim_schema::characteristics::AttributeType;
+use scim_schema::{AttributeType, Leaf};
 use scim_text::Moment;
 
 /// A cell of a part or a resource: what stands at a position of a leaf.

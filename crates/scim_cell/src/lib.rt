@@ -1,10 +1,17 @@
 //! Ids, atoms, and the cells and rows of atoms that parts are made of (RFC 7643 sections 2 and 3.1).
 #![tactic(auto)]
 
-pub mod atoms;
-pub mod cells;
-pub mod equality;
-pub mod ids;
-pub mod places;
-pub mod row_checks;
-pub mod rows;
+mod atoms;
+mod cells;
+mod equality;
+mod ids;
+mod places;
+mod row_checks;
+mod rows;
+
+pub use atoms::{Atom, Text};
+pub use cells::{Cell, has_type};
+pub use ids::{Id, ids_ordered_as_texts, ids_read_back};
+pub use places::{Place, compare_units, sub_attributes_by_place};
+pub use row_checks::are_values;
+pub use rows::{Field, Row, RowTest};

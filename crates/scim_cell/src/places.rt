@@ -3,8 +3,7 @@ ghost use Rattle.std.specs.Prelude.{◌≡◌};
 ghost use Rattle.scim_cell.specs.Place.{place_cmp, unit_cmp, sub_attribute_number, leaf_of};
 ghost use Rattle.scim_cell.specs.Place as spec;
 
-use scim_schema::table::sub_attributes;
-use scim_schema::{Attribute, Leaf, SubAttribute, Unit};
+use scim_schema::{Attribute, Leaf, SubAttribute, Unit, sub_attributes};
 use std::cmp::Ordering;
 
 /// Where a cell stands: an attribute, the position of a value in it from 0, and a sub-attribute of

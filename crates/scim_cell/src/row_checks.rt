@@ -6,10 +6,7 @@ ghost use Rattle.scim_cell.specs.Rows.{IsSoundField, IsSoundRow, IsValue, AreVal
 use crate::cells::has_type;
 use crate::places::number_of;
 use crate::rows::{Field, Row};
-use scim_schema::characteristics::{characteristics_of, is_multi_valued};
-use scim_schema::table::has_leaf;
-use scim_schema::units::unit_of;
-use scim_schema::{Kind, Unit};
+use scim_schema::{Kind, Unit, characteristics_of, has_leaf, is_multi_valued, unit_of};
 
 // What `==` says of units.
 fn is_same_unit(a: Unit, b: Unit) -> bool
@@ -42,7 +39,7 @@ fn rises(before: Option<u8>, number: u8) -> bool
 /// kind, with an atom of its type, and the fields come in order of sub-attribute, each once.
 ///
 /// A row without fields passes, though no part has one. Takes no memory.
-pub fn is_sound_row(kind: Kind, row: &Row) -> bool
+pub(crate) fn is_sound_row(kind: Kind, row: &Row) -> bool
     ensures { IsTrue result ↔ IsSoundRow kind row.now }
 {
     are_sound_fields(kind, row.unit(), row.fields())

@@ -4,7 +4,7 @@ ghost use Rattle.std.specs.Option.{option_copied};
 ghost use Rattle.scim_cell.specs.Rows as spec;
 
 use crate::atoms::Atom;
-use scim_schema::{Leaf, Unit};
+use scim_schema::{Leaf, SubAttribute, Unit};
 use scim_text::NoMemory;
 use std::alloc::Global;
 use std::marker::Model;
@@ -63,7 +63,7 @@ impl Field {
 }
 
 impl Row {
-    /// The row of these fields. `row_checks::is_sound_row` tells whether a part may have it.
+    /// The row of these fields. [`crate::are_values`] tells whether a part may have it as a value.
     pub fn new(unit: Unit, fields: Vec<Field>) -> Row
         ensures unit { result.unit ≡ unit }
         ensures fields { result.fields ≡ fields.items }
@@ -103,6 +103,16 @@ impl Row {
             }
         }
         None
+    }
+
+    /// Whether the value is marked as the primary one (RFC 7643 section 2.4).
+    pub fn is_primary(&self) -> bool
+        ensures { result ≡ spec.is_primary self.now }
+    {
+        match self.get(Leaf::of(self.unit.attribute, SubAttribute::Primary)) {
+            Some(Atom::Truth(primary)) => *primary,
+            _ => false,
+        }
     }
 
     /// A copy; NoMemory where none was to be had.

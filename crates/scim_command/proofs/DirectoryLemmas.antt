@@ -8,11 +8,12 @@ use Rattle.std.proofs.lemmas.List.Sorted.{All-permutation, ranks_by}
 use Rattle.scim_schema.specs.declared.Kind.{Kind}
 use Rattle.scim_cell.specs.Content.{Content}
 use Rattle.scim_cell.specs.Ids.{IsId}
-use Rattle.scim_command.specs.Directories.{id_cmp, is_of, of_kind, has_id, found, IsInOrder}
+use Rattle.scim_view.specs.Groups.{id_cmp}
+use Rattle.scim_command.specs.Directories.{is_of, of_kind, has_id, found, IsSortedById}
 use Rattle.scim_command.specs.code.Held.{AreInOrder}
 
 -- resources whose ids are ids, put in order of id
-pub in_order : (cs sorted : List Content) → All (λ c. IsId c.id) cs → IsInOrder cs sorted → AreInOrder sorted
+pub in_order : (cs sorted : List Content) → All (λ c. IsId c.id) cs → IsSortedById cs sorted → AreInOrder sorted
 in_order cs sorted ids order = record { identified = All-permutation (λ (c : Content). IsId c.id) cs sorted order.members ids; in_order = order.in_order }
 
 -- those of a kind stay in order

@@ -11,7 +11,7 @@ use Rattle.scim_schema.specs.contracts.Kind.{the_type as the_kind}
 use Rattle.scim_cell.specs.Content.{Content}
 use Rattle.scim_command.specs.Directories.{found}
 use Rattle.scim_cell.specs.Ids.{IsIdText, IsIdCharacter, IsLowerHexDigit, id_text}
-use Rattle.scim_cell.proofs.IdLemmas.{IsIdText-id_text}
+use Rattle.scim_cell.proofs.Facts.{IsIdText-id_text}
 
 -- a text that isn't read as an id is that of none
 pub no_id : (text : List ℕ) (r : Option (List ℕ)) → IsSome r ↔ IsIdText text → IfNone r ((id : List ℕ) → text ≡ id_text id → ⊥)

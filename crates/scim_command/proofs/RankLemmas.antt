@@ -11,7 +11,7 @@ use Rattle.std.proofs.lemmas.List.Sorted.{searchable_from_sorted}
 use Rattle.std.proofs.lemmas.Map.Text.{is_eq-slice_cmp}
 use Rattle.scim_cell.specs.Content.{Content}
 use Rattle.scim_cell.specs.Ids.{IsId, id_text}
-use Rattle.scim_cell.proofs.IdOrderLemmas.{slice_cmp-id_text}
+use Rattle.scim_cell.proofs.Facts.{slice_cmp-id_text}
 use Rattle.scim_command.specs.Directories.{has_id}
 use Rattle.scim_command.specs.code.Held.{AreInOrder}
 use Rattle.scim_command.proofs.SearchLemmas.{less_first, find_by_halves, find_same}

@@ -1,8 +1,6 @@
 -- The resources of a users file: their order, those of a kind, and the one that a segment names.
 use Rattle.std.specs.Prelude.{ℕ, Bool, ◌&&◌, List, filter, find, nat_eq, Option}
-use Rattle.std.specs.declared.cmp.Ordering.{Ordering}
-use Rattle.std.specs.Ordering.{nat_cmp}
-use Rattle.std.specs.Cmp.Lexicographic.{pointwise, slice_cmp}
+use Rattle.std.specs.Cmp.Lexicographic.{pointwise}
 use Rattle.std.specs.List.Sorted.{IsPermutation, IsSorted}
 use denote.Enum.Bare.{sameb}
 use Rattle.scim_schema.specs.declared.Kind.{Kind}
@@ -10,13 +8,10 @@ use Rattle.scim_schema.specs.declared.Kind.TheVariants.{Group}
 use Rattle.scim_schema.specs.contracts.Kind.{the_type as the_kind}
 use Rattle.scim_cell.specs.Content.{Content}
 use Rattle.scim_cell.specs.Ids.{id_text}
-
--- the order of resources by id
-abbrev pub id_cmp : Content → Content → Ordering
-id_cmp a b = slice_cmp nat_cmp a.id b.id
+use Rattle.scim_view.specs.Groups.{id_cmp}
 
 -- the second list is the first in order of id
-pub record IsInOrder (cs sorted : List Content) : Type 0 where
+pub record IsSortedById (cs sorted : List Content) : Type 0 where
   pub members : IsPermutation cs sorted
   pub in_order : IsSorted id_cmp sorted
 

@@ -4,7 +4,7 @@ use Rattle.serde_json.specs.Written.{compact_text}
 use Rattle.scim_schema.specs.declared.Kind.{Kind}
 use Rattle.scim_cell.specs.Content.{Content}
 use Rattle.scim_json.specs.PartData.{part_data}
-use Rattle.scim_policy.specs.Rules.{Rule}
+use Rattle.scim_view.specs.View.{Viewer}
 use Rattle.scim_view.specs.Groups.{view_with_groups}
 use Rattle.scim_view.specs.Shown.{shown}
 use Rattle.scim_view.specs.declared.projection.Wanted.TheVariants.{Default}
@@ -20,11 +20,11 @@ view_text None = refusal_text NotFound
 view_text (Some v) = shown_text (compact_text (part_data (shown Default v)))
 
 -- the reply to a client that gets a resource, with those of its groups that the client sees: it can't tell a resource that is absent from one that it doesn't see
-unfoldable pub resource_text : List Rule → List ℕ → List ℕ → List Content → Option Content → List ℕ
-resource_text policy client base groups c = view_text (option_and_then (view_with_groups policy client base groups) c)
+unfoldable pub resource_text : Viewer → List Content → Option Content → List ℕ
+resource_text v groups c = view_text (option_and_then (view_with_groups v groups) c)
 
 -- the text is the reply to the head, over these resources in order of id
-abbrev pub IsReplyTo : List Rule → List ℕ → List ℕ → List Content → Head → List ℕ → Type 0
-IsReplyTo policy client base cs head text =
-    ((kind : Kind) × (segment : List ℕ) × IsGetOf head kind segment × (text ≡ resource_text policy client base (groups_among cs) (found kind segment cs)))
+abbrev pub IsReplyTo : Viewer → List Content → Head → List ℕ → Type 0
+IsReplyTo v cs head text =
+    ((kind : Kind) × (segment : List ℕ) × IsGetOf head kind segment × (text ≡ resource_text v (groups_among cs) (found kind segment cs)))
     ⊎ (((kind : Kind) (segment : List ℕ) → ¬ IsGetOf head kind segment) × (text ≡ refusal_text NoRoute))

@@ -4,12 +4,12 @@ ghost use Rattle.std.specs.Option.{option_copied};
 ghost use Rattle.scim_cell.specs.Content.{Content};
 ghost use Rattle.scim_cell.specs.Ids.{IsId, id_text};
 ghost use Rattle.scim_command.specs.Directories as spec;
-ghost use Rattle.scim_command.specs.code.Held.{Holds, AreInOrder};
+ghost use Rattle.scim_command.specs.code.Held.{IsDirectoryOf, AreInOrder};
 
-use scim_cell::ids::Id;
+use scim_cell::Id;
 use scim_schema::Kind;
 use scim_text::NoMemory;
-use scim_value::resources::Resource;
+use scim_value::Resource;
 use std::alloc::Global;
 
 /// The resources of a users file, users and groups apart, each in order of id: so a resource is looked up by
@@ -25,7 +25,7 @@ impl Directory {
     pub(crate) fn of(alloc: Global, mut resources: Vec<Resource>) -> Result<Directory, NoMemory>
         requires { All (λ c. IsId c.id) resources.items }
         ensures { IfOk result (λ d. (sorted : List Content)
-            × spec.IsInOrder resources.items sorted × Holds d sorted) }
+            × spec.IsSortedById resources.items sorted × IsDirectoryOf d sorted) }
     {
         sort_by_id(&mut resources)?;
         split_by_kind(alloc, resources)
@@ -33,14 +33,14 @@ impl Directory {
 
     /// The groups, in order of id. Whose members they list isn't looked up here: `scim_view` goes over them.
     pub(crate) fn groups(&self) -> &[Resource]
-        ensures { (cs : List Content) → Holds self.now cs → result.now ≡ spec.groups_among cs }
+        ensures { (cs : List Content) → IsDirectoryOf self.now cs → result.now ≡ spec.groups_among cs }
     {
         self.of_kind(Kind::Group)
     }
 
     /// The resource of the kind that the segment names by its id, found by halves.
     pub(crate) fn found(&self, kind: Kind, segment: &[u8]) -> Option<&Resource>
-        ensures { (cs : List Content) → Holds self.now cs
+        ensures { (cs : List Content) → IsDirectoryOf self.now cs
             → option_copied result ≡ spec.found kind segment.now cs }
     {
         let id = id_of(segment)?;
@@ -49,7 +49,7 @@ impl Directory {
 
     /// The resources of the kind, in order of id.
     fn of_kind(&self, kind: Kind) -> &[Resource]
-        ensures { (cs : List Content) → Holds self.now cs → result.now ≡ spec.of_kind kind cs }
+        ensures { (cs : List Content) → IsDirectoryOf self.now cs → result.now ≡ spec.of_kind kind cs }
     {
         match kind {
             Kind::User => self.users.as_slice(),
@@ -60,7 +60,7 @@ impl Directory {
 
 /// Puts resources in order of id. NoMemory where none was to be had.
 fn sort_by_id(resources: &mut Vec<Resource>) -> Result<(), NoMemory>
-    ensures { OnOk result (spec.IsInOrder resources.old.items resources.new.items) }
+    ensures { OnOk result (spec.IsSortedById resources.old.items resources.new.items) }
 {
     resources.sort_by(|a, b| a.id().cmp(&b.id()))?;
     Ok(())
@@ -69,7 +69,7 @@ fn sort_by_id(resources: &mut Vec<Resource>) -> Result<(), NoMemory>
 /// Puts users and groups apart, each in the order that they come in. NoMemory where none was to be had.
 fn split_by_kind(alloc: Global, resources: Vec<Resource>) -> Result<Directory, NoMemory>
     requires { AreInOrder resources.items }
-    ensures { IfOk result (λ d. Holds d resources.items) }
+    ensures { IfOk result (λ d. IsDirectoryOf d resources.items) }
 {
     let mut users = Vec::new(alloc);
     let mut groups = Vec::new(alloc);

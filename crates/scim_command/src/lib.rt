@@ -1,12 +1,17 @@
-//! The commands of the program, each over the texts of its files, a reader and a writer.
+//! The commands of the program, each over the texts of its files, a reader and a writer; its command line, and
+//! the lines that tell faults.
 #![tactic(auto)]
 
 mod answers;
+mod command_faults;
 mod directories;
 mod faults;
+mod options;
 mod refusals;
 mod requests;
 mod run_once;
 
+pub use command_faults::CommandFault;
 pub use faults::OnceFault;
+pub use options::{OnceOptions, command};
 pub use run_once::{Setting, once};

@@ -5,12 +5,13 @@ ghost use Rattle.scim_cell.specs.Content.{Content};
 ghost use Rattle.scim_json.specs.Documents.{IsDamagedAt};
 ghost use Rattle.scim_policy.specs.File.{policy_of};
 ghost use Rattle.scim_policy.specs.declared.faults.Cause.{Cause};
+ghost use Rattle.scim_view.specs.View.{viewer_of};
 ghost use Rattle.scim_wire.specs.Streams.{IsUnended, AppendsFront};
 ghost use Rattle.scim_command.specs.declared.faults.OnceFault.{OnceFault};
 ghost use Rattle.scim_command.specs.declared.refusals.Refusal.{Refusal};
 ghost use Rattle.scim_command.specs.Refusals.{refusal_text};
 ghost use Rattle.scim_command.specs.code.Exits.{IsOfUsers, IsOfInput, text_or_store};
-ghost use Rattle.scim_command.specs.code.Held.{Holds};
+ghost use Rattle.scim_command.specs.code.Held.{IsDirectoryOf};
 ghost use Rattle.scim_command.specs.Once.{Answers, AreSound, AreSortedResourcesOf, IsAnswer};
 
 use crate::answers::answer;
@@ -18,8 +19,9 @@ use crate::directories::Directory;
 use crate::faults::OnceFault;
 use crate::refusals::{Refusal, refusal_text};
 use scim_json::read_documents;
-use scim_policy::{Policy, read_policy};
+use scim_policy::read_policy;
 use scim_text::NoMemory;
+use scim_view::Viewer;
 use scim_wire::{Head, HeadFault, read_head, write_text};
 use std::alloc::Global;
 use std::io::{Read, Write};
@@ -77,14 +79,12 @@ pub fn once<R: Read, W: Write>(
     let policy = read_policy(alloc, setting.policy)?;
     let directory = read_directory(alloc, setting.base, setting.users)?;
     let store = refusal_text(alloc, Refusal::Store)?;
-    let reply = reply_to(
-        alloc,
-        &policy,
-        setting.client,
-        setting.base,
-        &directory,
-        reader,
-    )?;
+    let viewer = Viewer {
+        policy: &policy,
+        client: setting.client,
+        base: setting.base,
+    };
+    let reply = reply_to(alloc, &viewer, &directory, reader)?;
     write_reply(reply, store.as_str(), writer)
 }
 
@@ -94,20 +94,18 @@ pub fn once<R: Read, W: Write>(
 /// InputEnded, where the head doesn't end; InputFailed, where a read fails.
 fn reply_to<R: Read>(
     alloc: Global,
-    policy: &Policy,
-    client: &str,
-    base: &str,
+    viewer: &Viewer<'_>,
     directory: &Directory,
     reader: &mut R,
 ) -> Result<Result<String, NoMemory>, OnceFault>
-    ensures answer { (cs : List Content) → Holds directory.now cs
+    ensures answer { (cs : List Content) → IsDirectoryOf directory.now cs
         → IfOk result (λ reply. IfSome (R.remaining reader.old) (λ input.
-        IsAnswer policy.now client.now base.now cs input (text_or_store reply))) }
+        IsAnswer (viewer_of viewer.now) cs input (text_or_store reply))) }
     ensures ended { result ≡ Err OnceFault.InputEnded → IfSome (R.remaining reader.old) IsUnended }
     ensures fault { IfErr result IsOfInput }
 {
     match read_head(alloc, reader) {
-        Ok(head) => Ok(answer(alloc, policy, client, base, directory, &head)),
+        Ok(head) => Ok(answer(alloc, viewer, directory, &head)),
         Err(HeadFault::BadHead) => Ok(refusal_text(alloc, Refusal::BadHead)),
         Err(HeadFault::NoMemory) => Ok(Err(NoMemory)),
         Err(HeadFault::Ended) => Err(OnceFault::InputEnded),
@@ -152,7 +150,7 @@ fn write_or_fault<W: Write>(text: &str, writer: &mut W) -> Result<(), OnceFault>
 /// Users, where it is damaged; NoMemory where none was to be had.
 fn read_directory(alloc: Global, base: &str, text: &str) -> Result<Directory, OnceFault>
     ensures resources { IfOk result (λ d. (cs : List Content)
-        × AreSortedResourcesOf base.now text.now cs × Holds d cs) }
+        × AreSortedResourcesOf base.now text.now cs × IsDirectoryOf d cs) }
     ensures damaged { (n : ℕ) → result ≡ Err (OnceFault.Users n) → IsDamagedAt base.now text.now n }
     ensures fault { IfErr result IsOfUsers }
 {

@@ -38,10 +38,6 @@ pub front-behind : (p : ℕ → Bool) (bytes : List ℕ) → bytes ≡ front p b
 front-behind p [] = refl
 front-behind p (b ∷ bs) = elim (p b) as (λ v. b ∷ bs ≡ cond v (b ∷ front p bs) [] ++ cond v (behind p bs) (b ∷ bs)) [ true ↦ ap (λ (t : List ℕ). b ∷ t) (front-behind p bs) | false ↦ refl ]
 
-pub length-behind : (p : ℕ → Bool) (bytes : List ℕ) → length (behind p bytes) ≤ length bytes
-length-behind p [] = omega arith
-length-behind p (b ∷ bs) = elim (p b) as (λ v. length (cond v (behind p bs) (b ∷ bs)) ≤ suc (length bs)) [ true ↦ omega (arith, length-behind p bs) | false ↦ omega arith ]
-
 pub blank_front : (bytes : List ℕ) → IsBlank (front is_space bytes)
 blank_front [] = tt
 blank_front (b ∷ bs) =

@@ -1,5 +1,5 @@
 -- The functions that give what a text spells say what the grammar says.
-use Rattle.std.proofs.Common.{◌≡◌, ◌≤◌, ℕ, Bool, true, false, cond, List, length, Option, Some, None, Result, Ok, Err, refl, sym, ap, ◌∙◌}
+use Rattle.std.proofs.Common.{◌≡◌, ◌≤◌, ◌<◌, ℕ, Bool, true, false, cond, List, length, Option, Some, None, Result, Ok, Err, refl, sym, ap, ◌∙◌, arith}
 use Rattle.std.specs.Prelude.{nat_le, option_and_then}
 use Rattle.std.specs.Result.{result_ok}
 use Rattle.std.proofs.lemmas.Bool.{leb-true, le-leb}
@@ -66,25 +66,35 @@ path_takes_alone kind text path (Some w) h e =
     let parts = lone_parts text w h in
     plain_takes kind text path parts.0 (ap (path_of (Attributes kind)) parts.1 ∙ ok_some (path_of (Attributes kind) w) path e)
 
-pub path_in-spelled : (kind : Kind) (text : List ℕ) (path : Path) → path_in kind text ≡ Some path → IsWritten kind 0 text (Plain path)
+pub path_in-spelled : (kind : Kind) (text : List ℕ) (path : Path) → path_in kind text ≡ Some path → (length text ≤ LONGEST_TEXT) × IsWritten kind 0 text (Plain path)
 unfolding path_in
-path_in-spelled kind text path e = path_takes_alone kind text path (lone_word text) refl e
+path_in-spelled kind text path e =
+    let a = within (nat_le (length text) LONGEST_TEXT) (option_and_then (λ word. result_ok (path_of (Attributes kind) word)) (lone_word text)) path e in
+    (leb-true (length text) LONGEST_TEXT a.0, path_takes_alone kind text path (lone_word text) refl a.1)
 
-pub spelled-path_in : (kind : Kind) (text : List ℕ) (path : Path) → IsWritten kind 0 text (Plain path) → path_in kind text ≡ Some path
+pub spelled-path_in : (kind : Kind) (text : List ℕ) (path : Path) → length text ≤ LONGEST_TEXT → IsWritten kind 0 text (Plain path) → path_in kind text ≡ Some path
 unfolding path_in
-spelled-path_in kind text path h =
+spelled-path_in kind text path short h =
     let cut = plain_again kind 0 text path h in
     let one : lone_word text ≡ Some (word_in text) = rw (cut.none_left) refl in
-    rw (one, cut.reads) refl
+    rw (le-leb (length text) LONGEST_TEXT short, one, cut.reads) refl
 
 pub paths_are_spelled : PathsAreSpelled
-paths_are_spelled kind text path = (path_in-spelled kind text path, spelled-path_in kind text path)
+paths_are_spelled kind text path = (path_in-spelled kind text path, λ h. spelled-path_in kind text path h.0 h.1)
 
--- the path in a text that has one word alone, and in any other
-pub path_in-word : (kind : Kind) (text w : List ℕ) → lone_word text ≡ Some w → path_in kind text ≡ result_ok (path_of (Attributes kind) w)
+-- the path in a text that has one word alone, in one that hasn't, and in one that is too long
+pub path_in-word : (kind : Kind) (text w : List ℕ) → length text ≤ LONGEST_TEXT → lone_word text ≡ Some w → path_in kind text ≡ result_ok (path_of (Attributes kind) w)
 unfolding path_in
-path_in-word kind text w e = rw e refl
+path_in-word kind text w short e = rw (le-leb (length text) LONGEST_TEXT short, e) refl
 
-pub path_in-none : (kind : Kind) (text : List ℕ) → lone_word text ≡ None → path_in kind text ≡ None
+pub path_in-none : (kind : Kind) (text : List ℕ) → length text ≤ LONGEST_TEXT → lone_word text ≡ None → path_in kind text ≡ None
 unfolding path_in
-path_in-none kind text e = rw e refl
+path_in-none kind text short e = rw (le-leb (length text) LONGEST_TEXT short, e) refl
+
+pub path_in-long : (kind : Kind) (text : List ℕ) → LONGEST_TEXT < length text → path_in kind text ≡ None
+path_in-long kind text long =
+    let at : (o : Option Path) → path_in kind text ≡ o → o ≡ None = λ o. elim o as (λ p. path_in kind text ≡ p → p ≡ None) [
+      | None ↦ λ e. refl
+      | Some path ↦ λ e. absurd (let short = (path_in-spelled kind text path e).0 in omega (arith, long, short))
+    ] in
+    at (path_in kind text) refl

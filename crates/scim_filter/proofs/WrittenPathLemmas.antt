@@ -1,8 +1,9 @@
 -- The path of a change: what is read is spelled so, and what is spelled is read.
-use Rattle.std.proofs.Common.{◌≡◌, ◌≤◌, ◌+◌, ℕ, suc, false, cond, append-nil, append_assoc, eqb, List, [], ◌∷◌, ◌++◌, drop, Option, Some, None, Result, Ok, Err, slice_index, refl, sym, ap, subst, ◌∙◌, arith, inl, inr}
+use Rattle.std.proofs.Common.{◌≡◌, ◌≤◌, ◌+◌, ℕ, suc, false, cond, append-nil, append_assoc, eqb, length, List, [], ◌∷◌, ◌++◌, drop, Option, Some, None, Result, Ok, Err, slice_index, refl, sym, ap, subst, ◌∙◌, arith, inl, inr}
 use Rattle.std.specs.Prelude.{option_map, MatchOption}
 use Rattle.std.specs.Result.{result_ok}
 use Rattle.scim_schema.specs.declared.Kind.{Kind}
+use Rattle.scim_filter.specs.declared.limits.TheConstants.{LONGEST_TEXT}
 use Rattle.scim_filter.specs.declared.tree.Meant.{Meant}
 use Rattle.scim_filter.specs.declared.tree.Path.{Path}
 use Rattle.scim_filter.specs.declared.tree.Scope.TheVariants.{Attributes, SubAttributes}
@@ -242,9 +243,11 @@ plain_again kind n bytes path h =
       reads = ap (path_of (Attributes kind)) word ∙ path_again (Attributes kind) h.inner path is_path;
     }
 
--- what the one path names that a text spells, if it spells one
+-- what the one path names that a text spells within the limit, if it spells one
 abbrev pub NamesAlone : Kind → List ℕ → Option Meant → Type 0
-NamesAlone kind bytes m = MatchOption m ((path : Path) → ¬ (IsWritten kind 0 bytes (Plain path))) (λ n. (path : Path) × IsWritten kind 0 bytes (Plain path) × (path.meant ≡ n))
+NamesAlone kind bytes m =
+    MatchOption m ((path : Path) → length bytes ≤ LONGEST_TEXT → ¬ (IsWritten kind 0 bytes (Plain path)))
+    (λ n. (path : Path) × (length bytes ≤ LONGEST_TEXT) × IsWritten kind 0 bytes (Plain path) × (path.meant ≡ n))
 
 -- where a text has one word alone, that word is the path
 pub lone_parts : (bytes w : List ℕ) → lone_word bytes ≡ Some w → (behind_word_in bytes ≡ []) × (word_in bytes ≡ w)
@@ -254,13 +257,13 @@ lone_parts bytes w e = at (behind_word_in bytes) refl e
     at [] h f = (h, cc)
     at (b ∷ bs) h f = absurd cc
 
-pub named_alone : (kind : Kind) (bytes w : List ℕ) → lone_word bytes ≡ Some w → NamesAlone kind bytes (option_map (λ (path : Path). path.meant) (result_ok (path_of (Attributes kind) w)))
-named_alone kind bytes w is =
+pub named_alone : (kind : Kind) (bytes w : List ℕ) → length bytes ≤ LONGEST_TEXT → lone_word bytes ≡ Some w → NamesAlone kind bytes (option_map (λ (path : Path). path.meant) (result_ok (path_of (Attributes kind) w)))
+named_alone kind bytes w short is =
     let parts = lone_parts bytes w is in
     let at : (r : Result Path Fault) → path_of (Attributes kind) (word_in bytes) ≡ r → NamesAlone kind bytes (option_map (λ (path : Path). path.meant) (result_ok r)) =
     λ r. elim r as (λ s. path_of (Attributes kind) (word_in bytes) ≡ s → NamesAlone kind bytes (option_map (λ (path : Path). path.meant) (result_ok s))) [
-      | Ok p ↦ λ e. (p, plain_takes kind bytes p parts.0 e, refl)
-      | Err f ↦ λ e path h. absurd (let no : fault_of f ≡ Ok path = sym e ∙ (plain_again kind 0 bytes path h).reads in cc)
+      | Ok p ↦ λ e. (p, short, plain_takes kind bytes p parts.0 e, refl)
+      | Err f ↦ λ e path _ h. absurd (let no : fault_of f ≡ Ok path = sym e ∙ (plain_again kind 0 bytes path h).reads in cc)
     ]
     in subst (λ (v : List ℕ). NamesAlone kind bytes (option_map (λ (path : Path). path.meant) (result_ok (path_of (Attributes kind) v)))) parts.1 (at (path_of (Attributes kind) (word_in bytes)) refl)
   where

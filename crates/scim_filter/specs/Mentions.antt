@@ -10,23 +10,23 @@ use Rattle.scim_filter.specs.Names.{names_text, path_text}
 use Rattle.scim_filter.specs.Tree.{Tree, Or, And, Not, Present, Compare, Values}
 
 -- the attribute that is named, or whose sub-attribute is
-abbrev pub attribute_named : Meant → Option Attribute
-attribute_named meant.Nothing = None
-attribute_named (meant.Attribute a) = Some a
-attribute_named (meant.SubAttribute a b) = Some a
+abbrev pub mentioned_attribute : Meant → Option Attribute
+mentioned_attribute meant.Nothing = None
+mentioned_attribute (meant.Attribute a) = Some a
+mentioned_attribute (meant.SubAttribute a b) = Some a
 
 -- a path as it is written, with its attribute where the kind has what it names
 abbrev pub named : Path → Named
-named path = record { text = path_text path.urn (names_text path.name path.sub_name); attribute = attribute_named path.meant }
+named path = record { text = path_text path.urn (names_text path.name path.sub_name); attribute = mentioned_attribute path.meant }
 
 -- the names of a filter
-abbrev pub names : Tree → List Named
-names (Or a b) = names a ++ names b
-names (And a b) = names a ++ names b
-names (Not a) = names a
-names (Present path) = named path ∷ []
-names (Compare path op x) = named path ∷ []
-names (Values path inner) = named path ∷ names inner
+abbrev pub mentioned_names : Tree → List Named
+mentioned_names (Or a b) = mentioned_names a ++ mentioned_names b
+mentioned_names (And a b) = mentioned_names a ++ mentioned_names b
+mentioned_names (Not a) = mentioned_names a
+mentioned_names (Present path) = named path ∷ []
+mentioned_names (Compare path op x) = named path ∷ []
+mentioned_names (Values path inner) = named path ∷ mentioned_names inner
 
 -- the kind has what is named
 abbrev pub is_known : Named → Bool

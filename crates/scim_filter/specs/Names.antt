@@ -4,7 +4,7 @@ use Rattle.std.specs.List.{list_all}
 use Rattle.scim_schema.specs.declared.Attribute.{Attribute}
 use Rattle.scim_schema.specs.declared.SubAttribute.{SubAttribute}
 use Rattle.scim_schema.specs.declared.Kind.{Kind}
-use Rattle.scim_schema.specs.Lookup.{attribute_named, attribute_in, sub_attribute_named, schema_named}
+use Rattle.scim_schema.specs.Lookup.{attribute_named, attribute_named_in, sub_attribute_named, schema_named}
 use Rattle.scim_filter.specs.declared.tree.Meant.{Meant}
 use Rattle.scim_filter.specs.declared.tree.Meant.TheVariants as meant
 use Rattle.scim_filter.specs.declared.tree.Scope.{Scope}
@@ -62,7 +62,7 @@ fits_scope (SubAttributes a) (Some urn) sub = false
 -- the attribute of a kind with this name, under the schema of this URN where there is one (RFC 7644 section 3.10)
 abbrev pub attribute_by : Kind → Option (List ℕ) → List ℕ → Option Attribute
 attribute_by kind None name = attribute_named kind name
-attribute_by kind (Some urn) name = option_and_then (λ s. attribute_in kind s name) (schema_named urn)
+attribute_by kind (Some urn) name = option_and_then (λ s. attribute_named_in kind s name) (schema_named urn)
 
 -- what is named by an attribute and the sub-attribute that a name finds in it
 abbrev pub sub_meant : Attribute → Option SubAttribute → Meant

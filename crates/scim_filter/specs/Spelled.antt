@@ -21,9 +21,9 @@ fitting (Some tree) = if fits tree then Some tree else None
 unfoldable pub filter_in : Kind → List ℕ → Option Tree
 filter_in kind text = if nat_le (length text) LONGEST_TEXT then fitting (result_ok (all_of (Attributes kind) text)) else None
 
--- the path of an attribute or a sub-attribute that a text spells, if it spells one
+-- the path of an attribute or a sub-attribute that a text spells within the limit, if it spells one (RFC 7644 section 3.10)
 unfoldable pub path_in : Kind → List ℕ → Option Path
-path_in kind text = option_and_then (λ word. result_ok (path_of (Attributes kind) word)) (lone_word text)
+path_in kind text = if nat_le (length text) LONGEST_TEXT then option_and_then (λ word. result_ok (path_of (Attributes kind) word)) (lone_word text) else None
 
 -- the filter that a text spells is what the grammar says
 abbrev pub FiltersAreSpelled : Type 0
@@ -31,7 +31,7 @@ FiltersAreSpelled = (kind : Kind) (text : List ℕ) (tree : Tree) → (filter_in
 
 -- and so is the path of an attribute
 abbrev pub PathsAreSpelled : Type 0
-PathsAreSpelled = (kind : Kind) (text : List ℕ) (path : Path) → (path_in kind text ≡ Some path) ↔ IsWritten kind 0 text (Plain path)
+PathsAreSpelled = (kind : Kind) (text : List ℕ) (path : Path) → (path_in kind text ≡ Some path) ↔ ((length text ≤ LONGEST_TEXT) × IsWritten kind 0 text (Plain path))
 
 -- a text spells one path of a change at most, value paths too, however many brackets are open in it
 abbrev pub OnePathIsSpelled : Type 0

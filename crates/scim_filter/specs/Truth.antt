@@ -4,10 +4,10 @@ use Rattle.std.specs.List.{list_any}
 use Rattle.scim_schema.specs.declared.Attribute.{Attribute}
 use Rattle.scim_schema.specs.declared.Leaf.{Leaf}
 use Rattle.scim_schema.specs.Characteristics.{is_multi_valued}
-use Rattle.scim_schema.specs.Units.{leaf_at}
+use Rattle.scim_schema.specs.Units.{leaf_at, is_same_leaf}
 use Rattle.scim_cell.specs.declared.atoms.Atom.{Atom}
 use Rattle.scim_cell.specs.declared.rows.Field.{Field}
-use Rattle.scim_cell.specs.Rows.{Row, attribute_rows, is_leaf}
+use Rattle.scim_cell.specs.Rows.{Row, attribute_rows}
 use Rattle.scim_filter.specs.declared.tree.Operator.{Operator}
 use Rattle.scim_filter.specs.declared.tree.Operator.TheVariants.{Eq, Ne}
 use Rattle.scim_filter.specs.declared.tree.Literal.{Literal}
@@ -15,7 +15,8 @@ use Rattle.scim_filter.specs.declared.tree.Literal.TheVariants as literal
 use Rattle.scim_filter.specs.declared.tree.Meant.{Meant}
 use Rattle.scim_filter.specs.declared.tree.Meant.TheVariants as meant
 use Rattle.scim_filter.specs.Relation.{stands}
-use Rattle.scim_filter.specs.Types.{compared_leaf, is_case_exact}
+use Rattle.scim_schema.specs.Characteristics.{is_case_exact}
+use Rattle.scim_filter.specs.Types.{compared_leaf}
 use Rattle.scim_filter.specs.Tree.{Tree, Or, And, Not, Present, Compare, Values}
 
 -- some cell of an attribute passes
@@ -24,7 +25,7 @@ some_cell passes a rs = list_any (λ (r : Row). list_any passes r.fields) (attri
 
 -- some cell of a leaf has an atom that passes
 abbrev pub some_atom : (Atom → Bool) → Leaf → List Row → Bool
-some_atom passes leaf rs = some_cell (λ (f : Field). is_leaf leaf f.leaf && passes f.atom) leaf.attribute rs
+some_atom passes leaf rs = some_cell (λ (f : Field). is_same_leaf f.leaf leaf && passes f.atom) leaf.attribute rs
 
 -- `pr`: some cell is there, for a complex attribute one of any sub-attribute
 abbrev pub is_present : Meant → List Row → Bool

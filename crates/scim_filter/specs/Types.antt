@@ -27,10 +27,6 @@ use Rattle.scim_filter.specs.Tree.{Tree, Or, And, Not, Present, Compare, Values}
 abbrev pub type_of : Leaf → AttributeType
 type_of leaf = (characteristics_of User leaf).attribute_type
 
--- whether texts of a leaf are compared with regard to case, which is the same for all kinds
-abbrev pub is_case_exact : Leaf → Bool
-is_case_exact leaf = (characteristics_of User leaf).case_exact
-
 -- the leaf that stands for an attribute with these sub-attributes: the attribute itself where it has none, else its `value`
 abbrev pub leaf_for : Attribute → List SubAttribute → Option Leaf
 leaf_for a [] = Some (simple a)

@@ -5,39 +5,29 @@ ghost use Rattle.scim_filter.specs.declared.faults.ReadError.{ReadError};
 
 use scim_text::NoMemory;
 use std::alloc::{AllocError, AllocFailed};
-use std::error::Error;
-use std::fmt;
+use thiserror::Error;
 
 /// Why a filter could not be read.
-#[derive(Clone, Copy, Debug, PartialEq, Eq)]
+#[derive(Clone, Copy, Debug, PartialEq, Eq, Error)]
 pub enum FilterFault {
     /// The text is no filter. The byte is at most the length of the text. Of a filter that is read it
     /// hints at where reading stopped, and no more is promised; of tokens it is where a string begins that
     /// isn't closed.
+    #[error("the text is no filter, about byte {0}")]
     Syntax(usize),
     /// A value is compared that is not of the attribute's type.
+    #[error("a value is not of the type of its attribute")]
     WrongType,
     /// More than 32 brackets are open at one place.
+    #[error("the filter has more than 32 open brackets")]
     TooDeep,
     /// The text has more than 4,096 bytes.
+    #[error("the filter has more than 4096 bytes")]
     TooLong,
     /// No memory was to be had.
+    #[error("out of memory")]
     NoMemory,
 }
-
-impl fmt::Display for FilterFault {
-    fn fmt<W: fmt::Write>(&self, f: &mut fmt::Formatter<W>) -> fmt::Result {
-        match self {
-            FilterFault::Syntax(at) => write!(f, "the text is no filter, about byte {at}"),
-            FilterFault::WrongType => write!(f, "a value is not of the type of its attribute"),
-            FilterFault::TooDeep => write!(f, "the filter has more than 32 open brackets"),
-            FilterFault::TooLong => write!(f, "the filter has more than 4096 bytes"),
-            FilterFault::NoMemory => write!(f, "no memory was to be had"),
-        }
-    }
-}
-
-impl Error for FilterFault {}
 
 impl<T: Drop> From<AllocFailed<T>> for FilterFault {
     ghost from_gives = { λ _ e. e ≡ FilterFault.NoMemory };

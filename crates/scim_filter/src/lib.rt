@@ -2,19 +2,31 @@
 //! holds of a part; and paths as they are written.
 #![tactic(auto)]
 
-pub mod attribute_paths;
+mod attribute_paths;
 mod bytes;
-pub mod faults;
-pub mod laws;
-pub mod limits;
+mod faults;
+mod laws;
+mod limits;
 mod literals;
-pub mod mentions;
+mod mentions;
 mod names;
-pub mod reading;
+mod reading;
 mod relation;
-pub mod string_literals;
-pub mod tokens;
-pub mod tree;
-pub mod truth;
+mod string_literals;
+mod tokens;
+mod tree;
+mod truth;
 mod types;
-pub mod written_paths;
+mod written_paths;
+
+pub use attribute_paths::{attribute_path, lone_word};
+pub use faults::FilterFault;
+pub use laws::{filters_are_spelled, one_path_is_spelled, paths_are_spelled};
+pub use limits::LONGEST_TEXT;
+pub use mentions::{Named, knows_names, mentioned_names};
+pub use reading::read_filter;
+pub use string_literals::StringLiteral;
+pub use tokens::{Token, read_tokens};
+pub use tree::{Filter, Literal, Meant, Node, Operator, Path};
+pub use truth::{holds, holds_at};
+pub use written_paths::{WrittenPath, written_path};

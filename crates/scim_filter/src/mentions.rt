@@ -6,7 +6,7 @@ ghost use Rattle.scim_filter.specs.Names.{names_text, path_text};
 ghost use Rattle.scim_filter.specs.Tree.{tree_of, view};
 
 use crate::tree::{Filter, Meant, Node, Path};
-use scim_cell::atoms::Text;
+use scim_cell::Text;
 use scim_schema::Attribute;
 use scim_text::NoMemory;
 use std::alloc::Global;
@@ -23,8 +23,8 @@ pub struct Named {
 
 impl Meant {
     /// The attribute that is named, or whose sub-attribute is.
-    pub fn attribute_named(self) -> Option<Attribute>
-        ensures { result ≡ spec.attribute_named self }
+    pub fn mentioned_attribute(self) -> Option<Attribute>
+        ensures { result ≡ spec.mentioned_attribute self }
     {
         match self {
             Meant::Nothing => None,
@@ -54,13 +54,13 @@ fn add_name(alloc: Global, path: &Path, names: &mut Vec<Named>) -> Result<(), No
 {
     names.push(Named {
         text: text_of(alloc, path)?,
-        attribute: path.meant.attribute_named(),
+        attribute: path.meant.mentioned_attribute(),
     })?;
     Ok(())
 }
 
 fn add_names(alloc: Global, node: &Node, names: &mut Vec<Named>) -> Result<(), NoMemory>
-    ensures { OnOk result (names.new.items ≡ names.old.items ++ spec.names (view node.now)) }
+    ensures { OnOk result (names.new.items ≡ names.old.items ++ spec.mentioned_names (view node.now)) }
 {
     match node {
         Node::Or(a, b) | Node::And(a, b) => {
@@ -78,8 +78,8 @@ fn add_names(alloc: Global, node: &Node, names: &mut Vec<Named>) -> Result<(), N
 
 /// The names in a filter, in the order of its text, those between the brackets of a value path too;
 /// NoMemory where none was to be had.
-pub fn names(alloc: Global, filter: &Filter) -> Result<Vec<Named>, NoMemory>
-    ensures { IfOk result (λ v. v.items ≡ spec.names (tree_of filter.now)) }
+pub fn mentioned_names(alloc: Global, filter: &Filter) -> Result<Vec<Named>, NoMemory>
+    ensures { IfOk result (λ v. v.items ≡ spec.mentioned_names (tree_of filter.now)) }
 {
     let mut found = Vec::new(alloc);
     add_names(alloc, filter.tree(), &mut found)?;
@@ -88,12 +88,16 @@ pub fn names(alloc: Global, filter: &Filter) -> Result<Vec<Named>, NoMemory>
 
 /// Whether the kind has what each name in a filter names.
 pub fn knows_names(node: &Node) -> bool
-    ensures { result ≡ list_all spec.is_known (spec.names (view node.now)) }
+    ensures { result ≡ list_all spec.is_known (spec.mentioned_names (view node.now)) }
 {
     match node {
         Node::Or(a, b) | Node::And(a, b) => knows_names(a) && knows_names(b),
         Node::Not(a) => knows_names(a),
-        Node::Present(path) | Node::Compare(path, _, _) => path.meant.attribute_named().is_some(),
-        Node::Values(path, inner) => path.meant.attribute_named().is_some() && knows_names(inner),
+        Node::Present(path) | Node::Compare(path, _, _) => path
+            .meant
+            .mentioned_attribute()
+            .is_some(),
+        Node::Values(path, inner) => path.meant.mentioned_attribute().is_some()
+            && knows_names(inner),
     }
 }

@@ -10,8 +10,10 @@ ghost use Rattle.scim_filter.specs.code.Reading.{Gives, Syntax, urn_of, name_of,
 use crate::bytes::{before_colon, is_keyword, skip_urn, split_name, urn_before};
 use crate::faults::ReadError;
 use crate::tree::{Meant, Path, Scope};
-use scim_cell::atoms::Text;
-use scim_schema::{Attribute, Kind, lookup};
+use scim_cell::Text;
+use scim_schema::{
+    Attribute, Kind, Schema, attribute_named, attribute_named_in, sub_attribute_named,
+};
 use scim_text::NoMemory;
 use std::alloc::Global;
 use std::str;
@@ -123,15 +125,15 @@ fn attribute_of(kind: Kind, urn: Option<&str>, name: &str) -> Option<Attribute>
     ensures { result ≡ attribute_by kind (option_map (λ t. t.now) urn.entry) name.now }
 {
     match urn {
-        None => lookup::attribute(kind, name),
-        Some(urn) => lookup::attribute_in(kind, lookup::schema(urn)?, name),
+        None => attribute_named(kind, name),
+        Some(urn) => attribute_named_in(kind, Schema::named(urn)?, name),
     }
 }
 
 fn sub_attribute_of(attribute: Attribute, name: &str) -> Meant
     ensures { result ≡ sub_meant attribute (sub_attribute_named attribute name.now) }
 {
-    match lookup::sub_attribute(attribute, name) {
+    match sub_attribute_named(attribute, name) {
         None => Meant::Nothing,
         Some(sub_attribute) => Meant::SubAttribute(attribute, sub_attribute),
     }

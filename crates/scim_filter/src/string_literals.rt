@@ -3,7 +3,7 @@ ghost use Rattle.std.specs.Prelude.{◌≡◌, IfOk, IfOk};
 ghost use Rattle.scim_text.specs.Names.{folded};
 ghost use Rattle.scim_text.specs.MomentIn.{moment_in};
 
-use scim_cell::atoms::Text;
+use scim_cell::Text;
 use scim_text::{NoMemory, Reading, fold, read_moment};
 use std::alloc::Global;
 use std::marker::Model;

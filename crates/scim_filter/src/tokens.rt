@@ -35,7 +35,7 @@ fn skip_token(first: u8, others: &[u8]) -> Option<&[u8]>
 ///
 /// Fails with `Syntax` where a string isn't closed, which begins at that byte, with `TooLong` above 4,096
 /// bytes, and with `NoMemory`.
-pub fn tokens<'a>(alloc: Global, text: &'a str) -> Result<Vec<Token<'a>>, FilterFault>
+pub fn read_tokens<'a>(alloc: Global, text: &'a str) -> Result<Vec<Token<'a>>, FilterFault>
     // What is found are all tokens of the text, in order, each with the text of its span.
     ensures found { IfOk result (λ v. (length text.now ≤ LONGEST_TEXT) × Tokens (length text.now) text.now (spans v.items)) }
     ensures slices { IfOk result (λ v. All (IsSlice text.now) v.items) }

@@ -4,7 +4,7 @@ ghost use Rattle.scim_filter.specs.Tree.{tree_of, view};
 ghost use Rattle.scim_filter.specs.Names.{attribute_meant};
 
 use crate::string_literals::StringLiteral;
-use scim_cell::atoms::Text;
+use scim_cell::Text;
 use scim_schema::{Attribute, Kind, SubAttribute};
 
 /// How values are compared (RFC 7644 section 3.4.2.2, table 3).

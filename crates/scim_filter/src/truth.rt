@@ -1,7 +1,8 @@
 //! Whether a filter holds of the cells of a part (RFC 7644 section 3.4.2.2).
 ghost use Rattle.std.specs.Prelude.{◌≡◌, ◌&&◌, ◌∷◌, [], IfOk, true, take, drop};
 ghost use Rattle.std.specs.List.{list_any};
-ghost use Rattle.scim_cell.specs.Rows.{rows, attribute_rows, is_leaf};
+ghost use Rattle.scim_schema.specs.Units.{is_same_leaf};
+ghost use Rattle.scim_cell.specs.Rows.{rows, attribute_rows};
 ghost use Rattle.scim_filter.specs.declared.tree.Meant.TheVariants as meant;
 ghost use Rattle.scim_filter.specs.Tree.{view, tree_of};
 ghost use Rattle.scim_filter.specs.Relation.{stands};
@@ -10,12 +11,10 @@ ghost use Rattle.scim_filter.specs.code.Cells.{rows_in};
 
 use crate::relation::atom_stands;
 use crate::tree::{Filter, Literal, Meant, Node, Operator};
-use crate::types::is_case_exact;
-use scim_cell::rows::{Field, Row};
-use scim_schema::characteristics::is_multi_valued;
-use scim_schema::{Attribute, Leaf};
+use scim_cell::{Field, Row};
+use scim_schema::{Attribute, Leaf, is_case_exact, is_multi_valued};
 use scim_text::NoMemory;
-use scim_value::parts::Part;
+use scim_value::Part;
 use std::alloc::Global;
 use std::slice;
 
@@ -45,7 +44,7 @@ impl<'a> Cells<'a> {
 
 /// Whether the row has a cell of the leaf.
 fn has_cell(leaf: Leaf, row: &Row) -> bool
-    ensures { result ≡ list_any (λ f. is_leaf leaf f.leaf && true) row.now.fields }
+    ensures { result ≡ list_any (λ f. is_same_leaf f.leaf leaf && true) row.now.fields }
 {
     row.fields().iter().any(|field| field.leaf == leaf)
 }
@@ -100,7 +99,7 @@ fn fields_stand(
     exact: bool,
     fields: &[Field],
 ) -> Result<bool, NoMemory>
-    ensures { IfOk result (λ b. b ≡ list_any (λ f. is_leaf leaf f.leaf && stands exact op f.atom literal.now) fields.now) }
+    ensures { IfOk result (λ b. b ≡ list_any (λ f. is_same_leaf f.leaf leaf && stands exact op f.atom literal.now) fields.now) }
 {
     for field in fields {
         if field.leaf == leaf && atom_stands(alloc, exact, op, &field.atom, literal)? {

@@ -6,16 +6,9 @@ ghost use Rattle.scim_filter.specs.Types as spec;
 
 use crate::bytes::is_keyword;
 use crate::tree::{Filter, Literal, Meant, Node, Operator};
-use scim_schema::characteristics::{AttributeType, characteristics_of};
-use scim_schema::table::sub_attributes;
-use scim_schema::{Attribute, Kind, Leaf, SubAttribute};
-
-/// Whether texts of the leaf are compared with regard to case (RFC 7643 section 2.2).
-pub(crate) fn is_case_exact(leaf: Leaf) -> bool
-    ensures { result ≡ spec.is_case_exact leaf }
-{
-    characteristics_of(Kind::User, leaf).case_exact
-}
+use scim_schema::{
+    Attribute, AttributeType, Kind, Leaf, SubAttribute, characteristics_of, sub_attributes,
+};
 
 fn type_of(leaf: Leaf) -> AttributeType
     ensures { result ≡ spec.type_of leaf }

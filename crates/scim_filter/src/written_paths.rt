@@ -12,7 +12,7 @@ use crate::limits::LONGEST_TEXT;
 use crate::names::{name, path};
 use crate::reading::listed;
 use crate::tree::{Filter, Path, Scope};
-use scim_cell::atoms::Text;
+use scim_cell::Text;
 use scim_schema::Kind;
 use scim_text::NoMemory;
 use std::alloc::Global;

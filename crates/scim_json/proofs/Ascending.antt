@@ -10,7 +10,7 @@ use Rattle.json.specs.Tree as tree
 use Rattle.serde_json.specs.Data.{Data, array, object, Items, no_items, item, Members, no_members, member, put}
 use Rattle.serde_json.specs.Read.{of_json, of_items, of_members}
 use Rattle.serde_json.specs.Written.{outline, items_outline, members_outline, has_float, items_have_float, members_have_float}
-use Rattle.scim_json.specs.Keys.{is_ascending}
+use Rattle.scim_schema.specs.JsonKeys.{is_ascending}
 use Rattle.scim_json.specs.PartData.{with_member, members_where, object_of, items_of, array_of}
 
 -- ---- members put in at the end

@@ -19,7 +19,7 @@ use Rattle.scim_schema.specs.contracts.Attribute.{the_type as the_attribute}
 use Rattle.scim_schema.specs.Names.{kind_name, sub_attribute_name}
 use Rattle.scim_schema.specs.Table.{attributes}
 use Rattle.scim_schema.specs.Units.{simple, leaf_at}
-use Rattle.scim_schema.proofs.LeafLemmas.{attribute_one}
+use Rattle.scim_schema.proofs.Facts.{attribute_one}
 use Rattle.scim_cell.specs.declared.atoms.Atom.{Atom}
 use Rattle.scim_cell.specs.declared.atoms.Atom.TheVariants.{Text}
 use Rattle.scim_cell.specs.Ids.{id_text}
@@ -29,14 +29,12 @@ use Rattle.scim_value.specs.Resource.{IsResource, HasBase, location, first_at}
 use Rattle.scim_cell.specs.Rows.{rows, cell_at}
 use Rattle.scim_cell.specs.Place.{sub_attributes_by_place}
 use Rattle.scim_value.specs.Listing.{cell_with, attribute_cells}
-use Rattle.scim_value.proofs.GetLemmas.{get_cell}
-use Rattle.scim_value.proofs.ListingLemmas.{cells_are_listed}
-use Rattle.scim_cell.proofs.IdLemmas.{id_text-injective}
-use Rattle.scim_value.proofs.OfLemmas.{sound_part}
-use Rattle.scim_json.specs.declared.keys.Form.TheVariants.{Stored}
-use Rattle.scim_json.specs.declared.keys.Shape.{Shape}
-use Rattle.scim_json.specs.declared.keys.Shape.TheVariants.{Simple, Complex}
-use Rattle.scim_json.specs.Keys.{shape_of, ordered_sub_attributes}
+use Rattle.scim_value.proofs.Facts.{get_cell, cells_are_listed, sound_part}
+use Rattle.scim_cell.proofs.Facts.{id_text-injective}
+use Rattle.scim_schema.specs.declared.json_keys.Form.TheVariants.{Stored}
+use Rattle.scim_schema.specs.declared.json_keys.Shape.{Shape}
+use Rattle.scim_schema.specs.declared.json_keys.Shape.TheVariants.{Simple, Complex}
+use Rattle.scim_schema.specs.JsonKeys.{shape_of, ordered_sub_attributes}
 use Rattle.scim_json.specs.PartData.{object_of, atom_data, sub_data, shaped_data, stored_data}
 use Rattle.scim_json.specs.Found.{if_there, found_value, found_sub_attribute, found_object, found_shaped, attribute_in, found_attribute, found_cells, cells_below, id_in, resource_type_in}
 use Rattle.scim_json.specs.Stored.{DocumentsAreApart}

@@ -9,7 +9,7 @@ use Rattle.serde_json.specs.Read.{read}
 use Rattle.serde_json.specs.View.{view, items_view}
 use Rattle.serde_json.specs.declared.value.Value.{Value}
 use Rattle.scim_cell.specs.Content.{Content}
-use Rattle.scim_value.specs.UniqueNames.{AreApart}
+use Rattle.scim_value.specs.Uniqueness.{AreApart}
 use Rattle.scim_json.specs.PartData.{stored_data}
 use Rattle.scim_json.specs.Stored.{IsResourceBelow, IsDocument}
 use Rattle.scim_json.specs.Documents.{documents_and, AreResourcesBelow, IsDamagedBeside, IsDamagedAt, IsDocumentsText}

@@ -8,7 +8,7 @@ use Rattle.std.proofs.lemmas.List.Elements.{All-head, All-tail, All-filter}
 use denote.Enum.Bare.{sameb}
 use Rattle.serde_json.specs.Data.{Data, Members, no_members, member, object}
 use Rattle.serde_json.specs.Find.{get_member}
-use Rattle.scim_text.proofs.Printed.{printed_is_read}
+use Rattle.scim_text.proofs.Facts.{printed_is_read}
 use Rattle.scim_schema.specs.declared.Kind.{Kind}
 use Rattle.scim_schema.specs.declared.Leaf.{Leaf}
 use Rattle.scim_schema.specs.declared.Unit.{Unit as AttributeUnit}
@@ -19,23 +19,22 @@ use Rattle.scim_schema.specs.declared.characteristics.AttributeType.{AttributeTy
 use Rattle.scim_schema.specs.declared.characteristics.AttributeType.TheVariants.{String, Boolean, DateTime, Reference, Binary}
 use Rattle.scim_schema.specs.Characteristics.{characteristics_of}
 use Rattle.scim_schema.specs.Names.{sub_attribute_name}
-use Rattle.scim_schema.specs.Units.{simple, leaf_at, whole, unit_of}
-use Rattle.scim_schema.proofs.LeafLemmas.{sub_attribute_one, leaf_one}
+use Rattle.scim_schema.specs.Units.{simple, leaf_at, whole, unit_of, is_same_leaf}
+use Rattle.scim_schema.proofs.Facts.{sub_attribute_one, leaf_one, sub_attributes as sub_attributes_ascend}
 use Rattle.scim_cell.specs.declared.atoms.Atom.{Atom}
 use Rattle.scim_cell.specs.declared.atoms.Atom.TheVariants.{Text, Truth, Moment}
 use Rattle.scim_cell.specs.declared.rows.Field.{Field}
 use Rattle.scim_cell.specs.Place.{unit_cmp}
 use Rattle.scim_cell.specs.Content.{Entry, HasType}
-use Rattle.scim_cell.specs.Rows.{Row, values, is_leaf, atom_in, atom_at, cell_at, IsSoundField, IsSoundRow}
+use Rattle.scim_cell.specs.Rows.{Row, values, atom_in, atom_at, cell_at, IsSoundField, IsSoundRow}
 use Rattle.scim_cell.specs.Place.{sub_attributes_by_place}
 use Rattle.scim_value.specs.Listing.{cell_with, values_cells}
-use Rattle.scim_json.specs.declared.keys.Form.{Form}
-use Rattle.scim_json.specs.declared.keys.Shape.{Shape}
-use Rattle.scim_json.specs.declared.keys.Shape.TheVariants.{Simple, Complex, MultiValued}
-use Rattle.scim_json.specs.Keys.{ordered_sub_attributes}
+use Rattle.scim_schema.specs.declared.json_keys.Form.{Form}
+use Rattle.scim_schema.specs.declared.json_keys.Shape.{Shape}
+use Rattle.scim_schema.specs.declared.json_keys.Shape.TheVariants.{Simple, Complex, MultiValued}
+use Rattle.scim_schema.specs.JsonKeys.{ordered_sub_attributes}
 use Rattle.scim_json.specs.PartData.{members_where, object_of, items_of, array_of, atom_data, value_data, shaped_data}
 use Rattle.scim_json.specs.Found.{atom_of, if_there, found_value, found_sub_attribute, found_object, found_items, found_shaped}
-use Rattle.scim_json.proofs.KeyLemmas.{sub_attributes as sub_attributes_ascend}
 use Rattle.scim_json.proofs.Lookups.{get_member-present}
 
 -- ---- atoms
@@ -58,7 +57,7 @@ FitsLeaf kind l (Some a) = HasType (characteristics_of kind l).attribute_type a
 pub fits_in : (kind : Kind) (u : AttributeUnit) (l : Leaf) (fs : List Field) → All (IsSoundField kind u) fs → FitsLeaf kind l (atom_in l fs)
 fits_in kind u l [] h = tt
 fits_in kind u l (f ∷ fs) h =
-    elim (cases_Bool (is_leaf l f.leaf)) [
+    elim (cases_Bool (is_same_leaf f.leaf l)) [
       | inl t ↦ rw t (subst (λ (m : Leaf). HasType (characteristics_of kind m).attribute_type f.atom) (leaf_one f.leaf l t) (All-head (IsSoundField kind u) f fs h).2)
       | inr n ↦ rw n (fits_in kind u l fs (All-tail (IsSoundField kind u) f fs h))
     ]

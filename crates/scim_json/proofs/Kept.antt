@@ -18,18 +18,18 @@ use Rattle.scim_cell.specs.declared.atoms.Atom.{Atom}
 use Rattle.scim_cell.specs.declared.atoms.Atom.TheVariants.{Text, Truth, Moment}
 use Rattle.scim_cell.specs.Content.{Content}
 use Rattle.scim_cell.specs.Rows.{Row, rows, values}
-use Rattle.scim_json.specs.declared.keys.Form.{Form}
-use Rattle.scim_json.specs.declared.keys.Form.TheVariants.{Stored}
-use Rattle.scim_json.specs.declared.keys.Key.{Key}
-use Rattle.scim_json.specs.declared.keys.Key.TheVariants.{Of, Schemas, Extension}
-use Rattle.scim_json.specs.declared.keys.Shape.{Shape}
-use Rattle.scim_json.specs.declared.keys.Shape.TheVariants.{Simple, Complex, MultiValued}
-use Rattle.scim_json.specs.Keys.{key_text, keys, extension_keys, ordered_sub_attributes, shape_of}
+use Rattle.scim_schema.specs.declared.json_keys.Form.{Form}
+use Rattle.scim_schema.specs.declared.json_keys.Form.TheVariants.{Stored}
+use Rattle.scim_schema.specs.declared.json_keys.Key.{Key}
+use Rattle.scim_schema.specs.declared.json_keys.Key.TheVariants.{Of, Schemas, Extension}
+use Rattle.scim_schema.specs.declared.json_keys.Shape.{Shape}
+use Rattle.scim_schema.specs.declared.json_keys.Shape.TheVariants.{Simple, Complex, MultiValued}
+use Rattle.scim_schema.specs.JsonKeys.{key_text, keys, extension_keys, ordered_sub_attributes, shape_of}
 use Rattle.scim_json.specs.PartData.{atom_data, field_data, value_data, sub_data, shaped_data, attribute_data, urn_data, has_extension, schemas_data, extension_data, key_data, data_of, stored_data}
 use Rattle.scim_json.specs.Laws.{KeptReadsBack}
 use Rattle.scim_json.specs.code.Tokens.{value_tokens}
 use Rattle.scim_json.proofs.Ascending.{IsKept, IfKept, AreKept-item, AreKept-items, IsKept-array, IfKept-array_of, IsKept-object, IfKept-object_of, deeper}
-use Rattle.scim_json.proofs.KeyLemmas.{part_keys, extension_attributes, sub_attributes}
+use Rattle.scim_schema.proofs.Facts.{part_keys, extension_attributes, sub_attributes}
 
 -- the value of an atom
 IsKept-atom : (n : ℕ) (a : Atom) → IsKept n (atom_data a)

@@ -18,17 +18,16 @@ use Rattle.scim_schema.specs.contracts.schemas.Schema.{the_type as the_schema}
 use Rattle.scim_schema.specs.Names.{attribute_name, sub_attribute_name}
 use Rattle.scim_schema.specs.Schemas.{urn, extension_of}
 use Rattle.scim_schema.specs.Table.{attributes}
-use Rattle.scim_schema.proofs.LeafLemmas.{attribute_one}
+use Rattle.scim_schema.proofs.Facts.{attribute_one, part_keys, extension_attributes}
 use Rattle.scim_cell.specs.Content.{Content}
 use Rattle.scim_cell.specs.Rows.{Row, rows}
-use Rattle.scim_json.specs.declared.keys.Form.{Form}
-use Rattle.scim_json.specs.declared.keys.Form.TheVariants.{Stored}
-use Rattle.scim_json.specs.declared.keys.Key.{Key}
-use Rattle.scim_json.specs.declared.keys.Key.TheVariants.{Of, Schemas, Extension}
-use Rattle.scim_json.specs.Keys.{key_text, keys, extension_keys, ordered_sub_attributes, stands_under}
+use Rattle.scim_schema.specs.declared.json_keys.Form.{Form}
+use Rattle.scim_schema.specs.declared.json_keys.Form.TheVariants.{Stored}
+use Rattle.scim_schema.specs.declared.json_keys.Key.{Key}
+use Rattle.scim_schema.specs.declared.json_keys.Key.TheVariants.{Of, Schemas, Extension}
+use Rattle.scim_schema.specs.JsonKeys.{key_text, keys, extension_keys, ordered_sub_attributes, stands_under}
 use Rattle.scim_json.specs.PartData.{members_where, attribute_data, has_extension, extension_data, key_data, data_of}
 use Rattle.scim_json.specs.Found.{object_with, attribute_in}
-use Rattle.scim_json.proofs.KeyLemmas.{part_keys, extension_attributes}
 use Rattle.scim_json.proofs.Lookups.{is_clear, get_member-absent, get_member-present}
 use Rattle.scim_json.proofs.ShapeLemmas.{IsWithout, without_extension}
 

@@ -1,7 +1,6 @@
 pub mod Adding
 pub mod Ascending
 pub mod Kept
-pub mod KeyLemmas
 pub mod Printed
 pub mod Forms
 pub mod Lookups

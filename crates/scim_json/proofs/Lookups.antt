@@ -10,7 +10,7 @@ use Rattle.std.proofs.lemmas.Bool.{and_parts, or_cases}
 use Rattle.std.proofs.lemmas.Cmp.{nat_list_cmp_total, tied_itself}
 use Rattle.serde_json.specs.Data.{Data, Members, no_members, member}
 use Rattle.serde_json.specs.Find.{get, get_member}
-use Rattle.scim_json.specs.Keys.{is_ascending, Ascends}
+use Rattle.scim_schema.specs.JsonKeys.{is_ascending, Ascends}
 use Rattle.scim_json.specs.PartData.{with_member, members_where, object_of}
 
 -- a text that differs from a member's key

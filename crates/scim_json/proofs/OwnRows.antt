@@ -11,13 +11,12 @@ use Rattle.scim_schema.specs.Characteristics.{is_multi_valued}
 use Rattle.scim_schema.specs.Units.{simple, leaf_at, whole, unit_of}
 use Rattle.scim_cell.specs.Content.{Content, IsPart}
 use Rattle.scim_cell.specs.Rows.{Row, rows, attribute_rows, atom_at, cell_at}
-use Rattle.scim_value.proofs.OfLemmas.{sound_part}
-use Rattle.scim_value.proofs.AttributeLemmas.{values_own, values_all}
+use Rattle.scim_value.proofs.Facts.{sound_part, values_own, values_all}
 use Rattle.scim_cell.specs.Place.{sub_attributes_by_place}
-use Rattle.scim_json.specs.declared.keys.Form.{Form}
-use Rattle.scim_json.specs.declared.keys.Shape.{Shape}
-use Rattle.scim_json.specs.declared.keys.Shape.TheVariants.{Simple, Complex, MultiValued}
-use Rattle.scim_json.specs.Keys.{shape_of, ordered_sub_attributes}
+use Rattle.scim_schema.specs.declared.json_keys.Form.{Form}
+use Rattle.scim_schema.specs.declared.json_keys.Shape.{Shape}
+use Rattle.scim_schema.specs.declared.json_keys.Shape.TheVariants.{Simple, Complex, MultiValued}
+use Rattle.scim_schema.specs.JsonKeys.{shape_of, ordered_sub_attributes}
 use Rattle.scim_json.specs.PartData.{members_where, object_of, items_of, array_of, atom_data, value_data, simple_data, sub_data, complex_data, shaped_data, attribute_data}
 use Rattle.scim_json.proofs.Adding.{members_where-absent}
 use Rattle.scim_json.proofs.ShapeLemmas.{fits, shape_fits}

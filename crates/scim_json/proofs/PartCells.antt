@@ -8,16 +8,15 @@ use Rattle.scim_schema.specs.Table.{attributes}
 use Rattle.scim_cell.specs.Content.{Content, Entry, IsPart}
 use Rattle.scim_cell.specs.Rows.{rows}
 use Rattle.scim_value.specs.Listing.{attribute_cells}
-use Rattle.scim_value.proofs.ListingLemmas.{cells_are_listed}
-use Rattle.scim_value.proofs.OfLemmas.{sound_part}
-use Rattle.scim_json.specs.declared.keys.Form.{Form}
-use Rattle.scim_json.specs.declared.keys.Form.TheVariants.{Shown, Stored}
-use Rattle.scim_json.specs.Keys.{shape_of}
+use Rattle.scim_value.proofs.Facts.{cells_are_listed, sound_part}
+use Rattle.scim_schema.specs.declared.json_keys.Form.{Form}
+use Rattle.scim_schema.specs.declared.json_keys.Form.TheVariants.{Shown, Stored}
+use Rattle.scim_schema.specs.JsonKeys.{shape_of}
 use Rattle.scim_json.specs.PartData.{data_of, part_data}
 use Rattle.scim_json.specs.Found.{if_there, found_shaped, found_attribute, found_cells}
 use Rattle.scim_json.specs.Laws.{PartsAreShownWhole}
 use Rattle.scim_json.proofs.FoundValues.{found_shape}
-use Rattle.scim_json.proofs.KeyLemmas.{all_attributes}
+use Rattle.scim_schema.proofs.Facts.{all_attributes}
 use Rattle.scim_json.proofs.KeyedLookups.{has_key, IsShown, attribute_shown}
 use Rattle.scim_json.proofs.ShapeLemmas.{all_but_location, attribute_cells-shape, attribute_cells-nothing}
 

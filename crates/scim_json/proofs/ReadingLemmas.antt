@@ -6,8 +6,8 @@ use Rattle.scim_schema.specs.declared.Kind.{Kind}
 use Rattle.scim_schema.specs.Names.{kind_name}
 use Rattle.scim_cell.specs.Ids.{IsId, IsIdText, id_text}
 use Rattle.scim_cell.specs.Content.{Content, AreSortedPartCells}
-use Rattle.scim_cell.proofs.IdLemmas.{IsIdText-id_text, id_text-injective}
-use Rattle.scim_value.proofs.RowLemmas.{sorted_entries}
+use Rattle.scim_cell.proofs.Facts.{IsIdText-id_text, id_text-injective}
+use Rattle.scim_value.proofs.Facts.{sorted_entries}
 use Rattle.scim_json.specs.Found.{cells_below, id_in, resource_type_in}
 use Rattle.scim_json.specs.Stored.{IsDocument}
 use Rattle.scim_json.proofs.Back.{found_stored, id_stored, resource_type_stored}

@@ -25,12 +25,12 @@ use Rattle.scim_cell.specs.Rows.{Row, values, cell_at, atom_at, has_fields, IsSo
 use Rattle.scim_value.specs.Resource.{MayBeKept}
 use Rattle.scim_cell.specs.Place.{sub_attributes_by_place}
 use Rattle.scim_value.specs.Listing.{cell_with, values_cells, attribute_cells}
-use Rattle.scim_value.proofs.OrderLemmas.{unit_same}
-use Rattle.scim_json.specs.declared.keys.Form.{Form}
-use Rattle.scim_json.specs.declared.keys.Form.TheVariants.{Shown, Stored}
-use Rattle.scim_json.specs.declared.keys.Shape.{Shape}
-use Rattle.scim_json.specs.declared.keys.Shape.TheVariants.{Simple, Complex, MultiValued}
-use Rattle.scim_json.specs.Keys.{shape_of, ordered_sub_attributes}
+use Rattle.scim_value.proofs.Facts.{unit_same}
+use Rattle.scim_schema.specs.declared.json_keys.Form.{Form}
+use Rattle.scim_schema.specs.declared.json_keys.Form.TheVariants.{Shown, Stored}
+use Rattle.scim_schema.specs.declared.json_keys.Shape.{Shape}
+use Rattle.scim_schema.specs.declared.json_keys.Shape.TheVariants.{Simple, Complex, MultiValued}
+use Rattle.scim_schema.specs.JsonKeys.{shape_of, ordered_sub_attributes}
 use Rattle.scim_json.specs.PartData.{has_extension}
 use Rattle.scim_json.proofs.FoundValues.{all_written, shaped_cells}
 

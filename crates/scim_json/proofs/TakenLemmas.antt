@@ -10,34 +10,35 @@ use Rattle.std.proofs.lemmas.List.Elements.{All-contains, Contains-append_left, 
 use Rattle.std.proofs.lemmas.List.Folds.{Any-from_list_any, list_any_at}
 use Rattle.std.proofs.lemmas.List.Quantifiers.{Any-push}
 use Rattle.std.proofs.lemmas.Slice.Eq.{bytes_eq-Decides}
-use Rattle.scim_schema.proofs.LeafLemmas.{Decides-leaf_eq}
-use Rattle.scim_value.specs.declared.unique_names.UniqueName.{UniqueName}
+use Rattle.scim_schema.proofs.Facts.{is_same_leaf-Decides}
+use Rattle.scim_value.specs.declared.uniqueness.UniqueName.{UniqueName}
 use Rattle.scim_cell.specs.Content.{Content}
-use Rattle.scim_value.specs.UniqueNames.{Name, unique_names, AreApart, name_of}
+use Rattle.scim_value.specs.Uniqueness.{Name, unique_names, AreApart, name_of}
 use Rattle.scim_json.specs.declared.documents.Taken.{Taken}
-use Rattle.scim_json.specs.code.Taken.{same_id, same_name, Records}
+use Rattle.scim_cell.specs.Equality.{is_same_id}
+use Rattle.scim_json.specs.code.Taken.{is_same_unique_name, Records}
 
 -- two ids compare equal where they are one
-pub same_id-Decides : (a b : List ℕ) → Decides (same_id a b) (a ≡ b)
-same_id-Decides a b = bytes_eq-Decides a b
+pub is_same_id-Decides : (a b : List ℕ) → Decides (is_same_id a b) (a ≡ b)
+is_same_id-Decides a b = bytes_eq-Decides a b
 
 -- two names compare equal where they are one
-pub same_name-Decides : (m n : UniqueName) → Decides (same_name m n) (name_of m ≡ name_of n)
-same_name-Decides m n =
-    Decides-like (same_name m n) (λ w i. record { leaf = w.0 i; text = w.1 i }) (λ e. (ap (λ (a : Name). a.leaf) e, ap (λ (a : Name). a.text) e))
-    (Decides-and _ _ (Decides-leaf_eq m.leaf n.leaf) (bytes_eq-Decides (string_bytes m.text) (string_bytes n.text)))
+pub is_same_unique_name-Decides : (m n : UniqueName) → Decides (is_same_unique_name m n) (name_of m ≡ name_of n)
+is_same_unique_name-Decides m n =
+    Decides-like (is_same_unique_name m n) (λ w i. record { leaf = w.0 i; text = w.1 i }) (λ e. (ap (λ (a : Name). a.leaf) e, ap (λ (a : Name). a.text) e))
+    (Decides-and _ _ (is_same_leaf-Decides m.leaf n.leaf) (bytes_eq-Decides (string_bytes m.text) (string_bytes n.text)))
 
 -- some name compares equal where it is among the names
-pub same_names-Decides : (q : UniqueName) (ns : List UniqueName) → Decides (list_any (same_name q) ns) (Contains (map name_of ns) (name_of q))
+pub same_names-Decides : (q : UniqueName) (ns : List UniqueName) → Decides (list_any (is_same_unique_name q) ns) (Contains (map name_of ns) (name_of q))
 same_names-Decides q ns = (
   λ e.
-      let w = Any-from_list_any (same_name q) ns e in
-      let one : name_of q ≡ name_of w.1 = (same_name-Decides q w.1).0 w.4 in
+      let w = Any-from_list_any (is_same_unique_name q) ns e in
+      let one : name_of q ≡ name_of w.1 = (is_same_unique_name-Decides q w.1).0 w.4 in
       let short : w.0 < length (map name_of ns) = rw (length-map ns name_of) w.2 in
       subst (λ (m : Name). Contains (map name_of ns) m) (sym one) (w.0, short, get_or-map name_of ns w.0 w.1 (name_of w.1) w.2 ∙ ap name_of w.3),
   λ w.
       let short : w.0 < length ns = rw (length-map ns name_of) at w.1 in
-      list_any_at (same_name q) ns w.0 q short ((same_name-Decides q (slice_index_or ns w.0 q)).1 (sym (sym (get_or-map name_of ns w.0 q (name_of q) short) ∙ w.2))),
+      list_any_at (is_same_unique_name q) ns w.0 q short ((is_same_unique_name-Decides q (slice_index_or ns w.0 q)).1 (sym (sym (get_or-map name_of ns w.0 q (name_of q) short) ∙ w.2))),
 )
 
 -- what holds of some element of a longer list
@@ -73,15 +74,15 @@ one_more false false = refl
 
 module _ (taken : Taken) (cs : List Content) (kept : Records taken cs) (c : Content) (ns : List UniqueName) (named : map name_of ns ≡ unique_names c) where
   -- a name that is taken is one of theirs
-  pub clash : list_any (contains same_name taken.names) ns ≡ true → All (λ b. AreApart b c) cs → ⊥
+  pub clash : list_any (contains is_same_unique_name taken.names) ns ≡ true → All (λ b. AreApart b c) cs → ⊥
   clash e apart =
-      let w = Any-from_list_any (contains same_name taken.names) ns e in
+      let w = Any-from_list_any (contains is_same_unique_name taken.names) ns e in
       let b = (kept.names w.1).0 w.4 in
       let own : Contains (unique_names c) (name_of w.1) = subst (λ (l : List Name). Contains l (name_of w.1)) named (Contains-map name_of ns w.1 (w.0, w.2, w.3)) in
       (All-contains (λ b. AreApart b c) cs b.1 apart (b.0, b.2, b.3)).names (name_of w.1) b.4 own
 
   -- an id and names that are free are none of theirs
-  pub free : list_any (contains same_name taken.names) ns ≡ false → contains same_id taken.ids c.id ≡ false → All (λ b. AreApart b c) cs
+  pub free : list_any (contains is_same_unique_name taken.names) ns ≡ false → contains is_same_id taken.ids c.id ≡ false → All (λ b. AreApart b c) cs
   free no_name no_id k d short =
       let b = slice_index_or cs k d in
       let there : slice_index_or cs k b ≡ b = get_or_default cs k b d short in
@@ -89,16 +90,16 @@ module _ (taken : Taken) (cs : List Content) (kept : Records taken cs) (c : Cont
         ids = λ e. iff_false (kept.ids c.id) no_id (k, b, short, there, e);
         names = λ n its own.
             let w = Any-from_map name_of ns n (subst (λ (l : List Name). Contains l n) (sym named) own) in
-            let is : contains same_name taken.names w.1 ≡ true = (kept.names w.1).1 (k, b, short, there, subst (λ (m : Name). Contains (unique_names b) m) (sym w.4) its) in
-            both_ways _ no_name (list_any_at (contains same_name taken.names) ns w.0 w.1 w.2 (rw w.3 is));
+            let is : contains is_same_unique_name taken.names w.1 ≡ true = (kept.names w.1).1 (k, b, short, there, subst (λ (m : Name). Contains (unique_names b) m) (sym w.4) its) in
+            both_ways _ no_name (list_any_at (contains is_same_unique_name taken.names) ns w.0 w.1 w.2 (rw w.3 is));
       }
 
   -- with its id and its names, what is taken is that of one resource more
-  pub added : (new : Taken) → ((id : List ℕ) → contains same_id new.ids id ≡ cond (same_id c.id id) true (contains same_id taken.ids id))
-      → ((n : UniqueName) → contains same_name new.names n ≡ (contains same_name taken.names n || list_any (same_name n) ns)) → Records new (cs ++ c ∷ [])
+  pub added : (new : Taken) → ((id : List ℕ) → contains is_same_id new.ids id ≡ cond (is_same_id c.id id) true (contains is_same_id taken.ids id))
+      → ((n : UniqueName) → contains is_same_unique_name new.names n ≡ (contains is_same_unique_name taken.names n || list_any (is_same_unique_name n) ns)) → Records new (cs ++ c ∷ [])
   added new ids names = record {
-    ids = λ id. more (λ b. b.id ≡ id) cs c _ (same_id c.id id) _ (kept.ids id) (same_id-Decides c.id id) (ids id ∙ one_more _ (same_id c.id id));
+    ids = λ id. more (λ b. b.id ≡ id) cs c _ (is_same_id c.id id) _ (kept.ids id) (is_same_id-Decides c.id id) (ids id ∙ one_more _ (is_same_id c.id id));
     names = λ n.
-        let own : Decides (list_any (same_name n) ns) (Contains (unique_names c) (name_of n)) = subst (λ (l : List Name). Decides (list_any (same_name n) ns) (Contains l (name_of n))) named (same_names-Decides n ns) in
-        more (λ b. Contains (unique_names b) (name_of n)) cs c _ (list_any (same_name n) ns) _ (kept.names n) own (names n);
+        let own : Decides (list_any (is_same_unique_name n) ns) (Contains (unique_names c) (name_of n)) = subst (λ (l : List Name). Decides (list_any (is_same_unique_name n) ns) (Contains l (name_of n))) named (same_names-Decides n ns) in
+        more (λ b. Contains (unique_names b) (name_of n)) cs c _ (list_any (is_same_unique_name n) ns) _ (kept.names n) own (names n);
   }

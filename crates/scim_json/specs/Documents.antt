@@ -3,7 +3,7 @@ use Rattle.std.specs.Prelude.{◌≡◌, ℕ, zero, suc, length, List, [], ◌�
 use Rattle.serde_json.specs.Data.{Data, array, Items, no_items, item}
 use Rattle.serde_json.specs.Read.{read}
 use Rattle.scim_cell.specs.Content.{Content}
-use Rattle.scim_value.specs.UniqueNames.{AreApart}
+use Rattle.scim_value.specs.Uniqueness.{AreApart}
 use Rattle.scim_json.specs.PartData.{stored_data}
 use Rattle.scim_json.specs.Stored.{IsResourceBelow, IsDocument}
 

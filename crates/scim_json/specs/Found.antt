@@ -25,9 +25,9 @@ use Rattle.scim_value.specs.Resource.{location}
 use Rattle.scim_cell.specs.Content.{Entry}
 use Rattle.scim_cell.specs.Place.{sub_attributes_by_place}
 use Rattle.scim_value.specs.Listing.{cell_with}
-use Rattle.scim_json.specs.declared.keys.Shape.{Shape}
-use Rattle.scim_json.specs.declared.keys.Shape.TheVariants.{Simple, Complex, MultiValued}
-use Rattle.scim_json.specs.Keys.{shape_of}
+use Rattle.scim_schema.specs.declared.json_keys.Shape.{Shape}
+use Rattle.scim_schema.specs.declared.json_keys.Shape.TheVariants.{Simple, Complex, MultiValued}
+use Rattle.scim_schema.specs.JsonKeys.{shape_of}
 
 -- the value as an atom of a type, where it is one (RFC 7643 section 2.3)
 abbrev pub atom_of : AttributeType → Data → Option Atom

@@ -1,6 +1,5 @@
 pub mod Documents
 pub mod Found
-pub mod Keys
 pub mod Laws
 pub mod PartData
 pub mod Stored

@@ -17,13 +17,13 @@ use Rattle.scim_cell.specs.declared.rows.Field.{Field}
 use Rattle.scim_cell.specs.Content.{Content}
 use Rattle.scim_schema.specs.Units.{simple, leaf_at, whole}
 use Rattle.scim_cell.specs.Rows.{Row, rows, values, atom_in, cell_at}
-use Rattle.scim_json.specs.declared.keys.Form.{Form}
-use Rattle.scim_json.specs.declared.keys.Form.TheVariants.{Shown, Stored}
-use Rattle.scim_json.specs.declared.keys.Key.{Key}
-use Rattle.scim_json.specs.declared.keys.Key.TheVariants.{Of, Schemas, Extension}
-use Rattle.scim_json.specs.declared.keys.Shape.{Shape}
-use Rattle.scim_json.specs.declared.keys.Shape.TheVariants.{Simple, Complex, MultiValued}
-use Rattle.scim_json.specs.Keys.{key_text, keys, extension_keys, ordered_sub_attributes, shape_of}
+use Rattle.scim_schema.specs.declared.json_keys.Form.{Form}
+use Rattle.scim_schema.specs.declared.json_keys.Form.TheVariants.{Shown, Stored}
+use Rattle.scim_schema.specs.declared.json_keys.Key.{Key}
+use Rattle.scim_schema.specs.declared.json_keys.Key.TheVariants.{Of, Schemas, Extension}
+use Rattle.scim_schema.specs.declared.json_keys.Shape.{Shape}
+use Rattle.scim_schema.specs.declared.json_keys.Shape.TheVariants.{Simple, Complex, MultiValued}
+use Rattle.scim_schema.specs.JsonKeys.{key_text, keys, extension_keys, ordered_sub_attributes, shape_of}
 
 -- ---- objects and arrays
 

@@ -1,6 +1,6 @@
 //! Why a stored document, or a users file, wasn't read.
 use scim_text::NoMemory;
-use scim_value::faults::{Fault, Invalid};
+use scim_value::{Fault, Invalid};
 use std::alloc::AllocFailed;
 use std::error::Error as StdError;
 use std::fmt;
@@ -27,6 +27,7 @@ pub enum DocumentFault {
     NoMemory,
 }
 
+// By hand, since one variant has two texts.
 impl fmt::Display for DocumentFault {
     fn fmt<W: fmt::Write>(&self, f: &mut fmt::Formatter<W>) -> fmt::Result {
         match self {

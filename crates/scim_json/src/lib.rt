@@ -4,14 +4,12 @@
 
 mod documents;
 mod faults;
-mod keys;
 mod laws;
 mod reading;
 mod writing;
 
 pub use documents::read_documents;
 pub use faults::{DocumentFault, StoredFault};
-pub use keys::{keys_ascend, keys_have_all_attributes};
 pub use laws::{
     documents_are_apart, documents_read_back, parts_are_shown_whole, stored_resources_read_back,
 };

@@ -15,19 +15,14 @@ ghost use Rattle.scim_json.specs.Found as spec;
 ghost use Rattle.scim_json.specs.Stored.{IsDocument, GivesStored};
 
 use crate::faults::StoredFault;
-use crate::keys::{Shape, shape_of};
 use crate::writing::stored_text;
-use scim_cell::atoms::{Atom, Text};
-use scim_cell::cells::Cell;
-use scim_cell::ids::Id;
-use scim_cell::places::sub_attributes_by_place;
-use scim_schema::characteristics::{AttributeType, characteristics_of};
-use scim_schema::schemas::extension_of;
-use scim_schema::table::attributes;
-use scim_schema::{Attribute, Kind, Leaf, SubAttribute};
+use scim_cell::{Atom, Cell, Id, Text, sub_attributes_by_place};
+use scim_schema::{
+    Attribute, AttributeType, Kind, Leaf, Shape, SubAttribute, attributes, characteristics_of,
+    extension_of, shape_of,
+};
 use scim_text::{NoMemory, read_printed_moment};
-use scim_value::parts::Part;
-use scim_value::resources::{Resource, location};
+use scim_value::{Part, Resource, location};
 use serde_json::Value;
 use std::alloc::Global;
 
@@ -131,19 +126,7 @@ fn kind_in(value: &Value) -> Option<Kind>
         ↔ (spec.resource_type_in (view value.now) ≡ Some (kind_name kind)) }
 {
     let meta = attribute_in(value, Attribute::Meta)?;
-    kind_named(meta.get(SubAttribute::ResourceType.name())?.as_str()?)
-}
-
-fn kind_named(name: &str) -> Option<Kind>
-    ensures { (kind : Kind) → (result ≡ Some kind) ↔ (name.now ≡ kind_name kind) }
-{
-    if name == Kind::User.name() {
-        Some(Kind::User)
-    } else if name == Kind::Group.name() {
-        Some(Kind::Group)
-    } else {
-        None
-    }
+    Kind::named(meta.get(SubAttribute::ResourceType.name())?.as_str()?)
 }
 
 /// The id that `id` is the text of.

@@ -8,23 +8,20 @@ ghost use Rattle.serde_json.specs.Written.{compact_text};
 ghost use Rattle.scim_schema.specs.Names.{attribute_name, sub_attribute_name};
 ghost use Rattle.scim_schema.specs.Schemas.{urn};
 ghost use Rattle.scim_cell.specs.Rows.{rows, cell_at};
-ghost use Rattle.scim_json.specs.Keys.{key_text};
+ghost use Rattle.scim_schema.specs.JsonKeys.{key_text};
 ghost use Rattle.scim_json.specs.PartData as spec;
 ghost use Rattle.scim_json.specs.PartData.{members_where, items_of};
 ghost use Rattle.scim_json.specs.Stored.{stored_text};
 ghost use Rattle.scim_json.specs.code.Tokens.{Adds, value_tokens, member_tokens, members_tokens, items_tokens};
 
-use crate::keys::{Form, Key, Shape, extension_keys, keys, ordered_sub_attributes, shape_of};
 use json::Writer;
-use scim_cell::atoms::Atom;
-use scim_cell::places::compare_units;
-use scim_cell::rows::Row;
-use scim_schema::schemas::{Schema, core_schema, extension_of, extensions};
-use scim_schema::units::unit_of;
-use scim_schema::{Attribute, Leaf, SubAttribute};
+use scim_cell::{Atom, Row, compare_units};
+use scim_schema::{
+    Attribute, Form, Key, Leaf, Schema, Shape, SubAttribute, core_schema, extension_keys,
+    extension_of, extensions, keys, ordered_sub_attributes, shape_of, unit_of,
+};
 use scim_text::{NoMemory, print_moment};
-use scim_value::parts::Part;
-use scim_value::resources::Resource;
+use scim_value::{Part, Resource};
 use std::alloc::Global;
 
 /// The JSON text of a part, as a client is shown it: its cells and `schemas`, and nothing else

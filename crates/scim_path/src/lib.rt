@@ -2,10 +2,11 @@
 #![tactic(auto)]
 
 mod faults;
-pub mod laws;
+mod laws;
 mod paths;
 mod reading;
 
 pub use faults::PathFault;
+pub use laws::texts_name_one_thing;
 pub use paths::{Path, ValuePath};
 pub use reading::{extension_named, read_path};

@@ -1,7 +1,6 @@
 //! Paths.
-use scim_filter::tree::Filter;
-use scim_schema::schemas::Schema;
-use scim_schema::{Attribute, SubAttribute};
+use scim_filter::Filter;
+use scim_schema::{Attribute, Schema, SubAttribute};
 
 /// What a change is made to (RFC 7644 section 3.5.2).
 #[derive(Drop)]
@@ -21,7 +20,7 @@ pub enum Path {
 pub struct ValuePath {
     /// The attribute.
     pub attribute: Attribute,
-    /// The value path, of which `scim_filter::truth::holds_at` tells whether it holds of a value.
+    /// The value path, of which `scim_filter::holds_at` tells whether it holds of a value.
     pub filter: Filter,
     /// The sub-attribute that is named behind it; without one the whole values are meant.
     pub sub_attribute: Option<SubAttribute>,

@@ -7,16 +7,11 @@ ghost use Rattle.scim_path.specs.code.Results.{target_read};
 
 use crate::faults::PathFault;
 use crate::paths::{Path, ValuePath};
-use scim_cell::atoms::Text;
-use scim_filter::attribute_paths::lone_word;
-use scim_filter::limits::LONGEST_TEXT;
-use scim_filter::mentions::knows_names;
-use scim_filter::tree::{Filter, Meant, Node};
-use scim_filter::written_paths::{WrittenPath, written_path};
-use scim_schema::characteristics::is_multi_valued;
-use scim_schema::lookup::sub_attribute;
-use scim_schema::schemas::{Schema, extensions};
-use scim_schema::{Attribute, Kind};
+use scim_cell::Text;
+use scim_filter::{
+    Filter, LONGEST_TEXT, Meant, Node, WrittenPath, knows_names, lone_word, written_path,
+};
+use scim_schema::{Attribute, Kind, Schema, extensions, is_multi_valued, sub_attribute_named};
 use std::alloc::Global;
 
 /// The extension of the kind whose URN stands alone in a text of at most 4,096 bytes, in any ASCII case and
@@ -54,7 +49,9 @@ fn chosen(attribute: Attribute, filter: Filter, sub_name: Option<Text>) -> Resul
 {
     let sub_attribute = match sub_name {
         None => None,
-        Some(name) => Some(sub_attribute(attribute, name.as_str()).ok_or(PathFault::Unknown)?),
+        Some(name) => Some(sub_attribute_named(attribute, name.as_str()).ok_or(
+            PathFault::Unknown,
+        )?),
     };
     Ok(Path::Values(ValuePath {
         attribute,
@@ -105,7 +102,7 @@ fn written(path: WrittenPath) -> Result<Path, PathFault>
 /// Fails with `Syntax` where the text is no such path, with `Unknown` where it names what the kind
 /// doesn't have, and with `NoMemory`.
 pub fn read_path(alloc: Global, kind: Kind, text: &str) -> Result<Path, PathFault>
-    ensures { MatchResult result (λ p. spec.Names kind text.now (Ok (spec.target_of p)))
+    ensures { MatchResult result (λ p. spec.Names kind text.now (Ok (spec.path_target p)))
         (λ f. (f ≡ PathFault.NoMemory) ⊎ spec.Names kind text.now (Err f)) }
 {
     if let Some(schema) = extension_named(kind, text) {

@@ -10,9 +10,10 @@ use Rattle.scim_cell.specs.Content.{Content}
 use Rattle.scim_policy.specs.declared.rules.Decision.{Decision}
 use Rattle.scim_policy.specs.declared.decisions.Decisions.{Decisions}
 use Rattle.scim_policy.specs.Rules.{Rule}
-use Rattle.scim_policy.specs.code.Table.{or_else}
+use Rattle.scim_policy.specs.Table.{or_else}
 use Rattle.scim_policy.specs.Decide.{covers_in, paths_on, speaks_of, fits, first_of, decide}
-use Rattle.scim_policy.specs.code.Table.{or_denied, decided, decision, by_paths, by_rule, by_rules}
+use Rattle.scim_policy.specs.Table.{or_denied, decided, decision}
+use Rattle.scim_policy.specs.code.Walk.{by_paths, by_rule, by_rules}
 use Rattle.scim_policy.proofs.TableLemmas.{or_or}
 
 -- the first of numbered rules that decides is the first that fits

@@ -12,15 +12,15 @@ use Rattle.scim_schema.specs.declared.SubAttribute.{SubAttribute}
 use Rattle.scim_schema.specs.contracts.Attribute.{the_type as the_attribute}
 use Rattle.scim_schema.specs.contracts.SubAttribute.{the_type as the_sub_attribute}
 use Rattle.scim_schema.specs.declared.Leaf.{Leaf}
-use Rattle.scim_schema.proofs.LeafLemmas.{attribute_one, sub_attribute_one, option_one}
+use Rattle.scim_schema.proofs.Facts.{attribute_one, sub_attribute_one}
 use Rattle.scim_policy.specs.declared.rules.Decision.{Decision}
 use Rattle.scim_policy.specs.declared.rules.PolicyPath.{PolicyPath}
 use Rattle.scim_policy.specs.declared.rules.PolicyPath.TheVariants.{SubAttribute as SubAttributePath}
 use Rattle.scim_policy.specs.declared.decisions.AttributeDecisions.{AttributeDecisions}
 use Rattle.scim_policy.specs.declared.decisions.Decisions.{Decisions}
-use Rattle.scim_policy.specs.code.Table.{or_else}
 use Rattle.scim_policy.specs.Decide.{covers}
-use Rattle.scim_policy.specs.code.Table.{at_sub_attribute, in_attribute, in_attributes, decided, by_path, by_paths, by_name}
+use Rattle.scim_policy.specs.Table.{or_else, at_sub_attribute, in_attribute, in_attributes, decided}
+use Rattle.scim_policy.specs.code.Walk.{by_path, by_paths, by_name}
 
 pub or_none : (o : Option Decision) → or_else o None ≡ o
 or_none None = refl
@@ -137,17 +137,6 @@ name_added old new b d none items whole (Some s) =
 some_stays : (o p : Option Decision) → is_some o ≡ true → or_else o p ≡ o
 some_stays None p e = cc
 some_stays (Some d) p e = refl
-
--- a sub-attribute that is decided already
-pub name_known : (e : AttributeDecisions) (b : SubAttribute) (d : Decision) → is_some (in_attribute (Some b) e) ≡ true → (sub : Option SubAttribute) → in_attribute sub e ≡ or_else (in_attribute sub e) (by_name b d sub)
-name_known e b d known sub = elim (cases_Bool (option_eq (sameb the_sub_attribute) sub (Some b))) [
-  | inl one ↦ (
-      let s : sub ≡ Some b = option_one sub (Some b) one in
-      let k : is_some (in_attribute sub e) ≡ true = ap (λ (o : Option SubAttribute). is_some (in_attribute o e)) s ∙ known in
-      sym (some_stays (in_attribute sub e) (by_name b d sub) k)
-      )
-  | inr two ↦ rw two (sym (or_none _))
-]
 
 some_of_second : (o p : Option Decision) → is_some p ≡ true → is_some (or_else o p) ≡ true
 some_of_second None p e = e

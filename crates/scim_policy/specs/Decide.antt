@@ -9,9 +9,9 @@ use Rattle.scim_schema.specs.declared.Leaf.{Leaf}
 use Rattle.scim_schema.specs.contracts.Kind.{the_type as the_kind}
 use Rattle.scim_schema.specs.contracts.Op.{the_type as the_op}
 use Rattle.scim_schema.specs.contracts.Attribute.{the_type as the_attribute}
-use Rattle.scim_schema.specs.Units.{leaf_at}
+use Rattle.scim_schema.specs.Units.{leaf_at, is_same_leaf}
 use Rattle.scim_cell.specs.Content.{Content}
-use Rattle.scim_cell.specs.Rows.{rows, is_leaf}
+use Rattle.scim_cell.specs.Rows.{rows}
 use Rattle.scim_filter.specs.Truth.{truth}
 use Rattle.scim_policy.specs.declared.rules.ClientName.{ClientName}
 use Rattle.scim_policy.specs.declared.rules.ClientName.TheVariants.{Everyone, Named}
@@ -31,7 +31,7 @@ names client (Named name) = pointwise nat_eq name client
 abbrev pub covers : Leaf → PolicyPath → Bool
 covers l Everything = true
 covers l (Attribute a) = sameb the_attribute l.attribute a
-covers l (SubAttribute a b) = is_leaf (leaf_at a b) l
+covers l (SubAttribute a b) = is_same_leaf l (leaf_at a b)
 
 -- the paths for a kind; none where the rule isn't for the kind
 abbrev pub paths_on : Kind → List KindPaths → List PolicyPath

@@ -3,12 +3,13 @@ use Rattle.std.specs.Prelude.{ℕ, ◌+◌, Bool, true, ◌&&◌, ◌||◌, not,
 use Rattle.std.specs.List.{list_any}
 use Rattle.json.specs.Json.{Json, Items, no_items, item, Members, no_members, member, document}
 use Rattle.json.specs.Find.{get, as_bool, as_str, as_array, as_object, as_number}
+use Rattle.scim_schema.specs.Lookup.{is_same_text, kind_named, operation_named}
 use Rattle.scim_policy.specs.declared.faults.Cause.{Cause}
 use Rattle.scim_policy.specs.declared.faults.Cause.TheVariants as cause
 use Rattle.scim_policy.specs.declared.faults.Cause.TheVariants.{Shape, Version, TooManyRules}
 use Rattle.scim_policy.specs.Rules.{Rule}
 use Rattle.scim_policy.specs.Lists.{each}
-use Rattle.scim_policy.specs.Paths.{same_text, client_named, op_named, kind_named, paths_named}
+use Rattle.scim_policy.specs.Paths.{client_named, paths_named}
 use Rattle.scim_policy.specs.Targets.{◌>>=◌, or_name, targets_for}
 
 -- the number of the faulty rule, 0 for the file, and why it is faulty
@@ -24,7 +25,7 @@ Says X = Result X Fault
 -- each key of an object is one of these words
 abbrev pub has_only : List (List ℕ) → Members → Bool
 has_only words no_members = true
-has_only words (member k d ms) = list_any (same_text k) words && has_only words ms
+has_only words (member k d ms) = list_any (is_same_text k) words && has_only words ms
 
 -- the items of an array
 abbrev pub listed : Items → List Json
@@ -89,7 +90,7 @@ rule_texts d = option_and_then rule_fields (object_of_only rule_keys d)
 -- the rule that is written so, or the first cause against it: its words, its target, its paths
 unfoldable pub rule_named : RuleTexts → Result Rule Cause
 rule_named t =
-    or_name (each client_named t.clients) >>= λ clients. or_name (each op_named t.ops) >>= λ ops. or_name (each kind_named t.types) >>= λ kinds.
+    or_name (each client_named t.clients) >>= λ clients. or_name (each operation_named t.ops) >>= λ ops. or_name (each kind_named t.types) >>= λ kinds.
     targets_for kinds t.target >>= λ targets. or_name (paths_named kinds t.paths) >>= λ paths.
     Ok (record { allow = t.allow; clients = clients; ops = ops; kinds = kinds; targets = targets; paths = paths })
 
@@ -149,7 +150,7 @@ file_parts d = option_and_then parts_in (object_of_only file_keys d)
 -- the version is 1, which JSON spells in one way, and there are at most 1,000 rules
 abbrev pub rules_or_fault : Parts → Says (List Rule)
 rules_or_fault p =
-    if same_text p.version (codes "1")
+    if is_same_text p.version (codes "1")
     then (if nat_lt 1000 (length p.rules) then Err (record { rule = 0; cause = TooManyRules }) else rules_from 1 p.rules)
     else Err (record { rule = 0; cause = Version })
 

@@ -4,4 +4,5 @@ pub mod File
 pub mod Lists
 pub mod Paths
 pub mod Rules
+pub mod Table
 pub mod Targets

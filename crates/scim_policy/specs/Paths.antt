@@ -1,13 +1,8 @@
--- The words of a policy file: names of clients, operations and kinds, and paths.
-use Rattle.std.specs.Prelude.{ℕ, Bool, ◌&&◌, ◌||◌, ◌==◌, nat_le, nat_eq, List, [], ◌∷◌, length, map, filter_map, codes, find, Option, None, Some, is_some, option_and_then, if◌then◌else◌}
+-- The words of a policy file: names of clients, and paths.
+use Rattle.std.specs.Prelude.{ℕ, Bool, ◌&&◌, ◌||◌, ◌==◌, nat_le, List, length, map, filter_map, codes, Option, None, Some, is_some, option_and_then, if◌then◌else◌}
 use Rattle.std.specs.List.{list_any, list_all}
-use Rattle.std.specs.Cmp.Lexicographic.{pointwise}
 use Rattle.scim_schema.specs.declared.Kind.{Kind}
-use Rattle.scim_schema.specs.declared.Kind.TheVariants.{User, Group}
-use Rattle.scim_schema.specs.declared.Op.{Op}
-use Rattle.scim_schema.specs.declared.Op.TheVariants.{Read, Create, Modify, Delete}
-use Rattle.scim_schema.specs.Names.{kind_name, op_name}
-use Rattle.scim_filter.specs.declared.limits.TheConstants.{LONGEST_TEXT}
+use Rattle.scim_schema.specs.Lookup.{is_same_text}
 use Rattle.scim_filter.specs.declared.tree.Meant.{Meant}
 use Rattle.scim_filter.specs.declared.tree.Meant.TheVariants as meant
 use Rattle.scim_filter.specs.declared.tree.Path.{Path}
@@ -17,9 +12,6 @@ use Rattle.scim_policy.specs.declared.rules.ClientName.TheVariants.{Everyone, Na
 use Rattle.scim_policy.specs.declared.rules.PolicyPath.{PolicyPath}
 use Rattle.scim_policy.specs.declared.rules.PolicyPath.TheVariants.{Everything, Attribute, SubAttribute}
 use Rattle.scim_policy.specs.Rules.{KindPaths}
-
-abbrev pub same_text : List ℕ → List ℕ → Bool
-same_text = pointwise nat_eq
 
 -- a letter or digit of ASCII, `-`, `_` or `.`
 abbrev pub is_client_byte : ℕ → Bool
@@ -32,15 +24,7 @@ is_client_name t = nat_le 1 (length t) && (nat_le (length t) 64 && list_all is_c
 
 -- whom a word of `clients` names: everyone by `*`, else the client of that name
 abbrev pub client_named : List ℕ → Option ClientName
-client_named t = if same_text t (codes "*") then Some Everyone else (if is_client_name t then Some (Named t) else None)
-
--- the operation of that name
-abbrev pub op_named : List ℕ → Option Op
-op_named t = find (λ o. same_text t (op_name o)) (Read ∷ Create ∷ Modify ∷ Delete ∷ [])
-
--- the kind of that name
-abbrev pub kind_named : List ℕ → Option Kind
-kind_named t = find (λ k. same_text t (kind_name k)) (User ∷ Group ∷ [])
+client_named t = if is_same_text t (codes "*") then Some Everyone else (if is_client_name t then Some (Named t) else None)
 
 -- what a path covers that names this
 abbrev pub covered_by : Meant → Option PolicyPath
@@ -54,8 +38,7 @@ path_on t kind = option_and_then (λ (path : Path). covered_by path.meant) (path
 
 -- what a word of `paths` covers on resources of a kind: everything by `*`, else the attribute or sub-attribute of the kind that it names
 abbrev pub path_named : List ℕ → Kind → Option PolicyPath
-path_named t kind =
-    if same_text t (codes "*") then Some Everything else (if nat_le (length t) LONGEST_TEXT then path_on t kind else None)
+path_named t kind = if is_same_text t (codes "*") then Some Everything else path_on t kind
 
 -- whether one of these kinds has what a word names
 abbrev pub is_path : List Kind → List ℕ → Bool

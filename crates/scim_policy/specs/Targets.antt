@@ -7,7 +7,7 @@ use Rattle.scim_schema.specs.declared.Attribute.{Attribute}
 use Rattle.scim_schema.specs.declared.Attribute.TheVariants.{Groups, Password, Meta}
 use Rattle.scim_schema.specs.contracts.Attribute.{the_type as the_attribute}
 use Rattle.scim_filter.specs.declared.mentions.Named.{Named}
-use Rattle.scim_filter.specs.Mentions.{names, is_known}
+use Rattle.scim_filter.specs.Mentions.{mentioned_names, is_known}
 use Rattle.scim_filter.specs.Spelled.{filter_in}
 use Rattle.scim_policy.specs.declared.faults.Cause.{Cause}
 use Rattle.scim_policy.specs.declared.faults.Cause.TheVariants as cause
@@ -60,7 +60,7 @@ allowed lists ts = if are_known lists then (if list_any name_withheld lists then
 
 -- what the targets on each kind name
 abbrev pub names_of : List Target → List (List Named)
-names_of ts = map (λ (t : Target). names t.tree) ts
+names_of ts = map (λ (t : Target). mentioned_names t.tree) ts
 
 -- what a target is for these kinds, or the first cause against it
 unfoldable pub targets_in : List Kind → List ℕ → Result (List Target) Cause

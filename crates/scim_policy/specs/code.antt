@@ -1,4 +1,4 @@
 pub mod Inside
 pub mod Steps
-pub mod Table
+pub mod Walk
 pub mod Written

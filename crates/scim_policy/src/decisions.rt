@@ -4,14 +4,15 @@ ghost use Rattle.scim_schema.specs.declared.Leaf.{Leaf};
 ghost use Rattle.scim_schema.specs.declared.SubAttribute.{SubAttribute};
 ghost use Rattle.scim_policy.specs.Decide as spec;
 ghost use Rattle.scim_policy.specs.Decide.{paths_on};
-ghost use Rattle.scim_policy.specs.code.Table.{or_else};
-ghost use Rattle.scim_policy.specs.code.Table as table;
+ghost use Rattle.scim_policy.specs.Table.{or_else};
+ghost use Rattle.scim_policy.specs.Table as table;
+ghost use Rattle.scim_policy.specs.code.Walk as walk;
 ghost use Rattle.scim_policy.specs.declared.rules.PolicyPath.{PolicyPath};
 
 use crate::rules::{Decision, Policy, PolicyPath, Rule};
 use scim_schema::{Attribute, Kind, Leaf, Op, SubAttribute};
 use scim_text::NoMemory;
-use scim_value::resources::Resource;
+use scim_value::Resource;
 use std::alloc::Global;
 
 /// What a policy decides of a client's operation on one resource, leaf by leaf.
@@ -45,7 +46,7 @@ impl Policy {
             → table.decision ds l ≡ spec.decide self.now client.now op resource.now l) }
     {
         let mut decisions = Decisions::none(alloc);
-        decisions.add_rules(alloc, client, op, resource, self.listed())?;
+        decisions.add_rules(alloc, client, op, resource, self.rules())?;
         Ok(decisions)
     }
 
@@ -67,7 +68,7 @@ impl Policy {
 
 impl Decisions {
     /// The decision on a leaf.
-    #[tactic(auto, unfolding(crate::specs::code::Table::decision))]
+    #[tactic(auto, unfolding(crate::specs::Table::decision))]
     pub fn of(&self, leaf: Leaf) -> Decision
         ensures { result ≡ table.decision self.now leaf }
     {
@@ -81,7 +82,7 @@ impl Decisions {
     }
 
     /// Nothing is decided yet.
-    #[tactic(auto, unfolding(crate::specs::code::Table::decided))]
+    #[tactic(auto, unfolding(crate::specs::Table::decided))]
     fn none(alloc: Global) -> Decisions
         ensures { (l : Leaf) → table.decided result l ≡ None }
     {
@@ -117,7 +118,7 @@ impl Decisions {
     ) -> Result<(), NoMemory>
         requires { length rules.now ≤ 1000 }
         ensures { OnOk result ((l : Leaf) → table.decided self.new l ≡ or_else (table.decided self.old l)
-            (table.by_rules client.now op resource.now l 1 rules.now)) }
+            (walk.by_rules client.now op resource.now l 1 rules.now)) }
     {
         let mut number = 0;
         for rule in rules {
@@ -142,7 +143,7 @@ impl Decisions {
         number: u32,
     ) -> Result<(), NoMemory>
         ensures { OnOk result ((l : Leaf) → table.decided self.new l ≡ or_else (table.decided self.old l)
-            (table.by_paths (paths_on kind rule.now.paths) (record { rule = number; allow = rule.now.allow }) l)) }
+            (walk.by_paths (paths_on kind rule.now.paths) (record { rule = number; allow = rule.now.allow }) l)) }
     {
         let decision = Decision {
             rule: number,
@@ -159,7 +160,7 @@ impl Decisions {
         decision: Decision,
     ) -> Result<(), NoMemory>
         ensures { OnOk result ((l : Leaf) → table.decided self.new l
-            ≡ or_else (table.decided self.old l) (table.by_paths paths.now decision l)) }
+            ≡ or_else (table.decided self.old l) (walk.by_paths paths.now decision l)) }
     {
         for path in paths {
             self.add_path(alloc, *path, decision)?;
@@ -175,7 +176,7 @@ impl Decisions {
         decision: Decision,
     ) -> Result<(), NoMemory>
         ensures { OnOk result ((l : Leaf) → table.decided self.new l
-            ≡ or_else (table.decided self.old l) (table.by_path path decision l)) }
+            ≡ or_else (table.decided self.old l) (walk.by_path path decision l)) }
     {
         if self.rest.is_some() {
             return Ok(());
@@ -199,7 +200,7 @@ impl Decisions {
     ) -> Result<(), NoMemory>
         requires { self.old.rest ≡ None }
         ensures { OnOk result ((l : Leaf) → table.decided self.new l
-            ≡ or_else (table.decided self.old l) (table.by_path (PolicyPath.Attribute attribute) decision l)) }
+            ≡ or_else (table.decided self.old l) (walk.by_path (PolicyPath.Attribute attribute) decision l)) }
     {
         let number = attribute as usize;
         grow(alloc, &mut self.attributes, number)?;
@@ -218,7 +219,7 @@ impl Decisions {
     ) -> Result<(), NoMemory>
         requires { self.old.rest ≡ None }
         ensures { OnOk result ((l : Leaf) → table.decided self.new l
-            ≡ or_else (table.decided self.old l) (table.by_path (PolicyPath.SubAttribute attribute sub_attribute) decision l)) }
+            ≡ or_else (table.decided self.old l) (walk.by_path (PolicyPath.SubAttribute attribute sub_attribute) decision l)) }
     {
         let number = attribute as usize;
         grow(alloc, &mut self.attributes, number)?;
@@ -286,7 +287,7 @@ impl AttributeDecisions {
     /// where none was to be had.
     fn add_alone(&mut self, sub_attribute: SubAttribute, decision: Decision) -> Result<(), NoMemory>
         ensures { OnOk result ((sub : Option SubAttribute) → table.in_attribute sub self.new
-            ≡ or_else (table.in_attribute sub self.old) (table.by_name sub_attribute decision sub)) }
+            ≡ or_else (table.in_attribute sub self.old) (walk.by_name sub_attribute decision sub)) }
     {
         if self.decided(Some(sub_attribute)).is_none() {
             self.sub_attributes.push((sub_attribute, decision))?;

@@ -1,37 +1,45 @@
 //! Why a policy file is refused.
 use scim_text::NoMemory;
 use std::alloc::{AllocError, AllocFailed};
-use std::error::Error;
-use std::fmt;
+use thiserror::Error;
 
 /// Why a policy file is refused, or a rule of it.
-#[derive(Clone, Copy, Debug, PartialEq, Eq)]
+#[derive(Clone, Copy, Debug, PartialEq, Eq, Error)]
 pub enum Cause {
     /// The file is no JSON.
+    #[error("json")]
     Json,
     /// A value of another type than is due (as a version that is no integer), an empty list, a key that is
     /// missing or isn't known.
+    #[error("shape")]
     Shape,
     /// The version is an integer other than 1, of any size.
+    #[error("version")]
     Version,
     /// There are more than 1,000 rules.
+    #[error("too many rules")]
     TooManyRules,
     /// A client, an operation, a type or a path that isn't one, or a target with a name that none of the
     /// types has.
+    #[error("name")]
     Name,
     /// A target that is no filter on one of the types.
+    #[error("target")]
     Target,
     /// A target that names `groups`, `password` or `meta`.
+    #[error("target names groups, password or meta")]
     TargetNames,
 }
 
 /// Why a policy wasn't read.
-#[derive(Clone, Copy, Debug, PartialEq, Eq)]
+#[derive(Clone, Copy, Debug, PartialEq, Eq, Error)]
 pub enum PolicyFault {
     /// The file is faulty: `rule` is the number of the faulty rule, from 1, or 0 where the fault is the
     /// file's.
+    #[error("rule {rule}: {cause}")]
     Faulty { rule: u32, cause: Cause },
     /// No memory was to be had.
+    #[error("out of memory")]
     NoMemory,
 }
 
@@ -42,32 +50,6 @@ pub(crate) enum RuleFault {
     /// No memory was to be had.
     NoMemory,
 }
-
-impl fmt::Display for Cause {
-    fn fmt<W: fmt::Write>(&self, f: &mut fmt::Formatter<W>) -> fmt::Result {
-        let word = match self {
-            Cause::Json => "json",
-            Cause::Shape => "shape",
-            Cause::Version => "version",
-            Cause::TooManyRules => "too many rules",
-            Cause::Name => "name",
-            Cause::Target => "target",
-            Cause::TargetNames => "target names groups, password or meta",
-        };
-        write!(f, "{word}")
-    }
-}
-
-impl fmt::Display for PolicyFault {
-    fn fmt<W: fmt::Write>(&self, f: &mut fmt::Formatter<W>) -> fmt::Result {
-        match self {
-            PolicyFault::Faulty { rule, cause } => write!(f, "rule {rule}: {cause}"),
-            PolicyFault::NoMemory => write!(f, "out of memory"),
-        }
-    }
-}
-
-impl Error for PolicyFault {}
 
 impl From<NoMemory> for PolicyFault {
     ghost use Rattle.std.specs.Prelude.{◌≡◌};

@@ -7,6 +7,7 @@
 
 mod decisions;
 mod faults;
+mod fits;
 mod misfits;
 mod paths;
 mod reading;

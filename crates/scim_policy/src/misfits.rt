@@ -1,16 +1,12 @@
-//! Which rules fit, and why others don't.
+//! Why a rule doesn't fit.
 ghost use Rattle.std.specs.Prelude.{◌≡◌, ◌≤◌, ◌-◌, IfOk, Some, length, not, is_some, option_map, slice_get};
-ghost use Rattle.std.specs.List.{list_any};
-ghost use denote.Enum.Bare.{sameb};
-ghost use Rattle.scim_schema.specs.contracts.Kind.{the_type as the_kind};
-ghost use Rattle.scim_schema.specs.contracts.Op.{the_type as the_op};
 ghost use Rattle.scim_policy.specs.Decide as spec;
 
-use crate::rules::{ClientName, Policy, PolicyPath, Rule, Target};
-use scim_filter::truth::holds;
-use scim_schema::{Kind, Leaf, Op};
+use crate::fits::{covers, is_kind, is_named, is_op};
+use crate::rules::{Policy, Rule};
+use scim_schema::{Leaf, Op};
 use scim_text::NoMemory;
-use scim_value::resources::Resource;
+use scim_value::Resource;
 use std::alloc::Global;
 
 /// What of a rule doesn't fit.
@@ -47,7 +43,7 @@ impl Policy {
         ensures { IfOk result (λ o. Some o ≡ option_map (spec.misfit_of client.now op resource.now leaf)
             (slice_get self.now (rule - 1))) }
     {
-        self.listed()[rule - 1].misfit(alloc, client, op, resource, leaf)
+        self.rules()[rule - 1].misfit(alloc, client, op, resource, leaf)
     }
 }
 
@@ -79,100 +75,5 @@ impl Rule {
         } else {
             None
         })
-    }
-
-    /// Whether it speaks of the client, the operation and the resource. NoMemory where none was to be
-    /// had.
-    #[tactic(auto, unfolding(crate::specs::Decide::speaks_of))]
-    pub(crate) fn speaks_of(
-        &self,
-        alloc: Global,
-        client: &str,
-        op: Op,
-        resource: &Resource,
-    ) -> Result<bool, NoMemory>
-        ensures { IfOk result (λ b. b ≡ spec.speaks_of client.now op resource.now self.now) }
-    {
-        Ok(
-            is_named(self.clients(), client)
-                && is_op(self.ops(), op)
-                && is_kind(self.kinds(), resource.kind())
-                && self.is_target_met(alloc, resource)?,
-        )
-    }
-
-    /// Whether it has no target, or its target holds on the resource. NoMemory where none was to be had.
-    fn is_target_met(&self, alloc: Global, resource: &Resource) -> Result<bool, NoMemory>
-        ensures { IfOk result (λ b. b ≡ spec.is_target_met resource.now self.now) }
-    {
-        let targets = self.targets();
-        Ok(targets.is_empty() || holds_on(alloc, targets, resource)?)
-    }
-}
-
-/// Whether the target for the resource's kind holds on it. NoMemory where none was to be had.
-fn holds_on(alloc: Global, targets: &[Target], resource: &Resource) -> Result<bool, NoMemory>
-    ensures { IfOk result (λ b. b ≡ spec.holds_on resource.now targets.now) }
-{
-    for target in targets {
-        if resource.kind() == target.kind() {
-            return holds(alloc, target.filter(), resource.part());
-        }
-    }
-    Ok(false)
-}
-
-/// Whether a name is that of the client.
-fn is_named(names: &[ClientName], client: &str) -> bool
-    ensures { result ≡ list_any (spec.names client.now) names.now }
-{
-    names.iter().any(|name| name.names(client))
-}
-
-/// Whether the operation is among them.
-fn is_op(ops: &[Op], op: Op) -> bool
-    ensures { result ≡ list_any (sameb the_op op) ops.now }
-{
-    ops.iter().any(|own| op == *own)
-}
-
-/// Whether the kind is among them.
-fn is_kind(kinds: &[Kind], kind: Kind) -> bool
-    ensures { result ≡ list_any (sameb the_kind kind) kinds.now }
-{
-    kinds.iter().any(|own| kind == *own)
-}
-
-/// Whether a path covers the leaf.
-fn covers(paths: &[PolicyPath], leaf: Leaf) -> bool
-    ensures { result ≡ list_any (spec.covers leaf) paths.now }
-{
-    paths.iter().any(|path| path.covers(leaf))
-}
-
-impl ClientName {
-    /// Whether it is that of the client.
-    fn names(&self, client: &str) -> bool
-        ensures { result ≡ spec.names client.now self.now }
-    {
-        match self {
-            ClientName::Everyone => true,
-            ClientName::Named(name) => name.as_str() == client,
-        }
-    }
-}
-
-impl PolicyPath {
-    /// Whether it covers the leaf: by `*`, by its attribute, or by itself.
-    fn covers(self, leaf: Leaf) -> bool
-        ensures { result ≡ spec.covers leaf self }
-    {
-        match self {
-            PolicyPath::Everything => true,
-            PolicyPath::Attribute(attribute) => leaf.attribute == attribute,
-            PolicyPath::SubAttribute(attribute, sub_attribute) => {
-                Leaf::of(attribute, sub_attribute) == leaf
-            }
-        }
     }
 }

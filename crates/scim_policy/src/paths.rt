@@ -1,15 +1,13 @@
-//! The words of a policy file: names of clients, operations and kinds, and paths.
+//! The words of a policy file: names of clients, and paths.
 ghost use Rattle.std.specs.Prelude.{◌≡◌, IfOk, map, option_map};
 ghost use Rattle.std.specs.List.{list_all};
 ghost use Rattle.scim_policy.specs.Paths as spec;
 ghost use Rattle.scim_policy.specs.code.Written.{text_at};
 
 use crate::rules::{ClientName, KindPaths, PolicyPath};
-use scim_cell::atoms::Text;
-use scim_filter::attribute_paths::attribute_path;
-use scim_filter::limits::LONGEST_TEXT;
-use scim_filter::tree::Meant;
-use scim_schema::{Kind, Op};
+use scim_cell::Text;
+use scim_filter::{Meant, attribute_path};
+use scim_schema::Kind;
 use scim_text::NoMemory;
 use std::alloc::Global;
 
@@ -46,26 +44,6 @@ pub(crate) fn client_named(alloc: Global, text: &str) -> Result<Option<ClientNam
     }
 }
 
-/// The operation of that name.
-pub(crate) fn op_named(text: &str) -> Option<Op>
-    ensures { result ≡ spec.op_named text.now }
-{
-    [Op::Read, Op::Create, Op::Modify, Op::Delete]
-        .iter()
-        .copied()
-        .find(|op| text == op.name())
-}
-
-/// The kind of that name.
-pub(crate) fn kind_named(text: &str) -> Option<Kind>
-    ensures { result ≡ spec.kind_named text.now }
-{
-    [Kind::User, Kind::Group]
-        .iter()
-        .copied()
-        .find(|kind| text == kind.name())
-}
-
 /// What a path covers that names this.
 fn covered_by(meant: Meant) -> Option<PolicyPath>
     ensures { result ≡ spec.covered_by meant }
@@ -92,10 +70,8 @@ fn path_named(text: &str, kind: Kind) -> Option<PolicyPath>
 {
     if text == "*" {
         Some(PolicyPath::Everything)
-    } else if text.len() <= LONGEST_TEXT {
-        path_on(text, kind)
     } else {
-        None
+        path_on(text, kind)
     }
 }
 

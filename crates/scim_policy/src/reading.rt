@@ -4,15 +4,16 @@ ghost use Rattle.std.specs.List.{list_any};
 ghost use Rattle.json.specs.Json.{document};
 ghost use Rattle.json.specs.Find.{as_str, as_array, as_object};
 ghost use Rattle.json.specs.Value.{value_view, items_view, members_view};
+ghost use Rattle.scim_schema.specs.Lookup.{is_same_text, kind_named, operation_named};
 ghost use Rattle.scim_policy.specs.declared.faults.Cause.{Cause};
 ghost use Rattle.scim_policy.specs.declared.faults.PolicyFault.{PolicyFault};
 ghost use Rattle.scim_policy.specs.File as spec;
 ghost use Rattle.scim_policy.specs.Lists.{each};
-ghost use Rattle.scim_policy.specs.Paths.{same_text, client_named, op_named, kind_named};
+ghost use Rattle.scim_policy.specs.Paths.{client_named};
 ghost use Rattle.scim_policy.specs.code.Written.{Gives, text_at, texts_view, rule_view, parts_view};
 
 use crate::faults::{Cause, PolicyFault, RuleFault};
-use crate::paths::{client_named, kind_named, op_named, paths_named};
+use crate::paths::{client_named, paths_named};
 use crate::rules::{ClientName, Policy, Rule};
 use crate::targets::targets_for;
 use json::{Error, Scratch, Value};
@@ -146,7 +147,7 @@ fn has_only_file_keys(members: &[(&str, Value<'_>)]) -> bool
 }
 
 fn is_file_key(key: &str) -> bool
-    ensures { result ≡ list_any (same_text key.now) spec.file_keys }
+    ensures { result ≡ list_any (is_same_text key.now) spec.file_keys }
 {
     key == "version" || key == "rules"
 }
@@ -268,7 +269,7 @@ fn has_only_rule_keys(members: &[(&str, Value<'_>)]) -> bool
 }
 
 fn is_rule_key(key: &str) -> bool
-    ensures { result ≡ list_any (same_text key.now) spec.rule_keys }
+    ensures { result ≡ list_any (is_same_text key.now) spec.rule_keys }
 {
     key == "allow"
         || key == "clients"
@@ -393,11 +394,11 @@ fn clients_named(alloc: Global, texts: &[&str]) -> Result<Option<Vec<ClientName>
 
 /// The operations that the texts name, where each names one.
 fn ops_named(alloc: Global, texts: &[&str]) -> Result<Option<Vec<Op>>, NoMemory>
-    ensures { IfOk result (λ o. option_map (λ v. v.items) o ≡ each op_named (map text_at texts.now)) }
+    ensures { IfOk result (λ o. option_map (λ v. v.items) o ≡ each operation_named (map text_at texts.now)) }
 {
     let mut ops = Vec::new(alloc);
     for text in texts {
-        let Some(op) = op_named(text) else {
+        let Some(op) = Op::named(text) else {
             return Ok(None);
         };
         ops.push(op)?;
@@ -411,7 +412,7 @@ fn kinds_named(alloc: Global, texts: &[&str]) -> Result<Option<Vec<Kind>>, NoMem
 {
     let mut kinds = Vec::new(alloc);
     for text in texts {
-        let Some(kind) = kind_named(text) else {
+        let Some(kind) = Kind::named(text) else {
             return Ok(None);
         };
         kinds.push(kind)?;

@@ -4,8 +4,8 @@ ghost use Rattle.scim_filter.specs.Tree.{tree_of};
 ghost use Rattle.scim_policy.specs.Decide.{paths_on};
 ghost use Rattle.scim_policy.specs.Rules as spec;
 
-use scim_cell::atoms::Text;
-use scim_filter::tree::Filter;
+use scim_cell::Text;
+use scim_filter::Filter;
 use scim_schema::{Attribute, Kind, Op, SubAttribute};
 use std::fmt;
 use std::marker::Model;
@@ -278,14 +278,14 @@ impl Policy {
     }
 
     /// How many rules there are.
-    pub fn rules(&self) -> usize
+    pub fn rule_count(&self) -> usize
         ensures { result ≡ length self.now }
     {
         self.rules.len()
     }
 
     /// The rules, in order of their numbers.
-    pub fn listed(&self) -> &[Rule]
+    pub fn rules(&self) -> &[Rule]
         ensures rules { result.now ≡ self.now }
         ensures few { length self.now ≤ 1000 }
     {

@@ -7,9 +7,7 @@ ghost use Rattle.scim_policy.specs.code.Written.{Gives, text_at};
 
 use crate::faults::{Cause, RuleFault};
 use crate::rules::Target;
-use scim_filter::faults::FilterFault;
-use scim_filter::mentions::{Named, names};
-use scim_filter::reading::read_filter;
+use scim_filter::{FilterFault, Named, mentioned_names, read_filter};
 use scim_schema::{Attribute, Kind};
 use scim_text::NoMemory;
 use std::alloc::Global;
@@ -77,7 +75,7 @@ fn names_of(alloc: Global, targets: &[Target]) -> Result<Vec<Vec<Named>>, NoMemo
 {
     let mut lists = Vec::new(alloc);
     for target in targets {
-        lists.push(names(alloc, target.filter())?)?;
+        lists.push(mentioned_names(alloc, target.filter())?)?;
     }
     Ok(lists)
 }

@@ -43,9 +43,6 @@ atom_congr (Truth a) (Truth b) (Truth c) p = bool_cmp_total.congr a b c p
 atom_congr (Moment a) (Moment b) (Moment c) p = nat_cmp_total.congr a b c p
 atom_congr x y z p = cc
 
-atom_cmp_total : IsTotalOrder atom_cmp
-atom_cmp_total = record { antisymm = atom_antisymm; trans = atom_trans; congr = atom_congr }
-
 key_antisymm : (x y : Option Atom) → ascending_cmp x y ≡ ordering_reverse (ascending_cmp y x)
 key_antisymm (Some a) (Some b) = atom_antisymm a b
 key_antisymm (Some a) None = refl

@@ -1,28 +1,17 @@
 -- What a part is sorted by (RFC 7644 section 3.4.2.3).
-use Rattle.std.specs.Prelude.{Bool, false, Option, None, Some, List, ◌++◌, filter, slice_get}
+use Rattle.std.specs.Prelude.{Option, None, Some, List, ◌++◌, filter, slice_get}
 use Rattle.std.specs.Option.{option_map}
-use Rattle.scim_schema.specs.declared.Attribute.{Attribute}
-use Rattle.scim_schema.specs.declared.SubAttribute.TheVariants.{Primary}
 use Rattle.scim_schema.specs.declared.Leaf.{Leaf}
-use Rattle.scim_schema.specs.Units.{leaf_at, unit_of}
+use Rattle.scim_schema.specs.Characteristics.{is_case_exact}
+use Rattle.scim_schema.specs.Units.{unit_of}
 use Rattle.scim_cell.specs.declared.atoms.Atom.{Atom}
-use Rattle.scim_cell.specs.declared.atoms.Atom.TheVariants.{Text, Truth}
-use Rattle.scim_cell.specs.Rows.{Row, values, atom_in}
+use Rattle.scim_cell.specs.declared.atoms.Atom.TheVariants.{Text}
+use Rattle.scim_cell.specs.Rows.{Row, values, atom_in, is_primary}
 use Rattle.scim_filter.specs.Relation.{cased}
-use Rattle.scim_filter.specs.Types.{is_case_exact}
-
--- whether what stands at a leaf is true
-abbrev pub is_true : Option Atom → Bool
-is_true (Some (Truth b)) = b
-is_true _ = false
-
--- whether a value of an attribute is marked as the primary one (RFC 7643 section 2.4)
-abbrev pub is_primary : Attribute → Row → Bool
-is_primary a r = is_true (atom_in (leaf_at a Primary) r.fields)
 
 -- the value that a part is sorted by: the first that is marked as primary, else the first
-abbrev pub sorting_value : Attribute → List Row → Option Row
-sorting_value a vs = slice_get (filter (is_primary a) vs ++ vs) 0
+abbrev pub sorting_value : List Row → Option Row
+sorting_value vs = slice_get (filter is_primary vs ++ vs) 0
 
 -- the atom of a leaf in a value
 abbrev pub atom_of : Leaf → Option Row → Option Atom
@@ -36,7 +25,7 @@ compared l a = a
 
 -- the key of rows by a leaf; a single-valued attribute has one value
 abbrev pub sort_key : Leaf → List Row → Option Atom
-sort_key l rs = option_map (compared l) (atom_of l (sorting_value l.attribute (values (unit_of l) rs)))
+sort_key l rs = option_map (compared l) (atom_of l (sorting_value (values (unit_of l) rs)))
 
 -- the key by a leaf where one is given
 abbrev pub key_by : Option Leaf → List Row → Option Atom

@@ -1,12 +1,11 @@
 -- What the text of `sortBy` names (RFC 7644 section 3.4.2.3).
-use Rattle.std.specs.Prelude.{nat_le, ℕ, List, length, Option, None, option_and_then, if◌then◌else◌}
+use Rattle.std.specs.Prelude.{ℕ, List, Option, option_and_then}
 use Rattle.scim_schema.specs.declared.Kind.{Kind}
 use Rattle.scim_schema.specs.declared.Leaf.{Leaf}
-use Rattle.scim_filter.specs.declared.limits.TheConstants.{LONGEST_TEXT}
 use Rattle.scim_filter.specs.declared.tree.Path.{Path}
 use Rattle.scim_filter.specs.Spelled.{path_in}
 use Rattle.scim_filter.specs.Types.{compared_leaf}
 
 -- the leaf that a text names to sort by: what the path names that it spells, and of a complex attribute its `value`
 abbrev pub sort_leaf : Kind → List ℕ → Option Leaf
-sort_leaf kind text = if nat_le (length text) LONGEST_TEXT then option_and_then (λ (path : Path). compared_leaf path.meant) (path_in kind text) else None
+sort_leaf kind text = option_and_then (λ (path : Path). compared_leaf path.meant) (path_in kind text)

@@ -1,19 +1,17 @@
 //! What clients find.
 ghost use Rattle.std.specs.Prelude.{◌≡◌, IfOk, map};
-ghost use Rattle.scim_view.specs.Groups.{views as view_of};
+ghost use Rattle.scim_view.specs.View.{viewer_of};
+ghost use Rattle.scim_view.specs.Groups.{views};
 ghost use Rattle.scim_view.specs.Shown.{shown};
 ghost use Rattle.scim_query.specs.ClientSearches as spec;
 
 use crate::queries::{Page, Query, search};
-use scim_policy::Policy;
 use scim_text::NoMemory;
-use scim_value::parts::Part;
-use scim_value::resources::Resource;
-use scim_view::lists::views;
-use scim_view::{Wanted, project};
+use scim_value::{Part, Resource};
+use scim_view::{Viewer, Wanted, project};
 use std::alloc::Global;
 
-/// The page that a client's query asks for of resources of one kind: of those that the client sees, each
+/// The page that the client's query asks for of resources of one kind: of those that the client sees, each
 /// as it may see it, its groups among them (which are of `groups`, by id). The filter, the order and the
 /// total are told by that alone, so a client learns nothing by them that it may not read. Each item is
 /// shown as the query wants it. NoMemory where none was to be had.
@@ -21,17 +19,15 @@ use std::alloc::Global;
 /// The policy is asked once about each resource and each group.
 pub fn search_view(
     alloc: Global,
-    policy: &Policy,
-    client: &str,
+    viewer: &Viewer<'_>,
     groups: &[Resource],
     resources: &[Resource],
-    base: &str,
     query: &Query,
 ) -> Result<Page, NoMemory>
     ensures { IfOk result (λ page. spec.IsShownPage
-        (view_of policy.now client.now base.now groups.now resources.now) query.now page) }
+        (views (viewer_of viewer.now) groups.now resources.now) query.now page) }
 {
-    let view = views(alloc, policy, client, groups, resources, base)?;
+    let view = viewer.views(alloc, groups, resources)?;
     let found = search(alloc, view.as_slice(), query)?;
     shown_page(alloc, found, &query.wanted)
 }

@@ -7,10 +7,10 @@ ghost use Rattle.scim_query.specs.Pages.{is_match, matching};
 
 use crate::keys::{compare_keys, key_by};
 use crate::queries::Query;
-use scim_cell::atoms::Atom;
-use scim_filter::truth::holds;
+use scim_cell::Atom;
+use scim_filter::holds;
 use scim_text::NoMemory;
-use scim_value::parts::Part;
+use scim_value::Part;
 use std::alloc::Global;
 use std::cmp::Ordering;
 

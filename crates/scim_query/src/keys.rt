@@ -3,52 +3,22 @@ ghost use Rattle.std.specs.Prelude.{◌≡◌, IfOk};
 ghost use Rattle.std.specs.Option.{option_copied};
 ghost use Rattle.scim_schema.specs.Units.{unit_of};
 ghost use Rattle.scim_cell.specs.Rows.{rows, values};
-ghost use Rattle.scim_filter.specs.Types as filter_types;
 ghost use Rattle.scim_query.specs.Keys as spec;
 ghost use Rattle.scim_query.specs.Order as order;
 
-use scim_cell::atoms::{Atom, Text};
-use scim_cell::rows::Row;
-use scim_schema::characteristics::characteristics_of;
-use scim_schema::units::unit_of;
-use scim_schema::{Attribute, Kind, Leaf, SubAttribute};
+use scim_cell::{Atom, Row, Text};
+use scim_schema::{Leaf, is_case_exact, unit_of};
 use scim_text::{NoMemory, fold};
-use scim_value::parts::Part;
+use scim_value::Part;
 use std::alloc::Global;
 use std::cmp::Ordering;
 
-/// Whether texts of the leaf are compared with regard to case (RFC 7643 section 2.2).
-fn is_case_exact(leaf: Leaf) -> bool
-    ensures { result ≡ filter_types.is_case_exact leaf }
-{
-    characteristics_of(Kind::User, leaf).case_exact
-}
-
-fn is_true(atom: &Atom) -> bool
-    ensures { result ≡ spec.is_true (Some atom.now) }
-{
-    match atom {
-        Atom::Truth(truth) => *truth,
-        _ => false,
-    }
-}
-
-/// Whether a value of the attribute is marked as the primary one (RFC 7643 section 2.4).
-fn is_primary(attribute: Attribute, value: &Row) -> bool
-    ensures { result ≡ spec.is_primary attribute value.now }
-{
-    match value.get(Leaf::of(attribute, SubAttribute::Primary)) {
-        Some(atom) => is_true(atom),
-        None => false,
-    }
-}
-
 /// The value that a part is sorted by: the first that is marked as primary, else the first.
-fn sorting_value(attribute: Attribute, values: &[Row]) -> Option<&Row>
-    ensures { option_copied result ≡ spec.sorting_value attribute values.now }
+fn sorting_value(values: &[Row]) -> Option<&Row>
+    ensures { option_copied result ≡ spec.sorting_value values.now }
 {
     for value in values {
-        if is_primary(attribute, value) {
+        if value.is_primary() {
             return Some(value);
         }
     }
@@ -71,9 +41,9 @@ fn compared(alloc: Global, leaf: Leaf, atom: &Atom) -> Result<Atom, NoMemory>
 /// The atom that a part is sorted by.
 fn sorting_atom(leaf: Leaf, part: &Part) -> Option<&Atom>
     ensures { option_copied result
-        ≡ spec.atom_of leaf (spec.sorting_value leaf.attribute (values (unit_of leaf) (rows part.now))) }
+        ≡ spec.atom_of leaf (spec.sorting_value (values (unit_of leaf) (rows part.now))) }
 {
-    sorting_value(leaf.attribute, part.values(unit_of(leaf)))?.get(leaf)
+    sorting_value(part.values(unit_of(leaf)))?.get(leaf)
 }
 
 /// The key of a part by the leaf; None where it has no such atom, or there is no leaf. NoMemory where

@@ -2,9 +2,14 @@
 //! sections 3.4.2.2 to 3.4.2.4).
 #![tactic(auto)]
 
-pub mod client_searches;
+mod client_searches;
 mod entries;
 mod keys;
-pub mod laws;
-pub mod queries;
-pub mod sort_keys;
+mod laws;
+mod queries;
+mod sort_keys;
+
+pub use client_searches::search_view;
+pub use laws::queries_have_one_page;
+pub use queries::{Page, Query, search};
+pub use sort_keys::read_sort_by;

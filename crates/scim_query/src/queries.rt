@@ -3,10 +3,10 @@ ghost use Rattle.std.specs.Prelude.{◌≡◌, IfOk};
 ghost use Rattle.scim_query.specs.Pages as spec;
 
 use crate::entries::{copy_parts, matching_entries, slice_of, sort_entries};
-use scim_filter::tree::Filter;
+use scim_filter::Filter;
 use scim_schema::Leaf;
 use scim_text::NoMemory;
-use scim_value::parts::Part;
+use scim_value::Part;
 use scim_view::Wanted;
 use std::alloc::Global;
 

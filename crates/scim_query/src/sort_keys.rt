@@ -2,8 +2,7 @@
 ghost use Rattle.std.specs.Prelude.{◌≡◌};
 ghost use Rattle.scim_query.specs.SortKeys.{sort_leaf};
 
-use scim_filter::attribute_paths::attribute_path;
-use scim_filter::limits::LONGEST_TEXT;
+use scim_filter::attribute_path;
 use scim_schema::{Kind, Leaf};
 
 /// The leaf that the text of `sortBy` names for resources of a kind (RFC 7644 section 3.4.2.3): a simple
@@ -16,8 +15,5 @@ use scim_schema::{Kind, Leaf};
 pub fn read_sort_by(kind: Kind, text: &str) -> Option<Leaf>
     ensures { result ≡ sort_leaf kind text.now }
 {
-    if text.len() > LONGEST_TEXT {
-        return None;
-    }
     attribute_path(kind, text)?.compared_leaf()
 }

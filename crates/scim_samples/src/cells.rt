@@ -5,14 +5,10 @@
 //! Behind the `=`, `#` begins a Boolean, `@` a moment, `~` and a number a text of so many letters `x`; all
 //! else is a text. `[0..3]` in place of a position makes the cell at each of the positions 0, 1 and 2.
 use crate::faults::SampleFault;
-use scim_cell::atoms::{Atom, Text};
-use scim_cell::cells::Cell;
-use scim_cell::rows::Row;
-use scim_schema::characteristics::is_multi_valued;
-use scim_schema::lookup::{attribute, sub_attribute};
-use scim_schema::{Attribute, Kind, Leaf};
+use scim_cell::{Atom, Cell, Row, Text};
+use scim_schema::{Attribute, Kind, Leaf, attribute_named, is_multi_valued, sub_attribute_named};
 use scim_text::{Moment, NoMemory, print_moment, read_printed_moment};
-use scim_value::parts::Part;
+use scim_value::Part;
 use std::alloc::Global;
 use std::ops::Range;
 
@@ -20,10 +16,10 @@ use std::ops::Range;
 /// leaf of no kind.
 pub fn read_leaf(path: &str) -> Result<Leaf, SampleFault> {
     let (name, sub_name) = path.split_once('.').unwrap_or((path, ""));
-    let attribute = attribute(Kind::User, name)
-        .or(attribute(Kind::Group, name))
+    let attribute = attribute_named(Kind::User, name)
+        .or(attribute_named(Kind::Group, name))
         .ok_or(SampleFault::NoSuchLeaf)?;
-    let sub_attribute = sub_attribute(attribute, sub_name).or(sub_attribute(
+    let sub_attribute = sub_attribute_named(attribute, sub_name).or(sub_attribute_named(
         Attribute::Name,
         sub_name,
     ));

@@ -1,6 +1,6 @@
 //! Why a sample wasn't made.
 use scim_text::NoMemory;
-use scim_value::faults::{Fault, Invalid};
+use scim_value::{Fault, Invalid};
 use std::alloc::{AllocError, AllocFailed};
 use thiserror::Error;
 

@@ -2,10 +2,9 @@
 use crate::cells::read_cells;
 use crate::faults::SampleFault;
 use crate::texts::{ALICE, BASE, BOB, STRASSE, TEAM};
-use scim_cell::ids::Id;
+use scim_cell::Id;
 use scim_schema::Kind;
-use scim_value::parts::Part;
-use scim_value::resources::{Resource, location};
+use scim_value::{Part, Resource, location};
 use std::alloc::Global;
 
 /// The part of a kind and an id with the cells of a text.

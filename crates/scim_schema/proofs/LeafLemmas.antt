@@ -11,6 +11,8 @@ use Rattle.scim_schema.specs.declared.Attribute.{Attribute}
 use Rattle.scim_schema.specs.declared.SubAttribute.{SubAttribute}
 use Rattle.scim_schema.specs.contracts.Attribute.{the_type as the_attribute}
 use Rattle.scim_schema.specs.contracts.SubAttribute.{the_type as the_sub_attribute}
+use Rattle.scim_schema.specs.declared.Unit.{Unit as AttributeUnit}
+use Rattle.scim_schema.specs.Units.{is_same_leaf, is_same_unit}
 
 pub attribute_one : (a b : Attribute) → sameb the_attribute a b ≡ true → a ≡ b
 attribute_one a b e = same_true the_attribute tt a b e
@@ -50,14 +52,22 @@ leaf_same a b e =
     let q : option_eq (sameb the_sub_attribute) a.sub_attribute b.sub_attribute ≡ true = option_same a.sub_attribute b.sub_attribute (ap (λ (l : Leaf). l.sub_attribute) e) in
     rw (p, q) refl
 
--- what `==` at leaves computes
-abbrev pub leaf_eq : Leaf → Leaf → Bool
-leaf_eq a b = sameb the_attribute a.attribute b.attribute && option_eq (sameb the_sub_attribute) a.sub_attribute b.sub_attribute
+-- so `==` decides
+pub is_same_leaf-Decides : (a b : Leaf) → Decides (is_same_leaf a b) (a ≡ b)
+is_same_leaf-Decides a b = (leaf_one a b, leaf_same a b)
 
-pub Decides-leaf_eq : (a b : Leaf) → Decides (leaf_eq a b) (a ≡ b)
-Decides-leaf_eq a b = (leaf_one a b, leaf_same a b)
+leaf_like : AttributeUnit → Leaf
+leaf_like u = record { attribute = u.attribute; sub_attribute = u.sub_attribute }
+
+unit_like : Leaf → AttributeUnit
+unit_like l = record { attribute = l.attribute; sub_attribute = l.sub_attribute }
+
+pub is_same_unit-Decides : (u v : AttributeUnit) → Decides (is_same_unit u v) (u ≡ v)
+unfolding leaf_like unit_like
+is_same_unit-Decides u v =
+    let d = is_same_leaf-Decides (leaf_like u) (leaf_like v) in (λ t. ap unit_like (d.0 t), λ e. d.1 (ap leaf_like e))
 
 -- what `contains` at a list of leaves answers
-pub Decides-contains_leaf : (ls ms : List Leaf) (x : Leaf) (r : Bool) → ls ≡ ms → IsAnyAnswer (λ y t. leaf_eq y x ≡ t) ls r → Decides r (Contains ms x)
+pub Decides-contains_leaf : (ls ms : List Leaf) (x : Leaf) (r : Bool) → ls ≡ ms → IsAnyAnswer (λ y t. is_same_leaf y x ≡ t) ls r → Decides r (Contains ms x)
 Decides-contains_leaf ls ms x r e h =
-    subst (λ (l : List Leaf). Decides r (Contains l x)) e (Decides-contains ls x r (contains_decides leaf_eq Decides-leaf_eq ls x r h))
+    subst (λ (l : List Leaf). Decides r (Contains l x)) e (Decides-contains ls x r (contains_decides is_same_leaf is_same_leaf-Decides ls x r h))

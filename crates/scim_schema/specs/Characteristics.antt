@@ -134,6 +134,10 @@ characteristics_at kind a (Some b) = sub_attribute_characteristics a b
 abbrev pub characteristics_of : Kind → Leaf → Characteristics
 characteristics_of kind leaf = characteristics_at kind leaf.attribute leaf.sub_attribute
 
+-- whether texts of a leaf are compared with regard to case (RFC 7643 section 2.2), which is the same for both kinds
+abbrev pub is_case_exact : Leaf → Bool
+is_case_exact leaf = (characteristics_of User leaf).case_exact
+
 -- whether an attribute holds a list of values, which is the same for both kinds
 abbrev pub is_multi_valued : Attribute → Bool
 is_multi_valued a = (attribute_characteristics User a).multi_valued

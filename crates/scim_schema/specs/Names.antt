@@ -1,5 +1,5 @@
 -- Names as they are printed.
-use Rattle.std.specs.Prelude.{ℕ, Bool, List, codes}
+use Rattle.std.specs.Prelude.{ℕ, Bool, List, [], ◌∷◌, codes}
 use Rattle.std.specs.Str.{str_eq_ignore_ascii_case}
 use Rattle.scim_schema.specs.declared.Kind.{Kind}
 use Rattle.scim_schema.specs.declared.Kind.TheVariants.{User, Group}
@@ -13,6 +13,13 @@ use Rattle.scim_schema.specs.declared.SubAttribute.TheVariants.{Formatted, Famil
 -- whether two names are equal without regard to ASCII case (RFC 7643 section 2.1)
 abbrev pub is_same_name : List ℕ → List ℕ → Bool
 is_same_name a b = str_eq_ignore_ascii_case a b
+
+-- all kinds of resources, and all operations
+abbrev pub kinds : List Kind
+kinds = User ∷ Group ∷ []
+
+abbrev pub operations : List Op
+operations = Read ∷ Create ∷ Modify ∷ Delete ∷ []
 
 -- the name of a resource type (RFC 7643 section 6)
 abbrev pub kind_name : Kind → List ℕ

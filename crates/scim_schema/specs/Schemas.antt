@@ -1,11 +1,13 @@
 -- The schemas, and the attributes that stand in each (RFC 7643 sections 3 and 8.7).
-use Rattle.std.specs.Prelude.{ℕ, List, [], ◌∷◌, codes, Option, None, Some, unwrap_or}
+use Rattle.std.specs.Prelude.{ℕ, Bool, List, [], ◌∷◌, codes, Option, None, Some, unwrap_or}
 use Rattle.scim_schema.specs.declared.Kind.{Kind}
 use Rattle.scim_schema.specs.declared.Kind.TheVariants.{User, Group}
 use Rattle.scim_schema.specs.declared.Attribute.{Attribute}
 use Rattle.scim_schema.specs.declared.Attribute.TheVariants.{EmployeeNumber, CostCenter, Organization, Division, Department, Manager}
 use Rattle.scim_schema.specs.declared.schemas.Schema.{Schema}
 use Rattle.scim_schema.specs.declared.schemas.Schema.TheVariants.{User as UserSchema, Group as GroupSchema, EnterpriseUser}
+use Rattle.scim_schema.specs.contracts.schemas.Schema.{the_type as the_schema}
+use denote.Enum.Bare.{sameb}
 
 -- the URN of a schema (RFC 7643 section 8.7)
 abbrev pub urn : Schema → List ℕ
@@ -40,3 +42,7 @@ extension_of _ = None
 -- the schema that an attribute of a kind stands in; `id`, `externalId` and `meta` count to the core schema
 abbrev pub schema_of : Kind → Attribute → Schema
 schema_of kind a = unwrap_or (extension_of a) (core_schema kind)
+
+-- whether two schemas are one
+abbrev pub is_same_schema : Schema → Schema → Bool
+is_same_schema = sameb the_schema

@@ -1,9 +1,13 @@
 -- Leaves and units: what a cell holds one atom of, and what is given and written as one.
-use Rattle.std.specs.Prelude.{None, Some, if◌then◌else◌}
+use Rattle.std.specs.Prelude.{Bool, None, Some, ◌&&◌, if◌then◌else◌}
+use Rattle.std.specs.Option.{option_eq}
+use denote.Enum.Bare.{sameb}
 use Rattle.scim_schema.specs.declared.Attribute.{Attribute}
 use Rattle.scim_schema.specs.declared.SubAttribute.{SubAttribute}
 use Rattle.scim_schema.specs.declared.Leaf.{Leaf}
 use Rattle.scim_schema.specs.declared.Unit.{Unit as AttributeUnit}
+use Rattle.scim_schema.specs.contracts.Attribute.{the_type as the_attribute}
+use Rattle.scim_schema.specs.contracts.SubAttribute.{the_type as the_sub_attribute}
 use Rattle.scim_schema.specs.Characteristics.{is_multi_valued}
 
 -- the leaf that a simple attribute is
@@ -21,3 +25,13 @@ whole a = record { attribute = a; sub_attribute = None }
 -- the unit of a leaf: the leaf itself, but all leaves of a multi-valued attribute form one unit
 abbrev pub unit_of : Leaf → AttributeUnit
 unit_of leaf = record { attribute = leaf.attribute; sub_attribute = if is_multi_valued leaf.attribute then None else leaf.sub_attribute }
+
+-- whether two attributes, two leaves or two units are one
+abbrev pub is_same_attribute : Attribute → Attribute → Bool
+is_same_attribute = sameb the_attribute
+
+abbrev pub is_same_leaf : Leaf → Leaf → Bool
+is_same_leaf l m = is_same_attribute l.attribute m.attribute && option_eq (sameb the_sub_attribute) l.sub_attribute m.sub_attribute
+
+abbrev pub is_same_unit : AttributeUnit → AttributeUnit → Bool
+is_same_unit u v = is_same_attribute u.attribute v.attribute && option_eq (sameb the_sub_attribute) u.sub_attribute v.sub_attribute

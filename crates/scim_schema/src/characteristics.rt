@@ -246,3 +246,11 @@ pub fn is_multi_valued(attribute: Attribute) -> bool
 {
     attribute_characteristics(Kind::User, attribute).multi_valued
 }
+
+/// Whether texts of the leaf are compared with regard to case (RFC 7643 section 2.2), which is the
+/// same for both kinds.
+pub fn is_case_exact(leaf: Leaf) -> bool
+    ensures { result ≡ spec.is_case_exact leaf }
+{
+    characteristics_of(Kind::User, leaf).case_exact
+}

@@ -6,13 +6,20 @@ use crate::{Attribute, Kind, Op, SubAttribute};
 
 /// Whether two names are equal without regard to ASCII case, as attribute names and URNs are
 /// compared (RFC 7643 section 2.1, RFC 8141 section 3).
-pub fn same_name(a: &str, b: &str) -> bool
+pub(crate) fn is_same_name(a: &str, b: &str) -> bool
     ensures { result ≡ names.is_same_name a.now b.now }
 {
     a.eq_ignore_ascii_case(b)
 }
 
 impl Kind {
+    /// All kinds of resources.
+    pub fn all() -> &'static [Kind]
+        ensures { result.now ≡ names.kinds }
+    {
+        &[Kind::User, Kind::Group]
+    }
+
     /// The name of the resource type, as in `meta.resourceType` (RFC 7643 section 6).
     pub fn name(self) -> &'static str
         ensures { result.now ≡ names.kind_name self }
@@ -36,6 +43,13 @@ impl Kind {
 }
 
 impl Op {
+    /// All operations.
+    pub fn all() -> &'static [Op]
+        ensures { result.now ≡ names.operations }
+    {
+        &[Op::Read, Op::Create, Op::Modify, Op::Delete]
+    }
+
     /// The name of the operation, in lower case, as policy files and audit lines have it.
     pub fn name(self) -> &'static str
         ensures { result.now ≡ names.op_name self }

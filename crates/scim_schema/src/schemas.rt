@@ -13,6 +13,13 @@ pub enum Schema {
 }
 
 impl Schema {
+    /// All schemas, in the order in which they are listed.
+    pub fn all() -> &'static [Schema]
+        ensures { result.now ≡ spec.schemas }
+    {
+        &[Schema::User, Schema::Group, Schema::EnterpriseUser]
+    }
+
     /// The schema's URN as it is printed.
     pub fn urn(self) -> &'static str
         ensures { result.now ≡ spec.urn self }
@@ -23,13 +30,6 @@ impl Schema {
             Schema::EnterpriseUser => "urn:ietf:params:scim:schemas:extension:enterprise:2.0:User",
         }
     }
-}
-
-/// All schemas, in the order in which they are listed.
-pub fn schemas() -> &'static [Schema]
-    ensures { result.now ≡ spec.schemas }
-{
-    &[Schema::User, Schema::Group, Schema::EnterpriseUser]
 }
 
 /// The schema that each resource of the kind has.

@@ -1,6 +1,7 @@
 //! Which attributes, sub-attributes and leaves there are, in the order of the table.
 ghost use Rattle.std.specs.Prelude.{◌≡◌, ◌↔◌, IsTrue};
 ghost use Rattle.scim_schema.specs.Table as table;
+ghost use Rattle.scim_schema.specs.UniqueLeaves as unique;
 
 use crate::{Attribute, Kind, Leaf, SubAttribute};
 
@@ -235,5 +236,19 @@ pub fn sub_attributes(attribute: Attribute) -> &'static [SubAttribute]
             SubAttribute::Primary,
         ],
         _ => &[],
+    }
+}
+
+/// The leaves of a kind at which no two resources have one name (RFC 7643 section 2.2, uniqueness).
+#[tactic(auto, unfolding(crate::specs::UniqueLeaves::unique_leaves))]
+pub fn unique_leaves(kind: Kind) -> &'static [Leaf]
+    ensures { result.now ≡ unique.unique_leaves kind }
+{
+    match kind {
+        Kind::User => &[Leaf {
+            attribute: Attribute::UserName,
+            sub_attribute: None,
+        }],
+        Kind::Group => &[],
     }
 }

@@ -1,9 +1,31 @@
-//! Units: what is given and written as one.
+//! Leaves and units: what a cell of a resource holds one atom of, and what is given and written as one.
 ghost use Rattle.std.specs.Prelude.{◌≡◌};
 ghost use Rattle.scim_schema.specs.Units as units;
 
 use crate::characteristics::is_multi_valued;
-use crate::{Attribute, Leaf, Unit};
+use crate::{Attribute, Leaf, SubAttribute, Unit};
+
+impl Leaf {
+    /// The leaf that a simple attribute is.
+    pub fn simple(attribute: Attribute) -> Leaf
+        ensures { result ≡ units.simple attribute }
+    {
+        Leaf {
+            attribute,
+            sub_attribute: None,
+        }
+    }
+
+    /// The leaf of a sub-attribute.
+    pub fn of(attribute: Attribute, sub_attribute: SubAttribute) -> Leaf
+        ensures { result ≡ units.leaf_at attribute sub_attribute }
+    {
+        Leaf {
+            attribute,
+            sub_attribute: Some(sub_attribute),
+        }
+    }
+}
 
 impl Unit {
     /// A whole attribute: a simple one, or a multi-valued one with all its values.

@@ -4,3 +4,4 @@ pub mod MomentInLemmas
 pub mod Printed
 pub mod Spellings
 pub mod OrderLemmas
+pub mod Facts

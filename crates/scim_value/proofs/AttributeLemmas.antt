@@ -12,6 +12,7 @@ use Rattle.std.proofs.lemmas.Bool.{cases_Bool}
 use Rattle.std.specs.Cmp.{tied_itself}
 use lib.Dec.{leb, eqb, ltb}
 use denote.Enum.Bare.{sameb, true_same, same_true}
+use Rattle.std.proofs.Math.Bool.{and-false}
 use Rattle.scim_schema.specs.declared.Kind.{Kind}
 use Rattle.scim_schema.specs.Characteristics.{is_multi_valued}
 use Rattle.scim_schema.specs.Units.{whole}
@@ -96,16 +97,11 @@ no_rows a rs (r ∷ rest) i e l p h n =
 
 -- ---- values among the rows of their attribute
 
--- `x && false` is false
-and_false : (b : Bool) → b && false ≡ false
-and_false true = refl
-and_false false = refl
-
 -- what ties with a unit is of its attribute
 own_test : (u : AttributeUnit) (r : Row) → is_eq (unit_cmp r.unit u) ≡ sameb the_attribute r.unit.attribute u.attribute && is_eq (unit_cmp r.unit u)
 own_test u r = elim (cases_Bool (is_eq (unit_cmp r.unit u))) [
   | inl t ↦ let s : sameb the_attribute r.unit.attribute u.attribute ≡ true = true_same the_attribute r.unit.attribute u.attribute (ap (λ (v : AttributeUnit). v.attribute) (unit_same r.unit u t)) in rw (t, s) refl
-  | inr n ↦ rw n (sym (and_false (sameb the_attribute r.unit.attribute u.attribute)))
+  | inr n ↦ rw n (sym (and-false (sameb the_attribute r.unit.attribute u.attribute)))
 ]
 
 -- the values of a unit are among the rows of its attribute

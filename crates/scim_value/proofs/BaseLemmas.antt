@@ -9,13 +9,13 @@ use Rattle.scim_schema.specs.declared.SubAttribute.TheVariants.{Location}
 use Rattle.scim_schema.specs.declared.Leaf.{Leaf}
 use Rattle.scim_schema.specs.declared.Unit.{Unit as AttributeUnit}
 use Rattle.scim_schema.specs.Characteristics.{is_multi_valued}
-use Rattle.scim_schema.specs.Units.{unit_of, leaf_at}
-use Rattle.scim_schema.proofs.LeafLemmas.{leaf_one, leaf_same}
+use Rattle.scim_schema.specs.Units.{unit_of, leaf_at, is_same_leaf}
+use Rattle.scim_schema.proofs.Facts.{leaf_one, leaf_same}
 use Rattle.scim_cell.specs.declared.atoms.Atom.{Atom}
 use Rattle.scim_cell.specs.declared.places.Place.{Place}
 use Rattle.scim_cell.specs.Place.{place_cmp, place_at, leaf_of}
 use Rattle.scim_cell.specs.Content.{Content, Entry, IsPart}
-use Rattle.scim_cell.specs.Rows.{Row, unit_at, field_of, goes_with, is_led, is_leaf, led, rows_of, rows, values, atom_at, cell_at, content, AreSound}
+use Rattle.scim_cell.specs.Rows.{Row, unit_at, field_of, goes_with, is_led, led, rows_of, rows, values, atom_at, cell_at, content, AreSound}
 use Rattle.scim_value.specs.Changes.{with_cell, without_cell}
 use Rattle.scim_value.specs.Resource.{first_at, HasBase}
 use Rattle.scim_value.proofs.PlaceLemmas.{place_total, place_same}
@@ -31,7 +31,7 @@ use Rattle.scim_value.proofs.OfLemmas.{sound_part}
 -- the atom of the first cell of a leaf
 abbrev pub first_of : Leaf → List Entry → Option Atom
 first_of l [] = None
-first_of l (e ∷ es) = if is_leaf l (leaf_of e.0) then Some e.1 else first_of l es
+first_of l (e ∷ es) = if is_same_leaf (leaf_of e.0) l then Some e.1 else first_of l es
 
 -- a leaf of a single-valued attribute has a unit of its own
 own_unit : (l m : Leaf) → is_multi_valued l.attribute ≡ false → unit_of l ≡ unit_of m → m ≡ l
@@ -63,7 +63,7 @@ alone e (f ∷ es) single = rw single refl
 -- what rows have at a leaf of a single-valued attribute is the first cell of the leaf
 pub rows_first : (l : Leaf) (es : List Entry) → is_multi_valued l.attribute ≡ false → cell_at l 0 (rows_of es) ≡ first_of l es
 rows_first l [] single = refl
-rows_first l (e ∷ es) single = elim (cases_Bool (is_leaf l (leaf_of e.0))) [
+rows_first l (e ∷ es) single = elim (cases_Bool (is_same_leaf (leaf_of e.0) l)) [
   | inl t ↦
       let same : leaf_of e.0 ≡ l = leaf_one (leaf_of e.0) l t in
       let alone_is = alone e es (ap (λ (m : Leaf). is_multi_valued m.attribute) same ∙ single) in
@@ -83,7 +83,7 @@ first_filter l k (e ∷ es) other =
     elim (cases_Bool (is_eq (place_cmp e.0 k))) [
       | inl t ↦
           let same : e.0 ≡ k = place_same e.0 k (eq_is _ t) in
-          elim (cases_Bool (is_leaf l (leaf_of e.0))) [
+          elim (cases_Bool (is_same_leaf (leaf_of e.0) l)) [
             | inl own ↦ absurd (other (ap leaf_of (sym same) ∙ leaf_one (leaf_of e.0) l own))
             | inr off ↦ rw (t, off) ih
           ]

@@ -10,12 +10,12 @@ use Rattle.scim_schema.specs.declared.Kind.{Kind}
 use Rattle.scim_schema.specs.declared.Leaf.{Leaf}
 use Rattle.scim_schema.specs.declared.Unit.{Unit as AttributeUnit}
 use Rattle.scim_schema.specs.Characteristics.{is_multi_valued}
-use Rattle.scim_schema.specs.Units.{unit_of}
-use Rattle.scim_schema.proofs.LeafLemmas.{leaf_one, leaf_same}
+use Rattle.scim_schema.specs.Units.{unit_of, is_same_leaf}
+use Rattle.scim_schema.proofs.Facts.{leaf_one, leaf_same}
 use Rattle.scim_cell.specs.declared.rows.Field.{Field}
 use Rattle.scim_cell.specs.Place.{unit_cmp, place_at, attribute_number, sub_attribute_number}
 use Rattle.scim_cell.specs.Content.{Entry}
-use Rattle.scim_cell.specs.Rows.{Row, values, is_leaf, atom_in, atom_at, cell_at, has_fields, IsSoundField, IsSoundRow, AreSound}
+use Rattle.scim_cell.specs.Rows.{Row, values, atom_in, atom_at, cell_at, has_fields, IsSoundField, IsSoundRow, AreSound}
 use Rattle.scim_value.specs.Listing.{cell_with, single_cells}
 use Rattle.scim_value.proofs.OrderLemmas.{unit_total, nat_less, nat_tied, second_less}
 use Rattle.scim_value.proofs.SoundLemmas.{precedes_less}
@@ -25,8 +25,8 @@ use Rattle.scim_value.proofs.OfLemmas.{Rise}
 use Rattle.scim_value.proofs.KeyLemmas.{In, ascends, flat_map_none, flat_map_insert, leaf_number, leaves_by_place, leaves_ascend, in_leaves}
 
 -- leaves with different numbers differ
-other_leaf : (l m : Leaf) → (leaf_number l ≡ leaf_number m → ⊥) → is_leaf l m ≡ false
-other_leaf l m d = elim (cases_Bool (is_leaf l m)) [
+other_leaf : (l m : Leaf) → (leaf_number l ≡ leaf_number m → ⊥) → is_same_leaf m l ≡ false
+other_leaf l m d = elim (cases_Bool (is_same_leaf m l)) [
   | inl t ↦ absurd (d (ap leaf_number (sym (leaf_one m l t))))
   | inr n ↦ n
 ]
@@ -36,7 +36,7 @@ atom_none : (l : Leaf) (cs : List Field) → All (λ (c : Field). leaf_number l 
 atom_none l [] h = refl
 atom_none l (c ∷ cs) h =
     let less : leaf_number l < leaf_number c.leaf = All-head (λ (c : Field). leaf_number l < leaf_number c.leaf) c cs h in
-    let n : is_leaf l c.leaf ≡ false = other_leaf l c.leaf (λ e. omega arith) in
+    let n : is_same_leaf c.leaf l ≡ false = other_leaf l c.leaf (λ e. omega arith) in
     rw n (atom_none l cs (All-tail (λ (c : Field). leaf_number l < leaf_number c.leaf) c cs h))
 
 -- fields in order are what leaves in order find in them
@@ -47,13 +47,13 @@ fields_listed k ls (c ∷ cs) a i r =
     let ih : flat_map (λ l. cell_with l k (atom_in l cs)) ls ≡ placed k cs = fields_listed k ls cs a (All-tail (λ (c : Field). In c.leaf ls) c cs i) (λ i j d l m. r (suc i) (suc j) d (omega arith) (omega arith)) in
     let none : (l : Leaf) → leaf_number l ≤ leaf_number c.leaf → atom_in l cs ≡ None = λ l le. atom_none l cs (λ j d b. omega (arith, later j d b, le)) in
     flat_map_insert leaf_number c.leaf ((place_at c.leaf k, c.atom) ∷ []) (λ l. cell_with l k (atom_in l (c ∷ cs))) (λ l. cell_with l k (atom_in l cs)) ls a (All-head (λ (c : Field). In c.leaf ls) c cs i)
-    (λ l j less. (let n : is_leaf l c.leaf ≡ false = other_leaf l c.leaf (λ e. omega (arith, e, less)) in
+    (λ l j less. (let n : is_same_leaf c.leaf l ≡ false = other_leaf l c.leaf (λ e. omega (arith, e, less)) in
     let o : atom_in l cs ≡ None = none l (omega (arith, less)) in
     (rw (n, o) refl, rw o refl)))
-    (let t : is_leaf c.leaf c.leaf ≡ true = leaf_same c.leaf c.leaf refl in
+    (let t : is_same_leaf c.leaf c.leaf ≡ true = leaf_same c.leaf c.leaf refl in
     let o : atom_in c.leaf cs ≡ None = none c.leaf (omega arith) in
     rw (t, o) refl)
-    (λ l j less. (let n : is_leaf l c.leaf ≡ false = other_leaf l c.leaf (λ e. omega (arith, e, less)) in rw n refl))
+    (λ l j less. (let n : is_same_leaf c.leaf l ≡ false = other_leaf l c.leaf (λ e. omega (arith, e, less)) in rw n refl))
     ∙ ap (λ es. (place_at c.leaf k, c.atom) ∷ es) ih
 
 -- a row of another unit is no value of this one, and a row of this one is the first
@@ -114,7 +114,7 @@ single_row kind u (c ∷ []) rs h m i =
       ap (found l) (values_none (unit_of l) (r ∷ rs) (before l j less)),
       ap (found l) (values_none (unit_of l) rs (All-tail (λ (s : Row). unit_of l ≢ s.unit) r rs (before l j less))),
     ))
-    (let t : is_leaf c.leaf c.leaf ≡ true = leaf_same c.leaf c.leaf refl in
+    (let t : is_same_leaf c.leaf c.leaf ≡ true = leaf_same c.leaf c.leaf refl in
     let none : values (unit_of c.leaf) rs ≡ [] = ap (λ v. values v rs) own ∙ values_none u rs (only_row kind r rs h m) in
     let here : found c.leaf (r ∷ values (unit_of c.leaf) rs) ≡ (place_at c.leaf 0, c.atom) ∷ [] = rw t refl in
     ap (found c.leaf) (values_first (unit_of c.leaf) r rs own) ∙ here ∙ ap (λ vs. (place_at c.leaf 0, c.atom) ∷ found c.leaf vs) (sym none))

@@ -1,5 +1,5 @@
 -- A chain is sorted, and its cells are those of a part.
-use Rattle.std.proofs.Common.{◌≡◌, ℕ, zero, suc, ◌+◌, ◌≤◌, ◌<◌, refl, sym, ◌∙◌, ap, subst, inl, inr, ◌⊎◌, arith, Bool, true, false, List, [], ◌∷◌, length, get_or}
+use Rattle.std.proofs.Common.{◌≡◌, ℕ, zero, suc, ◌+◌, ◌≤◌, ◌<◌, refl, sym, ◌∙◌, ap, subst, inl, inr, ◌⊎◌, arith, Bool, true, false, eqb, List, [], ◌∷◌, length, get_or}
 use Rattle.std.specs.Prelude.{◌&&◌, ◌==◌, Option, None, Some, All, Any}
 use Rattle.std.specs.declared.cmp.Ordering.{Ordering}
 use Rattle.std.specs.declared.cmp.Ordering.TheVariants.{Less, Equal, Greater}
@@ -7,10 +7,11 @@ use Rattle.std.specs.Ordering.{nat_cmp, ordering_then, is_gt, is_lt}
 use Rattle.std.specs.Cmp.{ranked, tied_itself, upto, nat_cmp_total}
 use Rattle.std.proofs.lemmas.Bool.Decides.{nat_tests}
 use Rattle.std.proofs.lemmas.List.{get_or_default}
+use lib.Dec.{T}
 use Rattle.std.specs.FinMap.{is_sorted}
 use Rattle.std.specs.FinMap.Entries.{below_all}
 use Rattle.std.proofs.lemmas.List.Elements.{All-nil, All-cons, All-tail, All-head, All-weaker}
-pub use Rattle.scim_schema.proofs.LeafLemmas.{and_first, and_second}
+pub use Rattle.scim_schema.proofs.Facts.{and_first, and_second}
 use Rattle.scim_schema.specs.declared.Kind.{Kind}
 use Rattle.scim_schema.specs.declared.Attribute.{Attribute}
 use Rattle.scim_cell.specs.declared.places.Place.{Place}
@@ -20,6 +21,13 @@ use Rattle.scim_value.specs.code.Chain.{GoesOn, IsChain}
 use denote.Enum.Bare.{tag_one}
 use Rattle.scim_schema.specs.contracts.Attribute.{the_type as the_attribute}
 use Rattle.scim_value.proofs.PlaceLemmas.{place_total}
+
+pub true_from_T : (b : Bool) → T b → b ≡ true
+true_from_T true h = refl
+true_from_T false h = absurd h
+
+pub unequal : (m n : ℕ) → eqb m n ≡ false → m ≤ n → m < n
+unequal m n h l = grind arith
 
 pub and_true : (p q : Bool) → p ≡ true → q ≡ true → p && q ≡ true
 and_true p q e f = rw (e, f) refl

@@ -16,7 +16,7 @@ use Rattle.scim_cell.specs.declared.places.Place.{Place}
 use Rattle.scim_cell.specs.Place.{place_cmp, attribute_number, sub_attribute_number}
 use Rattle.scim_cell.specs.Content.{Content, Entry, IsPart, IsOfKind, StandsInLine, ArePartCells}
 use Rattle.scim_value.specs.code.Chain.{GoesOn, IsChain}
-use Rattle.scim_value.proofs.ChainLemmas.{and_first, and_second, and_true, is_less, position_le, less_not_after}
+use Rattle.scim_value.proofs.ChainLemmas.{unequal, and_first, and_second, and_true, is_less, position_le, less_not_after}
 use Rattle.scim_cell.specs.Rows.{Row, goes_with, is_led, led, rows_of, AreSound}
 use Rattle.scim_value.proofs.OrderLemmas.{nat_less, nat_tied, first_less, second_less, then_less}
 use Rattle.scim_value.proofs.OfLemmas.{MayStand, sound_rows}
@@ -64,9 +64,6 @@ sorted-filter p (e ∷ es) h =
 pub is_before : (b : Option Moved) (e : Entry) (es : List Entry) → StoodBefore b (e ∷ es) → IsBefore b e.0
 is_before None e es h = tt
 is_before (Some b) e es h = (is_less _ (and_first _ _ h.1), h.2)
-
-unequal : (m n : ℕ) → eqb m n ≡ false → m ≤ n → m < n
-unequal m n h l = grind arith
 
 -- a cell's new position isn't above its old one
 lower : (b : Option Moved) (p : Place) → IsBefore b p → position_after b p ≤ p.position

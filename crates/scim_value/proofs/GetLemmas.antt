@@ -13,14 +13,14 @@ use Rattle.scim_schema.specs.declared.Kind.{Kind}
 use Rattle.scim_schema.specs.declared.Leaf.{Leaf}
 use Rattle.scim_schema.specs.contracts.Attribute.{the_type as the_attribute}
 use Rattle.scim_schema.specs.declared.Unit.{Unit as AttributeUnit}
-use Rattle.scim_schema.specs.Units.{unit_of}
+use Rattle.scim_schema.specs.Units.{unit_of, is_same_leaf}
 use Rattle.scim_schema.specs.Characteristics.{is_multi_valued}
-use Rattle.scim_schema.proofs.LeafLemmas.{leaf_one, leaf_same}
+use Rattle.scim_schema.proofs.Facts.{leaf_one, leaf_same}
 use Rattle.scim_cell.specs.declared.places.Place.{Place}
 use Rattle.scim_cell.specs.declared.atoms.Atom.{Atom}
 use Rattle.scim_cell.specs.Place.{unit_cmp, place_cmp, place_at, leaf_of}
 use Rattle.scim_cell.specs.Content.{Content, Entry, IsPart}
-use Rattle.scim_cell.specs.Rows.{Row, unit_at, next_position, numbered, rows, is_leaf, has_fields, atom_in, atom_at, cell_at, values, IsSoundField, IsSoundRow, Precedes, AreSound}
+use Rattle.scim_cell.specs.Rows.{Row, unit_at, next_position, numbered, rows, has_fields, atom_in, atom_at, cell_at, values, IsSoundField, IsSoundRow, Precedes, AreSound}
 use Rattle.scim_value.proofs.PlaceLemmas.{place_total, place_same}
 use Rattle.scim_value.proofs.OrderLemmas.{unit_total, unit_same}
 use Rattle.scim_value.proofs.RowLemmas.{numbered_part}
@@ -66,13 +66,13 @@ own_at : (l : Leaf) (k : ℕ) (cs : List Field) (tail : List Entry) → find pla
 own_at l k [] tail h = h
 own_at l k (c ∷ cs) tail h =
     let ih : find place_cmp (place_at l k) (placed k cs ++ tail) ≡ atom_in l cs = own_at l k cs tail h in
-    elim (cases_Bool (is_leaf l c.leaf)) [
+    elim (cases_Bool (is_same_leaf c.leaf l)) [
       | inl t ↦
           let e : c.leaf ≡ l = leaf_one c.leaf l t in
           find_same (place_at l k) (place_at c.leaf k) c.atom (placed k cs ++ tail) (λ i. place_at (sym e i) k) ∙ rw t refl
       | inr n ↦
           find_other (place_at l k) (place_at c.leaf k) c.atom (placed k cs ++ tail)
-          (λ e. (let t : is_leaf l c.leaf ≡ true = leaf_same c.leaf l (sym (ap leaf_of e)) in cc))
+          (λ e. (let t : is_same_leaf c.leaf l ≡ true = leaf_same c.leaf l (sym (ap leaf_of e)) in cc))
           ∙ ih ∙ rw n refl
     ]
 

@@ -12,10 +12,9 @@ use Rattle.scim_schema.specs.declared.SubAttribute.{SubAttribute}
 use Rattle.scim_schema.specs.declared.Leaf.{Leaf}
 use Rattle.scim_schema.specs.Table.{attributes, sub_attributes, leaves_with, leaves, HasLeaf}
 use Rattle.scim_schema.specs.Characteristics.{is_multi_valued}
-use Rattle.scim_schema.specs.Units.{leaf_at}
-use Rattle.scim_schema.proofs.LeafLemmas.{leaf_one}
+use Rattle.scim_schema.specs.Units.{leaf_at, is_same_leaf}
+use Rattle.scim_schema.proofs.Facts.{leaf_one}
 use Rattle.scim_cell.specs.Place.{attribute_number, sub_attribute_number}
-use Rattle.scim_cell.specs.Rows.{is_leaf}
 use Rattle.scim_cell.specs.Place.{sub_attributes_by_place}
 use Rattle.scim_value.proofs.ChainLemmas.{and_first, and_second}
 
@@ -96,7 +95,7 @@ leaves_ascend _ = refl
 -- whether a leaf is among some, and whether some are
 abbrev among : Leaf → List Leaf → Bool
 among l [] = false
-among l (m ∷ ms) = is_leaf l m || among l ms
+among l (m ∷ ms) = is_same_leaf m l || among l ms
 
 abbrev all_among : List Leaf → List Leaf → Bool
 all_among [] ms = true
@@ -111,7 +110,7 @@ all_placed _ = refl
 
 in_among : (l : Leaf) (ms : List Leaf) → among l ms ≡ true → In l ms
 in_among l [] h = cc
-in_among l (m ∷ ms) h = elim (cases_Bool (is_leaf l m)) [
+in_among l (m ∷ ms) h = elim (cases_Bool (is_same_leaf m l)) [
   | inl t ↦ inl (leaf_one m l t)
   | inr n ↦ inr (in_among l ms (rw n at h))
 ]

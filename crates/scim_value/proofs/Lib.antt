@@ -22,3 +22,4 @@ pub mod ListingLemmas
 pub mod AttributeLemmas
 pub mod PositionLemmas
 pub mod BaseLemmas
+pub mod Facts

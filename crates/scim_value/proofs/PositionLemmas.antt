@@ -14,7 +14,7 @@ use Rattle.scim_schema.specs.declared.Unit.{Unit as AttributeUnit}
 use Rattle.scim_schema.specs.contracts.Attribute.{the_type as the_attribute}
 use Rattle.scim_schema.specs.Characteristics.{is_multi_valued}
 use Rattle.scim_schema.specs.Units.{unit_of, whole}
-use Rattle.scim_schema.proofs.LeafLemmas.{leaf_same}
+use Rattle.scim_schema.proofs.Facts.{leaf_same}
 use Rattle.scim_cell.specs.declared.rows.Field.{Field}
 use Rattle.scim_cell.specs.Place.{place_at, unit_cmp}
 use Rattle.scim_cell.specs.Content.{Content, IsPart}

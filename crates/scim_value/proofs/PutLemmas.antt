@@ -1,7 +1,6 @@
 -- A cell put into its place among sorted cells.
 use Rattle.std.proofs.Common.{◌≡◌, ℕ, zero, suc, ◌≤◌, ◌<◌, refl, sym, ◌∙◌, ap, subst, Bool, false, arith, true, List, [], ◌∷◌, length, get_or, set}
 use Rattle.std.specs.Prelude.{insert}
-use lib.Dec.{T}
 use Rattle.std.specs.List.{AllWithin}
 use Rattle.std.specs.declared.cmp.Ordering.TheVariants.{Less, Equal, Greater}
 use Rattle.std.specs.Ordering.{ordering_reverse}
@@ -13,12 +12,8 @@ use Rattle.scim_cell.specs.Place.{place_cmp}
 use Rattle.scim_cell.specs.Content.{Content, Entry, place_of, entries_of, AreSortedPartCells, IsPart}
 use Rattle.scim_cell.specs.declared.atoms.Atom.{Atom}
 use Rattle.scim_value.proofs.PlaceLemmas.{place_total, place_same}
-use Rattle.scim_value.proofs.ChainLemmas.{and_first, and_second}
+use Rattle.scim_value.proofs.ChainLemmas.{true_from_T, and_first, and_second}
 use Rattle.scim_value.proofs.FindLemmas.{below_at}
-
-true_from_T : (b : Bool) → T b → b ≡ true
-true_from_T true h = refl
-true_from_T false h = absurd h
 
 -- in place of the cell that stands there
 pub put-at : (x : Cell) (cells : List Cell) (i : ℕ) (d : Cell) → is_sorted place_cmp (entries_of cells) ≡ true → i < length cells

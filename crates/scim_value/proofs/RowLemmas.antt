@@ -1,6 +1,5 @@
 -- Values of sorted cells.
 use Rattle.std.proofs.Common.{◌≡◌, ℕ, ◌+◌, ◌≤◌, ◌<◌, refl, sym, ◌∙◌, ap, subst, Bool, true, false, ◌&&◌, eqb, eqb-true, arith, List, [], ◌∷◌, ◌++◌, map, inl, inr}
-use lib.Dec.{T}
 use Rattle.std.specs.Prelude.{None, Some, if◌then◌else◌}
 use Rattle.std.proofs.lemmas.Bool.{cases_Bool}
 use denote.Enum.Bare.{sameb, same_true, true_same}
@@ -15,7 +14,7 @@ use Rattle.scim_cell.specs.Place.{place_cmp, place_at}
 use Rattle.scim_cell.specs.Content.{Content, Entry, IsPart}
 use Rattle.scim_value.specs.code.Chain.{Follows, IsChain}
 use Rattle.scim_cell.specs.Rows.{Row, unit_at, field_of, goes_with, rows_of, rows, next_position, numbered}
-use Rattle.scim_value.proofs.ChainLemmas.{and_first, and_second, position_le, less_not_after, chain-ArePartCells}
+use Rattle.scim_value.proofs.ChainLemmas.{true_from_T, unequal, and_first, and_second, position_le, less_not_after, chain-ArePartCells}
 
 -- cells that go with one go with the same others
 with_attribute : (p q : Place) → goes_with p q ≡ true → p.attribute ≡ q.attribute
@@ -70,9 +69,6 @@ rows_split e (f ∷ es) = elim (cases_Bool (goes_with e.0 f.0)) [
 abbrev pub number_at : ℕ → Field → Entry
 number_at k h = (place_at h.leaf k, h.atom)
 
-unequal : (m n : ℕ) → eqb m n ≡ false → m ≤ n → m < n
-unequal m n h l = grind arith
-
 -- a position that goes on is the next where it isn't the same
 next_own : (kind : Kind) (b p : Place) → Follows (Some b) p → goes_with b p ≡ false → next_position (Some (unit_at b, b.position)) (unit_at p) ≡ p.position
 unfolding goes_with
@@ -120,10 +116,6 @@ numbered_rows kind (f ∷ es) c =
     rw (rows_split f es)
     (subst (λ (n : ℕ). map (number_at n) (field_of f ∷ map field_of (run (goes_with f.0) es)) ++ numbered (Some (unit_at f.0, n)) (rows_of (after (goes_with f.0) es)) ≡ f ∷ es)
     c.1 (ap (λ xs. f ∷ xs) (numbered_rest kind f.0 es c.2)))
-
-true_from_T : (b : Bool) → T b → b ≡ true
-true_from_T true h = refl
-true_from_T false h = absurd h
 
 pub sorted_map : (m : FinMap place_cmp Atom) → is_sorted place_cmp (entries m) ≡ true
 sorted_map m = true_from_T _ (entries_sorted m)

@@ -17,7 +17,7 @@ use Rattle.scim_schema.specs.Characteristics.{is_multi_valued}
 use Rattle.scim_schema.specs.declared.Leaf.{Leaf}
 use Rattle.scim_schema.specs.declared.Unit.{Unit as AttributeUnit}
 use Rattle.scim_cell.specs.Place.{unit_cmp}
-use Rattle.scim_cell.proofs.FieldLemmas.{PartsRise}
+use Rattle.scim_cell.proofs.Facts.{PartsRise}
 use Rattle.scim_value.proofs.OrderLemmas.{unit_total}
 use Rattle.scim_cell.specs.declared.rows.Field.{Field}
 use Rattle.scim_cell.specs.Rows.{Row, has_fields, restricted_row, restricted, IsSoundField, IsSoundRow, Precedes, AreSound, AreValues, put_values}

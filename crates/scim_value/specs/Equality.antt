@@ -9,7 +9,8 @@ use Rattle.std.proofs.lemmas.Bool.Decides.{Decides-and}
 use denote.Enum.Bare.{sameb, same_true, true_same}
 use Rattle.scim_schema.specs.declared.Kind.{Kind}
 use Rattle.scim_schema.specs.contracts.Kind.{the_type as the_kind}
-use Rattle.scim_schema.proofs.LeafLemmas.{leaf_eq, Decides-leaf_eq}
+use Rattle.scim_schema.specs.Units.{is_same_leaf}
+use Rattle.scim_schema.proofs.Facts.{is_same_leaf-Decides}
 use Rattle.scim_cell.specs.declared.places.Place.{Place}
 use Rattle.scim_cell.specs.Atoms.{is_same_atom, is_same_atom-Decides}
 use Rattle.scim_cell.specs.Place.{leaf_of, place_at}
@@ -18,7 +19,7 @@ use Rattle.scim_cell.specs.Equality.{both}
 
 -- whether two entries are at one place, and have one atom
 abbrev pub is_same_entry : Entry → Entry → Bool
-is_same_entry e f = (leaf_eq (leaf_of e.0) (leaf_of f.0) && eqb e.0.position f.0.position) && is_same_atom e.1 f.1
+is_same_entry e f = (is_same_leaf (leaf_of e.0) (leaf_of f.0) && eqb e.0.position f.0.position) && is_same_atom e.1 f.1
 
 -- whether two parts are of one kind and one id, and have the same cells
 abbrev pub is_same_part : Content → Content → Bool
@@ -28,9 +29,9 @@ is_same_part c d = sameb the_kind c.kind d.kind && (pointwise nat_eq c.id d.id &
 kind_Decides : (a b : Kind) → Decides (sameb the_kind a b) (a ≡ b)
 kind_Decides a b = (same_true the_kind tt a b, true_same the_kind a b)
 
-place_Decides : (p q : Place) → Decides (leaf_eq (leaf_of p) (leaf_of q) && eqb p.position q.position) (p ≡ q)
+place_Decides : (p q : Place) → Decides (is_same_leaf (leaf_of p) (leaf_of q) && eqb p.position q.position) (p ≡ q)
 place_Decides p q =
-    both _ _ (Decides-leaf_eq (leaf_of p) (leaf_of q)) (unsigned_Decides p.position q.position)
+    both _ _ (is_same_leaf-Decides (leaf_of p) (leaf_of q)) (unsigned_Decides p.position q.position)
     (λ l k. λ i. place_at (l i) (k i)) (ap leaf_of) (ap (λ (x : Place). x.position))
 
 entry_Decides : (e f : Entry) → Decides (is_same_entry e f) (e ≡ f)

@@ -4,5 +4,5 @@ pub mod Laws
 pub mod Listing
 pub mod Positions
 pub mod Resource
-pub mod UniqueNames
+pub mod Uniqueness
 pub mod code

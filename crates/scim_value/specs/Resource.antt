@@ -1,12 +1,12 @@
 -- What a resource is: a part that has all that RFC 7643 sections 2.2 to 2.5, 3.1, 4.1 and 4.2 ask of it, within this server's limits.
-use Rattle.std.specs.Prelude.{◌≡◌, ◌≢◌, Bool, false, ℕ, ◌≤◌, List, [], ◌++◌, length, codes, Option, Some, IsSome, All}
+use Rattle.std.specs.Prelude.{◌≡◌, ◌≢◌, ℕ, ◌≤◌, List, [], ◌++◌, length, codes, Option, Some, IsSome, All}
 use Rattle.std.specs.List.{count_by}
 use Rattle.std.specs.FinMap.{get}
 use Rattle.scim_schema.specs.declared.Kind.{Kind}
 use Rattle.scim_schema.specs.declared.Kind.TheVariants.{User, Group}
 use Rattle.scim_schema.specs.declared.Leaf.{Leaf}
 use Rattle.scim_schema.specs.declared.Attribute.TheVariants.{Id, UserName, DisplayName, Groups, Members, Meta}
-use Rattle.scim_schema.specs.declared.SubAttribute.TheVariants.{Value, Primary, ResourceType, Created, LastModified, Location}
+use Rattle.scim_schema.specs.declared.SubAttribute.TheVariants.{Value, ResourceType, Created, LastModified, Location}
 use Rattle.scim_schema.specs.declared.characteristics.Mutability.TheVariants.{WriteOnly}
 use Rattle.scim_schema.specs.Characteristics.{characteristics_of}
 use Rattle.scim_schema.specs.Names.{kind_name, endpoint}
@@ -14,11 +14,11 @@ use Rattle.scim_schema.specs.Table.{attributes}
 use Rattle.scim_schema.specs.Units.{simple, leaf_at, whole}
 use Rattle.scim_cell.specs.Ids.{IsId, id_text}
 use Rattle.scim_cell.specs.declared.atoms.Atom.{Atom}
-use Rattle.scim_cell.specs.declared.atoms.Atom.TheVariants.{Text, Truth}
+use Rattle.scim_cell.specs.declared.atoms.Atom.TheVariants.{Text}
 use Rattle.scim_cell.specs.declared.rows.Field.{Field}
 use Rattle.scim_cell.specs.Place.{place_at}
 use Rattle.scim_cell.specs.Content.{Content, IsPart}
-use Rattle.scim_cell.specs.Rows.{Row, rows, values, atom_in}
+use Rattle.scim_cell.specs.Rows.{rows, values, atom_in, is_primary}
 
 -- what stands at the first position of a leaf
 abbrev pub first_at : Leaf → Content → Option Atom
@@ -59,17 +59,9 @@ IsNamed c = IsNamedAs c.kind c
 abbrev pub MembersHaveValues : Content → Type 0
 MembersHaveValues c = All (λ r. IsSome (atom_in (leaf_at Members Value) r.fields)) (values (whole Members) (rows c))
 
-abbrev pub is_truth : Option Atom → Bool
-is_truth (Some (Truth b)) = b
-is_truth _ = false
-
--- whether a value is marked as the primary one
-abbrev pub is_primary : Row → Bool
-is_primary r = is_truth (atom_in (leaf_at r.unit.attribute Primary) r.fields)
-
 -- each attribute has at most one value whose `primary` is true (RFC 7643 section 2.4)
-abbrev pub HasOnePrimary : Content → Type 0
-HasOnePrimary c = All (λ a. count_by is_primary (values (whole a) (rows c)) ≤ 1) (attributes c.kind)
+abbrev pub HasAtMostOnePrimary : Content → Type 0
+HasAtMostOnePrimary c = All (λ a. count_by is_primary (values (whole a) (rows c)) ≤ 1) (attributes c.kind)
 
 -- no multi-valued attribute has more than 10,000 values
 abbrev pub HasFewValues : Content → Type 0
@@ -93,6 +85,6 @@ pub record IsResource (c : Content) : Type 0 where
   pub located : (base : List ℕ) × HasBase base c
   pub named : IsNamed c
   pub members_have_values : MembersHaveValues c
-  pub one_primary : HasOnePrimary c
+  pub one_primary : HasAtMostOnePrimary c
   pub few_values : HasFewValues c
   pub may_be_kept : All (λ r. All (MayBeKept c.kind) r.fields) (rows c)

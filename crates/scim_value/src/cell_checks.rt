@@ -3,11 +3,8 @@ ghost use Rattle.std.specs.Prelude.{◌≡◌, ◌↔◌, IsTrue, None};
 ghost use Rattle.scim_cell.specs.Content.{entry_of, entries_of, IsOfKind, AreSortedPartCells};
 ghost use Rattle.scim_value.specs.code.Chain.{Follows, GoesOn, IsChain};
 
-use scim_cell::cells::{Cell, has_type};
-use scim_cell::places::Place;
-use scim_schema::Kind;
-use scim_schema::characteristics::{characteristics_of, is_multi_valued};
-use scim_schema::table::has_leaf;
+use scim_cell::{Cell, Place, has_type};
+use scim_schema::{Kind, characteristics_of, has_leaf, is_multi_valued};
 
 fn is_of_kind(kind: Kind, cell: &Cell) -> bool
     ensures { IsTrue result ↔ IsOfKind kind (entry_of cell.now) }

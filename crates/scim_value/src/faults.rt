@@ -1,40 +1,23 @@
 //! Why there is no such part or resource.
 use scim_text::NoMemory;
 use std::alloc::AllocError;
-use std::error::Error;
-use std::fmt;
+use thiserror::Error;
 
 /// The cells are not those of a part, or the part isn't a resource.
-#[derive(Clone, Copy, Debug, PartialEq, Eq)]
+#[derive(Clone, Copy, Debug, PartialEq, Eq, Error)]
+#[error("these are not the cells of such a part or resource")]
 pub struct Invalid;
 
 /// Why a part or a resource wasn't made.
-#[derive(Clone, Copy, Debug, PartialEq, Eq)]
+#[derive(Clone, Copy, Debug, PartialEq, Eq, Error)]
 pub enum Fault {
     /// The cells are not those of a part, or the part isn't a resource.
+    #[error("these are not the cells of such a part or resource")]
     Invalid,
     /// No memory was to be had.
+    #[error("out of memory")]
     NoMemory,
 }
-
-impl fmt::Display for Invalid {
-    fn fmt<W: fmt::Write>(&self, f: &mut fmt::Formatter<W>) -> fmt::Result {
-        write!(f, "these are not the cells of such a part or resource")
-    }
-}
-
-impl Error for Invalid {}
-
-impl fmt::Display for Fault {
-    fn fmt<W: fmt::Write>(&self, f: &mut fmt::Formatter<W>) -> fmt::Result {
-        match self {
-            Fault::Invalid => write!(f, "{Invalid}"),
-            Fault::NoMemory => write!(f, "no memory was to be had"),
-        }
-    }
-}
-
-impl Error for Fault {}
 
 impl From<Invalid> for Fault {
     ghost use Rattle.std.specs.Prelude.{◌≡◌};

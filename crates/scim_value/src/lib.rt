@@ -1,17 +1,22 @@
 //! Parts and resources: what stands in their cells, and how it changes (RFC 7643 sections 2 to 4).
 #![tactic(auto)]
 
-pub mod cell_checks;
-pub mod equality;
-pub mod faults;
-pub mod laws;
-pub mod part_changes;
-pub mod part_of_cells;
-pub mod parts;
-pub mod resource_changes;
-pub mod resources;
-pub mod row_lists;
-pub mod unique_names;
-pub mod validity;
+mod cell_checks;
+mod equality;
+mod faults;
+mod laws;
+mod part_changes;
+mod part_of_cells;
+mod parts;
+mod resource_changes;
+mod resources;
+mod row_lists;
+mod uniqueness;
+mod validity;
 
-pub use scim_cell::{atoms, cells, ids, places, row_checks, rows};
+pub use faults::{Fault, Invalid};
+pub use laws::{cells_are_listed, cells_stand_in_rows, parts_are_sound_rows, rows_determine_cells};
+pub use parts::Part;
+pub use resources::{Resource, location};
+pub use uniqueness::{UniqueName, known_text, unique_names};
+pub use validity::is_resource;

@@ -12,12 +12,8 @@ ghost use Rattle.scim_cell.specs.Rows as spec;
 use crate::faults::Fault;
 use crate::part_of_cells::rows_from;
 use crate::parts::Part;
-use scim_cell::atoms::Atom;
-use scim_cell::cells::Cell;
-use scim_cell::places::Place;
-use scim_cell::rows::{Field, Row};
-use scim_schema::characteristics::is_multi_valued;
-use scim_schema::{Leaf, Unit};
+use scim_cell::{Atom, Cell, Field, Place, Row};
+use scim_schema::{Leaf, Unit, is_multi_valued};
 use scim_text::NoMemory;
 use std::alloc::Global;
 

@@ -9,13 +9,8 @@ ghost use Rattle.scim_value.specs.code.Grouping.{grouped, joins};
 use crate::cell_checks::are_sorted_part_cells;
 use crate::faults::Fault;
 use crate::parts::Part;
-use scim_cell::cells::Cell;
-use scim_cell::ids::Id;
-use scim_cell::places::Place;
-use scim_cell::rows::{Field, Row};
-use scim_schema::Kind;
-use scim_schema::characteristics::is_multi_valued;
-use scim_schema::units::unit_of;
+use scim_cell::{Cell, Field, Id, Place, Row};
+use scim_schema::{Kind, is_multi_valued, unit_of};
 use scim_text::NoMemory;
 use std::alloc::Global;
 

@@ -15,13 +15,8 @@ ghost use Rattle.scim_value.specs.Changes.{restricted_part, with_values};
 ghost use Rattle.scim_value.specs.Positions.{HasPositions};
 
 use crate::row_lists::{copy_rows, kept_rows};
-use scim_cell::atoms::Atom;
-use scim_cell::ids::Id;
-use scim_cell::places::compare_units;
-use scim_cell::rows::{Row, RowTest};
-use scim_schema::characteristics::is_multi_valued;
-use scim_schema::units::unit_of;
-use scim_schema::{Attribute, Kind, Leaf, Unit};
+use scim_cell::{Atom, Id, Row, RowTest, compare_units};
+use scim_schema::{Attribute, Kind, Leaf, Unit, is_multi_valued, unit_of};
 use scim_text::NoMemory;
 use std::alloc::Global;
 use std::marker::Model;

@@ -8,7 +8,7 @@ ghost use Rattle.scim_value.specs.Resource.{IsResource, HasBase};
 
 use crate::faults::Fault;
 use crate::resources::Resource;
-use scim_cell::atoms::Atom;
+use scim_cell::Atom;
 use scim_schema::Leaf;
 use std::alloc::Global;
 

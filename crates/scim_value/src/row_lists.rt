@@ -2,7 +2,7 @@
 ghost use Rattle.std.specs.Prelude.{◌≡◌, IfOk};
 ghost use Rattle.scim_cell.specs.Rows as spec;
 
-use scim_cell::rows::{Row, RowTest};
+use scim_cell::{Row, RowTest};
 use scim_text::NoMemory;
 use std::alloc::Global;
 

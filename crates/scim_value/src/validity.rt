@@ -5,23 +5,21 @@ ghost use Rattle.std.specs.Option.{option_copied};
 ghost use Rattle.scim_schema.specs.Names.{endpoint};
 ghost use Rattle.scim_schema.specs.Units.{leaf_at, whole};
 ghost use Rattle.scim_cell.specs.declared.atoms.Atom.TheVariants.{Text};
-ghost use Rattle.scim_cell.specs.Rows.{values, rows};
+ghost use Rattle.scim_cell.specs.Rows.{values, rows, is_primary};
 ghost use Rattle.scim_value.specs.Resource as spec;
-ghost use Rattle.scim_value.specs.Resource.{first_at, IsResource, IsIdentified, HasMeta, HasBase, IsNamed, MembersHaveValues, HasOnePrimary, HasFewValues, IsShort, MayBeKept};
+ghost use Rattle.scim_value.specs.Resource.{first_at, IsResource, IsIdentified, HasMeta, HasBase, IsNamed, MembersHaveValues, HasAtMostOnePrimary, HasFewValues, IsShort, MayBeKept};
 
 use crate::parts::Part;
-use scim_cell::atoms::Atom;
-use scim_cell::ids::Id;
-use scim_cell::rows::{Field, Row};
-use scim_schema::characteristics::{Mutability, characteristics_of};
-use scim_schema::table::attributes;
-use scim_schema::{Attribute, Kind, Leaf, SubAttribute, Unit};
+use scim_cell::{Atom, Field, Id, Row};
+use scim_schema::{
+    Attribute, Kind, Leaf, Mutability, SubAttribute, Unit, attributes, characteristics_of,
+};
 
 /// How many values a multi-valued attribute of a resource may have.
-pub const MOST_VALUES: usize = 10_000;
+const MOST_VALUES: usize = 10_000;
 
 /// How many bytes a text of a resource may have, `meta.location` aside.
-pub const LONGEST_TEXT: usize = 65_536;
+const LONGEST_VALUE: usize = 65_536;
 
 /// Whether the part is a resource, below whatever base.
 ///
@@ -29,7 +27,7 @@ pub const LONGEST_TEXT: usize = 65_536;
 /// that isn't empty (section 4.1.1) and a group a `displayName` (section 4.2), each member has a
 /// `value` (section 4.2), no attribute has two values whose `primary` is true (section 2.4), nothing
 /// of `groups` or of a writeOnly attribute is kept (sections 4.1.2 and 7), and the limits
-/// `MOST_VALUES` and `LONGEST_TEXT` are kept to. Takes no memory.
+/// `MOST_VALUES` and `LONGEST_VALUE` are kept to. Takes no memory.
 pub fn is_resource(part: &Part) -> bool
     ensures { IsTrue result ↔ IsResource part.now }
 {
@@ -38,7 +36,7 @@ pub fn is_resource(part: &Part) -> bool
         && is_located(part)
         && is_named(part)
         && members_have_values(part)
-        && has_one_primary(part)
+        && has_at_most_one_primary(part)
         && has_few_values(part)
         && may_all_be_kept(part.kind(), part.rows())
 }
@@ -150,31 +148,22 @@ fn members_have_values(part: &Part) -> bool
         })
 }
 
-fn is_primary(value: &Row) -> bool
-    ensures { result ≡ spec.is_primary value.now }
-{
-    match value.get(Leaf::of(value.unit().attribute, SubAttribute::Primary)) {
-        Some(Atom::Truth(primary)) => *primary,
-        _ => false,
-    }
-}
-
-fn has_one_primary_in(part: &Part, attribute: Attribute) -> bool
-    ensures { IsTrue result ↔ (count_by spec.is_primary (values (whole attribute) (rows part.now)) ≤ 1) }
+fn has_at_most_one_primary_in(part: &Part, attribute: Attribute) -> bool
+    ensures { IsTrue result ↔ (count_by is_primary (values (whole attribute) (rows part.now)) ≤ 1) }
 {
     part.values(Unit::whole(attribute))
         .iter()
-        .filter(|value| is_primary(value))
+        .filter(|value| value.is_primary())
         .count()
         <= 1
 }
 
-fn has_one_primary(part: &Part) -> bool
-    ensures { IsTrue result ↔ HasOnePrimary part.now }
+fn has_at_most_one_primary(part: &Part) -> bool
+    ensures { IsTrue result ↔ HasAtMostOnePrimary part.now }
 {
     attributes(part.kind())
         .iter()
-        .all(|attribute| has_one_primary_in(part, *attribute))
+        .all(|attribute| has_at_most_one_primary_in(part, *attribute))
 }
 
 fn has_few_values_in(part: &Part, attribute: Attribute) -> bool
@@ -195,7 +184,7 @@ fn is_short(atom: &Atom) -> bool
     ensures { IsTrue result ↔ IsShort atom.now }
 {
     match atom {
-        Atom::Text(text) => text.as_str().len() <= LONGEST_TEXT,
+        Atom::Text(text) => text.as_str().len() <= LONGEST_VALUE,
         _ => true,
     }
 }

@@ -7,6 +7,7 @@ use Rattle.std.proofs.lemmas.List.{map-append}
 use Rattle.std.proofs.lemmas.List.Elements.{All-head, All-tail, All-map, All-filter, All-weaker, filter-append, filter_passes}
 use Rattle.std.proofs.lemmas.List.Kept.{AllPairs-filter}
 use Rattle.std.specs.Ordering.{is_lt, is_eq, is_gt}
+use Rattle.std.proofs.Math.Bool.{and-false}
 use Rattle.std.proofs.Math.Path.{fun_ext}
 use denote.Enum.Bare.{sameb, true_same}
 use denote.Ref.{Bor}
@@ -14,31 +15,24 @@ use Rattle.scim_schema.specs.contracts.Kind.{the_type as the_kind}
 use Rattle.scim_schema.specs.declared.Kind.{Kind}
 use Rattle.scim_schema.specs.declared.Kind.TheVariants.{User}
 use Rattle.scim_schema.specs.declared.Leaf.{Leaf}
-use Rattle.scim_schema.specs.declared.Op.TheVariants.{Read}
 use Rattle.scim_schema.specs.declared.Unit.{Unit as AttributeUnit}
 use Rattle.scim_schema.specs.declared.Attribute.TheVariants.{Id, DisplayName, Groups, Members}
 use Rattle.scim_schema.specs.declared.SubAttribute.TheVariants.{Value}
 use Rattle.scim_schema.specs.Characteristics.{is_multi_valued}
-use Rattle.scim_schema.specs.Units.{simple, leaf_at, whole, unit_of}
-use Rattle.scim_schema.proofs.LeafLemmas.{leaf_one}
+use Rattle.scim_schema.specs.Units.{simple, leaf_at, whole, unit_of, is_same_leaf}
+use Rattle.scim_schema.proofs.Facts.{leaf_one}
 use Rattle.scim_cell.specs.declared.rows.Field.{Field}
 use Rattle.scim_cell.specs.Content.{Content, IsPart}
 use Rattle.scim_cell.specs.Ids.{id_text}
 use Rattle.scim_cell.specs.Place.{unit_cmp}
-use Rattle.scim_cell.specs.Rows.{Row, Test, rows, values, put_values, restricted_row, restricted, content, is_leaf, atom_in, atom_at, cell_at, is_empty, has_fields, IsSoundField, IsSoundRow, AreValues}
-use Rattle.scim_cell.proofs.FieldLemmas.{sound-AreRising}
-use Rattle.scim_value.proofs.OfLemmas.{sound_part}
-use Rattle.scim_value.proofs.OrderLemmas.{unit_same}
-use Rattle.scim_cell.proofs.FieldLemmas.{PartsRise}
-use Rattle.scim_value.proofs.SoundLemmas.{restricted_sound}
-use Rattle.scim_value.proofs.TieLemmas.{rows_content}
+use Rattle.scim_cell.specs.Rows.{Row, Test, rows, values, put_values, restricted_row, restricted, content, atom_in, atom_at, cell_at, is_empty, has_fields, IsSoundField, IsSoundRow, AreValues}
+use Rattle.scim_cell.proofs.Facts.{sound-AreRising, PartsRise}
+use Rattle.scim_value.proofs.Facts.{sound_part, unit_same, restricted_sound, rows_content}
 use Rattle.scim_policy.specs.declared.rules.Decision.{Decision}
-use Rattle.scim_policy.specs.Rules.{Rule}
-use Rattle.scim_policy.specs.Decide.{decide}
 use Rattle.scim_view.specs.declared.groups.SeenGroup.{SeenGroup}
-use Rattle.scim_view.specs.View.{is_write_only, may_be_seen, visible_by, view_by}
+use Rattle.scim_view.specs.View.{Viewer, read_decision, is_write_only, may_be_seen, visible_by, view_by}
 use Rattle.scim_view.specs.Groups as spec
-use Rattle.scim_view.specs.Groups.{is_text, lists, and_those, seen, text_in, display_of, membership_of, membership, membership_at, id_cmp, memberships}
+use Rattle.scim_view.specs.Groups.{is_text, lists, seen, text_in, display_of, membership_of, membership, membership_at, id_cmp, memberships}
 use Rattle.scim_view.specs.code.Memberships.{kept_of, kept_where_shown, kept_where_listed, kept_groups, kept_cmp}
 use Rattle.scim_view.specs.Sorted.{sorted_by}
 use Rattle.scim_view.proofs.SortLemmas.{sorted_by-map}
@@ -80,12 +74,12 @@ restricted-put_values keeps u vs rs =
 values-restricted : (keeps : Test) (u : AttributeUnit) (rs : List Row) → values u (restricted keeps rs) ≡ restricted keeps (values u rs)
 values-restricted keeps u rs = sym (restricted_filter keeps (λ (v : AttributeUnit). is_eq (unit_cmp v u)) rs)
 
--- the atom of a leaf among the fields that are kept
-kept_atom : (keep : Leaf → Bool) (l : Leaf) (fs : List Field) → keep l ≡ true → atom_in l (filter (λ (f : Field). keep f.leaf) fs) ≡ atom_in l fs
-kept_atom keep l [] h = refl
-kept_atom keep l (f ∷ fs) h =
-    let ih = kept_atom keep l fs h in
-    elim (cases_Bool (is_leaf l f.leaf)) [
+-- the atom of a leaf among the fields that pass a test
+passed_atom : (keep : Leaf → Bool) (l : Leaf) (fs : List Field) → keep l ≡ true → atom_in l (filter (λ (f : Field). keep f.leaf) fs) ≡ atom_in l fs
+passed_atom keep l [] h = refl
+passed_atom keep l (f ∷ fs) h =
+    let ih = passed_atom keep l fs h in
+    elim (cases_Bool (is_same_leaf f.leaf l)) [
       | inl t ↦
           let k : keep f.leaf ≡ true = ap keep (leaf_one f.leaf l t) ∙ h in
           rw (k, t) refl
@@ -96,7 +90,7 @@ dropped_atom : (keep : Leaf → Bool) (l : Leaf) (fs : List Field) → keep l �
 dropped_atom keep l [] h = refl
 dropped_atom keep l (f ∷ fs) h =
     let ih = dropped_atom keep l fs h in
-    elim (cases_Bool (is_leaf l f.leaf)) [
+    elim (cases_Bool (is_same_leaf f.leaf l)) [
       | inl t ↦
           let k : keep f.leaf ≡ false = ap keep (leaf_one f.leaf l t) ∙ h in
           rw k ih
@@ -108,12 +102,12 @@ no_atom l [] h = refl
 no_atom l (f ∷ fs) h = cc
 
 -- a text among the rows that are left
-text_kept : (keep : Leaf → Bool) (l : Leaf) (t : List ℕ) (rs : List Row) → keep l ≡ true
+text_passed : (keep : Leaf → Bool) (l : Leaf) (t : List ℕ) (rs : List Row) → keep l ≡ true
     → list_any (λ (m : Row). is_text t (atom_in l m.fields)) (restricted (λ r k. keep k) rs) ≡ list_any (λ (m : Row). is_text t (atom_in l m.fields)) rs
-text_kept keep l t [] h = refl
-text_kept keep l t (r ∷ rs) h =
-    let ih = text_kept keep l t rs h in
-    let own = kept_atom keep l r.fields h in
+text_passed keep l t [] h = refl
+text_passed keep l t (r ∷ rs) h =
+    let ih = text_passed keep l t rs h in
+    let own = passed_atom keep l r.fields h in
     elim (cases_Bool (has_fields (restricted_row (λ s k. keep k) r))) [
       | inl f ↦ rw f (λ i. is_text t (own i) || ih i)
       | inr f ↦
@@ -134,7 +128,7 @@ text_dropped keep l t (r ∷ rs) h =
 
 text_left : (keep : Leaf → Bool) (l : Leaf) (t : List ℕ) (rs : List Row)
     → list_any (λ (m : Row). is_text t (atom_in l m.fields)) (restricted (λ r k. keep k) rs) ≡ keep l && list_any (λ (m : Row). is_text t (atom_in l m.fields)) rs
-text_left keep l t rs = elim (cases_Bool (keep l)) [ inl h ↦ rw h (text_kept keep l t rs h) | inr h ↦ rw h (text_dropped keep l t rs h) ]
+text_left keep l t rs = elim (cases_Bool (keep l)) [ inl h ↦ rw h (text_passed keep l t rs h) | inr h ↦ rw h (text_dropped keep l t rs h) ]
 
 -- the rows of what is visible
 pub visible_rows : (d : Leaf → Decision) (c : Content) → IsPart c → rows (visible_by d c) ≡ restricted (may_be_seen d c.kind) (rows c)
@@ -162,24 +156,24 @@ one_leaf l m n e =
     let q : m.sub_attribute ≡ l.sub_attribute = rw (k, n) at p in
     λ i. record { attribute = a i; sub_attribute = q i }
 
-kept_some : (keep : Leaf → Bool) (l : Leaf) (fs : List Field) → keep l ≡ true → All (λ f. f.leaf ≡ l) fs → not (is_empty fs) ≡ true → not (is_empty (filter (λ (f : Field). keep f.leaf) fs)) ≡ true
-kept_some keep l [] h a full = full
-kept_some keep l (f ∷ fs) h a full =
+passed_some : (keep : Leaf → Bool) (l : Leaf) (fs : List Field) → keep l ≡ true → All (λ f. f.leaf ≡ l) fs → not (is_empty fs) ≡ true → not (is_empty (filter (λ (f : Field). keep f.leaf) fs)) ≡ true
+passed_some keep l [] h a full = full
+passed_some keep l (f ∷ fs) h a full =
     let k : keep f.leaf ≡ true = ap keep (All-head (λ (f : Field). f.leaf ≡ l) f fs a) ∙ h in
     rw k refl
 
--- the first cell of a leaf that is a unit of its own, where it is kept and where it isn't
-kept_cell : (kind : Kind) (keep : Leaf → Bool) (l : Leaf) (rs : List Row) → is_multi_valued l.attribute ≡ false → keep l ≡ true → All (λ r. has_fields r ≡ true) rs → All (IsSoundRow kind) rs
+-- the first cell of a leaf that is a unit of its own, where it passes a test and where it doesn't
+passed_cell : (kind : Kind) (keep : Leaf → Bool) (l : Leaf) (rs : List Row) → is_multi_valued l.attribute ≡ false → keep l ≡ true → All (λ r. has_fields r ≡ true) rs → All (IsSoundRow kind) rs
     → atom_at l zero (restricted (λ r k. keep k) (values (unit_of l) rs)) ≡ atom_at l zero (values (unit_of l) rs)
-kept_cell kind keep l [] n h full own = refl
-kept_cell kind keep l (r ∷ rs) n h full own =
+passed_cell kind keep l [] n h full own = refl
+passed_cell kind keep l (r ∷ rs) n h full own =
     let first = All-head (IsSoundRow kind) r rs own in
     elim (cases_Bool (is_eq (unit_cmp r.unit (unit_of l)))) [
       | inl t ↦
           let one : All (λ f. f.leaf ≡ l) r.fields = All-weaker (IsSoundField kind r.unit) (λ f. f.leaf ≡ l) (λ f s. one_leaf l f.leaf n (s.0 ∙ unit_same r.unit (unit_of l) t)) r.fields first.own in
-          let some : has_fields (restricted_row (λ s k. keep k) r) ≡ true = kept_some keep l r.fields h one (All-head (λ (r : Row). has_fields r ≡ true) r rs full) in
-          rw (t, some) (kept_atom keep l r.fields h)
-      | inr t ↦ rw t (kept_cell kind keep l rs n h (All-tail (λ (r : Row). has_fields r ≡ true) r rs full) (All-tail (IsSoundRow kind) r rs own))
+          let some : has_fields (restricted_row (λ s k. keep k) r) ≡ true = passed_some keep l r.fields h one (All-head (λ (r : Row). has_fields r ≡ true) r rs full) in
+          rw (t, some) (passed_atom keep l r.fields h)
+      | inr t ↦ rw t (passed_cell kind keep l rs n h (All-tail (λ (r : Row). has_fields r ≡ true) r rs full) (All-tail (IsSoundRow kind) r rs own))
     ]
 
 dropped_cell : (keep : Leaf → Bool) (l : Leaf) (rs : List Row) → keep l ≡ false → atom_at l zero (restricted (λ r k. keep k) rs) ≡ None
@@ -199,7 +193,7 @@ visible_name d g valid =
 pub shown_name : (d : Leaf → Decision) (g : Content) → IsPart g → shows d g.kind (simple DisplayName) ≡ true → display_of (visible_by d g) ≡ display_of g
 shown_name d g valid h =
     let sound = sound_part g valid in
-    visible_name d g valid ∙ ap text_in (kept_cell g.kind (shows d g.kind) (simple DisplayName) (rows g) refl h sound.full sound.own)
+    visible_name d g valid ∙ ap text_in (passed_cell g.kind (shows d g.kind) (simple DisplayName) (rows g) refl h sound.full sound.own)
 
 pub hidden_name : (d : Leaf → Decision) (g : Content) → IsPart g → shows d g.kind (simple DisplayName) ≡ false → display_of (visible_by d g) ≡ None
 hidden_name d g valid h = visible_name d g valid ∙ ap text_in (dropped_cell (shows d g.kind) (simple DisplayName) (values (unit_of (simple DisplayName)) (rows g)) h)
@@ -221,22 +215,12 @@ kept_listed d id g valid h =
       | inr unseen ↦ rw unseen refl
     ]
 
-and_false : (b : Bool) → b && false ≡ false
-and_false true = refl
-and_false false = refl
-
 -- and of one that doesn't list it nothing
 pub kept_unlisted : (d : Leaf → Decision) (id : List ℕ) (g : Content) → IsPart g → lists id g ≡ false → kept_where_listed id (view_by d g) ≡ None
 unfolding view_by
 kept_unlisted d id g valid h =
-    let unlisted : lists id (visible_by d g) ≡ false = lists_visible d id g valid ∙ ap (λ (b : Bool). shows d g.kind (leaf_at Members Value) && b) h ∙ and_false _ in
+    let unlisted : lists id (visible_by d g) ≡ false = lists_visible d id g valid ∙ ap (λ (b : Bool). shows d g.kind (leaf_at Members Value) && b) h ∙ and-false _ in
     elim (cases_Bool (d (simple Id)).allow) [ inl seen ↦ rw (seen, unlisted) refl | inr unseen ↦ rw unseen refl ]
-
--- what is kept of groups, one before others
-pub kept_first : (id : List ℕ) (o : Option Content) (gs : List Content)
-    → map kept_of (filter (lists id) (and_those o gs)) ≡ and_those (kept_where_listed id o) (map kept_of (filter (lists id) gs))
-kept_first id None gs = refl
-kept_first id (Some g) gs = elim (cases_Bool (lists id g)) [ inl t ↦ rw t refl | inr n ↦ rw n refl ]
 
 -- a value of `groups` is sound, and so is what is left of it
 membership_sound : (base id : List ℕ) (name : Option (List ℕ)) → IsSoundRow User (membership_of base id name)
@@ -298,16 +282,16 @@ pub map_kept_sorted : (base : List ℕ) (gs : List Content) → map (λ (g : See
 map_kept_sorted base gs = ap (map (λ (g : SeenGroup). membership_of base g.id g.display)) (sorted_by-map kept_cmp kept_of gs) ∙ map_kept base (sorted_by id_cmp gs)
 
 -- what is kept of groups makes what is visible with them
-pub kept_visible : (d : Leaf → Decision) (policy : List Rule) (client base : List ℕ) (gs : List Content) (c : Content)
-    → spec.visible_with d (map (λ (g : SeenGroup). membership_of base g.id g.display) (sorted_by kept_cmp (kept_groups policy client gs c))) c ≡ spec.visible_with d (memberships base (seen policy client gs) c.id) c
-kept_visible d policy client base gs c = elim (cases_Bool (sameb the_kind c.kind User)) [
-  | inl t ↦ ap (λ (ms : List Row). spec.visible_with d ms c) (rw t (map_kept_sorted base (filter (lists c.id) (seen policy client gs))))
+pub kept_visible : (d : Leaf → Decision) (v : Viewer) (gs : List Content) (c : Content)
+    → spec.visible_with d (map (λ (g : SeenGroup). membership_of v.base g.id g.display) (sorted_by kept_cmp (kept_groups v gs c))) c ≡ spec.visible_with d (memberships v.base (seen v gs) c.id) c
+kept_visible d v gs c = elim (cases_Bool (sameb the_kind c.kind User)) [
+  | inl t ↦ ap (λ (ms : List Row). spec.visible_with d ms c) (rw t (map_kept_sorted v.base (filter (lists c.id) (seen v gs))))
   | inr n ↦ other_visible d _ c n ∙ sym (other_visible d _ c n)
 ]
 
 -- decisions that are those of the policy show the same
-pub same_with_groups : (d : Leaf → Decision) (policy : List Rule) (client base : List ℕ) (gs : List Content) (c : Content) → ((l : Leaf) → d l ≡ decide policy client Read c l)
-    → spec.visible_with d (map (λ (g : SeenGroup). membership_of base g.id g.display) (sorted_by kept_cmp (kept_groups policy client gs c))) c ≡ spec.with_groups policy client base gs c
+pub same_with_groups : (d : Leaf → Decision) (v : Viewer) (gs : List Content) (c : Content) → ((l : Leaf) → d l ≡ read_decision v c l)
+    → spec.visible_with d (map (λ (g : SeenGroup). membership_of v.base g.id g.display) (sorted_by kept_cmp (kept_groups v gs c))) c ≡ spec.with_groups v gs c
 unfolding spec.with_groups
-same_with_groups d policy client base gs c same =
-    kept_visible d policy client base gs c ∙ ap (λ (f : Leaf → Decision). spec.visible_with f (memberships base (seen policy client gs) c.id) c) (fun_ext same)
+same_with_groups d v gs c same =
+    kept_visible d v gs c ∙ ap (λ (f : Leaf → Decision). spec.visible_with f (memberships v.base (seen v gs) c.id) c) (fun_ext same)

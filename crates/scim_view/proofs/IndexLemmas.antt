@@ -11,12 +11,11 @@ use Rattle.std.specs.Slice.{IsItemAt}
 use Rattle.std.proofs.lemmas.Option.{slice_get_past, slice_get-get_or, slice_get_within, get_or_from_slice_get}
 use Rattle.scim_cell.specs.Content.{Content}
 use Rattle.scim_cell.specs.Ids.{IsId}
-use Rattle.scim_policy.specs.Rules.{Rule}
 use Rattle.scim_view.specs.declared.groups.SeenGroup.{SeenGroup}
 use Rattle.scim_view.specs.declared.index.GroupIndex.{GroupIndex}
-use Rattle.scim_view.specs.View.{view}
+use Rattle.scim_view.specs.View.{Viewer, view}
 use Rattle.scim_view.specs.Groups.{lists, and_those, seen}
-use Rattle.scim_view.specs.code.Index.{ends_in, noted, at_positions, positions_of, Indexes, positions_from, Holds}
+use Rattle.scim_view.specs.code.Index.{ends_in, noted, at_positions, positions_of, Indexes, positions_from, IsMadeOf}
 use Rattle.scim_view.specs.code.Memberships.{kept_of}
 
 -- an element that was added at the end stands there
@@ -94,13 +93,13 @@ given id xs (g ∷ gs) =
     ]
 
 -- an index that holds groups gives those that list an id
-pub held : (gs : List Content) (index : GroupIndex) → Holds gs index → Indexes gs index
+pub held : (gs : List Content) (index : GroupIndex) → IsMadeOf gs index → Indexes gs index
 held gs index h id valid = rw (h.groups, h.positions id valid) (given id [] gs)
 
 -- an index with a group more
-pub added : (gs : List Content) (g : Content) (old new : GroupIndex) → Holds gs old → new.groups.items ≡ old.groups.items ++ kept_of g ∷ []
+pub added : (gs : List Content) (g : Content) (old new : GroupIndex) → IsMadeOf gs old → new.groups.items ≡ old.groups.items ++ kept_of g ∷ []
     → ((id : List ℕ) → IsId id → positions_of new id ≡ (if lists id g then noted (length old.groups.items) (positions_of old id) else positions_of old id))
-    → Holds (gs ++ g ∷ []) new
+    → IsMadeOf (gs ++ g ∷ []) new
 added gs g old new h groups positions = record {
   groups = groups ∙ ap (λ xs. xs ++ kept_of g ∷ []) h.groups ∙ sym (map_push kept_of gs g);
   positions = λ id valid.
@@ -115,9 +114,9 @@ pub and_those_append : {X : Type 0} (o : Option X) (xs ys : List X) → and_thos
 and_those_append None xs ys = refl
 and_those_append (Some x) xs ys = refl
 
-pub seen_more : (policy : List Rule) (client : List ℕ) (gs : List Content) (g : Content) → seen policy client (gs ++ g ∷ []) ≡ seen policy client gs ++ and_those (view policy client g) []
-seen_more policy client [] g = refl
-seen_more policy client (h ∷ gs) g = ap (and_those (view policy client h)) (seen_more policy client gs g) ∙ and_those_append (view policy client h) (seen policy client gs) (and_those (view policy client g) [])
+pub seen_more : (v : Viewer) (gs : List Content) (g : Content) → seen v (gs ++ g ∷ []) ≡ seen v gs ++ and_those (view v g) []
+seen_more v [] g = refl
+seen_more v (h ∷ gs) g = ap (and_those (view v h)) (seen_more v gs g) ∙ and_those_append (view v h) (seen v gs) (and_those (view v g) [])
 
 -- one position more
 pub at_positions_more : {X : Type 0} (xs : List X) (ps : List ℕ) (p : ℕ) → at_positions xs (ps ++ p ∷ []) ≡ at_positions xs ps ++ and_those (slice_get xs p) []

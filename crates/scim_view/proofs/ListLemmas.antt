@@ -7,17 +7,14 @@ use Rattle.std.proofs.Math.Path.{fun_ext}
 use denote.Ref.{Bor}
 use Rattle.scim_schema.specs.declared.Leaf.{Leaf}
 use Rattle.scim_schema.specs.declared.Attribute.TheVariants.{Id}
-use Rattle.scim_schema.specs.declared.Op.TheVariants.{Read}
 use Rattle.scim_schema.specs.Units.{simple}
 use Rattle.scim_cell.specs.Content.{Content}
 use Rattle.scim_cell.specs.Ids.{IsId}
 use Rattle.scim_cell.specs.Rows.{Row}
 use Rattle.scim_policy.specs.declared.rules.Decision.{Decision}
-use Rattle.scim_policy.specs.Rules.{Rule}
-use Rattle.scim_policy.specs.Decide.{decide}
 use Rattle.scim_view.specs.declared.groups.SeenGroup.{SeenGroup}
 use Rattle.scim_view.specs.declared.index.GroupIndex.{GroupIndex}
-use Rattle.scim_view.specs.View.{sees, view, view_by, visible_by}
+use Rattle.scim_view.specs.View.{Viewer, read_decision, sees, view, view_by, visible_by}
 use Rattle.scim_view.specs.Groups.{lists, and_those, seen, membership_of, membership_at, memberships, rows_with, visible_with, with_groups, view_with_groups, views}
 use Rattle.scim_view.specs.code.Index.{groups_of, Indexes}
 use Rattle.scim_view.specs.code.Memberships.{kept_cmp}
@@ -39,39 +36,39 @@ memberships_given gs index id base items indexes valid given =
     ∙ map_kept_sorted base (filter (lists id) gs)
 
 -- the groups that a client sees, with one more that it sees, and one that it doesn't
-pub seen_one : (d : Leaf → Decision) (policy : List Rule) (client : List ℕ) (gs : List Content) (g : Content) → ((l : Leaf) → d l ≡ decide policy client Read g l)
-    → (d (simple Id)).allow ≡ true → seen policy client (gs ++ g ∷ []) ≡ seen policy client gs ++ visible_by d g ∷ []
+pub seen_one : (d : Leaf → Decision) (v : Viewer) (gs : List Content) (g : Content) → ((l : Leaf) → d l ≡ read_decision v g l)
+    → (d (simple Id)).allow ≡ true → seen v (gs ++ g ∷ []) ≡ seen v gs ++ visible_by d g ∷ []
 unfolding view_by
-seen_one d policy client gs g same allowed =
-    let is : view policy client g ≡ Some (visible_by d g) = sym (same_view d policy client g same) ∙ rw allowed refl in
-    seen_more policy client gs g ∙ ap (λ (o : Option Content). seen policy client gs ++ and_those o []) is
+seen_one d v gs g same allowed =
+    let is : view v g ≡ Some (visible_by d g) = sym (same_view d v g same) ∙ rw allowed refl in
+    seen_more v gs g ∙ ap (λ (o : Option Content). seen v gs ++ and_those o []) is
 
-pub seen_none : (d : Leaf → Decision) (policy : List Rule) (client : List ℕ) (gs : List Content) (g : Content) → ((l : Leaf) → d l ≡ decide policy client Read g l)
-    → (d (simple Id)).allow ≡ false → seen policy client (gs ++ g ∷ []) ≡ seen policy client gs
+pub seen_none : (d : Leaf → Decision) (v : Viewer) (gs : List Content) (g : Content) → ((l : Leaf) → d l ≡ read_decision v g l)
+    → (d (simple Id)).allow ≡ false → seen v (gs ++ g ∷ []) ≡ seen v gs
 unfolding view_by
-seen_none d policy client gs g same denied =
-    let is : view policy client g ≡ None = sym (same_view d policy client g same) ∙ rw denied refl in
-    seen_more policy client gs g ∙ ap (λ (o : Option Content). seen policy client gs ++ and_those o []) is ∙ append-nil (seen policy client gs)
+seen_none d v gs g same denied =
+    let is : view v g ≡ None = sym (same_view d v g same) ∙ rw denied refl in
+    seen_more v gs g ∙ ap (λ (o : Option Content). seen v gs ++ and_those o []) is ∙ append-nil (seen v gs)
 
 -- the views of resources, with one more
-pub views_more : (policy : List Rule) (client base : List ℕ) (groups cs : List Content) (c : Content)
-    → views policy client base groups (cs ++ c ∷ []) ≡ views policy client base groups cs ++ and_those (view_with_groups policy client base groups c) []
-views_more policy client base groups [] c = refl
-views_more policy client base groups (b ∷ cs) c =
-    ap (and_those (view_with_groups policy client base groups b)) (views_more policy client base groups cs c)
-    ∙ and_those_append (view_with_groups policy client base groups b) (views policy client base groups cs) (and_those (view_with_groups policy client base groups c) [])
+pub views_more : (v : Viewer) (groups cs : List Content) (c : Content)
+    → views v groups (cs ++ c ∷ []) ≡ views v groups cs ++ and_those (view_with_groups v groups c) []
+views_more v groups [] c = refl
+views_more v groups (b ∷ cs) c =
+    ap (and_those (view_with_groups v groups b)) (views_more v groups cs c)
+    ∙ and_those_append (view_with_groups v groups b) (views v groups cs) (and_those (view_with_groups v groups c) [])
 
 -- decisions that are those of the policy give the client's view with groups
-pub unseen_with : (d : Leaf → Decision) (policy : List Rule) (client base : List ℕ) (groups : List Content) (c : Content) → ((l : Leaf) → d l ≡ decide policy client Read c l)
-    → (d (simple Id)).allow ≡ false → None ≡ view_with_groups policy client base groups c
+pub unseen_with : (d : Leaf → Decision) (v : Viewer) (groups : List Content) (c : Content) → ((l : Leaf) → d l ≡ read_decision v c l)
+    → (d (simple Id)).allow ≡ false → None ≡ view_with_groups v groups c
 unfolding sees
-unseen_with d policy client base groups c same denied =
-    let no : (decide policy client Read c (simple Id)).allow ≡ false = ap (λ (e : Decision). e.allow) (sym (same (simple Id))) ∙ denied in
+unseen_with d v groups c same denied =
+    let no : (read_decision v c (simple Id)).allow ≡ false = ap (λ (e : Decision). e.allow) (sym (same (simple Id))) ∙ denied in
     rw no refl
 
-pub seen_with : (d : Leaf → Decision) (policy : List Rule) (client base : List ℕ) (groups : List Content) (c : Content) (ms : List Row) → ((l : Leaf) → d l ≡ decide policy client Read c l)
-    → (d (simple Id)).allow ≡ true → rows_with ms c ≡ rows_with (memberships base (seen policy client groups) c.id) c → Some (visible_with d ms c) ≡ view_with_groups policy client base groups c
+pub seen_with : (d : Leaf → Decision) (v : Viewer) (groups : List Content) (c : Content) (ms : List Row) → ((l : Leaf) → d l ≡ read_decision v c l)
+    → (d (simple Id)).allow ≡ true → rows_with ms c ≡ rows_with (memberships v.base (seen v groups) c.id) c → Some (visible_with d ms c) ≡ view_with_groups v groups c
 unfolding sees visible_with with_groups
-seen_with d policy client base groups c ms same allowed beside =
-    let yes : (decide policy client Read c (simple Id)).allow ≡ true = ap (λ (e : Decision). e.allow) (sym (same (simple Id))) ∙ allowed in
-    rw (yes, beside) (ap (λ (f : Leaf → Decision). Some (visible_with f (memberships base (seen policy client groups) c.id) c)) (fun_ext same))
+seen_with d v groups c ms same allowed beside =
+    let yes : (read_decision v c (simple Id)).allow ≡ true = ap (λ (e : Decision). e.allow) (sym (same (simple Id))) ∙ allowed in
+    rw (yes, beside) (ap (λ (f : Leaf → Decision). Some (visible_with f (memberships v.base (seen v groups) c.id) c)) (fun_ext same))

@@ -14,17 +14,18 @@ use Rattle.scim_schema.specs.Units.{leaf_at, whole}
 use Rattle.scim_cell.specs.declared.atoms.Atom.TheVariants.{Text}
 use Rattle.scim_cell.specs.Content.{Content, IsPart}
 use Rattle.scim_cell.specs.Ids.{IsId, IsIdText, id_text}
-use Rattle.scim_cell.proofs.IdLemmas.{IsIdText-id_text, id_text-injective}
+use Rattle.scim_cell.proofs.Facts.{IsIdText-id_text, id_text-injective}
 use Rattle.scim_policy.specs.declared.rules.Decision.{Decision}
 use Rattle.scim_view.specs.View.{may_be_seen, visible_by}
 use Rattle.scim_view.specs.Groups.{is_text, lists}
-use Rattle.scim_view.specs.code.Index.{same_id, is_found}
+use Rattle.scim_cell.specs.Equality.{is_same_id}
+use Rattle.scim_view.specs.code.Index.{is_found}
 use Rattle.scim_view.proofs.GroupLemmas.{lists_visible}
 
 -- the text of an id is that of the id which it reads as
 pub text_of_found : (id other text : List ℕ) → IsId id → IsId other → text ≡ id_text other → is_text (id_text id) (Some (Text text)) ≡ is_found id (Some other)
 text_of_found id other text valid read is =
-    same_from_decides (pointwise nat_eq (id_text id) text) (same_id other id)
+    same_from_decides (pointwise nat_eq (id_text id) text) (is_same_id other id)
     (Decides-like (pointwise nat_eq (id_text id) text) (λ e. id_text-injective other id read valid (sym (e ∙ is))) (λ e. ap id_text (sym e) ∙ sym is) (bytes_eq-Decides (id_text id) text))
     (bytes_eq-Decides other id)
 

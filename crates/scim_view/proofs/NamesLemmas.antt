@@ -4,7 +4,8 @@ use Rattle.std.specs.Prelude.{◌||◌, Option, None, Some}
 use Rattle.std.specs.List.{list_any}
 use Rattle.std.proofs.lemmas.List.Folds.{list_any_more}
 use Rattle.scim_schema.specs.declared.schemas.Schema.{Schema}
-use Rattle.scim_view.specs.Names.{is_there, same_schema}
+use Rattle.scim_schema.specs.Schemas.{is_same_schema}
+use Rattle.scim_view.specs.Names.{is_there}
 
 -- of three tests the second holds of one thing more
 second_cases : (a old e own : Bool) → (a || (cond own true old || e)) ≡ ((a || (old || e)) || own)
@@ -34,10 +35,10 @@ no_more true = refl
 no_more false = refl
 
 -- an extension is named more
-pub third_more : (a s : Bool) (o : Option Schema) (old now : Schema → Bool) (x : Schema) → ((q : Schema) → now q ≡ cond (same_schema x q) true (old q))
-    → (a || (s || is_there now o)) ≡ ((a || (s || is_there old o)) || is_there (same_schema x) o)
+pub third_more : (a s : Bool) (o : Option Schema) (old now : Schema → Bool) (x : Schema) → ((q : Schema) → now q ≡ cond (is_same_schema x q) true (old q))
+    → (a || (s || is_there now o)) ≡ ((a || (s || is_there old o)) || is_there (is_same_schema x) o)
 third_more a s None old now x h = no_more (a || (s || false))
-third_more a s (Some q) old now x h = rw (h q) (third_cases a s (old q) (same_schema x q))
+third_more a s (Some q) old now x h = rw (h q) (third_cases a s (old q) (is_same_schema x q))
 
 -- what is named by one text more, and by another one
 pub both_more : (old one two now : Bool) → now ≡ ((old || one) || two) → now ≡ (old || (one || two))

@@ -9,7 +9,6 @@ use denote.Ref.{Bor}
 use Rattle.scim_schema.specs.contracts.Kind.{the_type as the_kind}
 use Rattle.scim_schema.specs.declared.Kind.TheVariants.{User, Group}
 use Rattle.scim_schema.specs.declared.Leaf.{Leaf}
-use Rattle.scim_schema.specs.declared.Op.TheVariants.{Read}
 use Rattle.scim_schema.specs.declared.Attribute.TheVariants.{DisplayName, Groups, Members}
 use Rattle.scim_schema.specs.declared.SubAttribute.{SubAttribute}
 use Rattle.scim_schema.specs.declared.SubAttribute.TheVariants.{Value, Reference, Display, TypeName}
@@ -22,10 +21,8 @@ use Rattle.scim_cell.specs.Ids.{id_text}
 use Rattle.scim_value.specs.Resource.{location}
 use Rattle.scim_cell.specs.Rows.{Row, rows, values, put_values, restricted, content, atom_in, cell_at}
 use Rattle.scim_policy.specs.declared.rules.Decision.{Decision}
-use Rattle.scim_policy.specs.Rules.{Rule}
-use Rattle.scim_policy.specs.Decide.{decide}
 use Rattle.scim_view.specs.declared.groups.SeenGroup.{SeenGroup}
-use Rattle.scim_view.specs.View.{may_be_seen, sees, view}
+use Rattle.scim_view.specs.View.{Viewer, read_decision, may_be_seen, sees, view}
 use Rattle.scim_view.specs.Sorted.{sorted_by}
 
 -- whether an atom is this text
@@ -43,9 +40,9 @@ and_those None xs = xs
 and_those (Some x) xs = x ∷ xs
 
 -- the groups that a client sees, each as it sees it
-abbrev pub seen : List Rule → List ℕ → List Content → List Content
-seen policy client [] = []
-seen policy client (g ∷ gs) = and_those (view policy client g) (seen policy client gs)
+abbrev pub seen : Viewer → List Content → List Content
+seen v [] = []
+seen v (g ∷ gs) = and_those (view v g) (seen v gs)
 
 -- the text of an atom, where it is one
 abbrev pub text_in : Option Atom → Option (List ℕ)
@@ -96,17 +93,14 @@ unfoldable pub visible_with : (Leaf → Decision) → List Row → Content → C
 visible_with decision ms c = content c.kind c.id (restricted (may_be_seen decision c.kind) (rows_with ms c))
 
 -- what the client may see of a resource with its groups, of those that it sees among these
-unfoldable pub with_groups : List Rule → List ℕ → List ℕ → List Content → Content → Content
-with_groups policy client base groups c =
-    visible_with (decide policy client Read c) (memberships base (seen policy client groups) c.id) c
+unfoldable pub with_groups : Viewer → List Content → Content → Content
+with_groups v groups c = visible_with (read_decision v c) (memberships v.base (seen v groups) c.id) c
 
 -- the same, where the client sees the resource
-abbrev pub view_with_groups : List Rule → List ℕ → List ℕ → List Content → Content → Option Content
-view_with_groups policy client base groups c =
-    if sees policy client c then Some (with_groups policy client base groups c) else None
+abbrev pub view_with_groups : Viewer → List Content → Content → Option Content
+view_with_groups v groups c = if sees v c then Some (with_groups v groups c) else None
 
 -- a client's view of resources: those that it sees, each as it may see it with its groups
-abbrev pub views : List Rule → List ℕ → List ℕ → List Content → List Content → List Content
-views policy client base groups [] = []
-views policy client base groups (c ∷ cs) =
-    and_those (view_with_groups policy client base groups c) (views policy client base groups cs)
+abbrev pub views : Viewer → List Content → List Content → List Content
+views v groups [] = []
+views v groups (c ∷ cs) = and_those (view_with_groups v groups c) (views v groups cs)

@@ -1,34 +1,18 @@
 -- What the texts of an attribute list name (RFC 7644 sections 3.9 and 3.10).
-use Rattle.std.specs.Prelude.{ℕ, Bool, false, ◌&&◌, ◌||◌, nat_le, List, length, Option, None, Some, option_map, unwrap_or, if◌then◌else◌}
+use Rattle.std.specs.Prelude.{ℕ, Bool, false, ◌&&◌, ◌||◌, List, Option, None, Some, option_map, unwrap_or}
 use Rattle.std.specs.HashSet.{contains}
-use Rattle.std.specs.Option.{option_eq}
-use denote.Enum.Bare.{sameb}
 use Rattle.scim_schema.specs.declared.Kind.{Kind}
 use Rattle.scim_schema.specs.declared.Attribute.{Attribute}
 use Rattle.scim_schema.specs.declared.Leaf.{Leaf}
 use Rattle.scim_schema.specs.declared.schemas.Schema.{Schema}
-use Rattle.scim_schema.specs.contracts.Attribute.{the_type as the_attribute}
-use Rattle.scim_schema.specs.contracts.SubAttribute.{the_type as the_sub_attribute}
-use Rattle.scim_schema.specs.contracts.schemas.Schema.{the_type as the_schema}
-use Rattle.scim_schema.specs.Schemas.{extension_of}
-use Rattle.scim_schema.specs.Units.{leaf_at}
-use Rattle.scim_filter.specs.declared.limits.TheConstants.{LONGEST_TEXT}
+use Rattle.scim_schema.specs.Schemas.{extension_of, is_same_schema}
+use Rattle.scim_schema.specs.Units.{leaf_at, is_same_attribute, is_same_leaf}
 use Rattle.scim_filter.specs.declared.tree.Meant.{Meant}
 use Rattle.scim_filter.specs.declared.tree.Meant.TheVariants.{Nothing, Attribute as AnAttribute, SubAttribute as ASubAttribute}
 use Rattle.scim_filter.specs.declared.tree.Path.{Path}
 use Rattle.scim_filter.specs.Spelled.{path_in}
 use Rattle.scim_path.specs.Paths.{extension_named}
 use Rattle.scim_view.specs.declared.names.Names.{Names}
-
--- whether two are one
-abbrev pub same_schema : Schema → Schema → Bool
-same_schema = sameb the_schema
-
-abbrev pub same_attribute : Attribute → Attribute → Bool
-same_attribute = sameb the_attribute
-
-abbrev pub same_leaf : Leaf → Leaf → Bool
-same_leaf l m = same_attribute l.attribute m.attribute && option_eq (sameb the_sub_attribute) l.sub_attribute m.sub_attribute
 
 -- whether there is something, of which the test holds
 abbrev pub is_there : {X : Type 0} → (X → Bool) → Option X → Bool
@@ -37,17 +21,17 @@ is_there test (Some x) = test x
 
 -- whether the attribute of the leaf belongs to the extension
 abbrev pub belongs_to : Schema → Leaf → Bool
-belongs_to s l = is_there (same_schema s) (extension_of l.attribute)
+belongs_to s l = is_there (is_same_schema s) (extension_of l.attribute)
 
 -- whether what a path means is the leaf, or the attribute that the leaf is of
 abbrev pub is_meant : Meant → Leaf → Bool
 is_meant Nothing l = false
-is_meant (AnAttribute a) l = same_attribute a l.attribute
-is_meant (ASubAttribute a b) l = same_leaf (leaf_at a b) l
+is_meant (AnAttribute a) l = is_same_attribute a l.attribute
+is_meant (ASubAttribute a b) l = is_same_leaf (leaf_at a b) l
 
--- what a text of at most 4,096 bytes that is a path means for a kind; any other text means nothing
+-- what a text that is a path means for a kind; any other text means nothing
 abbrev pub meant_by : Kind → List ℕ → Meant
-meant_by kind t = if nat_le (length t) LONGEST_TEXT then unwrap_or (option_map (λ (p : Path). p.meant) (path_in kind t)) Nothing else Nothing
+meant_by kind t = unwrap_or (option_map (λ (p : Path). p.meant) (path_in kind t)) Nothing
 
 -- whether a text names a leaf of a kind: it is the URN of the leaf's extension, or a path that means the leaf or its attribute
 abbrev pub names_leaf : Kind → List ℕ → Leaf → Bool
@@ -55,8 +39,8 @@ names_leaf kind t l = is_there (λ s. belongs_to s l) (extension_named kind t) |
 
 -- whether the extension of the attribute is named
 abbrev pub has_extension_of : Names → Attribute → Bool
-has_extension_of names a = is_there (contains same_schema names.extensions) (extension_of a)
+has_extension_of names a = is_there (contains is_same_schema names.extensions) (extension_of a)
 
 -- whether a leaf is named: its attribute is, the leaf itself, or its extension
 abbrev pub covers : Names → Leaf → Bool
-covers names l = contains same_attribute names.attributes l.attribute || (contains same_leaf names.sub_attributes l || has_extension_of names l.attribute)
+covers names l = contains is_same_attribute names.attributes l.attribute || (contains is_same_leaf names.sub_attributes l || has_extension_of names l.attribute)

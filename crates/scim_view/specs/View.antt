@@ -14,18 +14,33 @@ use Rattle.scim_cell.specs.Rows.{Test, rows, restricted, content}
 use Rattle.scim_policy.specs.declared.rules.Decision.{Decision}
 use Rattle.scim_policy.specs.Rules.{Rule}
 use Rattle.scim_policy.specs.Decide.{decide}
+use Rattle.scim_view.specs.declared.viewers.Viewer.{Viewer as ViewerInCode}
+
+-- for whom a resource is looked at: the rules of the policy, the name of the client, and the base of all locations
+pub record Viewer : Type 0 where
+  pub policy : List Rule
+  pub client : List ℕ
+  pub base : List ℕ
+
+-- the viewer that one in code stands for
+abbrev pub viewer_of : ViewerInCode → Viewer
+viewer_of v = record { policy = v.policy.now; client = v.client.now; base = v.base.now }
+
+-- what the policy decides on the client's reading of the leaf of the resource
+abbrev pub read_decision : Viewer → Content → Leaf → Decision
+read_decision v c l = decide v.policy v.client Read c l
 
 -- whether the client may read the leaf of the resource
-abbrev pub may_read : List Rule → List ℕ → Content → Leaf → Bool
-may_read policy client c l = (decide policy client Read c l).allow
+abbrev pub may_read : Viewer → Content → Leaf → Bool
+may_read v c l = (read_decision v c l).allow
 
 -- whether the leaf is never shown to anyone (RFC 7643 section 7, mutability)
 abbrev pub is_write_only : Kind → Leaf → Bool
 is_write_only kind l = sameb the_mutability (characteristics_of kind l).mutability WriteOnly
 
 -- whether the client sees that the resource is there: it may read its `id`
-unfoldable pub sees : List Rule → List ℕ → Content → Bool
-sees policy client c = may_read policy client c (simple Id)
+unfoldable pub sees : Viewer → Content → Bool
+sees v c = may_read v c (simple Id)
 
 -- the leaves of a kind that may be seen by these decisions on reading
 abbrev pub may_be_seen : (Leaf → Decision) → Kind → Test
@@ -40,9 +55,9 @@ unfoldable pub view_by : (Leaf → Decision) → Content → Option Content
 view_by decision c = if (decision (simple Id)).allow then Some (visible_by decision c) else None
 
 -- what the client may see of the resource
-unfoldable pub visible : List Rule → List ℕ → Content → Content
-visible policy client c = visible_by (decide policy client Read c) c
+unfoldable pub visible : Viewer → Content → Content
+visible v c = visible_by (read_decision v c) c
 
 -- the same, where the client sees the resource
-abbrev pub view : List Rule → List ℕ → Content → Option Content
-view policy client c = if sees policy client c then Some (visible policy client c) else None
+abbrev pub view : Viewer → Content → Option Content
+view v c = if sees v c then Some (visible v c) else None

@@ -5,23 +5,21 @@ ghost use Rattle.std.specs.List.{list_any};
 ghost use Rattle.scim_schema.specs.Units.{whole, leaf_at};
 ghost use Rattle.scim_cell.specs.Ids.{id_text};
 ghost use Rattle.scim_cell.specs.Rows.{rows, values, atom_in, restricted};
-ghost use Rattle.scim_policy.specs.code.Table.{decision};
+ghost use Rattle.scim_policy.specs.Table.{decision};
 ghost use Rattle.scim_view.specs.View as seeing;
-ghost use Rattle.scim_view.specs.View.{visible_by};
+ghost use Rattle.scim_view.specs.View.{viewer_of, visible_by};
 ghost use Rattle.scim_view.specs.code.Memberships as kept;
 ghost use Rattle.scim_view.specs.Sorted.{sorted_by};
 ghost use Rattle.scim_view.specs.Groups as spec;
 
 use crate::memberships::membership;
+use crate::viewers::Viewer;
 use crate::views::{MayBeSeen, visible_by};
-use scim_cell::atoms::{Atom, Text};
-use scim_cell::ids::Id;
-use scim_cell::rows::Row;
-use scim_policy::{Decisions, Policy};
-use scim_schema::{Attribute, Kind, Leaf, Op, SubAttribute, Unit};
+use scim_cell::{Atom, Id, Row, Text};
+use scim_policy::Decisions;
+use scim_schema::{Attribute, Kind, Leaf, SubAttribute, Unit};
 use scim_text::NoMemory;
-use scim_value::parts::Part;
-use scim_value::resources::Resource;
+use scim_value::{Part, Resource};
 use std::alloc::Global;
 
 /// A group that a client sees: what of it is shown at its members.
@@ -125,45 +123,43 @@ fn memberships(
     Ok(values)
 }
 
-/// What the client may see of a resource, a user's `groups` among it: as [`visible`](crate::visible), and
-/// of the groups that list the user, those that the client sees and in which it sees the user's id, in
-/// order of their ids, in whatever order they are given. The policy decides on `groups` as on other
-/// attributes (RFC 7643 section 4.1.2). NoMemory where none was to be had.
-pub fn with_groups(
-    alloc: Global,
-    policy: &Policy,
-    client: &str,
-    groups: &[Resource],
-    resource: &Resource,
-    base: &str,
-) -> Result<Part, NoMemory>
-    ensures { IfOk result (λ p. p ≡ spec.with_groups policy.now client.now base.now groups.now resource.now) }
-{
-    let decisions = policy.decisions(alloc, client, Op::Read, resource)?;
-    let seen = groups_of(alloc, policy, client, groups, resource)?;
-    visible_among(alloc, &decisions, resource, seen.as_slice(), base)
-}
-
-/// The same as [`with_groups`]; None where the client doesn't see that the resource is there. The policy
-/// is asked once about the resource, and once about each group that lists it. NoMemory where none was
-/// to be had.
-pub fn view_with_groups(
-    alloc: Global,
-    policy: &Policy,
-    client: &str,
-    groups: &[Resource],
-    resource: &Resource,
-    base: &str,
-) -> Result<Option<Part>, NoMemory>
-    ensures { IfOk result (λ o. o ≡ spec.view_with_groups policy.now client.now base.now groups.now resource.now) }
-{
-    let decisions = policy.decisions(alloc, client, Op::Read, resource)?;
-    if !decisions.of(Leaf::simple(Attribute::Id)).allow {
-        return Ok(None);
+impl Viewer<'_> {
+    /// What the client may see of a resource, a user's `groups` among it: as [`Viewer::visible`], and of
+    /// the groups that list the user, those that the client sees and in which it sees the user's id, in
+    /// order of their ids, in whatever order they are given. The policy decides on `groups` as on other
+    /// attributes (RFC 7643 section 4.1.2). NoMemory where none was to be had.
+    pub fn with_groups(
+        &self,
+        alloc: Global,
+        groups: &[Resource],
+        resource: &Resource,
+    ) -> Result<Part, NoMemory>
+        ensures { IfOk result (λ p. p ≡ spec.with_groups (viewer_of self.now) groups.now resource.now) }
+    {
+        let decisions = self.decisions(alloc, resource)?;
+        let seen = groups_of(alloc, self, groups, resource)?;
+        visible_among(alloc, &decisions, resource, seen.as_slice(), self.base)
     }
-    let seen = groups_of(alloc, policy, client, groups, resource)?;
-    let part = visible_among(alloc, &decisions, resource, seen.as_slice(), base)?;
-    Ok(Some(part))
+
+    /// The same as [`Viewer::with_groups`]; None where the client doesn't see that the resource is there.
+    /// The policy is asked once about the resource, and once about each group that lists it. NoMemory
+    /// where none was to be had.
+    pub fn view_with_groups(
+        &self,
+        alloc: Global,
+        groups: &[Resource],
+        resource: &Resource,
+    ) -> Result<Option<Part>, NoMemory>
+        ensures { IfOk result (λ o. o ≡ spec.view_with_groups (viewer_of self.now) groups.now resource.now) }
+    {
+        let decisions = self.decisions(alloc, resource)?;
+        if !decisions.of(Leaf::simple(Attribute::Id)).allow {
+            return Ok(None);
+        }
+        let seen = groups_of(alloc, self, groups, resource)?;
+        let part = visible_among(alloc, &decisions, resource, seen.as_slice(), self.base)?;
+        Ok(Some(part))
+    }
 }
 
 /// The same as [`visible_with`], of groups in a row, which may be in any order.
@@ -206,15 +202,14 @@ pub(crate) fn put_in_order(groups: &mut Vec<&SeenGroup>) -> Result<(), NoMemory>
 /// than a user none, and none is looked at.
 fn groups_of(
     alloc: Global,
-    policy: &Policy,
-    client: &str,
+    viewer: &Viewer<'_>,
     groups: &[Resource],
     resource: &Resource,
 ) -> Result<Vec<SeenGroup>, NoMemory>
-    ensures { IfOk result (λ v. v.items ≡ kept.kept_groups policy.now client.now groups.now resource.now) }
+    ensures { IfOk result (λ v. v.items ≡ kept.kept_groups (viewer_of viewer.now) groups.now resource.now) }
 {
     match resource.kind() {
-        Kind::User => seen_groups(alloc, policy, client, groups, resource.id()),
+        Kind::User => seen_groups(alloc, viewer, groups, resource.id()),
         Kind::Group => Ok(Vec::new(alloc)),
     }
 }
@@ -222,18 +217,17 @@ fn groups_of(
 /// What is kept of the groups that list the resource of an id, of those that the client sees.
 fn seen_groups(
     alloc: Global,
-    policy: &Policy,
-    client: &str,
+    viewer: &Viewer<'_>,
     groups: &[Resource],
     id: Id,
 ) -> Result<Vec<SeenGroup>, NoMemory>
-    ensures { IfOk result (λ v. v.items ≡ map kept.kept_of (filter (spec.lists id) (spec.seen policy.now client.now groups.now))) }
+    ensures { IfOk result (λ v. v.items ≡ map kept.kept_of (filter (spec.lists id) (spec.seen (viewer_of viewer.now) groups.now))) }
 {
     let mut buffer = [0; Id::TEXT_LENGTH];
     let member = id.write(&mut buffer);
     let mut seen = Vec::new(alloc);
     for group in groups {
-        if let Some(listing) = seen_where_listed(alloc, policy, client, group, member)? {
+        if let Some(listing) = seen_where_listed(alloc, viewer, group, member)? {
             seen.push(listing)?;
         }
     }
@@ -244,17 +238,16 @@ fn seen_groups(
 /// isn't asked where the text isn't there.
 fn seen_where_listed(
     alloc: Global,
-    policy: &Policy,
-    client: &str,
+    viewer: &Viewer<'_>,
     group: &Resource,
     member: &str,
 ) -> Result<Option<SeenGroup>, NoMemory>
-    ensures { IfOk result (λ o. (id : List ℕ) → member.now ≡ id_text id → o ≡ kept.kept_where_listed id (seeing.view policy.now client.now group.now)) }
+    ensures { IfOk result (λ o. (id : List ℕ) → member.now ≡ id_text id → o ≡ kept.kept_where_listed id (seeing.view (viewer_of viewer.now) group.now)) }
 {
     if !lists(group.part(), member) {
         return Ok(None);
     }
-    let decisions = policy.decisions(alloc, client, Op::Read, group)?;
+    let decisions = viewer.decisions(alloc, group)?;
     seen_by(alloc, &decisions, group)
 }
 

@@ -2,20 +2,20 @@
 ghost use Rattle.std.specs.Prelude.{◌≡◌, ◌++◌, ◌∷◌, [], ℕ, List, cond, map, vec_len, IfOk, IfSome, OnOk, if◌then◌else◌};
 ghost use Rattle.std.specs.List.{list_any};
 ghost use Rattle.scim_cell.specs.Content.{Content};
+ghost use Rattle.scim_cell.specs.Equality.{is_same_id};
 ghost use Rattle.scim_cell.specs.Ids.{IsId};
-ghost use Rattle.scim_policy.specs.code.Table.{decision};
-ghost use Rattle.scim_view.specs.View.{visible_by};
+ghost use Rattle.scim_policy.specs.Table.{decision};
+ghost use Rattle.scim_view.specs.View.{viewer_of, visible_by};
 ghost use Rattle.scim_view.specs.code.Index as spec;
-ghost use Rattle.scim_view.specs.code.Index.{IsIndexOf, Holds};
+ghost use Rattle.scim_view.specs.code.Index.{IsIndexOf, IsMadeOf};
 
 use crate::groups::{SeenGroup, seen_group};
-use scim_cell::atoms::Atom;
-use scim_cell::ids::Id;
-use scim_cell::rows::Row;
-use scim_policy::{Decisions, Policy};
-use scim_schema::{Attribute, Leaf, Op, SubAttribute, Unit};
+use crate::viewers::Viewer;
+use scim_cell::{Atom, Id, Row};
+use scim_policy::Decisions;
+use scim_schema::{Attribute, Leaf, SubAttribute, Unit};
 use scim_text::NoMemory;
-use scim_value::resources::Resource;
+use scim_value::Resource;
 use std::alloc::Global;
 use std::collections::HashMap;
 
@@ -32,15 +32,14 @@ impl GroupIndex {
     /// NoMemory where none was to be had.
     pub(crate) fn of(
         alloc: Global,
-        policy: &Policy,
-        client: &str,
+        viewer: &Viewer<'_>,
         groups: &[Resource],
     ) -> Result<GroupIndex, NoMemory>
-        ensures { IfOk result (λ index. IsIndexOf policy.now client.now groups.now index) }
+        ensures { IfOk result (λ index. IsIndexOf (viewer_of viewer.now) groups.now index) }
     {
         let mut index = GroupIndex::new(alloc);
         for group in groups {
-            let decisions = policy.decisions(alloc, client, Op::Read, group)?;
+            let decisions = viewer.decisions(alloc, group)?;
             if decisions.of(Leaf::simple(Attribute::Id)).allow {
                 index.add(alloc, &decisions, group)?;
             }
@@ -63,7 +62,7 @@ impl GroupIndex {
 
     /// The index of no groups.
     fn new(alloc: Global) -> GroupIndex
-        ensures { Holds [] result }
+        ensures { IsMadeOf [] result }
     {
         GroupIndex {
             groups: Vec::new(alloc),
@@ -87,8 +86,8 @@ impl GroupIndex {
         decisions: &Decisions,
         group: &Resource,
     ) -> Result<(), NoMemory>
-        ensures { (gs : List Content) → Holds gs self.old
-            → OnOk result (Holds (gs ++ visible_by (decision decisions.now) group.now ∷ []) self.new) }
+        ensures { (gs : List Content) → IsMadeOf gs self.old
+            → OnOk result (IsMadeOf (gs ++ visible_by (decision decisions.now) group.now ∷ []) self.new) }
     {
         let seen = seen_group(alloc, decisions, group)?;
         let members = group.part().values(Unit::whole(Attribute::Members));
@@ -121,7 +120,7 @@ impl GroupIndex {
     fn add_member(&mut self, alloc: Global, id: Id) -> Result<(), NoMemory>
         ensures groups { self.new.groups ≡ self.old.groups }
         ensures positions { OnOk result ((other : List ℕ) → spec.positions_of self.new other
-            ≡ cond (spec.same_id id other) (spec.noted (vec_len self.old.groups) (spec.positions_of self.old other)) (spec.positions_of self.old other)) }
+            ≡ cond (is_same_id id other) (spec.noted (vec_len self.old.groups) (spec.positions_of self.old other)) (spec.positions_of self.old other)) }
     {
         let position = self.groups.len();
         let positions = self.by_member.entry(id)?.or_insert(Vec::new(alloc));

@@ -3,13 +3,13 @@
 
 mod groups;
 mod index;
-pub mod lists;
+mod lists;
 mod memberships;
 mod names;
 mod projection;
+mod viewers;
 mod views;
 
-pub use groups::{view_with_groups, with_groups};
 pub use names::Names;
 pub use projection::{Wanted, project};
-pub use views::{sees, view, visible};
+pub use viewers::Viewer;

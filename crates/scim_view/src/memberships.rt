@@ -4,18 +4,16 @@ ghost use Rattle.std.specs.Option.{option_copied};
 ghost use Rattle.scim_cell.specs.Ids.{id_text};
 ghost use Rattle.scim_value.specs.Resource.{location};
 ghost use Rattle.scim_cell.specs.Rows.{restricted_row};
-ghost use Rattle.scim_policy.specs.code.Table.{decision};
+ghost use Rattle.scim_policy.specs.Table.{decision};
 ghost use Rattle.scim_view.specs.View.{may_be_seen};
 ghost use Rattle.scim_view.specs.Groups as spec;
 ghost use Rattle.scim_view.specs.code.Memberships.{shown_fields};
 
 use crate::views::MayBeSeen;
-use scim_cell::atoms::{Atom, Text};
-use scim_cell::ids::Id;
-use scim_cell::rows::{Field, Row};
+use scim_cell::{Atom, Field, Id, Row, Text};
 use scim_schema::{Attribute, Kind, Leaf, SubAttribute, Unit};
 use scim_text::NoMemory;
-use scim_value::resources::location;
+use scim_value::location;
 use std::alloc::Global;
 
 /// The value of `groups` for a group with this id, which may have a name: the fields of it that may be

@@ -2,14 +2,12 @@
 ghost use Rattle.std.specs.Prelude.{◌≡◌, ◌||◌, false, IfOk, OnOk};
 ghost use Rattle.std.specs.List.{list_any};
 ghost use Rattle.scim_schema.specs.declared.Leaf.{Leaf};
+ghost use Rattle.scim_schema.specs.Units.{is_same_attribute, is_same_leaf};
 ghost use Rattle.scim_view.specs.Names as spec;
 
-use scim_filter::attribute_paths::attribute_path;
-use scim_filter::limits::LONGEST_TEXT;
-use scim_filter::tree::Meant;
+use scim_filter::{Meant, attribute_path};
 use scim_path::extension_named;
-use scim_schema::schemas::{Schema, extension_of};
-use scim_schema::{Attribute, Kind, Leaf};
+use scim_schema::{Attribute, Kind, Leaf, Schema, extension_of};
 use scim_text::NoMemory;
 use std::alloc::Global;
 use std::collections::HashSet;
@@ -111,7 +109,7 @@ impl Names {
     /// Adds a whole attribute. NoMemory where none was to be had.
     fn add_attribute(&mut self, attribute: Attribute) -> Result<(), NoMemory>
         ensures { OnOk result ((l : Leaf)
-            → spec.covers self.new l ≡ (spec.covers self.old l || spec.same_attribute attribute l.attribute)) }
+            → spec.covers self.new l ≡ (spec.covers self.old l || is_same_attribute attribute l.attribute)) }
     {
         self.attributes.insert(attribute)?;
         Ok(())
@@ -120,20 +118,16 @@ impl Names {
     /// Adds a sub-attribute alone. NoMemory where none was to be had.
     fn add_sub_attribute(&mut self, leaf: Leaf) -> Result<(), NoMemory>
         ensures { OnOk result ((l : Leaf)
-            → spec.covers self.new l ≡ (spec.covers self.old l || spec.same_leaf leaf l)) }
+            → spec.covers self.new l ≡ (spec.covers self.old l || is_same_leaf leaf l)) }
     {
         self.sub_attributes.insert(leaf)?;
         Ok(())
     }
 }
 
-/// What the text means for the kind, where it is a path of at most 4,096 bytes.
+/// What the text means for the kind, where it is a path.
 fn meant(kind: Kind, text: &str) -> Meant
     ensures { result ≡ spec.meant_by kind text.now }
 {
-    if text.len() <= LONGEST_TEXT {
-        attribute_path(kind, text).unwrap_or(Meant::Nothing)
-    } else {
-        Meant::Nothing
-    }
+    attribute_path(kind, text).unwrap_or(Meant::Nothing)
 }

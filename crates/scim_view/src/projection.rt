@@ -5,11 +5,10 @@ ghost use Rattle.scim_cell.specs.Rows.{rows};
 ghost use Rattle.scim_view.specs.Shown as spec;
 
 use crate::names::Names;
-use scim_cell::rows::{Row, RowTest};
-use scim_schema::characteristics::{Returned, characteristics_of};
-use scim_schema::{Kind, Leaf};
+use scim_cell::{Row, RowTest};
+use scim_schema::{Kind, Leaf, Returned, characteristics_of};
 use scim_text::NoMemory;
-use scim_value::parts::Part;
+use scim_value::Part;
 use std::alloc::Global;
 
 /// What a client wants to be shown. What is returned always is shown whatever it wants, and what is

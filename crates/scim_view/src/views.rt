@@ -2,16 +2,15 @@
 ghost use Rattle.std.specs.Prelude.{◌≡◌, ◌&&◌, not, IfOk};
 ghost use Rattle.scim_schema.specs.declared.Leaf.{Leaf};
 ghost use Rattle.scim_schema.specs.declared.Kind.{Kind};
-ghost use Rattle.scim_policy.specs.code.Table.{decision};
+ghost use Rattle.scim_policy.specs.Table.{decision};
 ghost use Rattle.scim_view.specs.View as spec;
 
-use scim_cell::rows::{Row, RowTest};
-use scim_policy::{Decisions, Policy};
-use scim_schema::characteristics::{Mutability, characteristics_of};
-use scim_schema::{Attribute, Kind, Leaf, Op};
+use crate::viewers::Viewer;
+use scim_cell::{Row, RowTest};
+use scim_policy::Decisions;
+use scim_schema::{Attribute, Kind, Leaf, Mutability, Op, characteristics_of};
 use scim_text::NoMemory;
-use scim_value::parts::Part;
-use scim_value::resources::Resource;
+use scim_value::{Part, Resource};
 use std::alloc::Global;
 
 /// The leaves of a kind that may be seen by these decisions on reading.
@@ -32,7 +31,7 @@ impl MayBeSeen<'_> {
 }
 
 impl RowTest for MayBeSeen<'_> {
-    ghost use Rattle.scim_policy.specs.code.Table.{decision};
+    ghost use Rattle.scim_policy.specs.Table.{decision};
     ghost use Rattle.scim_view.specs.View.{may_be_seen};
 
     ghost keeps = { λ self row leaf. may_be_seen (decision self.decisions.now) self.kind row leaf };
@@ -42,54 +41,42 @@ impl RowTest for MayBeSeen<'_> {
     }
 }
 
-/// Whether the client sees that the resource is there: the policy lets it read the `id`. NoMemory where
-/// none was to be had.
-#[tactic(auto, unfolding(crate::specs::View::sees))]
-pub fn sees(
-    alloc: Global,
-    policy: &Policy,
-    client: &str,
-    resource: &Resource,
-) -> Result<bool, NoMemory>
-    ensures { IfOk result (λ b. b ≡ spec.sees policy.now client.now resource.now) }
-{
-    let decision = policy.decide(
-        alloc,
-        client,
-        Op::Read,
-        resource,
-        Leaf::simple(Attribute::Id),
-    )?;
-    Ok(decision.allow)
-}
+impl Viewer<'_> {
+    /// Whether the client sees that the resource is there: the policy lets it read the `id`. NoMemory
+    /// where none was to be had.
+    #[tactic(auto, unfolding(crate::specs::View::sees))]
+    pub fn sees(&self, alloc: Global, resource: &Resource) -> Result<bool, NoMemory>
+        ensures { IfOk result (λ b. b ≡ spec.sees (spec.viewer_of self.now) resource.now) }
+    {
+        let decision = self.policy.decide(
+            alloc,
+            self.client,
+            Op::Read,
+            resource,
+            Leaf::simple(Attribute::Id),
+        )?;
+        Ok(decision.allow)
+    }
 
-/// What the client may see of the resource: the cells that the policy lets it read, but for those of
-/// writeOnly attributes (RFC 7643 section 7). Values of which it may see nothing are left out, and
-/// positions close up. NoMemory where none was to be had.
-pub fn visible(
-    alloc: Global,
-    policy: &Policy,
-    client: &str,
-    resource: &Resource,
-) -> Result<Part, NoMemory>
-    ensures { IfOk result (λ p. p ≡ spec.visible policy.now client.now resource.now) }
-{
-    let decisions = policy.decisions(alloc, client, Op::Read, resource)?;
-    visible_by(alloc, &decisions, resource)
-}
+    /// What the client may see of the resource: the cells that the policy lets it read, but for those of
+    /// writeOnly attributes (RFC 7643 section 7). Values of which it may see nothing are left out, and
+    /// positions close up. NoMemory where none was to be had.
+    pub fn visible(&self, alloc: Global, resource: &Resource) -> Result<Part, NoMemory>
+        ensures { IfOk result (λ p. p ≡ spec.visible (spec.viewer_of self.now) resource.now) }
+    {
+        let decisions = self.decisions(alloc, resource)?;
+        visible_by(alloc, &decisions, resource)
+    }
 
-/// What the client may see of the resource, as [`visible`]; None where it doesn't see that the resource
-/// is there, as [`sees`]. The policy is asked once. NoMemory where none was to be had.
-pub fn view(
-    alloc: Global,
-    policy: &Policy,
-    client: &str,
-    resource: &Resource,
-) -> Result<Option<Part>, NoMemory>
-    ensures { IfOk result (λ o. o ≡ spec.view policy.now client.now resource.now) }
-{
-    let decisions = policy.decisions(alloc, client, Op::Read, resource)?;
-    view_by(alloc, &decisions, resource)
+    /// What the client may see of the resource, as [`Viewer::visible`]; None where it doesn't see that
+    /// the resource is there, as [`Viewer::sees`]. The policy is asked once. NoMemory where none was to
+    /// be had.
+    pub fn view(&self, alloc: Global, resource: &Resource) -> Result<Option<Part>, NoMemory>
+        ensures { IfOk result (λ o. o ≡ spec.view (spec.viewer_of self.now) resource.now) }
+    {
+        let decisions = self.decisions(alloc, resource)?;
+        view_by(alloc, &decisions, resource)
+    }
 }
 
 /// What may be seen of the resource by these decisions on reading it, where they let its `id` be read.

@@ -1,6 +1,5 @@
 //! The files that a command is given.
-use crate::faults::Fault;
-use scim_command::{OnceFault, Setting};
+use scim_command::{CommandFault, OnceFault, Setting};
 use scim_policy::{Cause, read_policy};
 use std::alloc::Global;
 use std::fs;
@@ -32,7 +31,7 @@ pub(crate) fn read_texts(
     alloc: Global,
     policy: &str,
     users: &str,
-) -> Result<Texts, Fault> {
+) -> Result<Texts, CommandFault> {
     let not_text = OnceFault::Policy {
         rule: 0,
         cause: Cause::Json,
@@ -42,7 +41,7 @@ pub(crate) fn read_texts(
         Ok(users) => Ok(Texts { policy, users }),
         Err(fault) => {
             if let Err(earlier) = read_policy(alloc, policy.as_str()) {
-                return Err(Fault::Once(earlier.into()));
+                return Err(CommandFault::Once(earlier.into()));
             }
             Err(fault)
         }
@@ -55,9 +54,9 @@ fn read_text(
     alloc: Global,
     path: &str,
     not_text: OnceFault,
-) -> Result<String, Fault> {
+) -> Result<String, CommandFault> {
     let Ok(bytes) = fs::read(rt, path) else {
-        return Err(Fault::cannot_read(alloc, path));
+        return Err(CommandFault::cannot_read(alloc, path));
     };
-    String::from_utf8(bytes).map_err(|_| Fault::Once(not_text))
+    String::from_utf8(bytes).map_err(|_| CommandFault::Once(not_text))
 }

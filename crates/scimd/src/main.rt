@@ -3,17 +3,11 @@
 //! The exit status is 0, 1 for a fault of a file, of the input or of memory, and 2 for the command line.
 #![tactic(auto)]
 
-mod faults;
 mod files;
-mod options;
-#[cfg(test)]
-mod tests;
 
-use crate::faults::Fault;
-use crate::options::{OnceOptions, command};
 use anyhow::Result;
 use clap::ArgMatches;
-use scim_command::{OnceFault, once};
+use scim_command::{CommandFault, OnceFault, OnceOptions, command, once};
 use std::env;
 use std::io::ErrorKind;
 use std::process::ExitCode;
@@ -30,7 +24,10 @@ fn run(rt: &HostRuntime) -> Result<ExitCode> {
     let alloc = rt.alloc();
     let words: Vec<String> = match env::args(rt) {
         Ok(words) => words.collect(alloc)?,
-        Err(error) if error.kind() == ErrorKind::InvalidData => return tell(rt, &Fault::NotText),
+        Err(error) if error.kind() == ErrorKind::InvalidData => return tell(
+            rt,
+            &CommandFault::NotText,
+        ),
         Err(error) => return Err(error.into()),
     };
     let matches = match command(alloc)?.try_get_matches_from(words.as_slice()) {
@@ -42,24 +39,24 @@ fn run(rt: &HostRuntime) -> Result<ExitCode> {
     };
     let done = match matches.subcommand() {
         Some(("once", matches)) => run_once(rt, matches),
-        _ => Err(Fault::BadOption),
+        _ => Err(CommandFault::BadOption),
     };
     match done {
         Ok(()) => Ok(ExitCode::SUCCESS),
         // Where standard output fails there may be nobody who reads.
-        Err(Fault::Once(OnceFault::Output)) => Ok(ExitCode::FAILURE),
+        Err(CommandFault::Once(OnceFault::Output)) => Ok(ExitCode::FAILURE),
         Err(fault) => tell(rt, &fault),
     }
 }
 
 /// Tells a fault in a line on standard error, and gives its exit status.
-fn tell(rt: &HostRuntime, fault: &Fault) -> Result<ExitCode> {
+fn tell(rt: &HostRuntime, fault: &CommandFault) -> Result<ExitCode> {
     eprintln!(rt; "scimd: {fault}")?;
     Ok(ExitCode::from(fault.exit_status()))
 }
 
 /// `once`: answers one request from standard input.
-fn run_once(rt: &HostRuntime, matches: &ArgMatches<'_>) -> Result<(), Fault> {
+fn run_once(rt: &HostRuntime, matches: &ArgMatches<'_>) -> Result<(), CommandFault> {
     let alloc = rt.alloc();
     let options = OnceOptions::of(matches)?;
     let texts = files::read_texts(rt, alloc, options.policy, options.users)?;

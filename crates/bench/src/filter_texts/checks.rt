@@ -1,8 +1,6 @@
 //! What is known of filters and their texts in a plain way, apart from the reader.
-use scim_filter::tree::{Literal, Meant, Node, Operator, Path};
-use scim_schema::characteristics::{AttributeType, characteristics_of};
-use scim_schema::table::sub_attributes;
-use scim_schema::{Kind, Leaf, SubAttribute};
+use scim_filter::{Literal, Meant, Node, Operator, Path};
+use scim_schema::{AttributeType, Kind, Leaf, SubAttribute, characteristics_of, sub_attributes};
 
 /// Texts that spell moments.
 pub const MOMENTS: [&str; 6] = [

@@ -1,9 +1,8 @@
 //! Random literals of filters.
 use crate::filter_texts::checks::MOMENTS;
 use crate::filter_texts::dice::Dice;
-use scim_filter::string_literals::StringLiteral;
-use scim_filter::tree::Literal;
-use scim_schema::characteristics::AttributeType;
+use scim_filter::{Literal, StringLiteral};
+use scim_schema::AttributeType;
 use scim_text::NoMemory;
 use std::alloc::Global;
 

@@ -1,6 +1,6 @@
 //! Trees of filters as texts.
 use crate::filter_texts::dice::Dice;
-use scim_filter::tree::{Literal, Node, Operator, Path};
+use scim_filter::{Literal, Node, Operator, Path};
 use scim_text::NoMemory;
 use std::alloc::Global;
 

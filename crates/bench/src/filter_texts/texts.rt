@@ -2,7 +2,7 @@
 use crate::filter_texts::dice::Dice;
 use crate::filter_texts::printing::playful_text;
 use crate::filter_texts::trees::{random_term, random_tree};
-use scim_filter::tree::Node;
+use scim_filter::Node;
 use scim_schema::Kind;
 use scim_text::NoMemory;
 use std::alloc::Global;

@@ -2,12 +2,11 @@
 use crate::filter_texts::checks::{compared_type, operators};
 use crate::filter_texts::dice::Dice;
 use crate::filter_texts::literals::{any_literal, literal_of};
-use scim_cell::atoms::Text;
-use scim_filter::tree::{Meant, Node, Operator, Path};
-use scim_schema::characteristics::AttributeType;
-use scim_schema::schemas::{schema_of, schemas};
-use scim_schema::table::{attributes, sub_attributes};
-use scim_schema::{Attribute, Kind, SubAttribute};
+use scim_cell::Text;
+use scim_filter::{Meant, Node, Operator, Path};
+use scim_schema::{
+    Attribute, AttributeType, Kind, Schema, SubAttribute, attributes, schema_of, sub_attributes,
+};
 use scim_text::NoMemory;
 use std::alloc::Global;
 
@@ -57,7 +56,7 @@ fn random_urn(
             Ok((Some(recased(alloc, dice, urn)?), None))
         }
         1 | 2 => {
-            let Some(schema) = dice.pick(schemas()) else {
+            let Some(schema) = dice.pick(Schema::all()) else {
                 return Ok((None, known));
             };
             let urn = recased(alloc, dice, schema.urn())?;

@@ -1,10 +1,9 @@
 //! Users and groups that filters are held on.
 use anyhow::Result;
-use scim_cell::ids::Id;
+use scim_cell::Id;
 use scim_samples::{part, resource};
 use scim_schema::Kind;
-use scim_value::parts::Part;
-use scim_value::resources::Resource;
+use scim_value::{Part, Resource};
 use std::alloc::Global;
 use uuid::Uuid;
 

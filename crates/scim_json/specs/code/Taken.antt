@@ -1,21 +1,18 @@
 -- What the reader of a users file keeps of the resources that it has read. All words are private to it.
 use Rattle.std.specs.Prelude.{◌≡◌, ◌↔◌, ℕ, Bool, List, Contains, Any, IsTrue}
 use Rattle.std.specs.HashSet.{contains}
-use Rattle.scim_value.specs.declared.unique_names.UniqueName.{UniqueName}
-use Rattle.scim_value.specs.contracts.unique_names.UniqueNamePartialEq.TheImpl as name_eq
-use Rattle.scim_cell.specs.contracts.ids.IdPartialEq.TheImpl as id_eq
+use Rattle.scim_value.specs.declared.uniqueness.UniqueName.{UniqueName}
+use Rattle.scim_value.specs.contracts.uniqueness.UniqueNamePartialEq.TheImpl as name_eq
+use Rattle.scim_cell.specs.Equality.{is_same_id}
 use Rattle.scim_cell.specs.Content.{Content}
-use Rattle.scim_value.specs.UniqueNames.{unique_names, name_of}
+use Rattle.scim_value.specs.Uniqueness.{unique_names, name_of}
 use Rattle.scim_json.specs.declared.documents.Taken.{Taken}
 
--- how two ids, and two names, compare
-abbrev pub same_id : List ℕ → List ℕ → Bool
-same_id = (id_eq.ghosts).eq
-
-abbrev pub same_name : UniqueName → UniqueName → Bool
-same_name = (name_eq.ghosts).eq
+-- whether two names are one
+abbrev pub is_same_unique_name : UniqueName → UniqueName → Bool
+is_same_unique_name = (name_eq.ghosts).eq
 
 -- the ids and the names that are taken are those of these resources
 pub record Records (taken : Taken) (cs : List Content) : Type 0 where
-  pub ids : (id : List ℕ) → IsTrue (contains same_id taken.ids id) ↔ Any (λ c. c.id ≡ id) cs
-  pub names : (n : UniqueName) → IsTrue (contains same_name taken.names n) ↔ Any (λ c. Contains (unique_names c) (name_of n)) cs
+  pub ids : (id : List ℕ) → IsTrue (contains is_same_id taken.ids id) ↔ Any (λ c. c.id ≡ id) cs
+  pub names : (n : UniqueName) → IsTrue (contains is_same_unique_name taken.names n) ↔ Any (λ c. Contains (unique_names c) (name_of n)) cs

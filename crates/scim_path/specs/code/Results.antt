@@ -2,9 +2,9 @@
 use Rattle.std.specs.Prelude.{Result, Ok, Err}
 use Rattle.scim_path.specs.declared.faults.PathFault.{PathFault}
 use Rattle.scim_path.specs.declared.paths.Path.{Path}
-use Rattle.scim_path.specs.Paths.{Target, target_of}
+use Rattle.scim_path.specs.Paths.{PathTarget, path_target}
 
 -- what was read, without where it lies in memory
-abbrev pub target_read : Result Path PathFault → Result Target PathFault
-target_read (Ok p) = Ok (target_of p)
+abbrev pub target_read : Result Path PathFault → Result PathTarget PathFault
+target_read (Ok p) = Ok (path_target p)
 target_read (Err f) = Err f

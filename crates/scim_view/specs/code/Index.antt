@@ -7,24 +7,20 @@ use Rattle.std.specs.HashMap.{get}
 use Rattle.scim_schema.specs.declared.Attribute.TheVariants.{Members}
 use Rattle.scim_schema.specs.declared.SubAttribute.TheVariants.{Value}
 use Rattle.scim_schema.specs.Units.{leaf_at}
-use Rattle.scim_cell.specs.contracts.ids.IdPartialEq.TheImpl as id_eq
+use Rattle.scim_cell.specs.Equality.{is_same_id}
 use Rattle.scim_cell.specs.Content.{Content}
 use Rattle.scim_cell.specs.Ids.{IsId, id_text}
 use Rattle.scim_cell.specs.Rows.{Row, atom_in}
-use Rattle.scim_policy.specs.Rules.{Rule}
 use Rattle.scim_view.specs.declared.groups.SeenGroup.{SeenGroup}
 use Rattle.scim_view.specs.declared.index.GroupIndex.{GroupIndex}
+use Rattle.scim_view.specs.View.{Viewer}
 use Rattle.scim_view.specs.Groups.{is_text, lists, and_those, seen}
 use Rattle.scim_view.specs.code.Memberships.{kept_of}
-
--- how two ids compare
-abbrev pub same_id : List ℕ → List ℕ → Bool
-same_id = (id_eq.ghosts).eq
 
 -- whether this is the id that was found
 abbrev pub is_found : List ℕ → Option (List ℕ) → Bool
 is_found id None = false
-is_found id (Some found) = same_id found id
+is_found id (Some found) = is_same_id found id
 
 -- whether a value of `members` names the resource of an id, by the text of its id
 abbrev pub names_member : List ℕ → Row → Bool
@@ -49,7 +45,7 @@ positions_in (Some ps) = ps.items
 
 -- the positions that the index has for an id
 abbrev pub positions_of : GroupIndex → List ℕ → List ℕ
-positions_of index id = positions_in (get same_id index.by_member id)
+positions_of index id = positions_in (get is_same_id index.by_member id)
 
 -- the groups that the index has for an id
 abbrev pub groups_of : GroupIndex → List ℕ → List SeenGroup
@@ -60,15 +56,15 @@ abbrev pub Indexes : List Content → GroupIndex → Type 0
 Indexes gs index = (id : List ℕ) → IsId id → groups_of index id ≡ map kept_of (filter (lists id) gs)
 
 -- the same of the groups that the client sees
-abbrev pub IsIndexOf : List Rule → List ℕ → List Content → GroupIndex → Type 0
-IsIndexOf policy client groups index = Indexes (seen policy client groups) index
+abbrev pub IsIndexOf : Viewer → List Content → GroupIndex → Type 0
+IsIndexOf v groups index = Indexes (seen v groups) index
 
 -- the positions of the groups that list an id, where the first stands at n
 abbrev pub positions_from : ℕ → List ℕ → List Content → List ℕ
 positions_from n id [] = []
 positions_from n id (g ∷ gs) = if lists id g then n ∷ positions_from (n + 1) id gs else positions_from (n + 1) id gs
 
--- what is kept of these groups, and where those stand that list an id
-pub record Holds (gs : List Content) (index : GroupIndex) : Type 0 where
+-- the index is made of these groups: of what is kept of each, and of where those stand that list an id
+pub record IsMadeOf (gs : List Content) (index : GroupIndex) : Type 0 where
   pub groups : index.groups.items ≡ map kept_of gs
   pub positions : (id : List ℕ) → IsId id → positions_of index id ≡ positions_from 0 id gs

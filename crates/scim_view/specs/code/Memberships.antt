@@ -14,9 +14,8 @@ use Rattle.scim_schema.specs.Units.{simple, leaf_at}
 use Rattle.scim_cell.specs.declared.rows.Field.{Field}
 use Rattle.scim_cell.specs.Content.{Content}
 use Rattle.scim_policy.specs.declared.rules.Decision.{Decision}
-use Rattle.scim_policy.specs.Rules.{Rule}
 use Rattle.scim_view.specs.declared.groups.SeenGroup.{SeenGroup}
-use Rattle.scim_view.specs.View.{is_write_only, visible_by}
+use Rattle.scim_view.specs.View.{Viewer, is_write_only, visible_by}
 use Rattle.scim_view.specs.Groups.{lists, seen, display_of}
 
 -- those of some fields that may be seen, by these decisions on reading a resource of the kind
@@ -42,9 +41,8 @@ kept_where_listed id None = None
 kept_where_listed id (Some g) = if lists id g then Some (kept_of g) else None
 
 -- the same of the groups that list the resource, of those that the client sees among these; of a resource other than a user none
-abbrev pub kept_groups : List Rule → List ℕ → List Content → Content → List SeenGroup
-kept_groups policy client groups c =
-    if sameb the_kind c.kind User then map kept_of (filter (lists c.id) (seen policy client groups)) else []
+abbrev pub kept_groups : Viewer → List Content → Content → List SeenGroup
+kept_groups v groups c = if sameb the_kind c.kind User then map kept_of (filter (lists c.id) (seen v groups)) else []
 
 -- how what is kept of two groups compares: by id
 abbrev pub kept_cmp : SeenGroup → SeenGroup → Ordering

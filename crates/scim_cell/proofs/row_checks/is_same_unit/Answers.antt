@@ -1,5 +1,5 @@
 use Rattle.std.proofs.lemmas.Bool.Decides.{Decides-at}
-use Rattle.scim_cell.specs.Equality.{is_same_unit-Decides}
+use Rattle.scim_schema.proofs.Facts.{is_same_unit-Decides}
 use Rattle.scim_cell.proofs.row_checks.is_same_unit.Goals as goal
 
 pub returns : goal.returns

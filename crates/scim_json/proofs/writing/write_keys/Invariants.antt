@@ -1,5 +1,5 @@
 use Rattle.std.proofs.Common.{◌≡◌, ◌++◌, drop}
-use Rattle.scim_json.specs.Keys.{key_text}
+use Rattle.scim_schema.specs.JsonKeys.{key_text}
 use Rattle.scim_json.specs.PartData.{members_where, key_data}
 use Rattle.scim_json.specs.code.Tokens.{members_tokens}
 use Rattle.scim_json.proofs.writing.write_keys.Given as goal

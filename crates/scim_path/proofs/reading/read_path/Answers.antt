@@ -8,17 +8,17 @@ use Rattle.scim_filter.specs.WrittenPaths.{Written, IsWritten, written_of}
 use Rattle.scim_path.specs.declared.faults.PathFault.{PathFault}
 use Rattle.scim_path.specs.declared.faults.PathFault.TheVariants.{Syntax, NoMemory}
 use Rattle.scim_path.specs.declared.paths.Path.{Path}
-use Rattle.scim_path.specs.Paths.{Target, OfExtension, target_of, extension_named, Reads, spelled, unspelled, Names}
+use Rattle.scim_path.specs.Paths.{PathTarget, OfExtension, path_target, extension_named, Reads, spelled, unspelled, Names}
 use Rattle.scim_path.specs.code.Results.{target_read}
 use Rattle.scim_path.proofs.reading.read_path.Goals as goal
 
 -- where no extension's URN stands alone, what is read of the text is what it names
-names_what_it_reads : (kind : Kind) (text : List ℕ) (r : Result Target PathFault) → extension_named kind text ≡ None → Reads kind text r → Names kind text r
+names_what_it_reads : (kind : Kind) (text : List ℕ) (r : Result PathTarget PathFault) → extension_named kind text ≡ None → Reads kind text r → Names kind text r
 names_what_it_reads kind text r none reads = subst (λ (o : Option Schema). MatchOption o (Reads kind text r) (λ schema. r ≡ Ok (OfExtension schema))) (sym none) reads
 
 -- a path or a fault that says what the text names is a result that may be returned
 as_result : (kind : Kind) (text : List ℕ) (r : Result Path PathFault) → Names kind text (target_read r)
-    → MatchResult r (λ p. Names kind text (Ok (target_of p))) (λ f. (f ≡ NoMemory) ⊎ Names kind text (Err f))
+    → MatchResult r (λ p. Names kind text (Ok (path_target p))) (λ f. (f ≡ NoMemory) ⊎ Names kind text (Err f))
 as_result kind text (Ok p) named = named
 as_result kind text (Err f) named = inr named
 

@@ -1,5 +1,5 @@
 use Rattle.std.proofs.Common.{◌≡◌, drop}
-use Rattle.scim_policy.specs.code.Table.{at_sub_attribute}
+use Rattle.scim_policy.specs.Table.{at_sub_attribute}
 use Rattle.scim_policy.proofs.decisions.alone.Given as goal
 
 abbrev pub invariant-loop-pair : goal.invariant-loop-pair

@@ -1,6 +1,6 @@
 use Rattle.std.proofs.Common.{◌∙◌, ap, sym, arith}
 use Rattle.scim_policy.specs.declared.decisions.AttributeDecisions.{AttributeDecisions}
-use Rattle.scim_policy.specs.code.Table.{in_attribute}
+use Rattle.scim_policy.specs.Table.{in_attribute}
 use Rattle.scim_policy.proofs.TableLemmas.{at_entry, at_no_entry}
 use Rattle.scim_policy.proofs.decisions.at_number.Goals as goal
 

@@ -1,6 +1,6 @@
 use Rattle.std.proofs.Common.{◌∙◌, refl, ap, List, None}
 use Rattle.scim_policy.specs.declared.decisions.AttributeDecisions.{AttributeDecisions}
-use Rattle.scim_policy.specs.code.Table.{in_attributes}
+use Rattle.scim_policy.specs.Table.{in_attributes}
 use Rattle.scim_policy.proofs.TableLemmas.{pushed, empty_entry}
 use Rattle.scim_policy.proofs.decisions.grow.Goals as goal
 

@@ -1,6 +1,6 @@
 use Rattle.std.proofs.Common.{◌≡◌, ℕ, ◌+◌, ◌-◌, length, Option}
 use Rattle.scim_schema.specs.declared.SubAttribute.{SubAttribute}
-use Rattle.scim_policy.specs.code.Table.{in_attributes}
+use Rattle.scim_policy.specs.Table.{in_attributes}
 use Rattle.scim_policy.proofs.decisions.grow.Given as goal
 
 abbrev pub invariant-loop-alloc : goal.invariant-loop-alloc

@@ -1,4 +1,4 @@
-use Rattle.scim_policy.specs.Paths.{kind_named}
+use Rattle.scim_schema.specs.Lookup.{kind_named}
 use Rattle.scim_policy.specs.code.Written.{text_at}
 use Rattle.scim_policy.proofs.ListLemmas.{IsMade}
 use Rattle.scim_policy.proofs.reading.kinds_named.Given as goal

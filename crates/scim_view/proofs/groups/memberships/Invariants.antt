@@ -1,7 +1,7 @@
 use Rattle.std.proofs.Common.{◌≡◌, map, take}
 use Rattle.scim_schema.specs.declared.Kind.TheVariants.{User}
 use Rattle.scim_cell.specs.Rows.{restricted}
-use Rattle.scim_policy.specs.code.Table.{decision}
+use Rattle.scim_policy.specs.Table.{decision}
 use Rattle.scim_view.specs.View.{may_be_seen}
 use Rattle.scim_view.specs.Groups.{membership_at}
 use Rattle.scim_view.proofs.groups.memberships.Given as goal

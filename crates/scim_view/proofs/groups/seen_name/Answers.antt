@@ -6,9 +6,8 @@ use Rattle.std.proofs.lemmas.Result.{IfOk-weaker}
 use Rattle.scim_schema.specs.declared.Attribute.TheVariants.{DisplayName}
 use Rattle.scim_schema.specs.Units.{simple}
 use Rattle.scim_cell.specs.Place.{place_at}
-use Rattle.scim_value.proofs.GetLemmas.{get_cell}
-use Rattle.scim_value.proofs.OfLemmas.{sound_part}
-use Rattle.scim_policy.specs.code.Table.{decision}
+use Rattle.scim_value.proofs.Facts.{get_cell, sound_part}
+use Rattle.scim_policy.specs.Table.{decision}
 use Rattle.scim_view.specs.View.{visible_by}
 use Rattle.scim_view.specs.Groups as spec
 use Rattle.scim_view.proofs.GroupLemmas.{shows, shown_name, hidden_name}

@@ -3,7 +3,7 @@ use Rattle.std.proofs.lemmas.Result.{IfOk-weaker}
 use denote.Ref.{Bor}
 use Rattle.scim_cell.specs.Content.{Content}
 use Rattle.scim_cell.specs.Rows.{Row}
-use Rattle.scim_policy.specs.code.Table.{decision}
+use Rattle.scim_policy.specs.Table.{decision}
 use Rattle.scim_view.specs.declared.groups.SeenGroup.{SeenGroup}
 use Rattle.scim_view.specs.Groups as spec
 use Rattle.scim_view.specs.code.Memberships.{kept_cmp}

@@ -8,7 +8,7 @@ use Rattle.scim_schema.specs.declared.Attribute.TheVariants.{Groups}
 use Rattle.scim_schema.specs.Units.{whole}
 use Rattle.scim_cell.specs.Content.{Content}
 use Rattle.scim_cell.specs.Rows.{AreValues, rows, content, put_values, restricted}
-use Rattle.scim_policy.specs.code.Table.{decision}
+use Rattle.scim_policy.specs.Table.{decision}
 use Rattle.scim_view.specs.View.{may_be_seen}
 use Rattle.scim_view.specs.Groups as spec
 use Rattle.scim_view.proofs.GroupLemmas.{membership_values, user_visible, other_visible, visible_kind}

@@ -6,8 +6,9 @@ use Rattle.scim_schema.specs.declared.Attribute.TheVariants.{Id}
 use Rattle.scim_schema.specs.Units.{simple}
 use Rattle.scim_cell.specs.Content.{Content}
 use Rattle.scim_policy.specs.declared.rules.Decision.{Decision}
-use Rattle.scim_policy.specs.code.Table.{decision}
+use Rattle.scim_policy.specs.Table.{decision}
 use Rattle.scim_view.specs.declared.groups.SeenGroup.{SeenGroup}
+use Rattle.scim_view.specs.View.{viewer_of}
 use Rattle.scim_view.specs.Groups as spec
 use Rattle.scim_view.proofs.ListLemmas.{unseen_with, seen_with}
 use Rattle.scim_view.proofs.lists.view_by_index.Goals as goal
@@ -16,13 +17,13 @@ pub returns-then-not-of : goal.returns-then-not-of
 returns-then-not-of c groups indexed =
     let d = decision c.in_ok-decisions.decisions in
     let own : c.of.result.allow ≡ (d (simple Id)).allow = ap (λ (e : Decision). e.allow) (c.of.ensures ∙ ap d c.simple.ensures) in
-    unseen_with d c.args.policy.now c.args.client.now c.args.base.now groups c.args.resource.now c.in_ok-decisions.ensures (sym own ∙ not-true c.of.result.allow c.if-not-of.true)
+    unseen_with d (viewer_of c.args.viewer.now) groups c.args.resource.now c.in_ok-decisions.ensures (sym own ∙ not-true c.of.result.allow c.if-not-of.true)
 
 pub returns : goal.returns
 returns c groups indexed =
     let d = decision c.in_ok-decisions.decisions in
-    let base = c.args.base.now in
+    let viewer = viewer_of c.args.viewer.now in
     let own : c.of.result.allow ≡ (d (simple Id)).allow = ap (λ (e : Decision). e.allow) (c.of.ensures ∙ ap d c.simple.ensures) in
-    ap (λ (p : Content). Some p) (c.in_ok-view.ensures ∙ ap (λ (gs : List (Bor SeenGroup)). spec.visible_with d (map (spec.membership_at base) gs) c.args.resource.now) c.as_slice.ensures.value)
-    ∙ seen_with d c.args.policy.now c.args.client.now base groups c.args.resource.now (map (spec.membership_at base) c.in_ok-groups.groups.items) c.in_ok-decisions.ensures
-    (sym own ∙ not-false c.of.result.allow c.if-not-of.false) (c.in_ok-groups.ensures (spec.seen c.args.policy.now c.args.client.now groups) indexed base)
+    ap (λ (p : Content). Some p) (c.in_ok-view.ensures ∙ ap (λ (gs : List (Bor SeenGroup)). spec.visible_with d (map (spec.membership_at viewer.base) gs) c.args.resource.now) c.as_slice.ensures.value)
+    ∙ seen_with d viewer groups c.args.resource.now (map (spec.membership_at viewer.base) c.in_ok-groups.groups.items) c.in_ok-decisions.ensures
+    (sym own ∙ not-false c.of.result.allow c.if-not-of.false) (c.in_ok-groups.ensures (spec.seen viewer groups) indexed viewer.base)

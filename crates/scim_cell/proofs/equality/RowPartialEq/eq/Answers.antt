@@ -1,5 +1,6 @@
 use Rattle.std.specs.Cmp.Lexicographic.{pointwise}
-use Rattle.scim_cell.specs.Equality.{is_same_field, is_same_unit, is_same_row-Decides}
+use Rattle.scim_schema.specs.Units.{is_same_unit}
+use Rattle.scim_cell.specs.Equality.{is_same_field, is_same_row-Decides}
 use Rattle.scim_cell.proofs.EqualityLemmas.{second_decides}
 use Rattle.scim_cell.proofs.equality.RowPartialEq.eq.Goals as goal
 

@@ -1,6 +1,6 @@
 use Rattle.std.proofs.Common.{◌≡◌, ◌∙◌, refl, sym, ap, false, None, Some}
 use Rattle.std.specs.Prelude.{not, is_some}
-use Rattle.scim_policy.specs.code.Table.{in_attribute}
+use Rattle.scim_policy.specs.Table.{in_attribute}
 use Rattle.scim_policy.proofs.TableLemmas.{name_added, none_of}
 use Rattle.scim_policy.proofs.decisions.AttributeDecisions.add_alone.Goals as goal
 

@@ -1,7 +1,8 @@
 use Rattle.std.proofs.Common.{◌∙◌, sym, refl, ap}
 use Rattle.scim_policy.specs.declared.rules.PolicyPath.{PolicyPath}
-use Rattle.scim_policy.specs.code.Table.{or_else}
-use Rattle.scim_policy.specs.code.Table.{decided, by_path}
+use Rattle.scim_policy.specs.Table.{or_else}
+use Rattle.scim_policy.specs.Table.{decided}
+use Rattle.scim_policy.specs.code.Walk.{by_path}
 use Rattle.scim_policy.proofs.TableLemmas.{all_known, rest_decided, none_of}
 use Rattle.scim_policy.proofs.decisions.Decisions.add_path.Goals as goal
 

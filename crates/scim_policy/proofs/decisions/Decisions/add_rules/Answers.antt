@@ -1,9 +1,10 @@
 use Rattle.std.proofs.Common.{◌≡◌, ◌+◌, ◌∙◌, sym, ap, true, Option, drop, ℕ}
 use Rattle.scim_schema.specs.declared.Kind.{Kind}
 use Rattle.scim_policy.specs.declared.rules.Decision.{Decision}
-use Rattle.scim_policy.specs.code.Table.{or_else}
+use Rattle.scim_policy.specs.Table.{or_else}
 use Rattle.scim_policy.specs.Decide.{paths_on, speaks_of}
-use Rattle.scim_policy.specs.code.Table.{decided, by_paths, by_rule, by_rules}
+use Rattle.scim_policy.specs.Table.{decided}
+use Rattle.scim_policy.specs.code.Walk.{by_paths, by_rule, by_rules}
 use Rattle.scim_policy.proofs.TableLemmas.{all_known}
 use Rattle.scim_policy.proofs.RuleLemmas.{rules_step, spoken}
 use Rattle.scim_policy.proofs.decisions.Decisions.add_rules.Goals as goal

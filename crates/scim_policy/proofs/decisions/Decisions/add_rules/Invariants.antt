@@ -1,7 +1,8 @@
 use Rattle.std.proofs.Common.{◌≡◌, ◌+◌, drop}
 use Rattle.scim_schema.specs.declared.Leaf.{Leaf}
-use Rattle.scim_policy.specs.code.Table.{or_else}
-use Rattle.scim_policy.specs.code.Table.{decided, by_rules}
+use Rattle.scim_policy.specs.Table.{or_else}
+use Rattle.scim_policy.specs.Table.{decided}
+use Rattle.scim_policy.specs.code.Walk.{by_rules}
 use Rattle.scim_policy.proofs.decisions.Decisions.add_rules.Given as goal
 
 abbrev pub invariant-loop-rule : goal.invariant-loop-rule

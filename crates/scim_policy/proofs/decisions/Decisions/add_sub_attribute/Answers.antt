@@ -1,8 +1,9 @@
 use Rattle.std.proofs.Common.{◌∙◌, refl, sym, ap, Option}
 use Rattle.std.proofs.lemmas.Result.{on_ok_weaker}
 use Rattle.scim_policy.specs.declared.rules.Decision.{Decision}
-use Rattle.scim_policy.specs.code.Table.{or_else}
-use Rattle.scim_policy.specs.code.Table.{by_name, decided}
+use Rattle.scim_policy.specs.Table.{or_else}
+use Rattle.scim_policy.specs.Table.{decided}
+use Rattle.scim_policy.specs.code.Walk.{by_name}
 use Rattle.scim_policy.proofs.TableLemmas.{decided_written, by_path_name}
 use Rattle.scim_policy.proofs.decisions.Decisions.add_sub_attribute.Goals as goal
 

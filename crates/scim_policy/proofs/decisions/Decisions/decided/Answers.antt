@@ -3,8 +3,8 @@ use denote.Enum.Declared.{tag_of}
 use Rattle.scim_schema.specs.contracts.Attribute.{the_type as the_attribute}
 use Rattle.scim_policy.specs.declared.rules.Decision.{Decision}
 use Rattle.scim_policy.specs.declared.decisions.AttributeDecisions.{AttributeDecisions}
-use Rattle.scim_policy.specs.code.Table.{or_else}
-use Rattle.scim_policy.specs.code.Table.{decided, in_attributes}
+use Rattle.scim_policy.specs.Table.{or_else}
+use Rattle.scim_policy.specs.Table.{decided, in_attributes}
 use Rattle.scim_policy.proofs.decisions.Decisions.decided.Goals as goal
 
 pub returns-in-Some : goal.returns-in-Some

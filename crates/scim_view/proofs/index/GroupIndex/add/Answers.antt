@@ -6,7 +6,7 @@ use Rattle.scim_schema.specs.declared.SubAttribute.TheVariants.{Value}
 use Rattle.scim_schema.specs.Units.{leaf_at}
 use Rattle.scim_cell.specs.Rows.{rows, values}
 use Rattle.scim_policy.specs.declared.rules.Decision.{Decision}
-use Rattle.scim_policy.specs.code.Table.{decision}
+use Rattle.scim_policy.specs.Table.{decision}
 use Rattle.scim_view.specs.declared.index.GroupIndex.{GroupIndex}
 use Rattle.scim_view.specs.View.{visible_by}
 use Rattle.scim_view.specs.Groups.{lists}

@@ -1,7 +1,8 @@
 use Rattle.std.proofs.Common.{take}
+use Rattle.scim_view.specs.View.{viewer_of}
 use Rattle.scim_view.specs.Groups.{seen}
-use Rattle.scim_view.specs.code.Index.{Holds}
+use Rattle.scim_view.specs.code.Index.{IsMadeOf}
 use Rattle.scim_view.proofs.index.GroupIndex.of.Given as goal
 
 abbrev pub invariant-loop-group : goal.invariant-loop-group
-invariant-loop-group l = Holds (seen l.policy l.client (take l.group-index l.groups)) l.index
+invariant-loop-group l = IsMadeOf (seen (viewer_of l.viewer) (take l.group-index l.groups)) l.index

@@ -1,0 +1,70 @@
+//! Why a command wasn't carried out.
+use crate::faults::OnceFault;
+use std::alloc::Global;
+use std::fmt;
+
+/// Why a command wasn't carried out. Its text is one line for people.
+#[derive(Debug, Drop)]
+pub enum CommandFault {
+    /// An argument isn't in UTF-8.
+    NotText,
+    /// The value of an option isn't of the form that it must have.
+    BadOption,
+    /// The file of this path cannot be read.
+    CannotRead(String),
+    /// `once` gave up.
+    Once(OnceFault),
+}
+
+impl CommandFault {
+    /// That the file of this path cannot be read.
+    pub fn cannot_read(alloc: Global, path: &str) -> CommandFault {
+        match String::from_str(alloc, path) {
+            Ok(path) => CommandFault::CannotRead(path),
+            Err(_) => CommandFault::Once(OnceFault::NoMemory),
+        }
+    }
+
+    /// The exit status: 2 for the command line, else 1.
+    pub fn exit_status(&self) -> u8 {
+        match self {
+            CommandFault::NotText | CommandFault::BadOption => 2,
+            CommandFault::CannotRead(_) | CommandFault::Once(_) => 1,
+        }
+    }
+}
+
+impl fmt::Display for CommandFault {
+    fn fmt<W: fmt::Write>(&self, f: &mut fmt::Formatter<W>) -> fmt::Result {
+        match self {
+            CommandFault::NotText => write!(f, "an argument is not in UTF-8"),
+            CommandFault::BadOption => write!(f, "bad option"),
+            CommandFault::CannotRead(path) => write!(f, "cannot read {}", OneLine(path.as_str())),
+            CommandFault::Once(fault) => write!(f, "{fault}"),
+        }
+    }
+}
+
+/// A text in one line: each control character, as a line feed, is escaped as in a string of Rust's, and all
+/// else stands as it is.
+#[derive(Clone, Copy)]
+struct OneLine<'a>(&'a str);
+
+impl fmt::Display for OneLine<'_> {
+    fn fmt<W: fmt::Write>(&self, f: &mut fmt::Formatter<W>) -> fmt::Result {
+        for character in self.0.chars() {
+            if character.is_control() {
+                write!(f, "{}", character.escape_default())?;
+            } else {
+                write!(f, "{character}")?;
+            }
+        }
+        Ok(())
+    }
+}
+
+impl From<OnceFault> for CommandFault {
+    fn from(fault: OnceFault) -> CommandFault {
+        CommandFault::Once(fault)
+    }
+}

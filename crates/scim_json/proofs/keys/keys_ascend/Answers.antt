@@ -1,9 +1,0 @@
-use Rattle.scim_json.proofs.KeyLemmas.{part_keys, extension_attributes, sub_attributes}
-use Rattle.scim_json.proofs.keys.keys_ascend.Goals as goal
-
-pub returns : goal.returns
-returns c = record {
-  part = part_keys;
-  extension = extension_attributes;
-  sub_attributes = sub_attributes;
-}

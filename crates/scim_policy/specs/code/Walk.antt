@@ -1,0 +1,36 @@
+-- What the rules say of a leaf, one after the other.
+use Rattle.std.specs.Prelude.{ℕ, ◌+◌, List, [], ◌∷◌, Option, None, Some, if◌then◌else◌}
+use denote.Enum.Bare.{sameb}
+use Rattle.scim_schema.specs.declared.Leaf.{Leaf}
+use Rattle.scim_schema.specs.declared.SubAttribute.{SubAttribute}
+use Rattle.scim_schema.specs.contracts.SubAttribute.{the_type as the_sub_attribute}
+use Rattle.scim_policy.specs.declared.rules.Decision.{Decision}
+use Rattle.std.specs.List.{list_any}
+use Rattle.std.specs.Option.{option_eq}
+use Rattle.scim_schema.specs.declared.Op.{Op}
+use Rattle.scim_cell.specs.Content.{Content}
+use Rattle.scim_policy.specs.Rules.{Rule}
+use Rattle.scim_policy.specs.declared.rules.PolicyPath.{PolicyPath}
+use Rattle.scim_policy.specs.Decide.{covers, paths_on, speaks_of}
+use Rattle.scim_policy.specs.Table.{or_else}
+
+-- what a path decides of a leaf: the decision where it covers the leaf
+abbrev pub by_path : PolicyPath → Decision → Leaf → Option Decision
+by_path path d l = if covers l path then Some d else None
+
+-- what paths decide of a leaf
+abbrev pub by_paths : List PolicyPath → Decision → Leaf → Option Decision
+by_paths paths d l = if list_any (covers l) paths then Some d else None
+
+-- what is decided of a leaf by a decision on a sub-attribute
+abbrev pub by_name : SubAttribute → Decision → Option SubAttribute → Option Decision
+by_name b d sub = if option_eq (sameb the_sub_attribute) sub (Some b) then Some d else None
+
+-- what a numbered rule decides of a leaf, where it speaks of the client, the operation and the resource
+abbrev pub by_rule : List ℕ → Op → Content → Leaf → ℕ → Rule → Option Decision
+by_rule client op c l n r = if speaks_of client op c r then by_paths (paths_on c.kind r.paths) (record { rule = n; allow = r.allow }) l else None
+
+-- what rules numbered from n decide of a leaf
+abbrev pub by_rules : List ℕ → Op → Content → Leaf → ℕ → List Rule → Option Decision
+by_rules client op c l n [] = None
+by_rules client op c l n (r ∷ rs) = or_else (by_rule client op c l n r) (by_rules client op c l (n + 1) rs)

@@ -1,0 +1,134 @@
+-- The keys of the JSON objects of a part, in byte order.
+use Rattle.std.specs.Prelude.{◌≡◌, Bool, true, false, ◌&&◌, Some, is_none, ℕ, List, [], ◌∷◌, codes, filter, if◌then◌else◌}
+use Rattle.std.specs.List.{list_all, list_any}
+use Rattle.std.specs.Option.{option_eq}
+use Rattle.std.specs.Ordering.{nat_cmp, is_lt}
+use Rattle.std.specs.Cmp.Lexicographic.{slice_cmp}
+use denote.Enum.Bare.{sameb}
+use Rattle.scim_schema.specs.declared.Kind.{Kind}
+use Rattle.scim_schema.specs.declared.Kind.TheVariants.{User, Group}
+use Rattle.scim_schema.specs.declared.Attribute.{Attribute}
+use Rattle.scim_schema.specs.declared.Attribute.TheVariants.{Id, ExternalId, UserName, Name, DisplayName, NickName, ProfileUrl, Title, UserType, PreferredLanguage, Locale, Timezone, Active, Password, Emails, PhoneNumbers, Ims, Photos, Addresses, Groups, Entitlements, Roles, X509Certificates, EmployeeNumber, CostCenter, Organization, Division, Department, Manager, Members, Meta}
+use Rattle.scim_schema.specs.declared.SubAttribute.{SubAttribute}
+use Rattle.scim_schema.specs.declared.SubAttribute.TheVariants.{Formatted, FamilyName, GivenName, MiddleName, HonorificPrefix, HonorificSuffix, Value, Reference, Display, TypeName, Primary, StreetAddress, Locality, Region, PostalCode, Country, DisplayName as SubDisplayName, ResourceType, Created, LastModified, Location}
+use Rattle.scim_schema.specs.declared.schemas.Schema.{Schema}
+use Rattle.scim_schema.specs.declared.schemas.Schema.TheVariants.{EnterpriseUser}
+use Rattle.scim_schema.specs.declared.characteristics.Characteristics.{Characteristics}
+use Rattle.scim_schema.specs.declared.characteristics.AttributeType.TheVariants.{Complex as ComplexType}
+use Rattle.scim_schema.specs.contracts.characteristics.AttributeType.{the_type as the_attribute_type}
+use Rattle.scim_schema.specs.Names.{attribute_name, sub_attribute_name}
+use Rattle.scim_schema.specs.contracts.Attribute.{the_type as the_attribute}
+use Rattle.scim_schema.specs.contracts.SubAttribute.{the_type as the_sub_attribute}
+use Rattle.scim_schema.specs.contracts.schemas.Schema.{the_type as the_schema}
+use Rattle.scim_schema.specs.Schemas.{urn, extension_of}
+use Rattle.scim_schema.specs.Table.{attributes, sub_attributes}
+use Rattle.scim_schema.specs.Characteristics.{attribute_characteristics}
+use Rattle.scim_schema.specs.declared.json_keys.Form.{Form}
+use Rattle.scim_schema.specs.declared.json_keys.Form.TheVariants.{Shown, Stored}
+use Rattle.scim_schema.specs.declared.json_keys.Key.{Key}
+use Rattle.scim_schema.specs.declared.json_keys.Key.TheVariants.{Of, Schemas, Extension}
+use Rattle.scim_schema.specs.declared.json_keys.Shape.{Shape}
+use Rattle.scim_schema.specs.declared.json_keys.Shape.TheVariants.{Simple, Complex, MultiValued}
+
+-- the name of the attribute that names the schemas of a resource (RFC 7643 section 3)
+unfoldable pub schemas_name : List ℕ
+schemas_name = codes "schemas"
+
+-- a key as it is printed: the name of an attribute, `schemas`, or the URN of an extension (RFC 7643 section 3.3)
+abbrev pub key_text : Key → List ℕ
+key_text (Of a) = attribute_name a
+key_text Schemas = schemas_name
+key_text (Extension s) = urn s
+
+-- the keys of a user and of a group that are shown
+abbrev pub shown_keys : Kind → List Key
+shown_keys User =
+    Of Active ∷ Of Addresses ∷ Of DisplayName ∷ Of Emails ∷ Of Entitlements ∷ Of ExternalId ∷ Of Groups ∷ Of Id ∷ Of Ims ∷ Of Locale ∷ Of Meta ∷ Of Name ∷ Of NickName ∷ Of Password ∷ Of PhoneNumbers ∷ Of Photos ∷ Of PreferredLanguage ∷ Of ProfileUrl ∷ Of Roles ∷ Schemas ∷ Of Timezone ∷ Of Title ∷ Extension EnterpriseUser ∷ Of UserName ∷ Of UserType ∷ Of X509Certificates ∷ []
+shown_keys Group = Of DisplayName ∷ Of ExternalId ∷ Of Id ∷ Of Members ∷ Of Meta ∷ Schemas ∷ []
+
+-- `schemas` and `groups` can be told from the rest, and aren't kept
+abbrev pub is_stored_key : Key → Bool
+is_stored_key Schemas = false
+is_stored_key (Of Groups) = false
+is_stored_key _ = true
+
+-- the keys of a part of a kind
+unfoldable pub keys : Form → Kind → List Key
+keys Shown kind = shown_keys kind
+keys Stored kind = filter is_stored_key (shown_keys kind)
+
+-- the attributes of an extension (RFC 7643 section 4.3)
+unfoldable pub extension_keys : Schema → List Attribute
+extension_keys EnterpriseUser = CostCenter ∷ Department ∷ Division ∷ EmployeeNumber ∷ Manager ∷ Organization ∷ []
+extension_keys _ = []
+
+-- what most multi-valued attributes have (RFC 7643 section 2.4)
+abbrev pub ordered_standard_sub_attributes : List SubAttribute
+ordered_standard_sub_attributes = Display ∷ Primary ∷ TypeName ∷ Value ∷ []
+
+-- groups of a user and members of a group
+abbrev pub ordered_linked_sub_attributes : List SubAttribute
+ordered_linked_sub_attributes = Reference ∷ Display ∷ TypeName ∷ Value ∷ []
+
+-- `meta.location` can be told from the kind and the id, and isn't kept
+abbrev pub ordered_meta_sub_attributes : Form → List SubAttribute
+ordered_meta_sub_attributes Shown = Created ∷ LastModified ∷ Location ∷ ResourceType ∷ []
+ordered_meta_sub_attributes Stored = Created ∷ LastModified ∷ ResourceType ∷ []
+
+-- the sub-attributes of an attribute (RFC 7643 sections 3.1, 4.1.1, 4.1.2, 4.2 and 4.3)
+unfoldable pub ordered_sub_attributes : Form → Attribute → List SubAttribute
+ordered_sub_attributes form Name = FamilyName ∷ Formatted ∷ GivenName ∷ HonorificPrefix ∷ HonorificSuffix ∷ MiddleName ∷ []
+ordered_sub_attributes form Emails = ordered_standard_sub_attributes
+ordered_sub_attributes form PhoneNumbers = ordered_standard_sub_attributes
+ordered_sub_attributes form Ims = ordered_standard_sub_attributes
+ordered_sub_attributes form Photos = ordered_standard_sub_attributes
+ordered_sub_attributes form Addresses = Country ∷ Formatted ∷ Locality ∷ PostalCode ∷ Primary ∷ Region ∷ StreetAddress ∷ TypeName ∷ []
+ordered_sub_attributes form Groups = ordered_linked_sub_attributes
+ordered_sub_attributes form Entitlements = ordered_standard_sub_attributes
+ordered_sub_attributes form Roles = ordered_standard_sub_attributes
+ordered_sub_attributes form X509Certificates = ordered_standard_sub_attributes
+ordered_sub_attributes form Manager = Reference ∷ SubDisplayName ∷ Value ∷ []
+ordered_sub_attributes form Members = ordered_linked_sub_attributes
+ordered_sub_attributes form Meta = ordered_meta_sub_attributes form
+ordered_sub_attributes form _ = []
+
+-- the shape of a value with these characteristics
+abbrev pub shape_with : Characteristics → Shape
+shape_with c = if c.multi_valued then MultiValued else (if sameb the_attribute_type c.attribute_type ComplexType then Complex else Simple)
+
+-- what the JSON value of an attribute is
+unfoldable pub shape_of : Attribute → Shape
+shape_of a = shape_with (attribute_characteristics User a)
+
+-- the text of each key comes before those of all later ones, byte by byte
+abbrev pub is_ascending : {K : Type 0} → (K → List ℕ) → List K → Bool
+is_ascending text [] = true
+is_ascending text (k ∷ ks) = list_all (λ l. is_lt (slice_cmp nat_cmp (text k) (text l))) ks && is_ascending text ks
+
+-- the keys stand in byte order of their texts, none twice
+abbrev pub Ascends : {K : Type 0} → (K → List ℕ) → List K → Type 0
+Ascends text ks = is_ascending text ks ≡ true
+
+-- so the keys of a part do, the attributes of an extension, and the sub-attributes of an attribute
+abbrev pub PartKeysAscend : Type 0
+PartKeysAscend = (form : Form) (kind : Kind) → Ascends key_text (keys form kind)
+
+abbrev pub ExtensionKeysAscend : Type 0
+ExtensionKeysAscend = (schema : Schema) → Ascends attribute_name (extension_keys schema)
+
+abbrev pub SubAttributesAscend : Type 0
+SubAttributesAscend = (form : Form) (a : Attribute) → Ascends sub_attribute_name (ordered_sub_attributes form a)
+
+-- an attribute stands under a key: under its own name, or among those of its extension
+abbrev pub stands_under : Attribute → Key → Bool
+stands_under a (Of b) = is_none (extension_of a) && sameb the_attribute a b
+stands_under a Schemas = false
+stands_under a (Extension s) = option_eq (sameb the_schema) (extension_of a) (Some s) && list_any (sameb the_attribute a) (extension_keys s)
+
+-- each attribute of a kind stands under some key
+abbrev pub AttributesHaveKeys : Type 0
+AttributesHaveKeys = (kind : Kind) → list_all (λ a. list_any (stands_under a) (keys Shown kind)) (attributes kind) ≡ true
+
+-- and each sub-attribute among those of its attribute
+abbrev pub SubAttributesHaveKeys : Type 0
+SubAttributesHaveKeys = (a : Attribute) → list_all (λ b. list_any (sameb the_sub_attribute b) (ordered_sub_attributes Shown a)) (sub_attributes a) ≡ true

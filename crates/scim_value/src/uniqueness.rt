@@ -1,0 +1,59 @@
+//! The names that no two resources share, as `userName` (RFC 7643 section 2.2, uniqueness).
+ghost use Rattle.std.specs.Prelude.{◌≡◌, ◌++◌, IfOk, OnOk, map, string_bytes};
+ghost use Rattle.std.specs.List.{flat_map};
+ghost use Rattle.scim_value.specs.Resource.{first_at};
+ghost use Rattle.scim_value.specs.Uniqueness as spec;
+ghost use Rattle.scim_value.specs.Uniqueness.{name_of};
+
+use crate::resources::Resource;
+use scim_cell::Atom;
+use scim_schema::{Kind, Leaf, characteristics_of, unique_leaves};
+use scim_text::{NoMemory, fold};
+use std::alloc::Global;
+
+/// A name that a resource has alone: a leaf, and the text by which the name is known there. That is
+/// the folded text, unless the attribute is caseExact.
+#[derive(Debug, PartialEq, Eq, Hash, Drop)]
+pub struct UniqueName {
+    pub leaf: Leaf,
+    pub text: String,
+}
+
+/// The unique names of a resource, in the order of the table. NoMemory where none was to be had.
+pub fn unique_names(alloc: Global, resource: &Resource) -> Result<Vec<UniqueName>, NoMemory>
+    ensures { IfOk result (λ v. map name_of v.items ≡ spec.unique_names resource.now) }
+{
+    let mut names = Vec::new(alloc);
+    push_names(alloc, resource, unique_leaves(resource.kind()), &mut names)?;
+    Ok(names)
+}
+
+fn push_names(
+    alloc: Global,
+    resource: &Resource,
+    leaves: &[Leaf],
+    names: &mut Vec<UniqueName>,
+) -> Result<(), NoMemory>
+    ensures { OnOk result (map name_of names.new.items ≡ map name_of names.old.items
+        ++ flat_map (λ l. spec.name_at resource.now.kind l (first_at l resource.now)) leaves.now) }
+{
+    for leaf in leaves {
+        if let Some(Atom::Text(text)) = resource.get(*leaf, 0) {
+            let text = known_text(alloc, resource.kind(), *leaf, text.as_str())?;
+            names.push(UniqueName { leaf: *leaf, text })?;
+        }
+    }
+    Ok(())
+}
+
+/// The text by which a name at a leaf of the kind is known: folded, unless case counts there.
+/// NoMemory where none was to be had.
+pub fn known_text(alloc: Global, kind: Kind, leaf: Leaf, text: &str) -> Result<String, NoMemory>
+    ensures { IfOk result (λ t. string_bytes t ≡ spec.known_text kind leaf text.now) }
+{
+    if characteristics_of(kind, leaf).case_exact {
+        Ok(String::from_str(alloc, text)?)
+    } else {
+        fold(alloc, text)
+    }
+}
