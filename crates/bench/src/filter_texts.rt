@@ -12,6 +12,7 @@ use crate::filter_texts::printing::plain_text;
 use crate::filter_texts::texts::{Sample, Sort, random_sample};
 use anyhow::{Result, bail, ensure};
 use scim_filter::{FilterFault, Node, mentioned_names, read_filter, read_tokens};
+use scim_text::Failed;
 use std::alloc::Global;
 use std::io::Print;
 
@@ -60,7 +61,6 @@ impl Counts {
             Some(FilterFault::WrongType) => &mut self.wrong_type,
             Some(FilterFault::TooDeep) => &mut self.too_deep,
             Some(FilterFault::TooLong) => &mut self.too_long,
-            Some(FilterFault::NoMemory) => return,
         };
         *count = count.saturating_add(1);
     }
@@ -106,7 +106,6 @@ fn check_fault(sample: &Sample, fault: FilterFault) -> Result<()> {
         }
         FilterFault::TooDeep => ensure!(most_open(text) > DEEPEST, "no text is too deep"),
         FilterFault::TooLong => ensure!(text.len() > LONGEST, "no text is too long"),
-        FilterFault::NoMemory => bail!("out of memory"),
     }
     Ok(())
 }
@@ -118,10 +117,11 @@ fn check(alloc: Global, sample: &Sample) -> Result<Option<FilterFault>> {
             check_tree(alloc, sample, filter.tree())?;
             Ok(None)
         }
-        Err(fault) => {
+        Err(Failed::Because(fault)) => {
             check_fault(sample, fault)?;
             Ok(Some(fault))
         }
+        Err(Failed::NoMemory) => bail!("out of memory"),
     }
 }
 

@@ -8,6 +8,7 @@ use scim_filter::{
 };
 use scim_samples::leaf_text;
 use scim_schema::{Attribute, Leaf};
+use scim_text::Failed;
 use std::alloc::Global;
 use std::str;
 
@@ -38,19 +39,19 @@ pub fn spaced_text(case: &Case<'_>, name: &'static str) -> Result<String, CaseFa
 }
 
 /// The filter of the argument `filter`.
-pub fn filter_of(case: &Case<'_>) -> Result<Result<Filter, FilterFault>, CaseFault> {
+pub fn filter_of(case: &Case<'_>) -> Result<Result<Filter, Failed<FilterFault>>, CaseFault> {
     let text = spaced_text(case, "filter")?;
     Ok(read_filter(case.alloc, case.kind(), text.as_str()))
 }
 
 /// A fault by its name, `Syntax` with its byte.
-fn fault_text(alloc: Global, fault: FilterFault) -> Result<String, CaseFault> {
+fn fault_text(alloc: Global, fault: Failed<FilterFault>) -> Result<String, CaseFault> {
     match fault {
-        FilterFault::Syntax(at) => Ok(format!(in alloc; "Syntax {at}")?),
-        FilterFault::WrongType => said(alloc, "WrongType"),
-        FilterFault::TooDeep => said(alloc, "TooDeep"),
-        FilterFault::TooLong => said(alloc, "TooLong"),
-        FilterFault::NoMemory => Err(CaseFault::NoMemory),
+        Failed::Because(FilterFault::Syntax(at)) => Ok(format!(in alloc; "Syntax {at}")?),
+        Failed::Because(FilterFault::WrongType) => said(alloc, "WrongType"),
+        Failed::Because(FilterFault::TooDeep) => said(alloc, "TooDeep"),
+        Failed::Because(FilterFault::TooLong) => said(alloc, "TooLong"),
+        Failed::NoMemory => Err(CaseFault::NoMemory),
     }
 }
 

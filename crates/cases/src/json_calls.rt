@@ -2,8 +2,9 @@
 use crate::arguments::said;
 use crate::case::Case;
 use crate::faults::CaseFault;
-use scim_json::{StoredFault, read_stored, stored_text, to_json};
+use scim_json::{Damaged, read_stored, stored_text, to_json};
 use scim_samples::{BASE, part_text};
+use scim_text::Failed;
 use scim_value::Resource;
 
 /// What a call of `scim_json` gives; None where it isn't one.
@@ -31,8 +32,8 @@ fn stored_text_call(case: &Case<'_>) -> Result<String, CaseFault> {
 fn read_stored_call(case: &Case<'_>, call: &str) -> Result<String, CaseFault> {
     match read_stored(case.alloc, case.text_or("base", BASE), case.text("text")?) {
         Ok(resource) => resource_text(case, call, &resource),
-        Err(StoredFault::Damaged) => said(case.alloc, "Damaged"),
-        Err(StoredFault::NoMemory) => Err(CaseFault::NoMemory),
+        Err(Failed::Because(Damaged)) => said(case.alloc, "Damaged"),
+        Err(Failed::NoMemory) => Err(CaseFault::NoMemory),
     }
 }
 

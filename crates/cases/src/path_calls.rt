@@ -6,6 +6,7 @@ use crate::filter_calls::{push_tree, spaced_text};
 use scim_path::{Path, PathFault, ValuePath, extension_named, read_path};
 use scim_samples::leaf_text;
 use scim_schema::Leaf;
+use scim_text::Failed;
 
 /// What a call of `scim_path` gives; None where it isn't one.
 pub fn answer(case: &Case<'_>, call: &str) -> Option<Result<String, CaseFault>> {
@@ -28,9 +29,9 @@ fn read_path_call(case: &Case<'_>) -> Result<String, CaseFault> {
             Leaf::of(attribute, sub_attribute),
         )?),
         Ok(Path::Values(values)) => values_text(case, &values),
-        Err(PathFault::Syntax) => said(case.alloc, "Syntax"),
-        Err(PathFault::Unknown) => said(case.alloc, "Unknown"),
-        Err(PathFault::NoMemory) => Err(CaseFault::NoMemory),
+        Err(Failed::Because(PathFault::Syntax)) => said(case.alloc, "Syntax"),
+        Err(Failed::Because(PathFault::Unknown)) => said(case.alloc, "Unknown"),
+        Err(Failed::NoMemory) => Err(CaseFault::NoMemory),
     }
 }
 

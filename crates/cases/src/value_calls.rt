@@ -9,7 +9,8 @@ use scim_samples::{
     ALICE, BASE, atom_text, leaf_text, part, part_text, read_cells, read_leaf, row_text,
 };
 use scim_schema::{Attribute, Kind, Leaf, SubAttribute, unique_leaves, unit_of};
-use scim_value::{Fault, Invalid, Part, Resource, is_resource, known_text, location, unique_names};
+use scim_text::Failed;
+use scim_value::{Invalid, Part, Resource, is_resource, known_text, location, unique_names};
 use std::alloc::Global;
 
 /// What a call of `scim_value` gives; None where it isn't one.
@@ -45,11 +46,11 @@ pub fn answer(case: &Case<'_>, call: &str) -> Option<Result<String, CaseFault>> 
 }
 
 /// The cells of a part that was made, or `Invalid`.
-fn made_text(alloc: Global, made: Result<Part, Fault>) -> Result<String, CaseFault> {
+fn made_text(alloc: Global, made: Result<Part, Failed<Invalid>>) -> Result<String, CaseFault> {
     match made {
         Ok(part) => Ok(part_text(alloc, &part)?),
-        Err(Fault::Invalid) => said(alloc, "Invalid"),
-        Err(Fault::NoMemory) => Err(CaseFault::NoMemory),
+        Err(Failed::Because(Invalid)) => said(alloc, "Invalid"),
+        Err(Failed::NoMemory) => Err(CaseFault::NoMemory),
     }
 }
 
@@ -202,11 +203,11 @@ fn resource_call(case: &Case<'_>) -> Result<String, CaseFault> {
 }
 
 /// The cells of a resource that was made, or `Invalid`.
-fn resource_text(alloc: Global, made: Result<Resource, Fault>) -> Result<String, CaseFault> {
+fn resource_text(alloc: Global, made: Result<Resource, Failed<Invalid>>) -> Result<String, CaseFault> {
     match made {
         Ok(resource) => Ok(part_text(alloc, resource.part())?),
-        Err(Fault::Invalid) => said(alloc, "Invalid"),
-        Err(Fault::NoMemory) => Err(CaseFault::NoMemory),
+        Err(Failed::Because(Invalid)) => said(alloc, "Invalid"),
+        Err(Failed::NoMemory) => Err(CaseFault::NoMemory),
     }
 }
 
@@ -304,8 +305,8 @@ fn known_text_call(case: &Case<'_>) -> Result<String, CaseFault> {
 /// What a fault is told as.
 fn fault_call(case: &Case<'_>) -> Result<String, CaseFault> {
     let fault = match case.text("name")? {
-        "Invalid" => Fault::from(Invalid),
-        _ => Fault::from(scim_text::NoMemory),
+        "Invalid" => Failed::Because(Invalid),
+        _ => Failed::NoMemory,
     };
     Ok(format!(in case.alloc; "{fault}")?)
 }

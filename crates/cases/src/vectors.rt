@@ -2,9 +2,10 @@
 use crate::arguments::said;
 use crate::case::Case;
 use crate::faults::CaseFault;
-use scim_json::{DocumentFault, read_documents};
-use scim_policy::{PolicyFault, read_policy};
+use scim_json::{DamagedItem, read_documents};
+use scim_policy::read_policy;
 use scim_samples::BASE;
+use scim_text::Failed;
 
 /// What is said of a policy file or a users file; None where the line is another's.
 pub fn answer(case: &Case<'_>, call: &str) -> Option<Result<String, CaseFault>> {
@@ -37,10 +38,8 @@ fn policy_file(case: &Case<'_>) -> Result<String, CaseFault> {
     };
     match read_policy(case.alloc, text.as_str()) {
         Ok(policy) => Ok(format!(in case.alloc; "ok, {} rules", policy.rule_count())?),
-        Err(PolicyFault::Faulty { rule, cause }) => Ok(format!(in case.alloc;
-            "rule {rule}: {cause}"
-        )?),
-        Err(PolicyFault::NoMemory) => Err(CaseFault::NoMemory),
+        Err(Failed::Because(fault)) => Ok(format!(in case.alloc; "{fault}")?),
+        Err(Failed::NoMemory) => Err(CaseFault::NoMemory),
     }
 }
 
@@ -51,7 +50,7 @@ fn users_file(case: &Case<'_>) -> Result<String, CaseFault> {
     };
     match read_documents(case.alloc, case.text_or("base", BASE), text.as_str()) {
         Ok(resources) => Ok(format!(in case.alloc; "ok, {} resources", resources.len())?),
-        Err(DocumentFault::Damaged(item)) => Ok(format!(in case.alloc; "item {item}")?),
-        Err(DocumentFault::NoMemory) => Err(CaseFault::NoMemory),
+        Err(Failed::Because(DamagedItem(item))) => Ok(format!(in case.alloc; "item {item}")?),
+        Err(Failed::NoMemory) => Err(CaseFault::NoMemory),
     }
 }

@@ -21,7 +21,7 @@ pub fn answer(case: &Case<'_>, call: &str) -> Option<Result<String, CaseFault>> 
         "view_with_groups" => Some(view_with_groups_call(case)),
         "views" => Some(views_call(case)),
         "project" => Some(project_call(case)),
-        "covers" => Some(covers_call(case)),
+        "includes" => Some(includes_call(case)),
         _ => None,
     }
 }
@@ -146,8 +146,8 @@ fn project_call(case: &Case<'_>) -> Result<String, CaseFault> {
 }
 
 /// Whether the list `attributes` names the leaf.
-fn covers_call(case: &Case<'_>) -> Result<String, CaseFault> {
+fn includes_call(case: &Case<'_>) -> Result<String, CaseFault> {
     let texts = texts(case.alloc, case.list("attributes"))?;
     let names = Names::of(case.alloc, case.kind(), texts.as_slice())?;
-    truth(case.alloc, names.covers(read_leaf(case.text("leaf")?)?))
+    truth(case.alloc, names.includes(read_leaf(case.text("leaf")?)?))
 }

@@ -3,7 +3,8 @@ use crate::arguments::said;
 use crate::case::Case;
 use crate::faults::CaseFault;
 use http::StatusCode;
-use scim_wire::{Head, HeadFault, Reply, print_reply, read_head};
+use scim_text::Failed;
+use scim_wire::{Head, Reply, print_reply, read_head};
 
 /// What a call of `scim_wire` gives; None where it isn't one.
 pub fn answer(case: &Case<'_>, call: &str) -> Option<Result<String, CaseFault>> {
@@ -33,8 +34,8 @@ fn read_head_call(case: &Case<'_>) -> Result<String, CaseFault> {
     let mut reader = bytes.as_slice();
     match read_head(case.alloc, &mut reader) {
         Ok(head) => head_text(case, &head),
-        Err(HeadFault::NoMemory) => Err(CaseFault::NoMemory),
-        Err(fault) => Ok(format!(in case.alloc; "{fault:?}")?),
+        Err(Failed::NoMemory) => Err(CaseFault::NoMemory),
+        Err(Failed::Because(fault)) => Ok(format!(in case.alloc; "{fault:?}")?),
     }
 }
 

@@ -1,7 +1,7 @@
 //! Why a command gave up.
-use scim_json::DocumentFault;
+use scim_json::DamagedItem;
 use scim_policy::{Cause, PolicyFault};
-use scim_text::NoMemory;
+use scim_text::{Failed, NoMemory};
 use std::error::Error;
 use std::fmt;
 
@@ -38,30 +38,30 @@ impl fmt::Display for OnceFault {
 
 impl Error for OnceFault {}
 
-impl From<PolicyFault> for OnceFault {
+impl From<Failed<PolicyFault>> for OnceFault {
     ghost use Rattle.std.specs.Prelude.{◌≡◌};
     ghost use Rattle.scim_command.specs.Faults.{of_policy};
 
     ghost from_gives = { λ e f. f ≡ of_policy e };
 
-    fn from(fault: PolicyFault) -> OnceFault {
+    fn from(fault: Failed<PolicyFault>) -> OnceFault {
         match fault {
-            PolicyFault::Faulty { rule, cause } => OnceFault::Policy { rule, cause },
-            PolicyFault::NoMemory => OnceFault::NoMemory,
+            Failed::Because(PolicyFault { rule, cause }) => OnceFault::Policy { rule, cause },
+            Failed::NoMemory => OnceFault::NoMemory,
         }
     }
 }
 
-impl From<DocumentFault> for OnceFault {
+impl From<Failed<DamagedItem>> for OnceFault {
     ghost use Rattle.std.specs.Prelude.{◌≡◌};
     ghost use Rattle.scim_command.specs.Faults.{of_document};
 
     ghost from_gives = { λ e f. f ≡ of_document e };
 
-    fn from(fault: DocumentFault) -> OnceFault {
+    fn from(fault: Failed<DamagedItem>) -> OnceFault {
         match fault {
-            DocumentFault::Damaged(number) => OnceFault::Users(number),
-            DocumentFault::NoMemory => OnceFault::NoMemory,
+            Failed::Because(DamagedItem(number)) => OnceFault::Users(number),
+            Failed::NoMemory => OnceFault::NoMemory,
         }
     }
 }

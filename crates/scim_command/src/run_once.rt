@@ -20,7 +20,7 @@ use crate::faults::OnceFault;
 use crate::refusals::{Refusal, refusal_text};
 use scim_json::read_documents;
 use scim_policy::read_policy;
-use scim_text::NoMemory;
+use scim_text::{Failed, NoMemory};
 use scim_view::Viewer;
 use scim_wire::{Head, HeadFault, read_head, write_text};
 use std::alloc::Global;
@@ -106,10 +106,10 @@ fn reply_to<R: Read>(
 {
     match read_head(alloc, reader) {
         Ok(head) => Ok(answer(alloc, viewer, directory, &head)),
-        Err(HeadFault::BadHead) => Ok(refusal_text(alloc, Refusal::BadHead)),
-        Err(HeadFault::NoMemory) => Ok(Err(NoMemory)),
-        Err(HeadFault::Ended) => Err(OnceFault::InputEnded),
-        Err(HeadFault::Failed) => Err(OnceFault::InputFailed),
+        Err(Failed::NoMemory) => Ok(Err(NoMemory)),
+        Err(Failed::Because(HeadFault::BadHead)) => Ok(refusal_text(alloc, Refusal::BadHead)),
+        Err(Failed::Because(HeadFault::Ended)) => Err(OnceFault::InputEnded),
+        Err(Failed::Because(HeadFault::ReadFailed)) => Err(OnceFault::InputFailed),
     }
 }
 

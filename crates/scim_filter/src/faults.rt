@@ -1,10 +1,4 @@
 //! Why a filter could not be read.
-ghost use Rattle.std.specs.Prelude.{◌≡◌};
-ghost use Rattle.scim_filter.specs.declared.faults.FilterFault.{FilterFault};
-ghost use Rattle.scim_filter.specs.declared.faults.ReadError.{ReadError};
-
-use scim_text::NoMemory;
-use std::alloc::{AllocError, AllocFailed};
 use thiserror::Error;
 
 /// Why a filter could not be read.
@@ -24,17 +18,6 @@ pub enum FilterFault {
     /// The text has more than 4,096 bytes.
     #[error("the filter has more than 4096 bytes")]
     TooLong,
-    /// No memory was to be had.
-    #[error("out of memory")]
-    NoMemory,
-}
-
-impl<T: Drop> From<AllocFailed<T>> for FilterFault {
-    ghost from_gives = { λ _ e. e ≡ FilterFault.NoMemory };
-
-    fn from(_: AllocFailed<T>) -> FilterFault {
-        FilterFault::NoMemory
-    }
 }
 
 /// Why a reader stopped.
@@ -44,30 +27,4 @@ pub(crate) enum ReadError {
     Syntax(usize),
     /// More brackets are open than may be.
     TooDeep,
-    /// No memory was to be had.
-    NoMemory,
-}
-
-impl From<NoMemory> for ReadError {
-    ghost from_gives = { λ _ e. e ≡ ReadError.NoMemory };
-
-    fn from(_: NoMemory) -> ReadError {
-        ReadError::NoMemory
-    }
-}
-
-impl From<AllocError> for ReadError {
-    ghost from_gives = { λ _ e. e ≡ ReadError.NoMemory };
-
-    fn from(_: AllocError) -> ReadError {
-        ReadError::NoMemory
-    }
-}
-
-impl<T: Drop> From<AllocFailed<T>> for ReadError {
-    ghost from_gives = { λ _ e. e ≡ ReadError.NoMemory };
-
-    fn from(_: AllocFailed<T>) -> ReadError {
-        ReadError::NoMemory
-    }
 }

@@ -6,6 +6,7 @@ use crate::bytes::{is_keyword, skip_one, skip_string, split_word};
 use crate::faults::ReadError;
 use crate::string_literals::StringLiteral;
 use crate::tree::Literal;
+use scim_text::Failed;
 use serde_json::Value;
 use std::alloc::Global;
 use std::str;
@@ -33,17 +34,17 @@ fn integer(word: &[u8]) -> Option<i64>
 }
 
 #[tactic(auto, unfolding(crate::specs::code::Reading::number_of))]
-fn number(word: &[u8], left: usize) -> Result<Literal, ReadError>
+fn number(word: &[u8], left: usize) -> Result<Literal, Failed<ReadError>>
     ensures { Gives (λ x. x) result (number_of word.now) }
 {
     match integer(word) {
         Some(n) => Ok(Literal::Number(n)),
-        None => Err(ReadError::Syntax(left)),
+        None => Err(Failed::Because(ReadError::Syntax(left))),
     }
 }
 
 #[tactic(auto, unfolding(crate::specs::code::Reading::word_literal))]
-fn one_word(word: &[u8], left: usize) -> Result<Literal, ReadError>
+fn one_word(word: &[u8], left: usize) -> Result<Literal, Failed<ReadError>>
     ensures { Gives (λ x. x) result (word_literal word.now) }
 {
     if is_keyword(b"true", word) {
@@ -59,31 +60,31 @@ fn one_word(word: &[u8], left: usize) -> Result<Literal, ReadError>
 
 /// The text that a JSON string stands for.
 #[tactic(auto, unfolding(crate::specs::code::Reading::string_of))]
-fn unquoted(alloc: Global, string: &[u8], left: usize) -> Result<StringLiteral, ReadError>
+fn unquoted(alloc: Global, string: &[u8], left: usize) -> Result<StringLiteral, Failed<ReadError>>
     ensures { Gives (λ t. t) result (string_of string.now) }
 {
     match Value::from_slice(alloc, string) {
         Ok(value) => match value.as_str() {
             Some(text) => Ok(StringLiteral::copy_of(alloc, text)?),
-            None => Err(ReadError::Syntax(left)),
+            None => Err(Failed::Because(ReadError::Syntax(left))),
         },
         Err(e) => {
             if e.is_memory() {
-                Err(ReadError::NoMemory)
+                Err(Failed::NoMemory)
             } else {
-                Err(ReadError::Syntax(left))
+                Err(Failed::Because(ReadError::Syntax(left)))
             }
         }
     }
 }
 
 #[tactic(auto, unfolding(crate::specs::code::Reading::string_at))]
-fn quoted(alloc: Global, bytes: &[u8]) -> Result<(Literal, &[u8]), ReadError>
+fn quoted(alloc: Global, bytes: &[u8]) -> Result<(Literal, &[u8]), Failed<ReadError>>
     ensures gives { Gives (λ x. (x.0, x.1.now)) result (string_at bytes.now) }
     ensures shorter { IfOk result (λ x. length x.1.now ≤ length bytes.now) }
 {
     let Some(rest) = skip_string(skip_one(bytes)) else {
-        return Err(ReadError::Syntax(bytes.len()));
+        return Err(Failed::Because(ReadError::Syntax(bytes.len())));
     };
     let string = &bytes[..bytes.len() - rest.len()];
     let text = unquoted(alloc, string, bytes.len())?;
@@ -92,7 +93,7 @@ fn quoted(alloc: Global, bytes: &[u8]) -> Result<(Literal, &[u8]), ReadError>
 
 /// The literal in front, and what is behind it.
 #[tactic(auto, unfolding(crate::specs::code::Reading::literal_at))]
-pub fn literal(alloc: Global, bytes: &[u8]) -> Result<(Literal, &[u8]), ReadError>
+pub fn literal(alloc: Global, bytes: &[u8]) -> Result<(Literal, &[u8]), Failed<ReadError>>
     ensures gives { Gives (λ x. (x.0, x.1.now)) result (literal_at bytes.now) }
     ensures shorter { IfOk result (λ x. length x.1.now ≤ length bytes.now) }
 {

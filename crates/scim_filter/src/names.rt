@@ -14,7 +14,7 @@ use scim_cell::Text;
 use scim_schema::{
     Attribute, Kind, Schema, attribute_named, attribute_named_in, sub_attribute_named,
 };
-use scim_text::NoMemory;
+use scim_text::{Failed, NoMemory};
 use std::alloc::Global;
 use std::str;
 
@@ -188,11 +188,11 @@ pub(crate) fn meant(scope: Scope, word: &[u8]) -> Option<Meant>
 }
 
 /// The path that a whole word is; a fault with `left` bytes left where it is none.
-pub(crate) fn path(alloc: Global, scope: Scope, word: &[u8], left: usize) -> Result<Path, ReadError>
+pub(crate) fn path(alloc: Global, scope: Scope, word: &[u8], left: usize) -> Result<Path, Failed<ReadError>>
     ensures { Gives (λ x. x) result (path_of scope word.now) }
 {
     let Some((urn, name, sub)) = parts(scope, word) else {
-        return Err(ReadError::Syntax(left));
+        return Err(Failed::Because(ReadError::Syntax(left)));
     };
     let meant = named(scope, urn, name, sub);
     Ok(Path {

@@ -1,5 +1,7 @@
 //! A reader for each rule of the grammar, over the bytes that are left (RFC 7644 section 3.4.2.2).
-ghost use Rattle.std.specs.Prelude.{◌≡◌, ◌⊎◌, Some, None, ℕ, IsErrOf, MatchResult, IfErr, ◌<◌, ◌≤◌, true, false, length, IfOk};
+ghost use Rattle.std.specs.Prelude.{◌≡◌, ◌⊎◌, Some, None, ℕ, IsErrOf, MatchResult, ◌<◌, ◌≤◌, true, false, length, IfOk};
+ghost use Rattle.scim_text.specs.Failures.{IfFault};
+ghost use Rattle.scim_text.specs.declared.memory.Failed.{Failed};
 ghost use Rattle.scim_filter.specs.declared.faults.FilterFault.{FilterFault};
 ghost use Rattle.scim_filter.specs.Brackets.{IsDeeper};
 ghost use Rattle.scim_filter.specs.Grammar.{IsFilter};
@@ -16,11 +18,12 @@ use crate::names::path;
 use crate::tree::{Filter, Node, Operator, Path, Scope};
 use crate::types::fits;
 use scim_schema::Kind;
+use scim_text::Failed;
 use std::alloc::Global;
 
 /// The operator that a word spells; a fault with `left` bytes left where it spells none.
 #[tactic(auto, unfolding(crate::specs::code::Reading::operator_of))]
-fn operator(word: &[u8], left: usize) -> Result<Operator, ReadError>
+fn operator(word: &[u8], left: usize) -> Result<Operator, Failed<ReadError>>
     ensures { Gives (λ x. x) result (operator_of word.now) }
 {
     if is_keyword(b"eq", word) {
@@ -42,13 +45,13 @@ fn operator(word: &[u8], left: usize) -> Result<Operator, ReadError>
     } else if is_keyword(b"le", word) {
         Ok(Operator::Le)
     } else {
-        Err(ReadError::Syntax(left))
+        Err(Failed::Because(ReadError::Syntax(left)))
     }
 }
 
 /// What stands behind a path and a gap.
 #[tactic(auto, unfolding(crate::specs::code::Reading::relation_at))]
-fn relation(alloc: Global, path: Path, bytes: &[u8]) -> Result<(Node, &[u8]), ReadError>
+fn relation(alloc: Global, path: Path, bytes: &[u8]) -> Result<(Node, &[u8]), Failed<ReadError>>
     ensures gives { Gives (λ x. (view x.0, x.1.now)) result (relation_at path bytes.now) }
     ensures shorter { IfOk result (λ x. length x.1.now ≤ length bytes.now) }
 {
@@ -58,7 +61,7 @@ fn relation(alloc: Global, path: Path, bytes: &[u8]) -> Result<(Node, &[u8]), Re
     }
     let op = operator(word, bytes.len())?;
     let Some(rest) = skip_gap(rest) else {
-        return Err(ReadError::Syntax(bytes.len()));
+        return Err(Failed::Because(ReadError::Syntax(bytes.len())));
     };
     let (literal, rest) = literal(alloc, rest)?;
     Ok((Node::Compare(path, op, literal), rest))
@@ -73,14 +76,14 @@ fn enclosed(
     scope: Scope,
     close: u8,
     bytes: &[u8],
-) -> Result<(Node, &[u8]), ReadError>
+) -> Result<(Node, &[u8]), Failed<ReadError>>
     ensures gives { Gives (λ x. (view x.0, x.1.now)) result (enclosed_at close (filter_at depth scope) bytes.now) }
     ensures shorter { IfOk result (λ x. length x.1.now < length bytes.now) }
 {
     let (node, rest) = filter(alloc, depth, scope, skip_spaces(bytes))?;
     match skip_spaces(rest) {
         [b, rest @ ..] if *b == close => Ok((node, rest)),
-        _ => Err(ReadError::Syntax(bytes.len())),
+        _ => Err(Failed::Because(ReadError::Syntax(bytes.len()))),
     }
 }
 
@@ -93,12 +96,12 @@ pub(crate) fn listed(
     scope: Scope,
     path: Path,
     bytes: &[u8],
-) -> Result<(Node, &[u8]), ReadError>
+) -> Result<(Node, &[u8]), Failed<ReadError>>
     ensures gives { Gives (λ x. (view x.0, x.1.now)) result (listed_at (filter_at depth) scope path bytes.now) }
     ensures shorter { IfOk result (λ x. length x.1.now < length bytes.now) }
 {
     match scope {
-        Scope::SubAttributes(_) => Err(ReadError::Syntax(bytes.len())),
+        Scope::SubAttributes(_) => Err(Failed::Because(ReadError::Syntax(bytes.len()))),
         Scope::Attributes(_) => {
             let inner = Scope::SubAttributes(path.meant.attribute());
             let (node, rest) = enclosed(alloc, depth, inner, b']', bytes)?;
@@ -116,7 +119,7 @@ fn behind_path(
     scope: Scope,
     path: Path,
     bytes: &[u8],
-) -> Result<(Node, &[u8]), ReadError>
+) -> Result<(Node, &[u8]), Failed<ReadError>>
     ensures gives { Gives (λ x. (view x.0, x.1.now)) result (behind_path_at (filter_at depth) scope path bytes.now) }
     ensures shorter { IfOk result (λ x. length x.1.now < length bytes.now) }
 {
@@ -124,7 +127,7 @@ fn behind_path(
         return listed(alloc, depth, scope, path, rest);
     }
     let Some(rest) = skip_gap(bytes) else {
-        return Err(ReadError::Syntax(bytes.len()));
+        return Err(Failed::Because(ReadError::Syntax(bytes.len())));
     };
     relation(alloc, path, rest)
 }
@@ -132,7 +135,7 @@ fn behind_path(
 /// A term that begins with a word.
 #[cycle(filter)]
 #[tactic(auto, unfolding(crate::specs::code::Reading::worded_at))]
-fn worded(alloc: Global, depth: u32, scope: Scope, bytes: &[u8]) -> Result<(Node, &[u8]), ReadError>
+fn worded(alloc: Global, depth: u32, scope: Scope, bytes: &[u8]) -> Result<(Node, &[u8]), Failed<ReadError>>
     ensures gives { Gives (λ x. (view x.0, x.1.now)) result (worded_at (filter_at depth) scope bytes.now) }
     ensures shorter { IfOk result (λ x. length x.1.now < length bytes.now) }
 {
@@ -150,7 +153,7 @@ fn worded(alloc: Global, depth: u32, scope: Scope, bytes: &[u8]) -> Result<(Node
 /// A term in front.
 #[cycle(filter)]
 #[tactic(auto, unfolding(crate::specs::code::Reading::term_at))]
-fn term(alloc: Global, depth: u32, scope: Scope, bytes: &[u8]) -> Result<(Node, &[u8]), ReadError>
+fn term(alloc: Global, depth: u32, scope: Scope, bytes: &[u8]) -> Result<(Node, &[u8]), Failed<ReadError>>
     ensures gives { Gives (λ x. (view x.0, x.1.now)) result (term_at (filter_at depth) scope bytes.now) }
     ensures shorter { IfOk result (λ x. length x.1.now < length bytes.now) }
 {
@@ -167,7 +170,7 @@ fn conjunction(
     depth: u32,
     scope: Scope,
     bytes: &[u8],
-) -> Result<(Node, &[u8]), ReadError>
+) -> Result<(Node, &[u8]), Failed<ReadError>>
     ensures gives { Gives (λ x. (view x.0, x.1.now)) result (conjunction_at (filter_at depth) scope bytes.now) }
     ensures shorter { IfOk result (λ x. length x.1.now < length bytes.now) }
 {
@@ -189,7 +192,7 @@ fn disjunction(
     depth: u32,
     scope: Scope,
     bytes: &[u8],
-) -> Result<(Node, &[u8]), ReadError>
+) -> Result<(Node, &[u8]), Failed<ReadError>>
     ensures gives { Gives (λ x. (view x.0, x.1.now)) result (disjunction_at (filter_at depth) scope bytes.now) }
     ensures shorter { IfOk result (λ x. length x.1.now < length bytes.now) }
 {
@@ -206,24 +209,24 @@ fn disjunction(
 
 /// A filter in less than this many brackets.
 #[cycle(filter)]
-fn filter(alloc: Global, depth: u32, scope: Scope, bytes: &[u8]) -> Result<(Node, &[u8]), ReadError>
+fn filter(alloc: Global, depth: u32, scope: Scope, bytes: &[u8]) -> Result<(Node, &[u8]), Failed<ReadError>>
     ensures gives { Gives (λ x. (view x.0, x.1.now)) result (filter_at depth scope bytes.now) }
     ensures shorter { IfOk result (λ x. length x.1.now < length bytes.now) }
 {
     if depth == 0 {
-        return Err(ReadError::TooDeep);
+        return Err(Failed::Because(ReadError::TooDeep));
     }
     disjunction(alloc, depth - 1, scope, bytes)
 }
 
 /// A whole filter, with nothing but spaces behind it.
 #[tactic(auto, unfolding(crate::specs::code::Reading::all_of))]
-fn all(alloc: Global, scope: Scope, bytes: &[u8]) -> Result<Node, ReadError>
+fn all(alloc: Global, scope: Scope, bytes: &[u8]) -> Result<Node, Failed<ReadError>>
     ensures { Gives view result (all_of scope bytes.now) }
 {
     let (node, rest) = filter(alloc, 33, scope, skip_spaces(bytes))?;
     if !skip_spaces(rest).is_empty() {
-        return Err(ReadError::Syntax(rest.len()));
+        return Err(Failed::Because(ReadError::Syntax(rest.len())));
     }
     Ok(node)
 }
@@ -236,36 +239,39 @@ fn all(alloc: Global, scope: Scope, bytes: &[u8]) -> Result<Node, ReadError>
 /// `WrongType` where a value is not of the type of what it is compared with; with `TooDeep` and `TooLong`
 /// beyond the limits; and with `NoMemory`.
 #[tactic(auto, using(crate::proofs::NestingLemmas::all_deep))]
-pub fn read_filter(alloc: Global, kind: Kind, text: &str) -> Result<Filter, FilterFault>
+pub fn read_filter(alloc: Global, kind: Kind, text: &str) -> Result<Filter, Failed<FilterFault>>
     // What is read is spelled so, and its values are of the types of what they are compared with.
     ensures found { IfOk result (λ f. (length text.now ≤ LONGEST_TEXT) × IsFilter kind 32 text.now (tree_of f) × (fits (tree_of f) ≡ true)) }
     // What is spelled within the limits and types is read so, unless memory runs out.
     ensures only { (tree : Tree) → length text.now ≤ LONGEST_TEXT → IsFilter kind 32 text.now tree → fits tree ≡ true
-        → MatchResult result (λ f. tree_of f ≡ tree) (λ e. e ≡ FilterFault.NoMemory) }
+        → MatchResult result (λ f. tree_of f ≡ tree) (λ e. e ≡ Failed.NoMemory) }
     // A fault comes only where its cause stands.
-    ensures syntax { IfErr result (λ e. (at : ℕ) → e ≡ FilterFault.Syntax at
+    ensures syntax { IfFault result (λ e. (at : ℕ) → e ≡ FilterFault.Syntax at
         → (at ≤ length text.now) × ((n : ℕ) (tree : Tree) → ¬ (IsFilter kind n text.now tree))) }
-    ensures wrong_type { IsErrOf result FilterFault.WrongType → (tree : Tree) × IsFilter kind 32 text.now tree × (fits tree ≡ false) }
-    ensures too_deep { IsErrOf result FilterFault.TooDeep → (tree : Tree) → ¬ (IsFilter kind 32 text.now tree) }
-    ensures nested { IsErrOf result FilterFault.TooDeep → IsDeeper 32 text.now }
-    ensures too_long { IsErrOf result FilterFault.TooLong → LONGEST_TEXT < length text.now }
+    ensures wrong_type { IsErrOf result (Failed.Because FilterFault.WrongType) → (tree : Tree) × IsFilter kind 32 text.now tree × (fits tree ≡ false) }
+    ensures too_deep { IsErrOf result (Failed.Because FilterFault.TooDeep) → (tree : Tree) → ¬ (IsFilter kind 32 text.now tree) }
+    ensures nested { IsErrOf result (Failed.Because FilterFault.TooDeep) → IsDeeper 32 text.now }
+    ensures too_long { IsErrOf result (Failed.Because FilterFault.TooLong) → LONGEST_TEXT < length text.now }
     // The same by the function that gives what a text spells.
-    ensures same { MatchResult result (λ f. filter_in kind text.now ≡ Some (tree_of f)) (λ e. (e ≡ FilterFault.NoMemory) ⊎ (filter_in kind text.now ≡ None)) }
+    ensures same { MatchResult result (λ f. filter_in kind text.now ≡ Some (tree_of f)) (λ e. (e ≡ Failed.NoMemory) ⊎ (filter_in kind text.now ≡ None)) }
 {
     let bytes = text.as_bytes();
     if bytes.len() > LONGEST_TEXT {
-        return Err(FilterFault::TooLong);
+        return Err(Failed::Because(FilterFault::TooLong));
     }
     match all(alloc, Scope::Attributes(kind), bytes) {
         Ok(node) => {
             if fits(&node) {
                 Ok(Filter::of(node))
             } else {
-                Err(FilterFault::WrongType)
+                Err(Failed::Because(FilterFault::WrongType))
             }
         }
-        Err(ReadError::NoMemory) => Err(FilterFault::NoMemory),
-        Err(ReadError::Syntax(left)) => Err(FilterFault::Syntax(bytes.len().saturating_sub(left))),
-        Err(ReadError::TooDeep) => Err(FilterFault::TooDeep),
+        Err(Failed::NoMemory) => Err(Failed::NoMemory),
+        Err(Failed::Because(ReadError::Syntax(left))) => {
+            let at = bytes.len().saturating_sub(left);
+            Err(Failed::Because(FilterFault::Syntax(at)))
+        }
+        Err(Failed::Because(ReadError::TooDeep)) => Err(Failed::Because(FilterFault::TooDeep)),
     }
 }

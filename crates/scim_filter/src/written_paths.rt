@@ -14,7 +14,7 @@ use crate::reading::listed;
 use crate::tree::{Filter, Path, Scope};
 use scim_cell::Text;
 use scim_schema::Kind;
-use scim_text::NoMemory;
+use scim_text::{Failed, NoMemory};
 use std::alloc::Global;
 
 /// The path of a change as it is written.
@@ -28,18 +28,18 @@ pub enum WrittenPath {
 
 /// The path, where nothing but spaces is left.
 #[tactic(auto, unfolding(crate::specs::code::PathReading::ended_at))]
-fn ended(path: WrittenPath, bytes: &[u8]) -> Result<WrittenPath, ReadError>
+fn ended(path: WrittenPath, bytes: &[u8]) -> Result<WrittenPath, Failed<ReadError>>
     ensures { Gives written_of result (ended_at (written_of path) bytes.now) }
 {
     if !skip_spaces(bytes).is_empty() {
-        return Err(ReadError::Syntax(bytes.len()));
+        return Err(Failed::Because(ReadError::Syntax(bytes.len())));
     }
     Ok(path)
 }
 
 /// What stands behind the bracket that closes a value path.
 #[tactic(auto, unfolding(crate::specs::code::PathReading::sub_at))]
-fn with_sub_attribute(alloc: Global, filter: Filter, bytes: &[u8]) -> Result<WrittenPath, ReadError>
+fn with_sub_attribute(alloc: Global, filter: Filter, bytes: &[u8]) -> Result<WrittenPath, Failed<ReadError>>
     ensures { Gives written_of result (sub_at (tree_of filter) bytes.now) }
 {
     let [b'.', rest @ ..] = bytes else {
@@ -47,7 +47,7 @@ fn with_sub_attribute(alloc: Global, filter: Filter, bytes: &[u8]) -> Result<Wri
     };
     let (word, rest) = split_word(rest);
     let Some(sub_name) = name(word) else {
-        return Err(ReadError::Syntax(bytes.len()));
+        return Err(Failed::Because(ReadError::Syntax(bytes.len())));
     };
     let sub_name = Text::copy_of(alloc, sub_name)?;
     ended(WrittenPath::Filtered(filter, Some(sub_name)), rest)
@@ -55,7 +55,7 @@ fn with_sub_attribute(alloc: Global, filter: Filter, bytes: &[u8]) -> Result<Wri
 
 /// What stands behind a path and an open bracket.
 #[tactic(auto, unfolding(crate::specs::code::PathReading::filtered_at))]
-fn filtered(alloc: Global, kind: Kind, path: Path, bytes: &[u8]) -> Result<WrittenPath, ReadError>
+fn filtered(alloc: Global, kind: Kind, path: Path, bytes: &[u8]) -> Result<WrittenPath, Failed<ReadError>>
     ensures { Gives written_of result (filtered_at 32 kind path bytes.now) }
 {
     let (node, rest) = listed(alloc, 32, Scope::Attributes(kind), path, bytes)?;
@@ -69,7 +69,7 @@ fn behind_names(
     kind: Kind,
     path: Path,
     bytes: &[u8],
-) -> Result<WrittenPath, ReadError>
+) -> Result<WrittenPath, Failed<ReadError>>
     ensures { Gives written_of result (behind_names_at 32 kind path bytes.now) }
 {
     match bytes {
@@ -79,7 +79,7 @@ fn behind_names(
 }
 
 #[tactic(auto, unfolding(crate::specs::code::PathReading::written_at))]
-fn written(alloc: Global, kind: Kind, bytes: &[u8]) -> Result<WrittenPath, ReadError>
+fn written(alloc: Global, kind: Kind, bytes: &[u8]) -> Result<WrittenPath, Failed<ReadError>>
     ensures { Gives written_of result (written_at 32 kind bytes.now) }
 {
     let (word, behind) = split_word(bytes);
@@ -103,8 +103,8 @@ pub fn written_path(alloc: Global, kind: Kind, text: &str) -> Result<Option<Writ
     }
     match written(alloc, kind, skip_spaces(bytes)) {
         Ok(path) => Ok(Some(path)),
-        Err(ReadError::NoMemory) => Err(NoMemory),
-        Err(ReadError::Syntax(_)) => Ok(None),
-        Err(ReadError::TooDeep) => Ok(None),
+        Err(Failed::NoMemory) => Err(NoMemory),
+        Err(Failed::Because(ReadError::Syntax(_))) => Ok(None),
+        Err(Failed::Because(ReadError::TooDeep)) => Ok(None),
     }
 }

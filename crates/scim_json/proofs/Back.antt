@@ -31,9 +31,9 @@ use Rattle.scim_cell.specs.Place.{sub_attributes_by_place}
 use Rattle.scim_value.specs.Listing.{cell_with, attribute_cells}
 use Rattle.scim_value.proofs.Facts.{get_cell, cells_are_listed, sound_part}
 use Rattle.scim_cell.proofs.Facts.{id_text-injective}
-use Rattle.scim_schema.specs.declared.json_keys.Form.TheVariants.{Stored}
-use Rattle.scim_schema.specs.declared.json_keys.Shape.{Shape}
-use Rattle.scim_schema.specs.declared.json_keys.Shape.TheVariants.{Simple, Complex}
+use Rattle.scim_schema.specs.declared.json_keys.JsonForm.TheVariants.{Stored}
+use Rattle.scim_schema.specs.declared.json_keys.JsonShape.{JsonShape}
+use Rattle.scim_schema.specs.declared.json_keys.JsonShape.TheVariants.{Simple, Complex}
 use Rattle.scim_schema.specs.JsonKeys.{shape_of, ordered_sub_attributes}
 use Rattle.scim_json.specs.PartData.{object_of, atom_data, sub_data, shaped_data, stored_data}
 use Rattle.scim_json.specs.Found.{if_there, found_value, found_sub_attribute, found_object, found_shaped, attribute_in, found_attribute, found_cells, cells_below, id_in, resource_type_in}
@@ -65,12 +65,12 @@ id_shape = refl
 -- the object of `meta` is found
 meta_in : (c : Content) → attribute_in Meta (stored_data c) ≡ object_of (written_members Stored Meta (sub_data (rows c) Meta))
 unfolding stored_data
-meta_in c = meta_shown c ∙ ap (λ (s : Shape). shaped_data Stored s (rows c) Meta) meta_shape
+meta_in c = meta_shown c ∙ ap (λ (s : JsonShape). shaped_data Stored s (rows c) Meta) meta_shape
 
 -- the text of `id` is found
 id_data : (c : Content) → attribute_in Id (stored_data c) ≡ option_map atom_data (cell_at (simple Id) 0 (rows c))
 unfolding stored_data
-id_data c = id_shown c ∙ ap (λ (s : Shape). shaped_data Stored s (rows c) Id) id_shape
+id_data c = id_shown c ∙ ap (λ (s : JsonShape). shaped_data Stored s (rows c) Id) id_shape
 
 -- the id's text stands in the JSON
 pub id_stored : (c : Content) → IsResource c → id_in (stored_data c) ≡ Some (id_text c.id)

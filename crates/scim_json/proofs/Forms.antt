@@ -6,7 +6,7 @@ use Rattle.serde_json.specs.Read.{read}
 use Rattle.serde_json.specs.Written.{has_float, compact_text}
 use Rattle.scim_cell.specs.Content.{Content}
 use Rattle.scim_json.specs.PartData.{stored_data}
-use Rattle.scim_schema.specs.declared.json_keys.Form.TheVariants.{Stored}
+use Rattle.scim_schema.specs.declared.json_keys.JsonForm.TheVariants.{Stored}
 use Rattle.scim_json.proofs.Kept.{data_of-IsKept}
 
 abbrev or_null : Option Data → Data

@@ -29,9 +29,9 @@ use Rattle.scim_cell.specs.Content.{Entry, HasType}
 use Rattle.scim_cell.specs.Rows.{Row, values, atom_in, atom_at, cell_at, IsSoundField, IsSoundRow}
 use Rattle.scim_cell.specs.Place.{sub_attributes_by_place}
 use Rattle.scim_value.specs.Listing.{cell_with, values_cells}
-use Rattle.scim_schema.specs.declared.json_keys.Form.{Form}
-use Rattle.scim_schema.specs.declared.json_keys.Shape.{Shape}
-use Rattle.scim_schema.specs.declared.json_keys.Shape.TheVariants.{Simple, Complex, MultiValued}
+use Rattle.scim_schema.specs.declared.json_keys.JsonForm.{JsonForm}
+use Rattle.scim_schema.specs.declared.json_keys.JsonShape.{JsonShape}
+use Rattle.scim_schema.specs.declared.json_keys.JsonShape.TheVariants.{Simple, Complex, MultiValued}
 use Rattle.scim_schema.specs.JsonKeys.{ordered_sub_attributes}
 use Rattle.scim_json.specs.PartData.{members_where, object_of, items_of, array_of, atom_data, value_data, shaped_data}
 use Rattle.scim_json.specs.Found.{atom_of, if_there, found_value, found_sub_attribute, found_object, found_items, found_shaped}
@@ -94,12 +94,12 @@ found_atom kind l k None h = refl
 found_atom kind l k (Some a) h = ap (cell_with l k) (atom_back (characteristics_of kind l).attribute_type a h)
 
 -- the cells of an attribute, by its shape and its sub-attributes
-abbrev pub shaped_cells : List Row → Attribute → Shape → List SubAttribute → List Entry
+abbrev pub shaped_cells : List Row → Attribute → JsonShape → List SubAttribute → List Entry
 shaped_cells rs a Simple bs = cell_with (simple a) 0 (cell_at (simple a) 0 rs)
 shaped_cells rs a Complex bs = flat_map (λ b. cell_with (leaf_at a b) 0 (cell_at (leaf_at a b) 0 rs)) bs
 shaped_cells rs a MultiValued bs = values_cells a 0 (values (whole a) rs)
 
-module _ (form : Form) where
+module _ (form : JsonForm) where
   -- a sub-attribute that is written in the object of its attribute
   abbrev pub is_written : Attribute → SubAttribute → Bool
   is_written a b = list_any (sameb the_sub_attribute b) (ordered_sub_attributes form a)
@@ -148,7 +148,7 @@ module _ (form : Form) where
           ap₂ ◌++◌ (found_written k (λ b. atom_in (leaf_at a b) v.fields) (λ b. fits_in kind v.unit (leaf_at a b) v.fields own) (sub_attributes_by_place a) all) (found_values (k + 1) vs (All-tail (IsSoundRow kind) v vs h))
 
       -- the cells of an attribute of some shape
-      pub found_shape : (rs : List Row) → All (IsSoundRow kind) rs → (shape : Shape) → if_there (found_shaped kind a shape) (shaped_data form shape rs a) ≡ shaped_cells rs a shape (sub_attributes_by_place a)
+      pub found_shape : (rs : List Row) → All (IsSoundRow kind) rs → (shape : JsonShape) → if_there (found_shaped kind a shape) (shaped_data form shape rs a) ≡ shaped_cells rs a shape (sub_attributes_by_place a)
       found_shape rs sound Simple = found_atom kind (simple a) 0 (cell_at (simple a) 0 rs) (fits_cell kind (simple a) 0 rs sound)
       found_shape rs sound Complex =
           found_object_of kind a 0 (written_members a (λ b. option_map atom_data (cell_at (leaf_at a b) 0 rs)))

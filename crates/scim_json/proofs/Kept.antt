@@ -18,12 +18,12 @@ use Rattle.scim_cell.specs.declared.atoms.Atom.{Atom}
 use Rattle.scim_cell.specs.declared.atoms.Atom.TheVariants.{Text, Truth, Moment}
 use Rattle.scim_cell.specs.Content.{Content}
 use Rattle.scim_cell.specs.Rows.{Row, rows, values}
-use Rattle.scim_schema.specs.declared.json_keys.Form.{Form}
-use Rattle.scim_schema.specs.declared.json_keys.Form.TheVariants.{Stored}
-use Rattle.scim_schema.specs.declared.json_keys.Key.{Key}
-use Rattle.scim_schema.specs.declared.json_keys.Key.TheVariants.{Of, Schemas, Extension}
-use Rattle.scim_schema.specs.declared.json_keys.Shape.{Shape}
-use Rattle.scim_schema.specs.declared.json_keys.Shape.TheVariants.{Simple, Complex, MultiValued}
+use Rattle.scim_schema.specs.declared.json_keys.JsonForm.{JsonForm}
+use Rattle.scim_schema.specs.declared.json_keys.JsonForm.TheVariants.{Stored}
+use Rattle.scim_schema.specs.declared.json_keys.JsonKey.{JsonKey}
+use Rattle.scim_schema.specs.declared.json_keys.JsonKey.TheVariants.{Of, Schemas, Extension}
+use Rattle.scim_schema.specs.declared.json_keys.JsonShape.{JsonShape}
+use Rattle.scim_schema.specs.declared.json_keys.JsonShape.TheVariants.{Simple, Complex, MultiValued}
 use Rattle.scim_schema.specs.JsonKeys.{key_text, keys, extension_keys, ordered_sub_attributes, shape_of}
 use Rattle.scim_json.specs.PartData.{atom_data, field_data, value_data, sub_data, shaped_data, attribute_data, urn_data, has_extension, schemas_data, extension_data, key_data, data_of, stored_data}
 use Rattle.scim_json.specs.Laws.{KeptReadsBack}
@@ -48,17 +48,17 @@ IfKept-then n true d h = h
 IfKept-then n false d h = tt
 
 -- one value of a multi-valued attribute
-IsKept-value : (form : Form) (a : Attribute) (r : Row) → IsKept 1 (value_data form a r)
+IsKept-value : (form : JsonForm) (a : Attribute) (r : Row) → IsKept 1 (value_data form a r)
 IsKept-value form a r = IsKept-object sub_attribute_name (field_data a r.fields) 0 (λ b. IfKept-atom 0 _) (ordered_sub_attributes form a) (sub_attributes form a)
 
 -- the value of an attribute, by its shape
-IfKept-shaped : (form : Form) (s : Shape) (rs : List Row) (a : Attribute) → IfKept 2 (shaped_data form s rs a)
+IfKept-shaped : (form : JsonForm) (s : JsonShape) (rs : List Row) (a : Attribute) → IfKept 2 (shaped_data form s rs a)
 IfKept-shaped form Simple rs a = IfKept-atom 2 _
 IfKept-shaped form Complex rs a = IfKept-object_of 2 _ (IsKept-object sub_attribute_name (sub_data rs a) 1 (λ b. IfKept-atom 1 _) (ordered_sub_attributes form a) (sub_attributes form a))
 IfKept-shaped form MultiValued rs a = IfKept-array_of 1 _ (AreKept-items 1 (value_data form a) (IsKept-value form a) (values (whole a) rs))
 
 -- the value of an attribute
-IfKept-attribute : (form : Form) (rs : List Row) (a : Attribute) → IfKept 2 (attribute_data form rs a)
+IfKept-attribute : (form : JsonForm) (rs : List Row) (a : Attribute) → IfKept 2 (attribute_data form rs a)
 IfKept-attribute form rs a = IfKept-shaped form (shape_of a) rs a
 
 -- the URN of a schema
@@ -70,18 +70,18 @@ IsKept-schemas : (rs : List Row) (core : Schema) (extended : List Schema) → Is
 IsKept-schemas rs core extended = IsKept-array 2 _ (AreKept-item 2 _ _ (IsKept-urn 2 core) (AreKept-items 2 urn_data (IsKept-urn 2) (filter (has_extension rs) extended)))
 
 -- the object of an extension
-IfKept-extension : (form : Form) (rs : List Row) (s : Schema) → IfKept 3 (extension_data form rs s)
+IfKept-extension : (form : JsonForm) (rs : List Row) (s : Schema) → IfKept 3 (extension_data form rs s)
 unfolding extension_data
 IfKept-extension form rs s = IfKept-then 3 (has_extension rs s) _ (IsKept-object attribute_name (attribute_data form rs) 2 (IfKept-attribute form rs) (extension_keys s) (extension_attributes s))
 
 -- the value of a key
-IfKept-key : (form : Form) (c : Content) (k : Key) → IfKept 3 (key_data form c k)
+IfKept-key : (form : JsonForm) (c : Content) (k : JsonKey) → IfKept 3 (key_data form c k)
 IfKept-key form c (Of a) = deeper 2 _ (IfKept-attribute form (rows c) a)
 IfKept-key form c Schemas = IsKept-schemas (rows c) (core_schema c.kind) (extensions c.kind)
 IfKept-key form c (Extension s) = IfKept-extension form (rows c) s
 
 -- the JSON of a part
-pub data_of-IsKept : (form : Form) (c : Content) → IsKept 4 (data_of form c)
+pub data_of-IsKept : (form : JsonForm) (c : Content) → IsKept 4 (data_of form c)
 unfolding data_of
 data_of-IsKept form c = IsKept-object key_text (key_data form c) 3 (IfKept-key form c) (keys form c.kind) (part_keys form c.kind)
 
@@ -92,7 +92,7 @@ read_from_tokens d s h same =
     ∙ h.reads
 
 -- a text with the tokens of a part's JSON is read as that JSON
-pub read_from_part : (form : Form) (c : Content) (s : List ℕ) → tokens s ≡ value_tokens (data_of form c) → read s ≡ Some (data_of form c)
+pub read_from_part : (form : JsonForm) (c : Content) (s : List ℕ) → tokens s ≡ value_tokens (data_of form c) → read s ≡ Some (data_of form c)
 read_from_part form c s same = read_from_tokens (data_of form c) s (data_of-IsKept form c) same
 
 -- so is the text that is written of the value

@@ -21,10 +21,10 @@ use Rattle.scim_schema.specs.Table.{attributes}
 use Rattle.scim_schema.proofs.Facts.{attribute_one, part_keys, extension_attributes}
 use Rattle.scim_cell.specs.Content.{Content}
 use Rattle.scim_cell.specs.Rows.{Row, rows}
-use Rattle.scim_schema.specs.declared.json_keys.Form.{Form}
-use Rattle.scim_schema.specs.declared.json_keys.Form.TheVariants.{Stored}
-use Rattle.scim_schema.specs.declared.json_keys.Key.{Key}
-use Rattle.scim_schema.specs.declared.json_keys.Key.TheVariants.{Of, Schemas, Extension}
+use Rattle.scim_schema.specs.declared.json_keys.JsonForm.{JsonForm}
+use Rattle.scim_schema.specs.declared.json_keys.JsonForm.TheVariants.{Stored}
+use Rattle.scim_schema.specs.declared.json_keys.JsonKey.{JsonKey}
+use Rattle.scim_schema.specs.declared.json_keys.JsonKey.TheVariants.{Of, Schemas, Extension}
 use Rattle.scim_schema.specs.JsonKeys.{key_text, keys, extension_keys, ordered_sub_attributes, stands_under}
 use Rattle.scim_json.specs.PartData.{members_where, attribute_data, has_extension, extension_data, key_data, data_of}
 use Rattle.scim_json.specs.Found.{object_with, attribute_in}
@@ -34,7 +34,7 @@ use Rattle.scim_json.proofs.ShapeLemmas.{IsWithout, without_extension}
 -- ---- the tables, by computation
 
 -- an attribute stands under some key
-abbrev pub has_key : Form → Kind → Attribute → Bool
+abbrev pub has_key : JsonForm → Kind → Attribute → Bool
 has_key form kind a = list_any (stands_under a) (keys form kind)
 
 -- the attributes of a kind, but for `meta`, which is the last
@@ -86,7 +86,7 @@ some_schema : (o : Option Schema) (s t : Schema) → o ≡ Some s → option_eq 
 some_schema None s t e h = cc
 some_schema (Some x) s t e h = let f = same_true the_schema tt x t h in cc
 
-module _ (form : Form) where
+module _ (form : JsonForm) where
   -- ---- attributes of the core schema
 
   -- the members of a part
@@ -99,7 +99,7 @@ module _ (form : Form) where
   part_object c = refl
 
   -- the key under which an attribute stands finds it
-  of_key : (c : Content) (a : Attribute) (k : Key) (ms : Members) → extension_of a ≡ None → stands_under a k ≡ true → get_member (key_text k) ms ≡ key_data form c k
+  of_key : (c : Content) (a : Attribute) (k : JsonKey) (ms : Members) → extension_of a ≡ None → stands_under a k ≡ true → get_member (key_text k) ms ≡ key_data form c k
       → get_member (attribute_name a) ms ≡ attribute_data form (rows c) a
   of_key c a (Of b) ms n t e =
       let p = and_parts (is_none (extension_of a)) (sameb the_attribute a b) t in
@@ -120,7 +120,7 @@ module _ (form : Form) where
   -- ---- attributes of an extension
 
   -- its object is found, and has a key for the attribute
-  ext_key : (c : Content) (a : Attribute) (s : Schema) (k : Key) (ms : Members) → extension_of a ≡ Some s → stands_under a k ≡ true → get_member (key_text k) ms ≡ key_data form c k
+  ext_key : (c : Content) (a : Attribute) (s : Schema) (k : JsonKey) (ms : Members) → extension_of a ≡ Some s → stands_under a k ≡ true → get_member (key_text k) ms ≡ key_data form c k
       → (get_member (urn s) ms ≡ extension_data form (rows c) s) × (list_any (sameb the_attribute a) (extension_keys s) ≡ true)
   ext_key c a s (Of b) ms x t e = let f = rw x at t in cc
   ext_key c a s Schemas ms x t e = cc

@@ -13,9 +13,9 @@ use Rattle.scim_cell.specs.Content.{Content, IsPart}
 use Rattle.scim_cell.specs.Rows.{Row, rows, attribute_rows, atom_at, cell_at}
 use Rattle.scim_value.proofs.Facts.{sound_part, values_own, values_all}
 use Rattle.scim_cell.specs.Place.{sub_attributes_by_place}
-use Rattle.scim_schema.specs.declared.json_keys.Form.{Form}
-use Rattle.scim_schema.specs.declared.json_keys.Shape.{Shape}
-use Rattle.scim_schema.specs.declared.json_keys.Shape.TheVariants.{Simple, Complex, MultiValued}
+use Rattle.scim_schema.specs.declared.json_keys.JsonForm.{JsonForm}
+use Rattle.scim_schema.specs.declared.json_keys.JsonShape.{JsonShape}
+use Rattle.scim_schema.specs.declared.json_keys.JsonShape.TheVariants.{Simple, Complex, MultiValued}
 use Rattle.scim_schema.specs.JsonKeys.{shape_of, ordered_sub_attributes}
 use Rattle.scim_json.specs.PartData.{members_where, object_of, items_of, array_of, atom_data, value_data, simple_data, sub_data, complex_data, shaped_data, attribute_data}
 use Rattle.scim_json.proofs.Adding.{members_where-absent}
@@ -26,7 +26,7 @@ cell_own : (l : Leaf) (rs : List Row) → cell_at l 0 rs ≡ cell_at l 0 (attrib
 cell_own l rs = ap (atom_at l 0) (sym (values_own (unit_of l) rs))
 
 -- so an attribute of any shape is in its rows
-shaped_own : (form : Form) (shape : Shape) (rs : List Row) (a : Attribute) → shaped_data form shape rs a ≡ shaped_data form shape (attribute_rows a rs) a
+shaped_own : (form : JsonForm) (shape : JsonShape) (rs : List Row) (a : Attribute) → shaped_data form shape rs a ≡ shaped_data form shape (attribute_rows a rs) a
 shaped_own form Simple rs a = ap (option_map atom_data) (cell_own (simple a) rs)
 shaped_own form Complex rs a = λ i. object_of (members_where sub_attribute_name (λ b. option_map atom_data (cell_own (leaf_at a b) rs i)) (ordered_sub_attributes form a))
 shaped_own form MultiValued rs a = ap (λ vs. array_of (items_of (value_data form a) vs)) (sym (values_own (whole a) rs))
@@ -36,7 +36,7 @@ no_sub a [] = refl
 no_sub a (b ∷ bs) = no_sub a bs
 
 -- no rows have no value
-shaped_none : (form : Form) (shape : Shape) (a : Attribute) → shaped_data form shape [] a ≡ None
+shaped_none : (form : JsonForm) (shape : JsonShape) (a : Attribute) → shaped_data form shape [] a ≡ None
 shaped_none form Simple a = refl
 shaped_none form Complex a = ap object_of (members_where-absent sub_attribute_name (sub_data [] a) (ordered_sub_attributes form a) (no_sub a (ordered_sub_attributes form a)))
 shaped_none form MultiValued a = refl
@@ -46,7 +46,7 @@ pub empty : {X : Type 0} (xs : List X) → (length xs == 0) ≡ true → xs ≡ 
 empty [] h = refl
 empty (x ∷ xs) h = absurd (grind (arith, nat_tests))
 
-module _ (form : Form) (a : Attribute) (own : List Row) where
+module _ (form : JsonForm) (a : Attribute) (own : List Row) where
   -- an attribute that no row has isn't there
   pub data_none : (rs : List Row) → own ≡ attribute_rows a rs → own ≡ [] → attribute_data form rs a ≡ None
   data_none rs e n = shaped_own form (shape_of a) rs a ∙ ap (λ vs. shaped_data form (shape_of a) vs a) (sym e ∙ n) ∙ shaped_none form (shape_of a) a

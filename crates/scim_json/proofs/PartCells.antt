@@ -9,8 +9,8 @@ use Rattle.scim_cell.specs.Content.{Content, Entry, IsPart}
 use Rattle.scim_cell.specs.Rows.{rows}
 use Rattle.scim_value.specs.Listing.{attribute_cells}
 use Rattle.scim_value.proofs.Facts.{cells_are_listed, sound_part}
-use Rattle.scim_schema.specs.declared.json_keys.Form.{Form}
-use Rattle.scim_schema.specs.declared.json_keys.Form.TheVariants.{Shown, Stored}
+use Rattle.scim_schema.specs.declared.json_keys.JsonForm.{JsonForm}
+use Rattle.scim_schema.specs.declared.json_keys.JsonForm.TheVariants.{Shown, Stored}
 use Rattle.scim_schema.specs.JsonKeys.{shape_of}
 use Rattle.scim_json.specs.PartData.{data_of, part_data}
 use Rattle.scim_json.specs.Found.{if_there, found_shaped, found_attribute, found_cells}
@@ -21,7 +21,7 @@ use Rattle.scim_json.proofs.KeyedLookups.{has_key, IsShown, attribute_shown}
 use Rattle.scim_json.proofs.ShapeLemmas.{all_but_location, attribute_cells-shape, attribute_cells-nothing}
 
 -- the cells found of an attribute are its cells, but for `meta` where it is kept
-pub found_shown : (form : Form) (c : Content) → IsPart c → (a : Attribute) → (form ≡ Stored → a ≢ Meta) → IsShown form c a → found_attribute c.kind (data_of form c) a ≡ attribute_cells (rows c) a
+pub found_shown : (form : JsonForm) (c : Content) → IsPart c → (a : Attribute) → (form ≡ Stored → a ≢ Meta) → IsShown form c a → found_attribute c.kind (data_of form c) a ≡ attribute_cells (rows c) a
 found_shown form c part a n (inl e) =
     ap (if_there (found_shaped c.kind a (shape_of a))) e
     ∙ found_shape form c.kind a (all_but_location form a n) (rows c) (sound_part c part).own (shape_of a)

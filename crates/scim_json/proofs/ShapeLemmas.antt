@@ -26,10 +26,10 @@ use Rattle.scim_value.specs.Resource.{MayBeKept}
 use Rattle.scim_cell.specs.Place.{sub_attributes_by_place}
 use Rattle.scim_value.specs.Listing.{cell_with, values_cells, attribute_cells}
 use Rattle.scim_value.proofs.Facts.{unit_same}
-use Rattle.scim_schema.specs.declared.json_keys.Form.{Form}
-use Rattle.scim_schema.specs.declared.json_keys.Form.TheVariants.{Shown, Stored}
-use Rattle.scim_schema.specs.declared.json_keys.Shape.{Shape}
-use Rattle.scim_schema.specs.declared.json_keys.Shape.TheVariants.{Simple, Complex, MultiValued}
+use Rattle.scim_schema.specs.declared.json_keys.JsonForm.{JsonForm}
+use Rattle.scim_schema.specs.declared.json_keys.JsonForm.TheVariants.{Shown, Stored}
+use Rattle.scim_schema.specs.declared.json_keys.JsonShape.{JsonShape}
+use Rattle.scim_schema.specs.declared.json_keys.JsonShape.TheVariants.{Simple, Complex, MultiValued}
 use Rattle.scim_schema.specs.JsonKeys.{shape_of, ordered_sub_attributes}
 use Rattle.scim_json.specs.PartData.{has_extension}
 use Rattle.scim_json.proofs.FoundValues.{all_written, shaped_cells}
@@ -37,7 +37,7 @@ use Rattle.scim_json.proofs.FoundValues.{all_written, shaped_cells}
 -- ---- the tables, by computation
 
 -- a shape fits the number of values and the sub-attributes
-abbrev pub fits : Shape → Bool → List SubAttribute → Bool
+abbrev pub fits : JsonShape → Bool → List SubAttribute → Bool
 fits Simple many [] = not many
 fits Simple many (b ∷ bs) = false
 fits Complex many [] = false
@@ -51,7 +51,7 @@ shape_fits Id = refl
 shape_fits _ = refl
 
 -- all sub-attributes are written, but that `meta.location` isn't kept
-pub all_but_location : (form : Form) (a : Attribute) → (form ≡ Stored → a ≢ Meta) → all_written form a ≡ true
+pub all_but_location : (form : JsonForm) (a : Attribute) → (form ≡ Stored → a ≢ Meta) → all_written form a ≡ true
 unfolding ordered_sub_attributes sub_attributes_by_place
 all_but_location Shown Meta h = refl
 all_but_location Stored Meta h = absurd (h refl refl)
@@ -72,7 +72,7 @@ all_but_location form _ h = refl
 -- ---- the cells of an attribute
 
 -- cells of a value that a shape fits
-by_shape : (rs : List Row) (a : Attribute) (shape : Shape) (many : Bool) (bs : List SubAttribute) → fits shape many bs ≡ true
+by_shape : (rs : List Row) (a : Attribute) (shape : JsonShape) (many : Bool) (bs : List SubAttribute) → fits shape many bs ≡ true
     → (if many then values_cells a 0 (values (whole a) rs) else flat_map (λ l. cell_with l 0 (cell_at l 0 rs)) (leaves_with a bs)) ≡ shaped_cells rs a shape bs
 by_shape rs a Simple many [] h = rw (not-true many h) (append-nil (cell_with (simple a) 0 (cell_at (simple a) 0 rs)))
 by_shape rs a Simple many (b ∷ bs) h = cc
@@ -105,7 +105,7 @@ subs_nothing rs a h (b ∷ bs) =
     ap₂ ◌++◌ (ap (λ vs. cell_with (leaf_at a b) 0 (atom_at (leaf_at a b) 0 vs)) (values_nothing (unit_of (leaf_at a b)) rs h)) (subs_nothing rs a h bs)
 
 -- nor a cell of its shape
-shape_nothing : (rs : List Row) (a : Attribute) → IsWithout a rs → (shape : Shape) → shaped_cells rs a shape (sub_attributes_by_place a) ≡ []
+shape_nothing : (rs : List Row) (a : Attribute) → IsWithout a rs → (shape : JsonShape) → shaped_cells rs a shape (sub_attributes_by_place a) ≡ []
 shape_nothing rs a h Simple = ap (λ vs. cell_with (simple a) 0 (atom_at (simple a) 0 vs)) (values_nothing (unit_of (simple a)) rs h)
 shape_nothing rs a h Complex = subs_nothing rs a h (sub_attributes_by_place a)
 shape_nothing rs a h MultiValued = ap (values_cells a 0) (values_nothing (whole a) rs h)

@@ -25,8 +25,8 @@ use Rattle.scim_value.specs.Resource.{location}
 use Rattle.scim_cell.specs.Content.{Entry}
 use Rattle.scim_cell.specs.Place.{sub_attributes_by_place}
 use Rattle.scim_value.specs.Listing.{cell_with}
-use Rattle.scim_schema.specs.declared.json_keys.Shape.{Shape}
-use Rattle.scim_schema.specs.declared.json_keys.Shape.TheVariants.{Simple, Complex, MultiValued}
+use Rattle.scim_schema.specs.declared.json_keys.JsonShape.{JsonShape}
+use Rattle.scim_schema.specs.declared.json_keys.JsonShape.TheVariants.{Simple, Complex, MultiValued}
 use Rattle.scim_schema.specs.JsonKeys.{shape_of}
 
 -- the value as an atom of a type, where it is one (RFC 7643 section 2.3)
@@ -61,7 +61,7 @@ found_items kind a k no_items = []
 found_items kind a k (item d ds) = found_object kind a k d ++ found_items kind a (k + 1) ds
 
 -- the cells of a value of that shape
-abbrev pub found_shaped : Kind → Attribute → Shape → Data → List Entry
+abbrev pub found_shaped : Kind → Attribute → JsonShape → Data → List Entry
 found_shaped kind a Simple d = found_value kind (simple a) 0 d
 found_shaped kind a Complex d = found_object kind a 0 d
 found_shaped kind a MultiValued d = if_there (found_items kind a 0) (as_array d)

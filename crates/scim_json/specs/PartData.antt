@@ -17,12 +17,12 @@ use Rattle.scim_cell.specs.declared.rows.Field.{Field}
 use Rattle.scim_cell.specs.Content.{Content}
 use Rattle.scim_schema.specs.Units.{simple, leaf_at, whole}
 use Rattle.scim_cell.specs.Rows.{Row, rows, values, atom_in, cell_at}
-use Rattle.scim_schema.specs.declared.json_keys.Form.{Form}
-use Rattle.scim_schema.specs.declared.json_keys.Form.TheVariants.{Shown, Stored}
-use Rattle.scim_schema.specs.declared.json_keys.Key.{Key}
-use Rattle.scim_schema.specs.declared.json_keys.Key.TheVariants.{Of, Schemas, Extension}
-use Rattle.scim_schema.specs.declared.json_keys.Shape.{Shape}
-use Rattle.scim_schema.specs.declared.json_keys.Shape.TheVariants.{Simple, Complex, MultiValued}
+use Rattle.scim_schema.specs.declared.json_keys.JsonForm.{JsonForm}
+use Rattle.scim_schema.specs.declared.json_keys.JsonForm.TheVariants.{Shown, Stored}
+use Rattle.scim_schema.specs.declared.json_keys.JsonKey.{JsonKey}
+use Rattle.scim_schema.specs.declared.json_keys.JsonKey.TheVariants.{Of, Schemas, Extension}
+use Rattle.scim_schema.specs.declared.json_keys.JsonShape.{JsonShape}
+use Rattle.scim_schema.specs.declared.json_keys.JsonShape.TheVariants.{Simple, Complex, MultiValued}
 use Rattle.scim_schema.specs.JsonKeys.{key_text, keys, extension_keys, ordered_sub_attributes, shape_of}
 
 -- ---- objects and arrays
@@ -65,7 +65,7 @@ abbrev pub field_data : Attribute → List Field → SubAttribute → Option Dat
 field_data a fs b = option_map atom_data (atom_in (leaf_at a b) fs)
 
 -- one value of a multi-valued attribute (RFC 7643 section 2.4)
-abbrev pub value_data : Form → Attribute → Row → Data
+abbrev pub value_data : JsonForm → Attribute → Row → Data
 value_data form a r = object (members_where sub_attribute_name (field_data a r.fields) (ordered_sub_attributes form a))
 
 -- a simple attribute
@@ -77,21 +77,21 @@ abbrev pub sub_data : List Row → Attribute → SubAttribute → Option Data
 sub_data rs a b = option_map atom_data (cell_at (leaf_at a b) 0 rs)
 
 -- a complex attribute (RFC 7643 section 2.3.8)
-abbrev pub complex_data : Form → List Row → Attribute → Option Data
+abbrev pub complex_data : JsonForm → List Row → Attribute → Option Data
 complex_data form rs a = object_of (members_where sub_attribute_name (sub_data rs a) (ordered_sub_attributes form a))
 
 -- a multi-valued attribute
-abbrev pub values_data : Form → List Row → Attribute → Option Data
+abbrev pub values_data : JsonForm → List Row → Attribute → Option Data
 values_data form rs a = array_of (items_of (value_data form a) (values (whole a) rs))
 
 -- an attribute whose value has that shape
-abbrev pub shaped_data : Form → Shape → List Row → Attribute → Option Data
+abbrev pub shaped_data : JsonForm → JsonShape → List Row → Attribute → Option Data
 shaped_data form Simple rs a = simple_data rs a
 shaped_data form Complex rs a = complex_data form rs a
 shaped_data form MultiValued rs a = values_data form rs a
 
 -- an attribute; none where no cell of it is there
-abbrev pub attribute_data : Form → List Row → Attribute → Option Data
+abbrev pub attribute_data : JsonForm → List Row → Attribute → Option Data
 attribute_data form rs a = shaped_data form (shape_of a) rs a
 
 -- ---- schemas
@@ -109,20 +109,20 @@ abbrev pub schemas_data : List Row → Schema → List Schema → Data
 schemas_data rs core extended = array (item (urn_data core) (items_of urn_data (filter (has_extension rs) extended)))
 
 -- the object of an extension; none where no cell of it is there (RFC 7643 section 3.3)
-unfoldable pub extension_data : Form → List Row → Schema → Option Data
+unfoldable pub extension_data : JsonForm → List Row → Schema → Option Data
 extension_data form rs s =
     if has_extension rs s then Some (object (members_where attribute_name (attribute_data form rs) (extension_keys s))) else None
 
 -- ---- parts
 
 -- the value of a key of a part
-abbrev pub key_data : Form → Content → Key → Option Data
+abbrev pub key_data : JsonForm → Content → JsonKey → Option Data
 key_data form c (Of a) = attribute_data form (rows c) a
 key_data form c Schemas = Some (schemas_data (rows c) (core_schema c.kind) (extensions c.kind))
 key_data form c (Extension s) = extension_data form (rows c) s
 
 -- the JSON of a part in that form
-unfoldable pub data_of : Form → Content → Data
+unfoldable pub data_of : JsonForm → Content → Data
 data_of form c = object (members_where key_text (key_data form c) (keys form c.kind))
 
 -- the JSON of a part: its cells and `schemas`, with the keys of each object in byte order

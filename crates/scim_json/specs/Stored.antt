@@ -1,20 +1,12 @@
 -- Stored documents: the JSON that is kept of a resource.
-use Rattle.std.specs.Prelude.{◌≡◌, ℕ, List, Some, Result, Ok, Err, ⊤}
+use Rattle.std.specs.Prelude.{◌≡◌, ℕ, List, Some, Result, Ok, Err}
 use Rattle.serde_json.specs.Data.{Data}
 use Rattle.serde_json.specs.Read.{read}
 use Rattle.serde_json.specs.Written.{compact_text}
 use Rattle.scim_cell.specs.Content.{Content}
 use Rattle.scim_value.specs.Resource.{IsResource, HasBase}
-use Rattle.scim_value.specs.declared.faults.Fault.{Fault}
-use Rattle.scim_value.specs.declared.faults.Fault.TheVariants.{Invalid, NoMemory as WantOfMemory}
-use Rattle.scim_json.specs.declared.faults.StoredFault.{StoredFault}
-use Rattle.scim_json.specs.declared.faults.StoredFault.TheVariants.{Damaged, NoMemory}
+use Rattle.scim_json.specs.declared.faults.Damaged.{Damaged}
 use Rattle.scim_json.specs.PartData.{stored_data}
-
--- cells that are of no part or resource are damage
-abbrev pub fault_for : Fault → StoredFault
-fault_for Invalid = Damaged
-fault_for WantOfMemory = NoMemory
 
 -- the text that is kept of a resource
 abbrev pub stored_text : Content → List ℕ
@@ -32,11 +24,10 @@ IsDocument base d c = IsResourceBelow base c × (d ≡ stored_data c)
 abbrev pub IsDocumentText : List ℕ → List ℕ → Content → Type 0
 IsDocumentText base text c = IsResourceBelow base c × (read text ≡ Some (stored_data c))
 
--- what may be answered of a text below a base: the resource that it is a document of; that it is damaged, where it is the document of none; or that memory was wanting
-abbrev pub GivesStored : List ℕ → List ℕ → Result Content StoredFault → Type 0
+-- what is to be answered of a text below a base: the resource that it is a document of; or that it is damaged, where it is the document of none
+abbrev pub GivesStored : List ℕ → List ℕ → Result Content Damaged → Type 0
 GivesStored base text (Ok c) = IsDocumentText base text c
-GivesStored base text (Err Damaged) = (c : Content) → ¬ IsDocumentText base text c
-GivesStored base text (Err NoMemory) = ⊤
+GivesStored base text (Err damaged) = (c : Content) → ¬ IsDocumentText base text c
 
 -- what is kept of a resource below a base is kept of no other
 abbrev pub DocumentsAreApart : Type 0

@@ -5,14 +5,15 @@ ghost use Rattle.serde_json.specs.Read.{read, max_depth};
 ghost use Rattle.serde_json.specs.View.{items_view};
 ghost use Rattle.scim_cell.specs.Content.{Content};
 ghost use Rattle.scim_value.specs.Uniqueness.{AreApart};
-ghost use Rattle.scim_json.specs.declared.faults.DocumentFault.{DocumentFault};
+ghost use Rattle.scim_text.specs.Failures.{UnlessMemory, IfFault};
+ghost use Rattle.scim_json.specs.declared.faults.DamagedItem.{DamagedItem};
 ghost use Rattle.scim_json.specs.Documents.{IsDocumentsText, IsDamagedAt};
 ghost use Rattle.scim_json.specs.code.Taken.{Records};
 
-use crate::faults::{DocumentFault, StoredFault};
+use crate::faults::{Damaged, DamagedItem};
 use crate::reading::{parse, read_document};
 use scim_cell::Id;
-use scim_text::NoMemory;
+use scim_text::{Failed, NoMemory};
 use scim_value::{Resource, UniqueName, unique_names};
 use serde_json::Value;
 use std::alloc::Global;
@@ -32,41 +33,51 @@ struct Taken {
 /// Damaged with the number of the first item, from 1, that is no such document or has the id or a
 /// unique name of one before it; with 0 where the text is no JSON list. NoMemory where none was to be
 /// had.
-pub fn read_documents(alloc: Global, base: &str, text: &str) -> Result<Vec<Resource>, DocumentFault>
+pub fn read_documents(
+    alloc: Global,
+    base: &str,
+    text: &str,
+) -> Result<Vec<Resource>, Failed<DamagedItem>>
     ensures documents { IfOk result (λ v. IsDocumentsText base.now text.now v.items) }
-    ensures damaged { (n : ℕ) → result ≡ Err (DocumentFault.Damaged n) → IsDamagedAt base.now text.now n }
+    ensures damaged { IfFault result (λ item. IsDamagedAt base.now text.now item.0) }
 {
     let value = match parse(alloc, text) {
         Ok(value) => value,
-        Err(StoredFault::Damaged) => return Err(DocumentFault::Damaged(0)),
-        Err(StoredFault::NoMemory) => return Err(DocumentFault::NoMemory),
+        Err(Failed::Because(Damaged)) => return Err(Failed::Because(DamagedItem(0))),
+        Err(Failed::NoMemory) => return Err(Failed::NoMemory),
     };
     match value.as_array() {
         Some(items) => read_items(alloc, base, items),
-        None => Err(DocumentFault::Damaged(0)),
+        None => Err(Failed::Because(DamagedItem(0))),
     }
 }
 
 /// The resources that the items are the documents of, as `read_documents` answers.
 ///
 /// Errors: as there.
-fn read_items(alloc: Global, base: &str, items: &[Value]) -> Result<Vec<Resource>, DocumentFault>
+fn read_items(
+    alloc: Global,
+    base: &str,
+    items: &[Value],
+) -> Result<Vec<Resource>, Failed<DamagedItem>>
     requires { items_depth (items_view items.now) ≤ max_depth }
     ensures documents { (text : List ℕ) → read text ≡ Some (array (items_view items.now))
         → IfOk result (λ v. IsDocumentsText base.now text v.items) }
     ensures damaged { (text : List ℕ) → read text ≡ Some (array (items_view items.now))
-        → (n : ℕ) → result ≡ Err (DocumentFault.Damaged n) → IsDamagedAt base.now text n }
+        → IfFault result (λ item. IsDamagedAt base.now text item.0) }
 {
     let mut resources = Vec::new(alloc);
     let mut taken = Taken::new(alloc);
     for (position, item) in items.iter().enumerate() {
         let resource = match read_document(alloc, base, item) {
             Ok(resource) => resource,
-            Err(StoredFault::Damaged) => return Err(DocumentFault::Damaged(position + 1)),
-            Err(StoredFault::NoMemory) => return Err(DocumentFault::NoMemory),
+            Err(Failed::Because(Damaged)) => {
+                return Err(Failed::Because(DamagedItem(position + 1)));
+            }
+            Err(Failed::NoMemory) => return Err(Failed::NoMemory),
         };
         if !taken.add(alloc, &resource)? {
-            return Err(DocumentFault::Damaged(position + 1));
+            return Err(Failed::Because(DamagedItem(position + 1)));
         }
         resources.push(resource)?;
     }

@@ -9,7 +9,7 @@ mod reading;
 mod writing;
 
 pub use documents::read_documents;
-pub use faults::{DocumentFault, StoredFault};
+pub use faults::{Damaged, DamagedItem};
 pub use laws::{
     documents_are_apart, documents_read_back, parts_are_shown_whole, stored_resources_read_back,
 };

@@ -10,19 +10,20 @@ ghost use Rattle.scim_cell.specs.Ids.{IsId, id_text};
 ghost use Rattle.std.specs.FinMap.{entries};
 ghost use Rattle.scim_cell.specs.Content.{Content, entries_of, AreSortedPartCells};
 ghost use Rattle.scim_value.specs.Resource.{HasBase};
+ghost use Rattle.scim_text.specs.Failures.{UnlessMemory, OnFault};
 ghost use Rattle.scim_json.specs.PartData.{stored_data};
 ghost use Rattle.scim_json.specs.Found as spec;
 ghost use Rattle.scim_json.specs.Stored.{IsDocument, GivesStored};
 
-use crate::faults::StoredFault;
+use crate::faults::Damaged;
 use crate::writing::stored_text;
 use scim_cell::{Atom, Cell, Id, Text, sub_attributes_by_place};
 use scim_schema::{
-    Attribute, AttributeType, Kind, Leaf, Shape, SubAttribute, attributes, characteristics_of,
+    Attribute, AttributeType, JsonShape, Kind, Leaf, SubAttribute, attributes, characteristics_of,
     extension_of, shape_of,
 };
-use scim_text::{NoMemory, read_printed_moment};
-use scim_value::{Part, Resource, location};
+use scim_text::{Failed, NoMemory, read_printed_moment};
+use scim_value::{Invalid, Part, Resource, location};
 use serde_json::Value;
 use std::alloc::Global;
 
@@ -33,31 +34,31 @@ use std::alloc::Global;
 /// Damaged where the text is no such document. So are keys that are spelled in another way or aren't
 /// stored, null, empty lists and objects, values of another type, moments that aren't as printed, and
 /// what isn't a resource. NoMemory where none was to be had.
-pub fn read_stored(alloc: Global, base: &str, text: &str) -> Result<Resource, StoredFault>
-    ensures { GivesStored base.now text.now result }
+pub fn read_stored(alloc: Global, base: &str, text: &str) -> Result<Resource, Failed<Damaged>>
+    ensures { UnlessMemory (GivesStored base.now text.now) result }
 {
     let value = parse(alloc, text)?;
     let resource = resource_in(alloc, base, &value)?;
     if is_stored_text(alloc, &resource, text)? || is_kept_of(alloc, &resource, &value)? {
         Ok(resource)
     } else {
-        Err(StoredFault::Damaged)
+        Err(Failed::Because(Damaged))
     }
 }
 
 /// The JSON value of a text.
-pub(crate) fn parse(alloc: Global, text: &str) -> Result<Value, StoredFault>
+pub(crate) fn parse(alloc: Global, text: &str) -> Result<Value, Failed<Damaged>>
     ensures value { IfOk result (λ v. read text.now ≡ Some (view v)) }
     ensures nests { IfOk result (λ v. depth (view v) ≤ max_depth) }
-    ensures damaged { result ≡ Err StoredFault.Damaged → read text.now ≡ None }
+    ensures damaged { OnFault result (read text.now ≡ None) }
 {
     match Value::from_str(alloc, text) {
         Ok(value) => Ok(value),
         Err(error) => {
             if error.is_memory() {
-                Err(StoredFault::NoMemory)
+                Err(Failed::NoMemory)
             } else {
-                Err(StoredFault::Damaged)
+                Err(Failed::Because(Damaged))
             }
         }
     }
@@ -70,17 +71,16 @@ pub(crate) fn read_document(
     alloc: Global,
     base: &str,
     value: &Value,
-) -> Result<Resource, StoredFault>
+) -> Result<Resource, Failed<Damaged>>
     requires { depth (view value.now) ≤ max_depth }
     ensures document { IfOk result (IsDocument base.now (view value.now)) }
-    ensures damaged { result ≡ Err StoredFault.Damaged
-        → (c : Content) → ¬ IsDocument base.now (view value.now) c }
+    ensures damaged { OnFault result ((c : Content) → ¬ IsDocument base.now (view value.now) c) }
 {
     let resource = resource_in(alloc, base, value)?;
     if is_kept_of(alloc, &resource, value)? {
         Ok(resource)
     } else {
-        Err(StoredFault::Damaged)
+        Err(Failed::Because(Damaged))
     }
 }
 
@@ -103,21 +103,23 @@ fn is_kept_of(alloc: Global, resource: &Resource, value: &Value) -> Result<bool,
 }
 
 /// The one resource below the base of which the value can be kept, if there is one.
-fn resource_in(alloc: Global, base: &str, value: &Value) -> Result<Resource, StoredFault>
+fn resource_in(alloc: Global, base: &str, value: &Value) -> Result<Resource, Failed<Damaged>>
     ensures below { IfOk result (HasBase base.now) }
     ensures only { IfOk result
         (λ r. (c : Content) → IsDocument base.now (view value.now) c → r ≡ c) }
-    ensures damaged { result ≡ Err StoredFault.Damaged
-        → (c : Content) → ¬ IsDocument base.now (view value.now) c }
+    ensures damaged { OnFault result ((c : Content) → ¬ IsDocument base.now (view value.now) c) }
 {
     let Some(kind) = kind_in(value) else {
-        return Err(StoredFault::Damaged);
+        return Err(Failed::Because(Damaged));
     };
     let Some(id) = id_in(value) else {
-        return Err(StoredFault::Damaged);
+        return Err(Failed::Because(Damaged));
     };
     let part = part_in(alloc, base, kind, id, value)?;
-    Ok(Resource::of(part, base)?)
+    match Resource::of(part, base) {
+        Ok(resource) => Ok(resource),
+        Err(Invalid) => Err(Failed::Because(Damaged)),
+    }
 }
 
 /// The kind that `meta.resourceType` names.
@@ -145,13 +147,13 @@ fn part_in(
     kind: Kind,
     id: Id,
     value: &Value,
-) -> Result<Part, StoredFault>
+) -> Result<Part, Failed<Damaged>>
     ensures kind { IfOk result (λ p. p.kind ≡ kind) }
     ensures id { IfOk result (λ p. p.id ≡ id) }
     ensures cells { IfOk result
         (λ p. entries p.cells ≡ spec.cells_below base.now kind id (view value.now)) }
-    ensures damaged { result ≡ Err StoredFault.Damaged
-        → ¬ AreSortedPartCells kind (spec.cells_below base.now kind id (view value.now)) }
+    ensures damaged { OnFault result
+        (¬ AreSortedPartCells kind (spec.cells_below base.now kind id (view value.now))) }
 {
     let mut cells = Vec::new(alloc);
     read_attributes(alloc, value, kind, attributes(kind), &mut cells)?;
@@ -160,7 +162,11 @@ fn part_in(
         position: 0,
         atom: Atom::Text(location(alloc, base, kind, id)?),
     })?;
-    Ok(Part::of_sorted(alloc, kind, id, cells)?)
+    match Part::of_sorted(alloc, kind, id, cells) {
+        Ok(part) => Ok(part),
+        Err(Failed::Because(Invalid)) => Err(Failed::Because(Damaged)),
+        Err(Failed::NoMemory) => Err(Failed::NoMemory),
+    }
 }
 
 /// The cells of these attributes.
@@ -205,9 +211,9 @@ fn read_attribute(
         return Ok(());
     };
     match shape_of(attribute) {
-        Shape::Simple => read_cell(alloc, found, kind, Leaf::simple(attribute), 0, cells),
-        Shape::Complex => read_object(alloc, found, kind, attribute, 0, cells),
-        Shape::MultiValued => match found.as_array() {
+        JsonShape::Simple => read_cell(alloc, found, kind, Leaf::simple(attribute), 0, cells),
+        JsonShape::Complex => read_object(alloc, found, kind, attribute, 0, cells),
+        JsonShape::MultiValued => match found.as_array() {
             Some(items) => read_items(alloc, items, kind, attribute, cells),
             None => Ok(()),
         },

@@ -17,8 +17,8 @@ ghost use Rattle.scim_json.specs.code.Tokens.{Adds, value_tokens, member_tokens,
 use json::Writer;
 use scim_cell::{Atom, Row, compare_units};
 use scim_schema::{
-    Attribute, Form, Key, Leaf, Schema, Shape, SubAttribute, core_schema, extension_keys,
-    extension_of, extensions, keys, ordered_sub_attributes, shape_of, unit_of,
+    Attribute, JsonForm, JsonKey, JsonShape, Leaf, Schema, SubAttribute, core_schema,
+    extension_keys, extension_of, extensions, keys, ordered_sub_attributes, shape_of, unit_of,
 };
 use scim_text::{NoMemory, print_moment};
 use scim_value::{Part, Resource};
@@ -34,7 +34,7 @@ pub fn to_json(alloc: Global, part: &Part) -> Result<String, NoMemory>
     ensures text { IfOk result (λ t. string_bytes t ≡ compact_text (spec.part_data part.now)) }
     ensures reads { IfOk result (λ t. read (string_bytes t) ≡ Some (spec.part_data part.now)) }
 {
-    text_of(alloc, part, Form::Shown)
+    text_of(alloc, part, JsonForm::Shown)
 }
 
 /// The JSON text that is kept of a resource: that of [`to_json`] without `schemas`, `groups` and
@@ -47,11 +47,11 @@ pub fn stored_text(alloc: Global, resource: &Resource) -> Result<String, NoMemor
     ensures text { IfOk result (λ t. string_bytes t ≡ stored_text resource.now) }
     ensures reads { IfOk result (λ t. read (string_bytes t) ≡ Some (spec.stored_data resource.now)) }
 {
-    text_of(alloc, resource.part(), Form::Stored)
+    text_of(alloc, resource.part(), JsonForm::Stored)
 }
 
 #[tactic(auto, using(crate::proofs::Printed::texts, crate::proofs::Kept::read_from_part))]
-fn text_of(alloc: Global, part: &Part, form: Form) -> Result<String, NoMemory>
+fn text_of(alloc: Global, part: &Part, form: JsonForm) -> Result<String, NoMemory>
     ensures text { IfOk result (λ t. string_bytes t ≡ compact_text (spec.data_of form part.now)) }
     ensures reads { IfOk result (λ t. read (string_bytes t) ≡ Some (spec.data_of form part.now)) }
 {
@@ -61,7 +61,7 @@ fn text_of(alloc: Global, part: &Part, form: Form) -> Result<String, NoMemory>
 }
 
 #[tactic(auto, unfolding(crate::specs::PartData::data_of))]
-fn write_part(alloc: Global, out: &mut Writer, part: &Part, form: Form) -> Result<(), NoMemory>
+fn write_part(alloc: Global, out: &mut Writer, part: &Part, form: JsonForm) -> Result<(), NoMemory>
     ensures { OnOk result (Adds out.old out.new (value_tokens (spec.data_of form part.now))) }
 {
     out.begin_object()?;
@@ -73,8 +73,8 @@ fn write_keys(
     alloc: Global,
     out: &mut Writer,
     part: &Part,
-    form: Form,
-    keys: &[Key],
+    form: JsonForm,
+    keys: &[JsonKey],
 ) -> Result<(), NoMemory>
     ensures { OnOk result (Adds out.old out.new
         (members_tokens (members_where key_text (spec.key_data form part.now) keys.now))) }
@@ -91,19 +91,19 @@ fn write_key(
     alloc: Global,
     out: &mut Writer,
     part: &Part,
-    form: Form,
-    key: Key,
+    form: JsonForm,
+    key: JsonKey,
 ) -> Result<(), NoMemory>
     ensures { OnOk result (Adds out.old out.new
         (member_tokens (key_text key) (spec.key_data form part.now key))) }
 {
     match key {
-        Key::Of(attribute) => write_attribute(alloc, out, part, form, attribute),
-        Key::Schemas => {
+        JsonKey::Of(attribute) => write_attribute(alloc, out, part, form, attribute),
+        JsonKey::Schemas => {
             let kind = part.kind();
             write_schemas(out, part, core_schema(kind), extensions(kind))
         }
-        Key::Extension(schema) => write_extension(alloc, out, part, form, schema),
+        JsonKey::Extension(schema) => write_extension(alloc, out, part, form, schema),
     }
 }
 
@@ -114,10 +114,10 @@ fn write_schemas(
     extensions: &[Schema],
 ) -> Result<(), NoMemory>
     ensures { OnOk result (Adds out.old out.new
-        (member_tokens (key_text Key.Schemas)
+        (member_tokens (key_text JsonKey.Schemas)
         (Some (spec.schemas_data (rows part.now) core extensions.now)))) }
 {
-    out.key(Key::Schemas.text())?;
+    out.key(JsonKey::Schemas.text())?;
     write_urns(out, part, core, extensions)
 }
 
@@ -157,7 +157,7 @@ fn write_extension(
     alloc: Global,
     out: &mut Writer,
     part: &Part,
-    form: Form,
+    form: JsonForm,
     schema: Schema,
 ) -> Result<(), NoMemory>
     ensures { OnOk result (Adds out.old out.new
@@ -176,7 +176,7 @@ fn write_attributes(
     alloc: Global,
     out: &mut Writer,
     part: &Part,
-    form: Form,
+    form: JsonForm,
     attributes: &[Attribute],
 ) -> Result<(), NoMemory>
     ensures { OnOk result (Adds out.old out.new
@@ -194,7 +194,7 @@ fn write_attribute(
     alloc: Global,
     out: &mut Writer,
     part: &Part,
-    form: Form,
+    form: JsonForm,
     attribute: Attribute,
 ) -> Result<(), NoMemory>
     ensures { OnOk result (Adds out.old out.new
@@ -205,12 +205,12 @@ fn write_attribute(
         return Ok(());
     }
     match shape_of(attribute) {
-        Shape::Simple => write_simple(alloc, out, own, attribute),
-        Shape::Complex => {
+        JsonShape::Simple => write_simple(alloc, out, own, attribute),
+        JsonShape::Complex => {
             let sub_attributes = ordered_sub_attributes(form, attribute);
             write_complex(alloc, out, own, attribute, sub_attributes)
         }
-        Shape::MultiValued => write_values(alloc, out, own, form, attribute),
+        JsonShape::MultiValued => write_values(alloc, out, own, form, attribute),
     }
 }
 
@@ -296,7 +296,7 @@ fn write_values(
     alloc: Global,
     out: &mut Writer,
     values: &[Row],
-    form: Form,
+    form: JsonForm,
     attribute: Attribute,
 ) -> Result<(), NoMemory>
     ensures { OnOk result (Adds out.old out.new (member_tokens (attribute_name attribute)
@@ -313,7 +313,7 @@ fn write_array(
     alloc: Global,
     out: &mut Writer,
     values: &[Row],
-    form: Form,
+    form: JsonForm,
     attribute: Attribute,
 ) -> Result<(), NoMemory>
     ensures { OnOk result (Adds out.old out.new
@@ -331,7 +331,7 @@ fn write_value(
     alloc: Global,
     out: &mut Writer,
     value: &Row,
-    form: Form,
+    form: JsonForm,
     attribute: Attribute,
 ) -> Result<(), NoMemory>
     ensures { OnOk result (Adds out.old out.new (value_tokens (spec.value_data form attribute value.now))) }

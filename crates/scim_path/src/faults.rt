@@ -1,8 +1,4 @@
 //! Why a path could not be read.
-ghost use Rattle.std.specs.Prelude.{◌≡◌};
-ghost use Rattle.scim_path.specs.declared.faults.PathFault.{PathFault};
-
-use scim_text::NoMemory;
 use thiserror::Error;
 
 /// Why a path could not be read.
@@ -15,15 +11,4 @@ pub enum PathFault {
     /// The kind has no such attribute or sub-attribute.
     #[error("the path names an attribute that is not known")]
     Unknown,
-    /// No memory was to be had.
-    #[error("out of memory")]
-    NoMemory,
-}
-
-impl From<NoMemory> for PathFault {
-    ghost from_gives = { λ _ f. f ≡ PathFault.NoMemory };
-
-    fn from(_: NoMemory) -> PathFault {
-        PathFault::NoMemory
-    }
 }

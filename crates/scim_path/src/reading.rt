@@ -1,5 +1,6 @@
 //! Reading a path.
-ghost use Rattle.std.specs.Prelude.{◌≡◌, ◌⊎◌, Ok, Err, MatchResult};
+ghost use Rattle.std.specs.Prelude.{◌≡◌};
+ghost use Rattle.scim_text.specs.Failures.{UnlessMemory};
 ghost use Rattle.scim_filter.specs.Tree.{tree_of};
 ghost use Rattle.scim_filter.specs.WrittenPaths.{written_of};
 ghost use Rattle.scim_path.specs.Paths as spec;
@@ -12,6 +13,7 @@ use scim_filter::{
     Filter, LONGEST_TEXT, Meant, Node, WrittenPath, knows_names, lone_word, written_path,
 };
 use scim_schema::{Attribute, Kind, Schema, extensions, is_multi_valued, sub_attribute_named};
+use scim_text::Failed;
 use std::alloc::Global;
 
 /// The extension of the kind whose URN stands alone in a text of at most 4,096 bytes, in any ASCII case and
@@ -101,15 +103,17 @@ fn written(path: WrittenPath) -> Result<Path, PathFault>
 ///
 /// Fails with `Syntax` where the text is no such path, with `Unknown` where it names what the kind
 /// doesn't have, and with `NoMemory`.
-pub fn read_path(alloc: Global, kind: Kind, text: &str) -> Result<Path, PathFault>
-    ensures { MatchResult result (λ p. spec.Names kind text.now (Ok (spec.path_target p)))
-        (λ f. (f ≡ PathFault.NoMemory) ⊎ spec.Names kind text.now (Err f)) }
+pub fn read_path(alloc: Global, kind: Kind, text: &str) -> Result<Path, Failed<PathFault>>
+    ensures { UnlessMemory (λ r. spec.Names kind text.now (target_read r)) result }
 {
     if let Some(schema) = extension_named(kind, text) {
         return Ok(Path::Extension(schema));
     }
     match written_path(alloc, kind, text)? {
-        Some(path) => written(path),
-        None => Err(PathFault::Syntax),
+        Some(path) => match written(path) {
+            Ok(found) => Ok(found),
+            Err(fault) => Err(Failed::Because(fault)),
+        },
+        None => Err(Failed::Because(PathFault::Syntax)),
     }
 }

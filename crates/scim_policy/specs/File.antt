@@ -7,18 +7,15 @@ use Rattle.scim_schema.specs.Lookup.{is_same_text, kind_named, operation_named}
 use Rattle.scim_policy.specs.declared.faults.Cause.{Cause}
 use Rattle.scim_policy.specs.declared.faults.Cause.TheVariants as cause
 use Rattle.scim_policy.specs.declared.faults.Cause.TheVariants.{Shape, Version, TooManyRules}
+use Rattle.scim_policy.specs.declared.faults.PolicyFault.{PolicyFault}
 use Rattle.scim_policy.specs.Rules.{Rule}
 use Rattle.scim_policy.specs.Lists.{each}
 use Rattle.scim_policy.specs.Paths.{client_named, paths_named}
 use Rattle.scim_policy.specs.Targets.{◌>>=◌, or_name, targets_for}
 
--- the number of the faulty rule, 0 for the file, and why it is faulty
-pub record Fault : Type 0 where
-  pub rule : ℕ
-  pub cause : Cause
-
+-- what is said, or the number of the faulty rule, 0 for the file, and why it is faulty
 abbrev pub Says : Type 0 → Type 0
-Says X = Result X Fault
+Says X = Result X PolicyFault
 
 -- ---- shapes
 

@@ -5,27 +5,26 @@ ghost use Rattle.json.specs.Json.{document};
 ghost use Rattle.json.specs.Find.{as_str, as_array, as_object};
 ghost use Rattle.json.specs.Value.{value_view, items_view, members_view};
 ghost use Rattle.scim_schema.specs.Lookup.{is_same_text, kind_named, operation_named};
-ghost use Rattle.scim_policy.specs.declared.faults.Cause.{Cause};
-ghost use Rattle.scim_policy.specs.declared.faults.PolicyFault.{PolicyFault};
+ghost use Rattle.scim_text.specs.Failures.{UnlessMemory, IfFault};
 ghost use Rattle.scim_policy.specs.File as spec;
 ghost use Rattle.scim_policy.specs.Lists.{each};
 ghost use Rattle.scim_policy.specs.Paths.{client_named};
 ghost use Rattle.scim_policy.specs.code.Written.{Gives, text_at, texts_view, rule_view, parts_view};
 
-use crate::faults::{Cause, PolicyFault, RuleFault};
+use crate::faults::{Cause, PolicyFault};
 use crate::paths::{client_named, paths_named};
 use crate::rules::{ClientName, Policy, Rule};
 use crate::targets::targets_for;
 use json::{Error, Scratch, Value};
 use scim_schema::{Kind, Op};
-use scim_text::NoMemory;
+use scim_text::{Failed, NoMemory};
 use std::alloc::Global;
 
 /// The most rules that a policy has.
 const MOST_RULES: usize = 1000;
 
 /// A word that isn't one.
-const NO_NAME: RuleFault = RuleFault::Refused(Cause::Name);
+const NO_NAME: Failed<Cause> = Failed::Because(Cause::Name);
 
 /// The text of the version, and the rules of a file.
 #[derive(Clone, Copy)]
@@ -57,16 +56,14 @@ struct WrittenRule<'v> {
 /// rules in turn `Shape`, `Name` of the clients, the operations and the types, `Target`, `Name` and
 /// `TargetNames` of the target, and `Name` of the paths. NoMemory where none was to be had.
 #[tactic(auto, unfolding(crate::specs::File::policy_of))]
-pub fn read_policy(alloc: Global, text: &str) -> Result<Policy, PolicyFault>
-    ensures policy { IfOk result (λ p. spec.policy_of text.now ≡ Ok p) }
-    ensures faulty { (rule : ℕ) (cause : Cause) → result ≡ Err (PolicyFault.Faulty rule cause)
-        → spec.policy_of text.now ≡ Err (record { rule = rule; cause = cause }) }
+pub fn read_policy(alloc: Global, text: &str) -> Result<Policy, Failed<PolicyFault>>
+    ensures { UnlessMemory (λ r. spec.policy_of text.now ≡ r) result }
 {
     let mut scratch = Scratch::new(alloc);
     let value = parse(alloc, text, &mut scratch)?;
     match file_rules(&value) {
         Ok(rules) => Ok(Policy::of(read_rules(alloc, rules)?)),
-        Err(cause) => Err(PolicyFault::Faulty { rule: 0, cause }),
+        Err(cause) => Err(Failed::Because(PolicyFault { rule: 0, cause })),
     }
 }
 
@@ -76,18 +73,17 @@ fn parse<'t>(
     alloc: Global,
     text: &'t str,
     scratch: &'t mut Scratch,
-) -> Result<Value<'t>, PolicyFault>
+) -> Result<Value<'t>, Failed<PolicyFault>>
     ensures value { IfOk result (λ v. document text.now ≡ Some (value_view v)) }
-    ensures faulty { (rule : ℕ) (cause : Cause) → result ≡ Err (PolicyFault.Faulty rule cause)
-        → spec.policy_of text.now ≡ Err (record { rule = rule; cause = cause }) }
+    ensures faulty { IfFault result (λ fault. spec.policy_of text.now ≡ Err fault) }
 {
     match Value::parse(alloc, text, scratch) {
         Ok(value) => Ok(value),
-        Err(Error::OutOfMemory) => Err(PolicyFault::NoMemory),
-        Err(_) => Err(PolicyFault::Faulty {
+        Err(Error::OutOfMemory) => Err(Failed::NoMemory),
+        Err(_) => Err(Failed::Because(PolicyFault {
             rule: 0,
             cause: Cause::Json,
-        }),
+        })),
     }
 }
 
@@ -207,12 +203,11 @@ fn items_in<'v, 't>(value: &'v Value<'t>) -> Option<&'v [Value<'t>]>
 }
 
 /// The rules that these values say.
-fn read_rules(alloc: Global, values: &[Value<'_>]) -> Result<Vec<Rule>, PolicyFault>
+fn read_rules(alloc: Global, values: &[Value<'_>]) -> Result<Vec<Rule>, Failed<PolicyFault>>
     requires { length values.now ≤ 1000 }
     ensures rules { IfOk result (λ v. spec.rules_from 1 (map value_view values.now) ≡ Ok v.items) }
     ensures count { IfOk result (λ v. length v.items ≡ length values.now) }
-    ensures faulty { (rule : ℕ) (cause : Cause) → result ≡ Err (PolicyFault.Faulty rule cause)
-        → spec.rules_from 1 (map value_view values.now) ≡ Err (record { rule = rule; cause = cause }) }
+    ensures faulty { IfFault result (λ fault. spec.rules_from 1 (map value_view values.now) ≡ Err fault) }
 {
     let mut rules = Vec::new(alloc);
     let mut number = 0;
@@ -224,24 +219,23 @@ fn read_rules(alloc: Global, values: &[Value<'_>]) -> Result<Vec<Rule>, PolicyFa
 }
 
 /// What the rule of that number says.
-fn read_rule(alloc: Global, value: &Value<'_>, number: u32) -> Result<Rule, PolicyFault>
+fn read_rule(alloc: Global, value: &Value<'_>, number: u32) -> Result<Rule, Failed<PolicyFault>>
     ensures rule { IfOk result (λ r. spec.rule_of number (value_view value.now) ≡ Ok r) }
-    ensures faulty { (rule : ℕ) (cause : Cause) → result ≡ Err (PolicyFault.Faulty rule cause)
-        → spec.rule_of number (value_view value.now) ≡ Err (record { rule = rule; cause = cause }) }
+    ensures faulty { IfFault result (λ fault. spec.rule_of number (value_view value.now) ≡ Err fault) }
 {
     let Some(written) = written_rule(alloc, value)? else {
-        return Err(PolicyFault::Faulty {
+        return Err(Failed::Because(PolicyFault {
             rule: number,
             cause: Cause::Shape,
-        });
+        }));
     };
     match rule_named(alloc, &written) {
         Ok(rule) => Ok(rule),
-        Err(RuleFault::Refused(cause)) => Err(PolicyFault::Faulty {
+        Err(Failed::Because(cause)) => Err(Failed::Because(PolicyFault {
             rule: number,
             cause,
-        }),
-        Err(RuleFault::NoMemory) => Err(PolicyFault::NoMemory),
+        })),
+        Err(Failed::NoMemory) => Err(Failed::NoMemory),
     }
 }
 
@@ -367,7 +361,7 @@ fn texts_of<'t>(alloc: Global, items: &[Value<'t>]) -> Result<Option<Vec<&'t str
 
 /// The rule that is written so: its words, then its target, then its paths.
 #[tactic(auto, unfolding(crate::specs::File::rule_named))]
-fn rule_named(alloc: Global, written: &WrittenRule<'_>) -> Result<Rule, RuleFault>
+fn rule_named(alloc: Global, written: &WrittenRule<'_>) -> Result<Rule, Failed<Cause>>
     ensures { Gives (λ r. r) result (spec.rule_named (rule_view written.now)) }
 {
     let clients = clients_named(alloc, &written.clients)?.ok_or(NO_NAME)?;

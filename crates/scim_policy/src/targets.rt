@@ -5,11 +5,11 @@ ghost use Rattle.scim_policy.specs.Lists.{each};
 ghost use Rattle.scim_policy.specs.Targets as spec;
 ghost use Rattle.scim_policy.specs.code.Written.{Gives, text_at};
 
-use crate::faults::{Cause, RuleFault};
+use crate::faults::Cause;
 use crate::rules::Target;
-use scim_filter::{FilterFault, Named, mentioned_names, read_filter};
+use scim_filter::{Named, mentioned_names, read_filter};
 use scim_schema::{Attribute, Kind};
-use scim_text::NoMemory;
+use scim_text::{Failed, NoMemory};
 use std::alloc::Global;
 
 /// What a target is for a rule on these kinds; nothing where there is no target.
@@ -17,7 +17,7 @@ pub(crate) fn targets_for(
     alloc: Global,
     kinds: &[Kind],
     text: Option<&str>,
-) -> Result<Vec<Target>, RuleFault>
+) -> Result<Vec<Target>, Failed<Cause>>
     ensures { Gives (λ v. v.items) result (spec.targets_for kinds.now (option_map text_at text.entry)) }
 {
     match text {
@@ -28,18 +28,18 @@ pub(crate) fn targets_for(
 
 /// The filters that a text is on these kinds, where it may be a target.
 #[tactic(auto, unfolding(crate::specs::Targets::targets_in))]
-fn targets_in(alloc: Global, kinds: &[Kind], text: &str) -> Result<Vec<Target>, RuleFault>
+fn targets_in(alloc: Global, kinds: &[Kind], text: &str) -> Result<Vec<Target>, Failed<Cause>>
     ensures { Gives (λ v. v.items) result (spec.targets_in kinds.now text.now) }
 {
     let Some(targets) = targets_on(alloc, kinds, text)? else {
-        return Err(RuleFault::Refused(Cause::Target));
+        return Err(Failed::Because(Cause::Target));
     };
     let lists = names_of(alloc, &targets)?;
     if !are_known(&lists) {
-        return Err(RuleFault::Refused(Cause::Name));
+        return Err(Failed::Because(Cause::Name));
     }
     if is_one_withheld(&lists) {
-        return Err(RuleFault::Refused(Cause::TargetNames));
+        return Err(Failed::Because(Cause::TargetNames));
     }
     Ok(targets)
 }
@@ -64,7 +64,7 @@ fn target_on(alloc: Global, kind: Kind, text: &str) -> Result<Option<Target>, No
 {
     match read_filter(alloc, kind, text) {
         Ok(filter) => Ok(Some(Target::new(kind, filter))),
-        Err(FilterFault::NoMemory) => Err(NoMemory),
+        Err(Failed::NoMemory) => Err(NoMemory),
         Err(_) => Ok(None),
     }
 }

@@ -1,6 +1,6 @@
 //! Why a sample wasn't made.
-use scim_text::NoMemory;
-use scim_value::{Fault, Invalid};
+use scim_text::{Failed, NoMemory};
+use scim_value::Invalid;
 use std::alloc::{AllocError, AllocFailed};
 use thiserror::Error;
 
@@ -48,11 +48,11 @@ impl From<Invalid> for SampleFault {
     }
 }
 
-impl From<Fault> for SampleFault {
-    fn from(fault: Fault) -> SampleFault {
+impl From<Failed<Invalid>> for SampleFault {
+    fn from(fault: Failed<Invalid>) -> SampleFault {
         match fault {
-            Fault::Invalid => SampleFault::Invalid,
-            Fault::NoMemory => SampleFault::NoMemory,
+            Failed::Because(Invalid) => SampleFault::Invalid,
+            Failed::NoMemory => SampleFault::NoMemory,
         }
     }
 }

@@ -23,37 +23,37 @@ use Rattle.scim_schema.specs.contracts.schemas.Schema.{the_type as the_schema}
 use Rattle.scim_schema.specs.Schemas.{urn, extension_of}
 use Rattle.scim_schema.specs.Table.{attributes, sub_attributes}
 use Rattle.scim_schema.specs.Characteristics.{attribute_characteristics}
-use Rattle.scim_schema.specs.declared.json_keys.Form.{Form}
-use Rattle.scim_schema.specs.declared.json_keys.Form.TheVariants.{Shown, Stored}
-use Rattle.scim_schema.specs.declared.json_keys.Key.{Key}
-use Rattle.scim_schema.specs.declared.json_keys.Key.TheVariants.{Of, Schemas, Extension}
-use Rattle.scim_schema.specs.declared.json_keys.Shape.{Shape}
-use Rattle.scim_schema.specs.declared.json_keys.Shape.TheVariants.{Simple, Complex, MultiValued}
+use Rattle.scim_schema.specs.declared.json_keys.JsonForm.{JsonForm}
+use Rattle.scim_schema.specs.declared.json_keys.JsonForm.TheVariants.{Shown, Stored}
+use Rattle.scim_schema.specs.declared.json_keys.JsonKey.{JsonKey}
+use Rattle.scim_schema.specs.declared.json_keys.JsonKey.TheVariants.{Of, Schemas, Extension}
+use Rattle.scim_schema.specs.declared.json_keys.JsonShape.{JsonShape}
+use Rattle.scim_schema.specs.declared.json_keys.JsonShape.TheVariants.{Simple, Complex, MultiValued}
 
 -- the name of the attribute that names the schemas of a resource (RFC 7643 section 3)
 unfoldable pub schemas_name : List ℕ
 schemas_name = codes "schemas"
 
 -- a key as it is printed: the name of an attribute, `schemas`, or the URN of an extension (RFC 7643 section 3.3)
-abbrev pub key_text : Key → List ℕ
+abbrev pub key_text : JsonKey → List ℕ
 key_text (Of a) = attribute_name a
 key_text Schemas = schemas_name
 key_text (Extension s) = urn s
 
 -- the keys of a user and of a group that are shown
-abbrev pub shown_keys : Kind → List Key
+abbrev pub shown_keys : Kind → List JsonKey
 shown_keys User =
     Of Active ∷ Of Addresses ∷ Of DisplayName ∷ Of Emails ∷ Of Entitlements ∷ Of ExternalId ∷ Of Groups ∷ Of Id ∷ Of Ims ∷ Of Locale ∷ Of Meta ∷ Of Name ∷ Of NickName ∷ Of Password ∷ Of PhoneNumbers ∷ Of Photos ∷ Of PreferredLanguage ∷ Of ProfileUrl ∷ Of Roles ∷ Schemas ∷ Of Timezone ∷ Of Title ∷ Extension EnterpriseUser ∷ Of UserName ∷ Of UserType ∷ Of X509Certificates ∷ []
 shown_keys Group = Of DisplayName ∷ Of ExternalId ∷ Of Id ∷ Of Members ∷ Of Meta ∷ Schemas ∷ []
 
 -- `schemas` and `groups` can be told from the rest, and aren't kept
-abbrev pub is_stored_key : Key → Bool
+abbrev pub is_stored_key : JsonKey → Bool
 is_stored_key Schemas = false
 is_stored_key (Of Groups) = false
 is_stored_key _ = true
 
 -- the keys of a part of a kind
-unfoldable pub keys : Form → Kind → List Key
+unfoldable pub keys : JsonForm → Kind → List JsonKey
 keys Shown kind = shown_keys kind
 keys Stored kind = filter is_stored_key (shown_keys kind)
 
@@ -71,12 +71,12 @@ abbrev pub ordered_linked_sub_attributes : List SubAttribute
 ordered_linked_sub_attributes = Reference ∷ Display ∷ TypeName ∷ Value ∷ []
 
 -- `meta.location` can be told from the kind and the id, and isn't kept
-abbrev pub ordered_meta_sub_attributes : Form → List SubAttribute
+abbrev pub ordered_meta_sub_attributes : JsonForm → List SubAttribute
 ordered_meta_sub_attributes Shown = Created ∷ LastModified ∷ Location ∷ ResourceType ∷ []
 ordered_meta_sub_attributes Stored = Created ∷ LastModified ∷ ResourceType ∷ []
 
 -- the sub-attributes of an attribute (RFC 7643 sections 3.1, 4.1.1, 4.1.2, 4.2 and 4.3)
-unfoldable pub ordered_sub_attributes : Form → Attribute → List SubAttribute
+unfoldable pub ordered_sub_attributes : JsonForm → Attribute → List SubAttribute
 ordered_sub_attributes form Name = FamilyName ∷ Formatted ∷ GivenName ∷ HonorificPrefix ∷ HonorificSuffix ∷ MiddleName ∷ []
 ordered_sub_attributes form Emails = ordered_standard_sub_attributes
 ordered_sub_attributes form PhoneNumbers = ordered_standard_sub_attributes
@@ -93,11 +93,11 @@ ordered_sub_attributes form Meta = ordered_meta_sub_attributes form
 ordered_sub_attributes form _ = []
 
 -- the shape of a value with these characteristics
-abbrev pub shape_with : Characteristics → Shape
+abbrev pub shape_with : Characteristics → JsonShape
 shape_with c = if c.multi_valued then MultiValued else (if sameb the_attribute_type c.attribute_type ComplexType then Complex else Simple)
 
 -- what the JSON value of an attribute is
-unfoldable pub shape_of : Attribute → Shape
+unfoldable pub shape_of : Attribute → JsonShape
 shape_of a = shape_with (attribute_characteristics User a)
 
 -- the text of each key comes before those of all later ones, byte by byte
@@ -111,16 +111,16 @@ Ascends text ks = is_ascending text ks ≡ true
 
 -- so the keys of a part do, the attributes of an extension, and the sub-attributes of an attribute
 abbrev pub PartKeysAscend : Type 0
-PartKeysAscend = (form : Form) (kind : Kind) → Ascends key_text (keys form kind)
+PartKeysAscend = (form : JsonForm) (kind : Kind) → Ascends key_text (keys form kind)
 
 abbrev pub ExtensionKeysAscend : Type 0
 ExtensionKeysAscend = (schema : Schema) → Ascends attribute_name (extension_keys schema)
 
 abbrev pub SubAttributesAscend : Type 0
-SubAttributesAscend = (form : Form) (a : Attribute) → Ascends sub_attribute_name (ordered_sub_attributes form a)
+SubAttributesAscend = (form : JsonForm) (a : Attribute) → Ascends sub_attribute_name (ordered_sub_attributes form a)
 
 -- an attribute stands under a key: under its own name, or among those of its extension
-abbrev pub stands_under : Attribute → Key → Bool
+abbrev pub stands_under : Attribute → JsonKey → Bool
 stands_under a (Of b) = is_none (extension_of a) && sameb the_attribute a b
 stands_under a Schemas = false
 stands_under a (Extension s) = option_eq (sameb the_schema) (extension_of a) (Some s) && list_any (sameb the_attribute a) (extension_keys s)

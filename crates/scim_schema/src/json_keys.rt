@@ -8,7 +8,7 @@ use crate::{Attribute, Kind, SubAttribute};
 
 /// What a JSON text of a part is for.
 #[derive(Clone, Copy, Debug, PartialEq, Eq, Hash)]
-pub enum Form {
+pub enum JsonForm {
     /// To be shown to a client: all cells, and `schemas` (RFC 7643 section 3).
     Shown,
     /// To be kept: without what can be told from the rest, which is `schemas`, `meta.location` and
@@ -18,7 +18,7 @@ pub enum Form {
 
 /// A key of the JSON object of a part.
 #[derive(Clone, Copy, Debug, PartialEq, Eq, Hash)]
-pub enum Key {
+pub enum JsonKey {
     /// The name of an attribute of the core schema.
     Of(Attribute),
     /// `schemas` (RFC 7643 section 3).
@@ -30,7 +30,7 @@ pub enum Key {
 
 /// What the JSON value of an attribute is.
 #[derive(Clone, Copy, Debug, PartialEq, Eq, Hash)]
-pub enum Shape {
+pub enum JsonShape {
     /// The value alone.
     Simple,
     /// An object of sub-attributes (RFC 7643 section 2.3.8).
@@ -39,103 +39,103 @@ pub enum Shape {
     MultiValued,
 }
 
-static SHOWN_USER_KEYS: [Key; 26] = [
-    Key::Of(Attribute::Active),
-    Key::Of(Attribute::Addresses),
-    Key::Of(Attribute::DisplayName),
-    Key::Of(Attribute::Emails),
-    Key::Of(Attribute::Entitlements),
-    Key::Of(Attribute::ExternalId),
-    Key::Of(Attribute::Groups),
-    Key::Of(Attribute::Id),
-    Key::Of(Attribute::Ims),
-    Key::Of(Attribute::Locale),
-    Key::Of(Attribute::Meta),
-    Key::Of(Attribute::Name),
-    Key::Of(Attribute::NickName),
-    Key::Of(Attribute::Password),
-    Key::Of(Attribute::PhoneNumbers),
-    Key::Of(Attribute::Photos),
-    Key::Of(Attribute::PreferredLanguage),
-    Key::Of(Attribute::ProfileUrl),
-    Key::Of(Attribute::Roles),
-    Key::Schemas,
-    Key::Of(Attribute::Timezone),
-    Key::Of(Attribute::Title),
-    Key::Extension(Schema::EnterpriseUser),
-    Key::Of(Attribute::UserName),
-    Key::Of(Attribute::UserType),
-    Key::Of(Attribute::X509Certificates),
+static SHOWN_USER_KEYS: [JsonKey; 26] = [
+    JsonKey::Of(Attribute::Active),
+    JsonKey::Of(Attribute::Addresses),
+    JsonKey::Of(Attribute::DisplayName),
+    JsonKey::Of(Attribute::Emails),
+    JsonKey::Of(Attribute::Entitlements),
+    JsonKey::Of(Attribute::ExternalId),
+    JsonKey::Of(Attribute::Groups),
+    JsonKey::Of(Attribute::Id),
+    JsonKey::Of(Attribute::Ims),
+    JsonKey::Of(Attribute::Locale),
+    JsonKey::Of(Attribute::Meta),
+    JsonKey::Of(Attribute::Name),
+    JsonKey::Of(Attribute::NickName),
+    JsonKey::Of(Attribute::Password),
+    JsonKey::Of(Attribute::PhoneNumbers),
+    JsonKey::Of(Attribute::Photos),
+    JsonKey::Of(Attribute::PreferredLanguage),
+    JsonKey::Of(Attribute::ProfileUrl),
+    JsonKey::Of(Attribute::Roles),
+    JsonKey::Schemas,
+    JsonKey::Of(Attribute::Timezone),
+    JsonKey::Of(Attribute::Title),
+    JsonKey::Extension(Schema::EnterpriseUser),
+    JsonKey::Of(Attribute::UserName),
+    JsonKey::Of(Attribute::UserType),
+    JsonKey::Of(Attribute::X509Certificates),
 ];
 
-static STORED_USER_KEYS: [Key; 24] = [
-    Key::Of(Attribute::Active),
-    Key::Of(Attribute::Addresses),
-    Key::Of(Attribute::DisplayName),
-    Key::Of(Attribute::Emails),
-    Key::Of(Attribute::Entitlements),
-    Key::Of(Attribute::ExternalId),
-    Key::Of(Attribute::Id),
-    Key::Of(Attribute::Ims),
-    Key::Of(Attribute::Locale),
-    Key::Of(Attribute::Meta),
-    Key::Of(Attribute::Name),
-    Key::Of(Attribute::NickName),
-    Key::Of(Attribute::Password),
-    Key::Of(Attribute::PhoneNumbers),
-    Key::Of(Attribute::Photos),
-    Key::Of(Attribute::PreferredLanguage),
-    Key::Of(Attribute::ProfileUrl),
-    Key::Of(Attribute::Roles),
-    Key::Of(Attribute::Timezone),
-    Key::Of(Attribute::Title),
-    Key::Extension(Schema::EnterpriseUser),
-    Key::Of(Attribute::UserName),
-    Key::Of(Attribute::UserType),
-    Key::Of(Attribute::X509Certificates),
+static STORED_USER_KEYS: [JsonKey; 24] = [
+    JsonKey::Of(Attribute::Active),
+    JsonKey::Of(Attribute::Addresses),
+    JsonKey::Of(Attribute::DisplayName),
+    JsonKey::Of(Attribute::Emails),
+    JsonKey::Of(Attribute::Entitlements),
+    JsonKey::Of(Attribute::ExternalId),
+    JsonKey::Of(Attribute::Id),
+    JsonKey::Of(Attribute::Ims),
+    JsonKey::Of(Attribute::Locale),
+    JsonKey::Of(Attribute::Meta),
+    JsonKey::Of(Attribute::Name),
+    JsonKey::Of(Attribute::NickName),
+    JsonKey::Of(Attribute::Password),
+    JsonKey::Of(Attribute::PhoneNumbers),
+    JsonKey::Of(Attribute::Photos),
+    JsonKey::Of(Attribute::PreferredLanguage),
+    JsonKey::Of(Attribute::ProfileUrl),
+    JsonKey::Of(Attribute::Roles),
+    JsonKey::Of(Attribute::Timezone),
+    JsonKey::Of(Attribute::Title),
+    JsonKey::Extension(Schema::EnterpriseUser),
+    JsonKey::Of(Attribute::UserName),
+    JsonKey::Of(Attribute::UserType),
+    JsonKey::Of(Attribute::X509Certificates),
 ];
 
-static SHOWN_GROUP_KEYS: [Key; 6] = [
-    Key::Of(Attribute::DisplayName),
-    Key::Of(Attribute::ExternalId),
-    Key::Of(Attribute::Id),
-    Key::Of(Attribute::Members),
-    Key::Of(Attribute::Meta),
-    Key::Schemas,
+static SHOWN_GROUP_KEYS: [JsonKey; 6] = [
+    JsonKey::Of(Attribute::DisplayName),
+    JsonKey::Of(Attribute::ExternalId),
+    JsonKey::Of(Attribute::Id),
+    JsonKey::Of(Attribute::Members),
+    JsonKey::Of(Attribute::Meta),
+    JsonKey::Schemas,
 ];
 
-static STORED_GROUP_KEYS: [Key; 5] = [
-    Key::Of(Attribute::DisplayName),
-    Key::Of(Attribute::ExternalId),
-    Key::Of(Attribute::Id),
-    Key::Of(Attribute::Members),
-    Key::Of(Attribute::Meta),
+static STORED_GROUP_KEYS: [JsonKey; 5] = [
+    JsonKey::Of(Attribute::DisplayName),
+    JsonKey::Of(Attribute::ExternalId),
+    JsonKey::Of(Attribute::Id),
+    JsonKey::Of(Attribute::Members),
+    JsonKey::Of(Attribute::Meta),
 ];
 
-impl Key {
+impl JsonKey {
     /// The key as it is printed.
     #[tactic(auto, unfolding(crate::specs::JsonKeys::schemas_name))]
     pub fn text(self) -> &'static str
         ensures { result.now ≡ spec.key_text self }
     {
         match self {
-            Key::Of(attribute) => attribute.name(),
-            Key::Schemas => "schemas",
-            Key::Extension(schema) => schema.urn(),
+            JsonKey::Of(attribute) => attribute.name(),
+            JsonKey::Schemas => "schemas",
+            JsonKey::Extension(schema) => schema.urn(),
         }
     }
 }
 
 /// The keys that the object of a part of the kind may have, in byte order.
 #[tactic(auto, unfolding(crate::specs::JsonKeys::keys))]
-pub fn keys(form: Form, kind: Kind) -> &'static [Key]
+pub fn keys(form: JsonForm, kind: Kind) -> &'static [JsonKey]
     ensures { result.now ≡ spec.keys form kind }
 {
     match (form, kind) {
-        (Form::Shown, Kind::User) => &SHOWN_USER_KEYS,
-        (Form::Shown, Kind::Group) => &SHOWN_GROUP_KEYS,
-        (Form::Stored, Kind::User) => &STORED_USER_KEYS,
-        (Form::Stored, Kind::Group) => &STORED_GROUP_KEYS,
+        (JsonForm::Shown, Kind::User) => &SHOWN_USER_KEYS,
+        (JsonForm::Shown, Kind::Group) => &SHOWN_GROUP_KEYS,
+        (JsonForm::Stored, Kind::User) => &STORED_USER_KEYS,
+        (JsonForm::Stored, Kind::Group) => &STORED_GROUP_KEYS,
     }
 }
 
@@ -161,7 +161,7 @@ pub fn extension_keys(schema: Schema) -> &'static [Attribute]
 /// The sub-attributes that the object of a complex attribute or of one value of a multi-valued one
 /// may have, in byte order of their names; a simple attribute has none.
 #[tactic(auto, unfolding(crate::specs::JsonKeys::ordered_sub_attributes))]
-pub fn ordered_sub_attributes(form: Form, attribute: Attribute) -> &'static [SubAttribute]
+pub fn ordered_sub_attributes(form: JsonForm, attribute: Attribute) -> &'static [SubAttribute]
     ensures { result.now ≡ spec.ordered_sub_attributes form attribute }
 {
     match attribute {
@@ -211,17 +211,17 @@ pub fn ordered_sub_attributes(form: Form, attribute: Attribute) -> &'static [Sub
     }
 }
 
-fn ordered_meta_sub_attributes(form: Form) -> &'static [SubAttribute]
+fn ordered_meta_sub_attributes(form: JsonForm) -> &'static [SubAttribute]
     ensures { result.now ≡ spec.ordered_meta_sub_attributes form }
 {
     match form {
-        Form::Shown => &[
+        JsonForm::Shown => &[
             SubAttribute::Created,
             SubAttribute::LastModified,
             SubAttribute::Location,
             SubAttribute::ResourceType,
         ],
-        Form::Stored => &[
+        JsonForm::Stored => &[
             SubAttribute::Created,
             SubAttribute::LastModified,
             SubAttribute::ResourceType,
@@ -231,16 +231,16 @@ fn ordered_meta_sub_attributes(form: Form) -> &'static [SubAttribute]
 
 /// What the JSON value of the attribute is, which is the same for both kinds.
 #[tactic(auto, unfolding(crate::specs::JsonKeys::shape_of))]
-pub fn shape_of(attribute: Attribute) -> Shape
+pub fn shape_of(attribute: Attribute) -> JsonShape
     ensures { result ≡ spec.shape_of attribute }
 {
     let characteristics = attribute_characteristics(Kind::User, attribute);
     if characteristics.multi_valued {
-        Shape::MultiValued
+        JsonShape::MultiValued
     } else if characteristics.attribute_type == AttributeType::Complex {
-        Shape::Complex
+        JsonShape::Complex
     } else {
-        Shape::Simple
+        JsonShape::Simple
     }
 }
 

@@ -17,7 +17,7 @@ pub use characteristics::{
     characteristics_of, is_case_exact, is_multi_valued, sub_attribute_characteristics,
 };
 pub use json_keys::{
-    Form, Key, Shape, extension_keys, keys, keys_ascend, keys_have_all_attributes,
+    JsonForm, JsonKey, JsonShape, extension_keys, keys, keys_ascend, keys_have_all_attributes,
     ordered_sub_attributes, shape_of,
 };
 pub use lookup::{attribute_named, attribute_named_in, sub_attribute_named};

@@ -1,3 +1,4 @@
+pub mod Failures
 pub mod Names
 pub mod Spelling
 pub mod Moments

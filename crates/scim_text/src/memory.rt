@@ -1,5 +1,7 @@
 //! The error of what asks for memory.
 use std::alloc::{AllocError, AllocFailed};
+use std::error::Error as StdError;
+use std::fmt;
 use thiserror::Error;
 
 /// No memory was to be had. It is the one error that a caller can do nothing about but give up, and
@@ -17,5 +19,60 @@ impl From<AllocError> for NoMemory {
 impl<T: Drop> From<AllocFailed<T>> for NoMemory {
     fn from(_error: AllocFailed<T>) -> NoMemory {
         NoMemory
+    }
+}
+
+/// Why there is no answer: what was asked is at fault, or memory was wanting. It is the error of whatever
+/// takes memory and can refuse what it is asked; the fault alone is `E`.
+#[derive(Clone, Copy, Debug, PartialEq, Eq)]
+pub enum Failed<E> {
+    /// What was asked is at fault, and would be in ample memory too.
+    Because(E),
+    /// No memory was to be had.
+    NoMemory,
+}
+
+// By hand, since the text is the fault's own.
+impl<E: fmt::Display> fmt::Display for Failed<E> {
+    fn fmt<W: fmt::Write>(&self, f: &mut fmt::Formatter<W>) -> fmt::Result {
+        match self {
+            Failed::Because(fault) => fault.fmt(f),
+            Failed::NoMemory => NoMemory.fmt(f),
+        }
+    }
+}
+
+impl<E: fmt::Debug + fmt::Display + Drop> StdError for Failed<E> {}
+
+impl<E> From<NoMemory> for Failed<E> {
+    ghost use Rattle.std.specs.Prelude.{◌≡◌};
+    ghost use Rattle.scim_text.specs.declared.memory.Failed.{Failed};
+
+    ghost from_gives = { λ _ f. f ≡ Failed.NoMemory };
+
+    fn from(_: NoMemory) -> Failed<E> {
+        Failed::NoMemory
+    }
+}
+
+impl<E> From<AllocError> for Failed<E> {
+    ghost use Rattle.std.specs.Prelude.{◌≡◌};
+    ghost use Rattle.scim_text.specs.declared.memory.Failed.{Failed};
+
+    ghost from_gives = { λ _ f. f ≡ Failed.NoMemory };
+
+    fn from(_: AllocError) -> Failed<E> {
+        Failed::NoMemory
+    }
+}
+
+impl<E, T: Drop> From<AllocFailed<T>> for Failed<E> {
+    ghost use Rattle.std.specs.Prelude.{◌≡◌};
+    ghost use Rattle.scim_text.specs.declared.memory.Failed.{Failed};
+
+    ghost from_gives = { λ _ f. f ≡ Failed.NoMemory };
+
+    fn from(_: AllocFailed<T>) -> Failed<E> {
+        Failed::NoMemory
     }
 }

@@ -14,7 +14,7 @@ mod row_lists;
 mod uniqueness;
 mod validity;
 
-pub use faults::{Fault, Invalid};
+pub use faults::Invalid;
 pub use laws::{cells_are_listed, cells_stand_in_rows, parts_are_sound_rows, rows_determine_cells};
 pub use parts::Part;
 pub use resources::{Resource, location};

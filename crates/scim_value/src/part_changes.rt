@@ -4,17 +4,18 @@ ghost use Rattle.std.specs.Option.{ForSome};
 ghost use Rattle.std.specs.Ordering.{is_eq};
 ghost use Rattle.std.specs.List.Sorted.{IsBinarySearchResult, IsSearchInRange};
 ghost use Rattle.std.specs.FinMap.{entries, put, is_sorted};
+ghost use Rattle.scim_text.specs.Failures.{OnFault};
 ghost use Rattle.scim_cell.specs.Place.{place_cmp, place_at};
 ghost use Rattle.scim_cell.specs.Content.{place_of, entries_of, IsPart};
 ghost use Rattle.scim_value.specs.Changes.{with_cell, without_cell};
 ghost use Rattle.scim_cell.specs.Rows as spec;
 
-use crate::faults::Fault;
+use crate::faults::Invalid;
 use crate::part_of_cells::rows_from;
 use crate::parts::Part;
 use scim_cell::{Atom, Cell, Field, Place, Row};
 use scim_schema::{Leaf, Unit, is_multi_valued};
-use scim_text::NoMemory;
+use scim_text::{Failed, NoMemory};
 use std::alloc::Global;
 
 impl Part {
@@ -37,9 +38,9 @@ impl Part {
         leaf: Leaf,
         position: usize,
         atom: Atom,
-    ) -> Result<Part, Fault>
+    ) -> Result<Part, Failed<Invalid>>
         ensures ok { IfOk result (λ p. p ≡ with_cell leaf position atom self.now) }
-        ensures invalid { result ≡ Err Fault.Invalid → ¬ IsPart (with_cell leaf position atom self.now) }
+        ensures invalid { OnFault result (¬ IsPart (with_cell leaf position atom self.now)) }
     {
         let mut cells = self.cells(alloc)?;
         let cell = Cell {

@@ -2,16 +2,17 @@
 ghost use Rattle.std.specs.Prelude.{◌≡◌, IfOk, OnOk, OnErr, None, Err};
 ghost use Rattle.std.specs.List.Sorted.{IsPermutation};
 ghost use Rattle.std.specs.FinMap.{entries};
+ghost use Rattle.scim_text.specs.Failures.{OnFault};
 ghost use Rattle.scim_cell.specs.Content.{entry_of, entries_of, AreSortedPartCells, AreCellsOfAPart};
 ghost use Rattle.scim_cell.specs.Rows.{rows_of, goes_with};
 ghost use Rattle.scim_value.specs.code.Grouping.{grouped, joins};
 
 use crate::cell_checks::are_sorted_part_cells;
-use crate::faults::Fault;
+use crate::faults::Invalid;
 use crate::parts::Part;
 use scim_cell::{Cell, Field, Id, Place, Row};
 use scim_schema::{Kind, is_multi_valued, unit_of};
-use scim_text::NoMemory;
+use scim_text::{Failed, NoMemory};
 use std::alloc::Global;
 
 impl Part {
@@ -20,12 +21,12 @@ impl Part {
     /// Invalid where no part of the kind has these cells: a leaf or an atom's type isn't the
     /// kind's, two cells stand at one place, positions have a gap, or a single-valued attribute has
     /// a position beyond 0. NoMemory where none was to be had.
-    pub fn of(alloc: Global, kind: Kind, id: Id, mut cells: Vec<Cell>) -> Result<Part, Fault>
+    pub fn of(alloc: Global, kind: Kind, id: Id, mut cells: Vec<Cell>) -> Result<Part, Failed<Invalid>>
         ensures kind { IfOk result (λ p. p.kind ≡ kind) }
         ensures id { IfOk result (λ p. p.id ≡ id) }
         ensures cells { IfOk result (λ p. IsPermutation (entries_of cells.items) (entries p.cells)) }
         ensures valid { OnOk result (AreCellsOfAPart kind (entries_of cells.items)) }
-        ensures invalid { result ≡ Err Fault.Invalid → ¬ AreCellsOfAPart kind (entries_of cells.items) }
+        ensures invalid { OnFault result (¬ AreCellsOfAPart kind (entries_of cells.items)) }
     {
         cells.sort_unstable_by(|a, b| a.place().compare(b.place()));
         Part::of_sorted(alloc, kind, id, cells)
@@ -35,15 +36,15 @@ impl Part {
     /// table, by position, by sub-attribute.
     ///
     /// Invalid where they don't, and where [`Part::of`] says it. NoMemory where none was to be had.
-    pub fn of_sorted(alloc: Global, kind: Kind, id: Id, cells: Vec<Cell>) -> Result<Part, Fault>
+    pub fn of_sorted(alloc: Global, kind: Kind, id: Id, cells: Vec<Cell>) -> Result<Part, Failed<Invalid>>
         ensures kind { IfOk result (λ p. p.kind ≡ kind) }
         ensures id { IfOk result (λ p. p.id ≡ id) }
         ensures cells { IfOk result (λ p. entries p.cells ≡ entries_of cells.items) }
         ensures valid { OnOk result (AreSortedPartCells kind (entries_of cells.items)) }
-        ensures invalid { result ≡ Err Fault.Invalid → ¬ AreSortedPartCells kind (entries_of cells.items) }
+        ensures invalid { OnFault result (¬ AreSortedPartCells kind (entries_of cells.items)) }
     {
         if !are_sorted_part_cells(kind, cells.as_slice()) {
-            return Err(Fault::Invalid);
+            return Err(Failed::Because(Invalid));
         }
         let rows = rows_from(alloc, cells)?;
         Ok(Part::of_rows(kind, id, rows))

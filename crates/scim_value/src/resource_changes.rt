@@ -3,13 +3,15 @@ ghost use Rattle.std.specs.Prelude.{◌≡◌, ◌≢◌, List, ℕ, IfOk, OnOk,
 ghost use Rattle.scim_schema.specs.declared.Attribute.TheVariants.{Meta};
 ghost use Rattle.scim_schema.specs.declared.SubAttribute.TheVariants.{Location};
 ghost use Rattle.scim_schema.specs.Units.{leaf_at};
+ghost use Rattle.scim_text.specs.Failures.{OnFault};
 ghost use Rattle.scim_value.specs.Changes.{with_cell, without_cell};
 ghost use Rattle.scim_value.specs.Resource.{IsResource, HasBase};
 
-use crate::faults::Fault;
+use crate::faults::Invalid;
 use crate::resources::Resource;
 use scim_cell::Atom;
 use scim_schema::Leaf;
+use scim_text::Failed;
 use std::alloc::Global;
 
 impl Resource {
@@ -25,10 +27,10 @@ impl Resource {
         leaf: Leaf,
         position: usize,
         atom: Atom,
-    ) -> Result<Resource, Fault>
+    ) -> Result<Resource, Failed<Invalid>>
         ensures ok { IfOk result (λ r. r ≡ with_cell leaf position atom self.now) }
         ensures valid { OnOk result (IsResource (with_cell leaf position atom self.now)) }
-        ensures invalid { result ≡ Err Fault.Invalid → ¬ IsResource (with_cell leaf position atom self.now) }
+        ensures invalid { OnFault result (¬ IsResource (with_cell leaf position atom self.now)) }
         ensures base { leaf ≢ leaf_at Meta Location → (base : List ℕ) → HasBase base self.now → IfOk result (HasBase base) }
     {
         let part = self.part().with(alloc, leaf, position, atom)?;
@@ -41,10 +43,10 @@ impl Resource {
     ///
     /// Invalid where what is left is no resource, as where the cell was required. NoMemory where
     /// none was to be had.
-    pub fn without(&self, alloc: Global, leaf: Leaf, position: usize) -> Result<Resource, Fault>
+    pub fn without(&self, alloc: Global, leaf: Leaf, position: usize) -> Result<Resource, Failed<Invalid>>
         ensures ok { IfOk result (λ r. r ≡ without_cell leaf position self.now) }
         ensures valid { OnOk result (IsResource (without_cell leaf position self.now)) }
-        ensures invalid { result ≡ Err Fault.Invalid → ¬ IsResource (without_cell leaf position self.now) }
+        ensures invalid { OnFault result (¬ IsResource (without_cell leaf position self.now)) }
         ensures base { leaf ≢ leaf_at Meta Location → (base : List ℕ) → HasBase base self.now → IfOk result (HasBase base) }
     {
         let part = self.part().without(alloc, leaf, position)?;

@@ -30,17 +30,17 @@ is_meant (AnAttribute a) l = is_same_attribute a l.attribute
 is_meant (ASubAttribute a b) l = is_same_leaf (leaf_at a b) l
 
 -- what a text that is a path means for a kind; any other text means nothing
-abbrev pub meant_by : Kind → List ℕ → Meant
-meant_by kind t = unwrap_or (option_map (λ (p : Path). p.meant) (path_in kind t)) Nothing
+abbrev pub meaning_of : Kind → List ℕ → Meant
+meaning_of kind t = unwrap_or (option_map (λ (p : Path). p.meant) (path_in kind t)) Nothing
 
 -- whether a text names a leaf of a kind: it is the URN of the leaf's extension, or a path that means the leaf or its attribute
 abbrev pub names_leaf : Kind → List ℕ → Leaf → Bool
-names_leaf kind t l = is_there (λ s. belongs_to s l) (extension_named kind t) || is_meant (meant_by kind t) l
+names_leaf kind t l = is_there (λ s. belongs_to s l) (extension_named kind t) || is_meant (meaning_of kind t) l
 
 -- whether the extension of the attribute is named
 abbrev pub has_extension_of : Names → Attribute → Bool
 has_extension_of names a = is_there (contains is_same_schema names.extensions) (extension_of a)
 
 -- whether a leaf is named: its attribute is, the leaf itself, or its extension
-abbrev pub covers : Names → Leaf → Bool
-covers names l = contains is_same_attribute names.attributes l.attribute || (contains is_same_leaf names.sub_attributes l || has_extension_of names l.attribute)
+abbrev pub includes : Names → Leaf → Bool
+includes names l = contains is_same_attribute names.attributes l.attribute || (contains is_same_leaf names.sub_attributes l || has_extension_of names l.attribute)

@@ -9,18 +9,18 @@ use Rattle.scim_cell.specs.Content.{Content}
 use Rattle.scim_cell.specs.Rows.{rows, restricted, content}
 use Rattle.scim_view.specs.declared.projection.Wanted.{Wanted}
 use Rattle.scim_view.specs.declared.projection.Wanted.TheVariants as wanted
-use Rattle.scim_view.specs.Names.{covers}
+use Rattle.scim_view.specs.Names.{includes}
 
 -- whether a leaf that is returned by default is shown: where nothing is said, where it is named, or where it is not excluded
 abbrev pub shows_default : Wanted → Leaf → Bool
 shows_default wanted.Default l = true
-shows_default (wanted.Only names) l = covers names l
-shows_default (wanted.Without names) l = not (covers names l)
+shows_default (wanted.Only names) l = includes names l
+shows_default (wanted.Without names) l = not (includes names l)
 
 -- whether a leaf that is returned on request is shown: where it is named
 abbrev pub shows_requested : Wanted → Leaf → Bool
 shows_requested wanted.Default l = false
-shows_requested (wanted.Only names) l = covers names l
+shows_requested (wanted.Only names) l = includes names l
 shows_requested (wanted.Without names) l = false
 
 -- whether a leaf that is returned so is shown (RFC 7643 section 7, returned)

@@ -31,7 +31,7 @@ impl Names {
     /// NoMemory where none was to be had.
     pub fn of(alloc: Global, kind: Kind, texts: &[&str]) -> Result<Names, NoMemory>
         ensures { IfOk result (λ names. (l : Leaf)
-            → spec.covers names l ≡ list_any (λ t. spec.names_leaf kind t.now l) texts.now) }
+            → spec.includes names l ≡ list_any (λ t. spec.names_leaf kind t.now l) texts.now) }
     {
         let mut names = Names::none(alloc);
         for text in texts {
@@ -42,8 +42,8 @@ impl Names {
 
     /// Whether the leaf is named: by itself, by its attribute, or by the extension that its attribute
     /// belongs to. How many texts there were plays no part in the time that it takes.
-    pub fn covers(&self, leaf: Leaf) -> bool
-        ensures { result ≡ spec.covers self.now leaf }
+    pub fn includes(&self, leaf: Leaf) -> bool
+        ensures { result ≡ spec.includes self.now leaf }
     {
         self.attributes.contains(&leaf.attribute)
             || self.sub_attributes.contains(&leaf)
@@ -62,7 +62,7 @@ impl Names {
 
     /// Nothing is named yet.
     fn none(alloc: Global) -> Names
-        ensures { (l : Leaf) → spec.covers result l ≡ false }
+        ensures { (l : Leaf) → spec.includes result l ≡ false }
     {
         Names {
             extensions: HashSet::new(alloc),
@@ -74,7 +74,7 @@ impl Names {
     /// Adds what the text names. NoMemory where none was to be had.
     fn add(&mut self, kind: Kind, text: &str) -> Result<(), NoMemory>
         ensures { OnOk result ((l : Leaf)
-            → spec.covers self.new l ≡ (spec.covers self.old l || spec.names_leaf kind text.now l)) }
+            → spec.includes self.new l ≡ (spec.includes self.old l || spec.names_leaf kind text.now l)) }
     {
         self.add_extension(extension_named(kind, text))?;
         self.add_meant(meant(kind, text))
@@ -82,8 +82,8 @@ impl Names {
 
     /// Adds all attributes of the extension, where there is one. NoMemory where none was to be had.
     fn add_extension(&mut self, extension: Option<Schema>) -> Result<(), NoMemory>
-        ensures { OnOk result ((l : Leaf) → spec.covers self.new l
-            ≡ (spec.covers self.old l || spec.is_there (λ s. spec.belongs_to s l) extension)) }
+        ensures { OnOk result ((l : Leaf) → spec.includes self.new l
+            ≡ (spec.includes self.old l || spec.is_there (λ s. spec.belongs_to s l) extension)) }
     {
         let Some(schema) = extension else {
             return Ok(());
@@ -95,7 +95,7 @@ impl Names {
     /// Adds what a path means. NoMemory where none was to be had.
     fn add_meant(&mut self, meant: Meant) -> Result<(), NoMemory>
         ensures { OnOk result ((l : Leaf)
-            → spec.covers self.new l ≡ (spec.covers self.old l || spec.is_meant meant l)) }
+            → spec.includes self.new l ≡ (spec.includes self.old l || spec.is_meant meant l)) }
     {
         match meant {
             Meant::Nothing => Ok(()),
@@ -109,7 +109,7 @@ impl Names {
     /// Adds a whole attribute. NoMemory where none was to be had.
     fn add_attribute(&mut self, attribute: Attribute) -> Result<(), NoMemory>
         ensures { OnOk result ((l : Leaf)
-            → spec.covers self.new l ≡ (spec.covers self.old l || is_same_attribute attribute l.attribute)) }
+            → spec.includes self.new l ≡ (spec.includes self.old l || is_same_attribute attribute l.attribute)) }
     {
         self.attributes.insert(attribute)?;
         Ok(())
@@ -118,7 +118,7 @@ impl Names {
     /// Adds a sub-attribute alone. NoMemory where none was to be had.
     fn add_sub_attribute(&mut self, leaf: Leaf) -> Result<(), NoMemory>
         ensures { OnOk result ((l : Leaf)
-            → spec.covers self.new l ≡ (spec.covers self.old l || is_same_leaf leaf l)) }
+            → spec.includes self.new l ≡ (spec.includes self.old l || is_same_leaf leaf l)) }
     {
         self.sub_attributes.insert(leaf)?;
         Ok(())
@@ -127,7 +127,7 @@ impl Names {
 
 /// What the text means for the kind, where it is a path.
 fn meant(kind: Kind, text: &str) -> Meant
-    ensures { result ≡ spec.meant_by kind text.now }
+    ensures { result ≡ spec.meaning_of kind text.now }
 {
     attribute_path(kind, text).unwrap_or(Meant::Nothing)
 }

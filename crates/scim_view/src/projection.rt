@@ -61,8 +61,8 @@ impl Wanted {
     {
         match self {
             Wanted::Default => true,
-            Wanted::Only(names) => names.covers(leaf),
-            Wanted::Without(names) => !names.covers(leaf),
+            Wanted::Only(names) => names.includes(leaf),
+            Wanted::Without(names) => !names.includes(leaf),
         }
     }
 
@@ -72,7 +72,7 @@ impl Wanted {
     {
         match self {
             Wanted::Default => false,
-            Wanted::Only(names) => names.covers(leaf),
+            Wanted::Only(names) => names.includes(leaf),
             Wanted::Without(_) => false,
         }
     }

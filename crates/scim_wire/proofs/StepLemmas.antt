@@ -5,8 +5,10 @@ use Rattle.std.proofs.lemmas.List.{append-nil, append_assoc, take_more, take-app
 use Rattle.std.proofs.lemmas.List.Concat.{flat_map-append}
 use Rattle.std.specs.Io.KnownBytes.{Consumes}
 use Rattle.httparse.specs.Grammar.{LineEnd, print_end, print_blank}
-use Rattle.scim_wire.specs.declared.heads.HeadFault.{HeadFault}
-use Rattle.scim_wire.specs.declared.heads.HeadFault.TheVariants.{BadHead, Ended, Failed, NoMemory}
+use Rattle.scim_text.specs.declared.memory.Failed.{Failed}
+use Rattle.scim_text.specs.declared.memory.Failed.TheVariants.{Because, NoMemory}
+use Rattle.scim_text.specs.Failures.{UnlessMemory}
+use Rattle.scim_wire.specs.declared.heads.BadHead.{BadHead}
 use Rattle.scim_wire.specs.Parts.{EndsHead, IsHeadText, IsEmptyLine, feeds}
 use Rattle.scim_wire.specs.Heads.{GivesHead}
 use Rattle.scim_wire.specs.Streams.{Opens, IsOpening, OpensBadly}
@@ -110,19 +112,15 @@ feeds_is old new byte n k is count one =
     cc
 
 -- a fault that a head's text gives is one that its bytes lead to
-pub fault_leads : (blank : List LineEnd) (text : List ℕ) (fault : HeadFault) → IsHeadText text → GivesHead text (Err fault)
-    → Leads (print_blank blank ++ text) (Err fault)
-fault_leads blank text BadHead whole gives = opens_text _ blank text (inl (whole, gives))
+pub fault_leads : (blank : List LineEnd) (text : List ℕ) (fault : Failed BadHead) → IsHeadText text → UnlessMemory (GivesHead text) (Err fault)
+    → UnlessMemory (Leads (print_blank blank ++ text)) (Err fault)
+fault_leads blank text (Because bad) whole gives = opens_text _ blank text (inl (whole, gives))
 fault_leads blank text NoMemory whole gives = tt
-fault_leads blank text Ended whole gives = gives
-fault_leads blank text Failed whole gives = gives
 
 -- a fault stays one, whatever follows
-pub fault_more : (bytes more : List ℕ) (fault : HeadFault) → Leads bytes (Err fault) → Leads (bytes ++ more) (Err fault)
-fault_more bytes more BadHead leads = opens_more _ bytes more leads
+pub fault_more : (bytes more : List ℕ) (fault : Failed BadHead) → UnlessMemory (Leads bytes) (Err fault) → UnlessMemory (Leads (bytes ++ more)) (Err fault)
+fault_more bytes more (Because bad) leads = opens_more _ bytes more leads
 fault_more bytes more NoMemory leads = tt
-fault_more bytes more Ended leads = leads
-fault_more bytes more Failed leads = leads
 
 -- what bytes open with, the stream opens with that gave them
 pub input_opens : (IsText : List ℕ → Type 0) (old new : Option (List ℕ)) (bytes : List ℕ) → Consumes old new bytes → Opens IsText bytes

@@ -1,9 +1,8 @@
 -- What the text of a head reads as.
-use Rattle.std.specs.Prelude.{◌≡◌, ℕ, ◌≤◌, List, [], length, Result, Ok, Err, ⊤}
+use Rattle.std.specs.Prelude.{◌≡◌, ℕ, ◌≤◌, List, [], length, Result, Ok, Err}
 use Rattle.httparse.specs.Grammar.{RequestHead, ReadsRequest}
 use Rattle.scim_wire.specs.declared.heads.Head.{Head}
-use Rattle.scim_wire.specs.declared.heads.HeadFault.{HeadFault}
-use Rattle.scim_wire.specs.declared.heads.HeadFault.TheVariants.{BadHead, Ended, Failed, NoMemory}
+use Rattle.scim_wire.specs.declared.heads.BadHead.{BadHead}
 
 -- the text is this request line and these headers, of which there are at most as many as a head may have
 abbrev pub IsRequestText : List ℕ → RequestHead → Type 0
@@ -21,10 +20,7 @@ ReadsAs text head = (h : RequestHead) × IsRequestText text h × (head ≡ head_
 abbrev pub SaysNothing : List ℕ → Type 0
 SaysNothing text = (h : RequestHead) → ¬ (IsRequestText text h)
 
--- what a function made of the text of a head
-abbrev pub GivesHead : List ℕ → Result Head HeadFault → Type 0
+-- what is to be made of the text of a head
+abbrev pub GivesHead : List ℕ → Result Head BadHead → Type 0
 GivesHead text (Ok head) = ReadsAs text head
-GivesHead text (Err BadHead) = SaysNothing text
-GivesHead text (Err NoMemory) = ⊤
-GivesHead text (Err Ended) = ⊥
-GivesHead text (Err Failed) = ⊥
+GivesHead text (Err bad) = SaysNothing text

@@ -1,7 +1,5 @@
 //! What the head of a request says, and why none was read.
 use crate::octets::Octets;
-use scim_text::NoMemory;
-use std::alloc::AllocFailed;
 use thiserror::Error;
 
 /// What the head of a request says (RFC 9112 sections 2 and 3).
@@ -13,11 +11,16 @@ pub struct Head {
     pub target: Octets,
 }
 
-/// Why no head was read.
+/// What came is no head: no request line and headers, more than 64 headers or 66 line feeds, or 16,384
+/// bytes without an end.
+#[derive(Clone, Copy, Debug, PartialEq, Eq, Hash, Error)]
+#[error("not the head of a request")]
+pub struct BadHead;
+
+/// Why no head was read from a stream.
 #[derive(Clone, Copy, Debug, PartialEq, Eq, Hash, Error)]
 pub enum HeadFault {
-    /// What came is no head: no request line and headers, more than 64 headers or 66 line feeds, or
-    /// 16,384 bytes without an end.
+    /// What came is no head, as [`BadHead`] says.
     #[error("not the head of a request")]
     BadHead,
     /// The stream ended before the head did.
@@ -25,30 +28,5 @@ pub enum HeadFault {
     Ended,
     /// A read failed.
     #[error("a read failed")]
-    Failed,
-    /// No memory was to be had.
-    #[error("out of memory")]
-    NoMemory,
-}
-
-impl From<NoMemory> for HeadFault {
-    ghost use Rattle.std.specs.Prelude.{◌≡◌};
-    ghost use Rattle.scim_wire.specs.declared.heads.HeadFault.{HeadFault};
-
-    ghost from_gives = { λ _ fault. fault ≡ HeadFault.NoMemory };
-
-    fn from(_: NoMemory) -> HeadFault {
-        HeadFault::NoMemory
-    }
-}
-
-impl<T: Drop> From<AllocFailed<T>> for HeadFault {
-    ghost use Rattle.std.specs.Prelude.{◌≡◌};
-    ghost use Rattle.scim_wire.specs.declared.heads.HeadFault.{HeadFault};
-
-    ghost from_gives = { λ _ fault. fault ≡ HeadFault.NoMemory };
-
-    fn from(_: AllocFailed<T>) -> HeadFault {
-        HeadFault::NoMemory
-    }
+    ReadFailed,
 }

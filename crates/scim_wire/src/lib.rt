@@ -12,7 +12,7 @@ mod steps;
 mod texts;
 mod writing;
 
-pub use heads::{Head, HeadFault};
+pub use heads::{BadHead, Head, HeadFault};
 pub use laws::heads_are_read_in_one_way;
 pub use octets::Octets;
 pub use replies::{Reply, print_reply};

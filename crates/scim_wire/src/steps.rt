@@ -1,14 +1,18 @@
 //! The reading of a head from a stream, a byte at a time.
 ghost use Rattle.std.specs.Prelude.{◌≡◌, ℕ, List, ◌∷◌, ◌++◌, [], Err, IfOk, IfSome};
 ghost use Rattle.httparse.specs.Grammar.{LineEnd, print_blank};
+ghost use Rattle.scim_text.specs.Failures.{UnlessMemory};
+ghost use Rattle.scim_text.specs.declared.memory.Failed.{Failed};
+ghost use Rattle.scim_wire.specs.declared.heads.HeadFault.{HeadFault};
 ghost use Rattle.scim_wire.specs.Parts.{IsHeadText};
 ghost use Rattle.scim_wire.specs.Streams.{OpensWith, OpensBadly, IsUnended};
 ghost use Rattle.scim_wire.specs.code.Steps.{StandsAt, Leads};
 
 use crate::ends::{ends_head, is_empty_line};
-use crate::heads::{Head, HeadFault};
+use crate::heads::{BadHead, Head, HeadFault};
 use crate::parts::{HeadPart, Step};
 use crate::texts::parse_head;
+use scim_text::Failed;
 use std::alloc::Global;
 use std::io::Read;
 
@@ -29,8 +33,8 @@ fn start(alloc: Global) -> HeadPart
 }
 
 /// What a head's text leads to.
-fn finish(alloc: Global, text: &[u8]) -> Result<Step, HeadFault>
-    ensures { (blank : List LineEnd) → IsHeadText text.now → Leads (print_blank blank ++ text.now) result }
+fn finish(alloc: Global, text: &[u8]) -> Result<Step, Failed<BadHead>>
+    ensures { (blank : List LineEnd) → IsHeadText text.now → UnlessMemory (Leads (print_blank blank ++ text.now)) result }
 {
     match parse_head(alloc, text) {
         Ok(head) => Ok(Step::Whole(head)),
@@ -40,8 +44,8 @@ fn finish(alloc: Global, text: &[u8]) -> Result<Step, HeadFault>
 
 impl HeadPart {
     /// What one more byte leads to.
-    fn take(self, alloc: Global, byte: u8) -> Result<Step, HeadFault>
-        ensures { (bytes : List ℕ) → StandsAt self bytes → Leads (bytes ++ byte ∷ []) result }
+    fn take(self, alloc: Global, byte: u8) -> Result<Step, Failed<BadHead>>
+        ensures { (bytes : List ℕ) → StandsAt self bytes → UnlessMemory (Leads (bytes ++ byte ∷ [])) result }
     {
         let HeadPart { mut bytes, feeds } = self;
         bytes.push(byte)?;
@@ -50,20 +54,20 @@ impl HeadPart {
         }
         let feeds = feeds + u32::from(byte == b'\n');
         if feeds > MAX_FEEDS {
-            return Err(HeadFault::BadHead);
+            return Err(Failed::Because(BadHead));
         }
         if ends_head(bytes.as_slice()) {
             return finish(alloc, bytes.as_slice());
         }
         if bytes.len() >= MAX_BYTES {
-            return Err(HeadFault::BadHead);
+            return Err(Failed::Because(BadHead));
         }
         Ok(Step::More(HeadPart { bytes, feeds }))
     }
 
     /// What more bytes lead to. Those after the head's end are left alone.
-    fn take_all(self, alloc: Global, piece: &[u8]) -> Result<Step, HeadFault>
-        ensures { (bytes : List ℕ) → StandsAt self bytes → Leads (bytes ++ piece.now) result }
+    fn take_all(self, alloc: Global, piece: &[u8]) -> Result<Step, Failed<BadHead>>
+        ensures { (bytes : List ℕ) → StandsAt self bytes → UnlessMemory (Leads (bytes ++ piece.now)) result }
     {
         let mut part = self;
         for byte in piece {
@@ -80,26 +84,27 @@ impl HeadPart {
 /// The head of the request that a stream opens with. Empty lines before it are skipped (RFC 9112 section
 /// 2.2). The stream is read in blocks, so bytes that follow the head may be taken from it and dropped.
 ///
-/// The errors are those of [`HeadFault`].
-pub fn read_head<R: Read>(alloc: Global, reader: &mut R) -> Result<Head, HeadFault>
+/// Fails with a [`HeadFault`], and with `NoMemory`.
+pub fn read_head<R: Read>(alloc: Global, reader: &mut R) -> Result<Head, Failed<HeadFault>>
     ensures head { IfOk result (λ head. IfSome (R.remaining reader.old) (λ input. OpensWith input head)) }
-    ensures bad { result ≡ Err HeadFault.BadHead → IfSome (R.remaining reader.old) OpensBadly }
-    ensures ended { result ≡ Err HeadFault.Ended → IfSome (R.remaining reader.old) IsUnended }
+    ensures bad { result ≡ Err (Failed.Because HeadFault.BadHead) → IfSome (R.remaining reader.old) OpensBadly }
+    ensures ended { result ≡ Err (Failed.Because HeadFault.Ended) → IfSome (R.remaining reader.old) IsUnended }
 {
     let mut part = start(alloc);
     let mut block = [0; 1024];
     for _ in 0..u64::MAX {
         let Ok(count) = reader.read(&mut block) else {
-            return Err(HeadFault::Failed);
+            return Err(Failed::Because(HeadFault::ReadFailed));
         };
         if count == 0 {
-            return Err(HeadFault::Ended);
+            return Err(Failed::Because(HeadFault::Ended));
         }
         match part.take_all(alloc, &block[..count]) {
             Ok(Step::More(next)) => part = next,
             Ok(Step::Whole(head)) => return Ok(head),
-            Err(fault) => return Err(fault),
+            Err(Failed::Because(_)) => return Err(Failed::Because(HeadFault::BadHead)),
+            Err(Failed::NoMemory) => return Err(Failed::NoMemory),
         }
     }
-    Err(HeadFault::Failed)
+    Err(Failed::Because(HeadFault::ReadFailed))
 }

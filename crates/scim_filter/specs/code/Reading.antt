@@ -5,6 +5,8 @@ use Rattle.std.specs.Str.Parse.{signed_digits_value}
 use Rattle.scim_filter.specs.Literals.{is_integer}
 use Rattle.serde_json.specs.Read.{read}
 use Rattle.serde_json.specs.Find.{as_str}
+use Rattle.scim_text.specs.declared.memory.Failed.{Failed}
+use Rattle.scim_text.specs.declared.memory.Failed.TheVariants.{Because, NoMemory}
 use Rattle.scim_filter.specs.declared.faults.ReadError.{ReadError}
 use Rattle.scim_filter.specs.declared.faults.ReadError.TheVariants as errors
 use Rattle.scim_filter.specs.declared.tree.Operator.{Operator}
@@ -31,13 +33,13 @@ abbrev pub ◌>>=◌ : {A B : Type 0} → Result A Fault → (A → Result B Fau
 (Err e) >>= f = Err e
 
 -- What a function returned, seen by view, is what reading gives, unless memory ran out.
-abbrev pub Fails : {Y : Type 0} → ReadError → Result Y Fault → Type 0
-Fails errors.NoMemory read = Unit {0}
-Fails (errors.Syntax left) read = read ≡ Err Syntax
-Fails errors.TooDeep read = read ≡ Err TooDeep
+abbrev pub Fails : {Y : Type 0} → Failed ReadError → Result Y Fault → Type 0
+Fails NoMemory read = Unit {0}
+Fails (Because (errors.Syntax left)) read = read ≡ Err Syntax
+Fails (Because errors.TooDeep) read = read ≡ Err TooDeep
 
 -- the same of all that a function returned
-abbrev pub Gives : {X Y : Type 0} → (X → Y) → Result X ReadError → Result Y Fault → Type 0
+abbrev pub Gives : {X Y : Type 0} → (X → Y) → Result X (Failed ReadError) → Result Y Fault → Type 0
 Gives view (Ok x) read = read ≡ Ok (view x)
 Gives view (Err e) read = Fails e read
 

@@ -3,18 +3,18 @@ use Rattle.std.specs.Prelude.{◌≡◌, ℕ, List, map, Vec, option_map, Result
 use Rattle.std.specs.declared.alloc.Global.{Global}
 use Rattle.json.specs.Value.{value_view}
 use denote.Ref.{Bor}
+use Rattle.scim_text.specs.declared.memory.Failed.{Failed}
+use Rattle.scim_text.specs.declared.memory.Failed.TheVariants.{Because, NoMemory}
 use Rattle.scim_policy.specs.declared.reading.FileParts.{FileParts}
 use Rattle.scim_policy.specs.declared.reading.WrittenRule.{WrittenRule}
 use Rattle.scim_policy.specs.declared.faults.Cause.{Cause}
-use Rattle.scim_policy.specs.declared.faults.RuleFault.{RuleFault}
-use Rattle.scim_policy.specs.declared.faults.RuleFault.TheVariants as fault
 use Rattle.scim_policy.specs.File.{Parts, RuleTexts}
 
 -- what a function returned, in other words, is what is said, unless memory ran out
-abbrev pub Gives : {X Y : Type 0} → (X → Y) → Result X RuleFault → Result Y Cause → Type 0
+abbrev pub Gives : {X Y : Type 0} → (X → Y) → Result X (Failed Cause) → Result Y Cause → Type 0
 Gives words (Ok x) said = said ≡ Ok (words x)
-Gives words (Err (fault.Refused cause)) said = said ≡ Err cause
-Gives words (Err fault.NoMemory) said = Unit {0}
+Gives words (Err (Because cause)) said = said ≡ Err cause
+Gives words (Err NoMemory) said = Unit {0}
 
 -- a text that is borrowed
 abbrev pub text_at : Bor (List ℕ) → List ℕ

@@ -2,7 +2,7 @@ use Rattle.std.proofs.Common.{◌≡◌, ◌≤◌, ◌<◌, ℕ, Some, inr, tru
 use Rattle.scim_filter.specs.Tree.{Tree, view}
 use Rattle.scim_filter.specs.Types.{fits}
 use Rattle.scim_filter.specs.declared.limits.TheConstants.{LONGEST_TEXT}
-use Rattle.scim_filter.specs.code.Reading.{Syntax, TooDeep, all_of, Fails}
+use Rattle.scim_filter.specs.code.Reading.{Syntax, TooDeep, all_of}
 use Rattle.scim_filter.specs.Grammar.{IsFilter}
 use Rattle.scim_schema.specs.declared.Kind.{Kind}
 use Rattle.scim_filter.specs.declared.tree.Scope.TheVariants.{Attributes}
@@ -40,31 +40,31 @@ pub returns-else-fits-clause-wrong_type : goal.returns-else-fits-clause-wrong_ty
 returns-else-fits-clause-wrong_type c =
     λ is. (view c.in-Ok.node, spelled c.args.kind c.args.text.now c.as_bytes-bytes.result.now (view c.in-Ok.node) c.as_bytes-bytes.ensures.value c.in-Ok.ensures, sym c.fits.ensures ∙ c.if-fits.false)
 
-pub returns-in-Err-Syntax-clause-only : goal.returns-in-Err-Syntax-clause-only
-returns-in-Err-Syntax-clause-only c =
+pub returns-in-Err-Because-Syntax-clause-only : goal.returns-in-Err-Because-Syntax-clause-only
+returns-in-Err-Because-Syntax-clause-only c =
     let e : c.as_bytes-bytes.result.now ≡ c.args.text.now = c.as_bytes-bytes.ensures.value in
-    let failed : all_of (Attributes c.args.kind) c.as_bytes-bytes.result.now ≡ Err Syntax = subst (λ f. Fails f (all_of (Attributes c.args.kind) c.as_bytes-bytes.result.now)) c.in-Err-Syntax.field-0-is c.in-Err-Syntax.ensures in
+    let failed : all_of (Attributes c.args.kind) c.as_bytes-bytes.result.now ≡ Err Syntax = rw (c.in-Err-Because-Syntax.field-0-is, c.in-Err-Because-Syntax.field-0-0-is) at c.in-Err-Because-Syntax.ensures in
     λ tree short h typed. absurd (no_filter c.args.kind 32 c.args.text.now tree (ap (all_of (Attributes c.args.kind)) (sym e) ∙ failed) h)
 
-pub returns-in-Err-Syntax-clause-syntax : goal.returns-in-Err-Syntax-clause-syntax
-returns-in-Err-Syntax-clause-syntax c =
+pub returns-in-Err-Because-Syntax-clause-syntax : goal.returns-in-Err-Because-Syntax-clause-syntax
+returns-in-Err-Because-Syntax-clause-syntax c =
     let e : c.as_bytes-bytes.result.now ≡ c.args.text.now = c.as_bytes-bytes.ensures.value in
-    let failed : all_of (Attributes c.args.kind) c.as_bytes-bytes.result.now ≡ Err Syntax = subst (λ f. Fails f (all_of (Attributes c.args.kind) c.as_bytes-bytes.result.now)) c.in-Err-Syntax.field-0-is c.in-Err-Syntax.ensures in
+    let failed : all_of (Attributes c.args.kind) c.as_bytes-bytes.result.now ≡ Err Syntax = rw (c.in-Err-Because-Syntax.field-0-is, c.in-Err-Because-Syntax.field-0-0-is) at c.in-Err-Because-Syntax.ensures in
     λ at is. (
-      let same : c.saturating_sub.result ≡ at = cc in let n = ap length e in let d = c.saturating_sub.ensures in omega (arith, same, n, d),
+      let same : c.saturating_sub-at.result ≡ at = cc in let n = ap length e in let d = c.saturating_sub-at.ensures in omega (arith, same, n, d),
       λ n tree h. no_filter c.args.kind n c.args.text.now tree (ap (all_of (Attributes c.args.kind)) (sym e) ∙ failed) h,
     )
 
-pub returns-in-Err-TooDeep-clause-only : goal.returns-in-Err-TooDeep-clause-only
-returns-in-Err-TooDeep-clause-only c =
+pub returns-in-Err-Because-TooDeep-clause-only : goal.returns-in-Err-Because-TooDeep-clause-only
+returns-in-Err-Because-TooDeep-clause-only c =
     let e : c.as_bytes-bytes.result.now ≡ c.args.text.now = c.as_bytes-bytes.ensures.value in
-    let failed : all_of (Attributes c.args.kind) c.as_bytes-bytes.result.now ≡ Err TooDeep = subst (λ f. Fails f (all_of (Attributes c.args.kind) c.as_bytes-bytes.result.now)) c.in-Err-TooDeep.field-0-is c.in-Err-TooDeep.ensures in
+    let failed : all_of (Attributes c.args.kind) c.as_bytes-bytes.result.now ≡ Err TooDeep = rw (c.in-Err-Because-TooDeep.field-0-is, c.in-Err-Because-TooDeep.field-0-0-is) at c.in-Err-Because-TooDeep.ensures in
     λ tree short h typed. absurd (not_within c.args.kind c.args.text.now tree (ap (all_of (Attributes c.args.kind)) (sym e) ∙ failed) h)
 
-pub returns-in-Err-TooDeep-clause-too_deep : goal.returns-in-Err-TooDeep-clause-too_deep
-returns-in-Err-TooDeep-clause-too_deep c =
+pub returns-in-Err-Because-TooDeep-clause-too_deep : goal.returns-in-Err-Because-TooDeep-clause-too_deep
+returns-in-Err-Because-TooDeep-clause-too_deep c =
     let e : c.as_bytes-bytes.result.now ≡ c.args.text.now = c.as_bytes-bytes.ensures.value in
-    let failed : all_of (Attributes c.args.kind) c.as_bytes-bytes.result.now ≡ Err TooDeep = subst (λ f. Fails f (all_of (Attributes c.args.kind) c.as_bytes-bytes.result.now)) c.in-Err-TooDeep.field-0-is c.in-Err-TooDeep.ensures in
+    let failed : all_of (Attributes c.args.kind) c.as_bytes-bytes.result.now ≡ Err TooDeep = rw (c.in-Err-Because-TooDeep.field-0-is, c.in-Err-Because-TooDeep.field-0-0-is) at c.in-Err-Because-TooDeep.ensures in
     λ is tree h. not_within c.args.kind c.args.text.now tree (ap (all_of (Attributes c.args.kind)) (sym e) ∙ failed) h
 
 pub returns-then-bytes-gt-LONGEST_TEXT-clause-same : goal.returns-then-bytes-gt-LONGEST_TEXT-clause-same
@@ -87,14 +87,14 @@ returns-else-fits-clause-same c =
     let same : view c.in-Ok.node ≡ tree = same_tree c.args.kind c.args.text.now c.as_bytes-bytes.result.now (view c.in-Ok.node) tree c.as_bytes-bytes.ensures.value c.in-Ok.ensures h in
     absurd (let no : true ≡ false = sym typed ∙ ap fits (sym same) ∙ untyped in cc)))
 
-pub returns-in-Err-Syntax-clause-same : goal.returns-in-Err-Syntax-clause-same
-returns-in-Err-Syntax-clause-same c =
+pub returns-in-Err-Because-Syntax-clause-same : goal.returns-in-Err-Because-Syntax-clause-same
+returns-in-Err-Because-Syntax-clause-same c =
     let e : c.as_bytes-bytes.result.now ≡ c.args.text.now = c.as_bytes-bytes.ensures.value in
-    let failed : all_of (Attributes c.args.kind) c.as_bytes-bytes.result.now ≡ Err Syntax = subst (λ f. Fails f (all_of (Attributes c.args.kind) c.as_bytes-bytes.result.now)) c.in-Err-Syntax.field-0-is c.in-Err-Syntax.ensures in
+    let failed : all_of (Attributes c.args.kind) c.as_bytes-bytes.result.now ≡ Err Syntax = rw (c.in-Err-Because-Syntax.field-0-is, c.in-Err-Because-Syntax.field-0-0-is) at c.in-Err-Because-Syntax.ensures in
     inr (none_spelled c.args.kind c.args.text.now (λ tree short h typed. no_filter c.args.kind 32 c.args.text.now tree (ap (all_of (Attributes c.args.kind)) (sym e) ∙ failed) h))
 
-pub returns-in-Err-TooDeep-clause-same : goal.returns-in-Err-TooDeep-clause-same
-returns-in-Err-TooDeep-clause-same c =
+pub returns-in-Err-Because-TooDeep-clause-same : goal.returns-in-Err-Because-TooDeep-clause-same
+returns-in-Err-Because-TooDeep-clause-same c =
     let e : c.as_bytes-bytes.result.now ≡ c.args.text.now = c.as_bytes-bytes.ensures.value in
-    let failed : all_of (Attributes c.args.kind) c.as_bytes-bytes.result.now ≡ Err TooDeep = subst (λ f. Fails f (all_of (Attributes c.args.kind) c.as_bytes-bytes.result.now)) c.in-Err-TooDeep.field-0-is c.in-Err-TooDeep.ensures in
+    let failed : all_of (Attributes c.args.kind) c.as_bytes-bytes.result.now ≡ Err TooDeep = rw (c.in-Err-Because-TooDeep.field-0-is, c.in-Err-Because-TooDeep.field-0-0-is) at c.in-Err-Because-TooDeep.ensures in
     inr (none_spelled c.args.kind c.args.text.now (λ tree short h typed. not_within c.args.kind c.args.text.now tree (ap (all_of (Attributes c.args.kind)) (sym e) ∙ failed) h))

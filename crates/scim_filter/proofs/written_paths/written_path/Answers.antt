@@ -1,7 +1,7 @@
 use Rattle.std.proofs.Common.{◌≡◌, ◌≤◌, ℕ, List, length, Ok, Err, sym, ap, subst, ◌∙◌}
 use Rattle.scim_filter.specs.Bytes.{is_space, behind}
 use Rattle.scim_filter.specs.declared.limits.TheConstants.{LONGEST_TEXT}
-use Rattle.scim_filter.specs.code.Reading.{Syntax, TooDeep, Fails}
+use Rattle.scim_filter.specs.code.Reading.{Syntax, TooDeep}
 use Rattle.scim_filter.specs.code.PathReading.{written_at}
 use Rattle.scim_filter.specs.WrittenPaths.{written_of}
 use Rattle.scim_filter.proofs.TakeLemmas.{ok_is}
@@ -23,16 +23,16 @@ returns-in-Ok-clause-only c =
     let read : written_at 32 c.args.kind (behind is_space c.args.text.now) ≡ Ok (written_of c.in-Ok.path) = subst (λ (b : List ℕ). written_at 32 c.args.kind b ≡ Ok (written_of c.in-Ok.path)) skipped c.in-Ok.ensures in
     λ w short h. ok_is (written_of c.in-Ok.path) w (sym read ∙ whole_again c.args.kind c.args.text.now w h)
 
-pub returns-in-Err-Syntax-clause-only : goal.returns-in-Err-Syntax-clause-only
-returns-in-Err-Syntax-clause-only c =
+pub returns-in-Err-Because-Syntax-clause-only : goal.returns-in-Err-Because-Syntax-clause-only
+returns-in-Err-Because-Syntax-clause-only c =
     let e : c.as_bytes-bytes.result.now ≡ c.args.text.now = c.as_bytes-bytes.ensures.value in
     let skipped : c.skip_spaces.result.now ≡ behind is_space c.args.text.now = c.skip_spaces.ensures.rest ∙ ap (behind is_space) e in
-    let failed : written_at 32 c.args.kind c.skip_spaces.result.now ≡ Err Syntax = subst (λ f. Fails f (written_at 32 c.args.kind c.skip_spaces.result.now)) c.in-Err-Syntax.field-0-is c.in-Err-Syntax.ensures in
+    let failed : written_at 32 c.args.kind c.skip_spaces.result.now ≡ Err Syntax = rw (c.in-Err-Because-Syntax.field-0-is, c.in-Err-Because-Syntax.field-0-0-is) at c.in-Err-Because-Syntax.ensures in
     λ w short h. absurd (not_written c.args.kind c.args.text.now Syntax w (ap (written_at 32 c.args.kind) (sym skipped) ∙ failed) h)
 
-pub returns-in-Err-TooDeep-clause-only : goal.returns-in-Err-TooDeep-clause-only
-returns-in-Err-TooDeep-clause-only c =
+pub returns-in-Err-Because-TooDeep-clause-only : goal.returns-in-Err-Because-TooDeep-clause-only
+returns-in-Err-Because-TooDeep-clause-only c =
     let e : c.as_bytes-bytes.result.now ≡ c.args.text.now = c.as_bytes-bytes.ensures.value in
     let skipped : c.skip_spaces.result.now ≡ behind is_space c.args.text.now = c.skip_spaces.ensures.rest ∙ ap (behind is_space) e in
-    let failed : written_at 32 c.args.kind c.skip_spaces.result.now ≡ Err TooDeep = subst (λ f. Fails f (written_at 32 c.args.kind c.skip_spaces.result.now)) c.in-Err-TooDeep.field-0-is c.in-Err-TooDeep.ensures in
+    let failed : written_at 32 c.args.kind c.skip_spaces.result.now ≡ Err TooDeep = rw (c.in-Err-Because-TooDeep.field-0-is, c.in-Err-Because-TooDeep.field-0-0-is) at c.in-Err-Because-TooDeep.ensures in
     λ w short h. absurd (not_written c.args.kind c.args.text.now TooDeep w (ap (written_at 32 c.args.kind) (sym skipped) ∙ failed) h)

@@ -1,4 +1,4 @@
-use Rattle.std.proofs.Common.{◌≡◌, ◌≤◌, ◌+◌, sym, subst, ◌∷◌, [], rules, arith}
+use Rattle.std.proofs.Common.{◌≡◌, ◌≤◌, ◌+◌, refl, sym, subst, ◌∷◌, [], rules, arith}
 use Rattle.std.proofs.lemmas.List.{length-append}
 use Rattle.serde_json.specs.Data.{depth, items_depth}
 use Rattle.serde_json.specs.View.{view, items_view}
@@ -13,20 +13,19 @@ read_document-requires c =
     subst (λ (w : Value). depth (view w) ≤ items_depth (items_view c.args.items.now)) (sym c.index-items-position.is) (item_depth c.args.items.now c.loop-position.position v (omega arith)) in
     omega arith
 
-pub returns-in-Err-Damaged-clause-damaged : goal.returns-in-Err-Damaged-clause-damaged
-returns-in-Err-Damaged-clause-damaged c text t n e =
+pub returns-in-Err-Because-clause-damaged : goal.returns-in-Err-Because-clause-damaged
+returns-in-Err-Because-clause-damaged c text t =
     let h = c.loop-position.invariant in
     let rs = c.loop-position.resources.items in
-    let number : c.loop-position.position + 1 ≡ n = cc in
-    read_damaged c.args.base.now rs c.args.items.now h.reads c.loop-position.position c.index-items-position.result h.count c.loop-position-test.true c.index-items-position.is text t n (sym number)
-    (λ d is apart. c.in-Err-Damaged.ensures.damaged (search rules) d is)
+    let none = rw c.in-Err-Because.field-0-is at c.in-Err-Because.ensures.damaged in
+    read_damaged c.args.base.now rs c.args.items.now h.reads c.loop-position.position c.index-items-position.result h.count c.loop-position-test.true c.index-items-position.is text t _ refl
+    (λ d is apart. none d is)
 
 pub returns-then-not-branch-clause-damaged : goal.returns-then-not-branch-clause-damaged
-returns-then-not-branch-clause-damaged c text t n e =
+returns-then-not-branch-clause-damaged c text t =
     let h = c.loop-position.invariant in
     let rs = c.loop-position.resources.items in
-    let number : c.loop-position.position + 1 ≡ n = cc in
-    read_damaged c.args.base.now rs c.args.items.now h.reads c.loop-position.position c.index-items-position.result h.count c.loop-position-test.true c.index-items-position.is text t n (sym number)
+    read_damaged c.args.base.now rs c.args.items.now h.reads c.loop-position.position c.index-items-position.result h.count c.loop-position-test.true c.index-items-position.is text t _ refl
     (none_beside c.args.base.now rs (view c.index-items-position.result) c.in-Ok.resource c.in-Ok.ensures.document (c.in_ok-add.ensures.clash rs h.taken (search rules)))
 
 pub loop-position-preserved : goal.loop-position-preserved

@@ -1,6 +1,5 @@
 use Rattle.std.proofs.Common.{◌≡◌, []}
 use Rattle.std.proofs.KnownBytes.{Consumes-nil, Consumes-trans}
-use Rattle.scim_wire.specs.declared.heads.HeadFault.TheVariants.{BadHead}
 use Rattle.scim_wire.proofs.StepLemmas.{input_opens}
 use Rattle.scim_wire.proofs.steps.read_head.Goals as goal
 
@@ -13,11 +12,10 @@ returns-in-Ok-Whole-clause-head g c =
     let whole = rw (c.in-Ok-Whole.is, c.in-Ok-Whole.field-0-is) at (c.take_all.ensures before.0 before.1) in
     input_opens _ _ _ _ (Consumes-trans _ _ _ _ _ before.2 c.in-Ok.ensures.bytes.0) whole
 
-pub returns-in-Err-clause-bad : goal.returns-in-Err-clause-bad
-returns-in-Err-clause-bad g c bad =
+pub returns-in-Err-Because-clause-bad : goal.returns-in-Err-Because-clause-bad
+returns-in-Err-Because-clause-bad g c bad =
     let before = c.loop.invariant in
-    let is : c.in-Err.fault ≡ BadHead = cc in
-    let led = rw (c.in-Err.is, is) at (c.take_all.ensures before.0 before.1) in
+    let led = rw (c.in-Err-Because.is, c.in-Err-Because.field-0-is) at (c.take_all.ensures before.0 before.1) in
     input_opens _ _ _ _ (Consumes-trans _ _ _ _ _ before.2 c.in-Ok.ensures.bytes.0) led
 
 pub loop-preserved : goal.loop-preserved

@@ -7,6 +7,7 @@ use Rattle.std.proofs.lemmas.Result.{IfOk-weaker}
 use Rattle.std.proofs.lemmas.List.MinMax.{ranks_by}
 use Rattle.std.proofs.lemmas.List.Sorted.{IsPermutation-map}
 use Rattle.scim_schema.specs.declared.Kind.{Kind}
+use Rattle.scim_text.proofs.Facts.{OnFault-weaker}
 use Rattle.scim_cell.specs.declared.cells.Cell.{Cell}
 use Rattle.scim_cell.specs.Place.{place_cmp}
 use Rattle.scim_cell.specs.Content.{Content, place_of, entry_of, entries_of, ArePartCells, AreSortedPartCells, AreCellsOfAPart}
@@ -28,10 +29,11 @@ returns-clause-valid c =
     (λ p h. cells_of_a_part c.args.kind _ _ h moved) c.of_sorted.ensures.valid
 
 pub returns-clause-invalid : goal.returns-clause-invalid
-returns-clause-invalid c = λ e own.
+returns-clause-invalid c = OnFault-weaker c.of_sorted.result _ _ (λ none own.
     (let cells = c.sort_unstable_by.new.self.items in
     let weak = weakly_sorted cells
     (c.sort_unstable_by.ensures.sorted (λ (x : Cell) (y : Cell). is_lt (place_cmp (place_of x) (place_of y))) (ranks_by place_total place_of) (always_returns_same _ _ _ (λ a r f' h. (search rules, search rules)))) in
     let part : ArePartCells c.args.kind (entries own.0.cells) = subst (λ (k : Kind). ArePartCells k (entries own.0.cells)) own.1 own.2 in
-    c.of_sorted.ensures.invalid e
-    (sorted_part c.args.kind (entries_of c.args.cells.items) (entries_of cells) (entries own.0.cells) (sorted_entries own.0) part own.3 (IsPermutation-map entry_of _ _ c.sort_unstable_by.ensures.permutation) weak))
+    none
+    (sorted_part c.args.kind (entries_of c.args.cells.items) (entries_of cells) (entries own.0.cells) (sorted_entries own.0) part own.3 (IsPermutation-map entry_of _ _ c.sort_unstable_by.ensures.permutation) weak)))
+    c.of_sorted.ensures.invalid

@@ -1,6 +1,7 @@
 -- One byte more of a head.
 use Rattle.std.proofs.Common.{◌≡◌, ◌<◌, ◌+◌, ◌++◌, ◌∷◌, [], length, inl, inr, ap, arith}
 use Rattle.std.proofs.lemmas.List.{length-append}
+use Rattle.scim_text.specs.Failures.{UnlessMemory}
 use Rattle.scim_wire.specs.Parts.{EndsHead, IsEmptyLine, feeds}
 use Rattle.scim_wire.specs.code.Steps.{Leads}
 use Rattle.scim_wire.proofs.StepLemmas.{opening_push, opening_empty, opening_overlong, at_head, feeds_is}
@@ -25,7 +26,7 @@ returns-then-ends_head c bytes stands =
     let count : c.args.self.feeds + c.from.result ≡ feeds c.push.new.self.items = feeds_is _ _ c.args.byte _ _ is stands.1 c.from.ensures in
     let ends : EndsHead c.push.new.self.items = rw c.as_slice-2.ensures.value at (c.ends_head.ensures.0 c.if-ends_head.true) in
     let finished = rw (c.as_slice-then-ends_head.ensures.value) at c.finish.ensures in
-    at_head bytes _ _ c.args.byte (λ text. Leads text c.finish.result) stands.0 is ends
+    at_head bytes _ _ c.args.byte (λ text. UnlessMemory (Leads text) c.finish.result) stands.0 is ends
     (omega (arith, count, c.if-feeds-gt-MAX_FEEDS.false)) finished
 
 pub returns-then-len-ge-MAX_BYTES : goal.returns-then-len-ge-MAX_BYTES

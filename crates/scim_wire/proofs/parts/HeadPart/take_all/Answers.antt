@@ -1,4 +1,5 @@
 use Rattle.std.proofs.Common.{◌++◌, take, subst, Err}
+use Rattle.scim_text.specs.Failures.{UnlessMemory}
 use Rattle.scim_wire.specs.code.Steps.{StandsAt, Leads}
 use Rattle.scim_wire.specs.Streams.{OpensWith}
 use Rattle.scim_wire.proofs.StepLemmas.{opens_more, fault_more, piece_push, piece_rest}
@@ -14,7 +15,7 @@ pub returns-in-Err : goal.returns-in-Err
 returns-in-Err c bytes stands =
     let step = c.take.ensures (bytes ++ take c.loop-byte.byte-index c.args.piece.now) (c.loop-byte.invariant bytes stands) in
     let fault = rw (c.in-Err.is) at step in
-    piece_rest (λ b. Leads b (Err c.in-Err.fault)) (λ xs more leads. fault_more xs more c.in-Err.fault leads) bytes c.args.piece.now c.loop-byte.byte-index 0 c.loop-byte-test.true fault
+    piece_rest (λ b. UnlessMemory (Leads b) (Err c.in-Err.fault)) (λ xs more leads. fault_more xs more c.in-Err.fault leads) bytes c.args.piece.now c.loop-byte.byte-index 0 c.loop-byte-test.true fault
 
 pub loop-byte-preserved : goal.loop-byte-preserved
 loop-byte-preserved c bytes stands =
