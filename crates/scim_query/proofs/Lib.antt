@@ -1,3 +1,6 @@
 pub mod OneOrderLemmas
 pub mod OrderLemmas
 pub mod PageLemmas
+pub mod PagerLemmas
+pub mod PlacedLemmas
+pub mod SliceLemmas
