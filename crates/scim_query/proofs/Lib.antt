@@ -3,4 +3,3 @@ pub mod OrderLemmas
 pub mod PageLemmas
 pub mod PagerLemmas
 pub mod PlacedLemmas
-pub mod SliceLemmas

@@ -3,8 +3,7 @@ use Rattle.std.proofs.Common.{◌≡◌, ℕ, ◌+◌, ◌-◌, Bool, true, fals
 use Rattle.std.specs.Option.{is_some}
 use Rattle.std.specs.Cmp.{IsStrictWeakOrder}
 use Rattle.std.specs.List.Sorted.{IsSorted, IsSortedBy}
-use Rattle.std.proofs.lemmas.List.{append-nil, drop-take, take-map, drop-map, map-append}
-use Rattle.std.proofs.lemmas.List.Elements.{filter-append}
+use Rattle.std.proofs.lemmas.List.{drop-take, take-map, drop-map, map-append}
 use Rattle.std.proofs.lemmas.List.Kept.{IsSortedBy-filter}
 use Rattle.std.proofs.lemmas.List.Sorted.{IsPermutation-refl, ranks_by}
 use Rattle.scim_schema.specs.declared.Leaf.{Leaf}
@@ -19,12 +18,6 @@ use Rattle.scim_query.specs.code.Kept.{kept_rank, kept_cmp, comes_before, placed
 use Rattle.scim_query.proofs.OrderLemmas.{rank_cmp_total}
 use Rattle.scim_query.proofs.PageLemmas.{IsSortedByKey-map}
 use Rattle.scim_query.proofs.PlacedLemmas.{IsSortedBy-take, take_placed, placed-map, members_more, sorted_placed, stable_more}
-
-pub matching_more : (query : Query) (ps : List Content) (p : Content) → is_match query.filter p ≡ true → matching query.filter (ps ++ p ∷ []) ≡ matching query.filter ps ++ p ∷ []
-matching_more query ps p passes = filter-append (is_match query.filter) ps (p ∷ []) ∙ rw passes refl
-
-pub matching_same : (query : Query) (ps : List Content) (p : Content) → is_match query.filter p ≡ false → matching query.filter (ps ++ p ∷ []) ≡ matching query.filter ps
-matching_same query ps p fails = filter-append (is_match query.filter) ps (p ∷ []) ∙ rw fails (append-nil (matching query.filter ps))
 
 -- a part's place in the order that is asked for
 abbrev before : Query → Content → Content → Bool

@@ -1,11 +1,12 @@
 -- A list in order with one more is in order, and its first elements are told by the first elements.
-use Rattle.std.proofs.Common.{◌≡◌, ℕ, zero, suc, ◌<◌, ◌≤◌, Bool, true, false, not, ◌&&◌, add-one, cond, List, [], ◌∷◌, ◌++◌, map, length, take, drop, get_or, insert, refl, sym, ap, ◌∙◌, arith, true≢false}
+use Rattle.std.proofs.Common.{◌≡◌, ℕ, zero, suc, ◌<◌, ◌≤◌, Bool, true, false, not, ◌&&◌, add-one, cond, List, [], ◌∷◌, ◌++◌, map, length, take, drop, get_or, insert, min, refl, sym, ap, ◌∙◌, arith, true≢false}
 use Rattle.std.specs.Cmp.{IsStrictWeakOrder}
 use Rattle.std.specs.List.{filter}
 use Rattle.std.specs.List.Sorted.{IsPermutation, IsSortedBy, IsStableBy, IsPartitionedBy, IsPartitionPoint, ties}
 use Rattle.std.proofs.lemmas.List.{append-nil, take-take, take-append-le, length-take}
 use Rattle.std.proofs.lemmas.List.Elements.{filter-append}
 use Rattle.std.proofs.lemmas.List.Sorted.{IsPermutation-refl, IsPermutation-cons, IsPermutation-to_front, IsPermutation-append_left, IsPermutation-trans, sorted_far}
+use Rattle.std.proofs.lemmas.Grind.{common_steps}
 use Rattle.scim_query.specs.code.Kept.{placed}
 use Rattle.scim_query.proofs.OneOrderLemmas.{less_on}
 
@@ -47,9 +48,14 @@ module _ {X : Type 0} (lt : X → X → Bool) where
   perm_if true x y ys rest = IsPermutation-to_front (y ∷ ys) x
   perm_if false x y ys rest = IsPermutation-cons y (ys ++ x ∷ []) (placed lt x ys) rest
 
-  pub perm_placed : (x : X) (ys : List X) → IsPermutation (ys ++ x ∷ []) (placed lt x ys)
+  perm_placed : (x : X) (ys : List X) → IsPermutation (ys ++ x ∷ []) (placed lt x ys)
   perm_placed x [] = IsPermutation-refl (x ∷ [])
   perm_placed x (y ∷ ys) = perm_if (lt x y) x y ys (perm_placed x ys)
+
+  -- it has the elements of the list and the one more
+  pub members_more : (x : X) (xs ys : List X) → IsPermutation xs ys → IsPermutation (xs ++ x ∷ []) (placed lt x ys)
+  members_more x xs ys members =
+      IsPermutation-trans (xs ++ x ∷ []) (ys ++ x ∷ []) (placed lt x ys) (IsPermutation-append_left (x ∷ []) xs ys members) (perm_placed x ys)
 
   if_placed : (b : Bool) (n : ℕ) (x y : X) (ys zs : List X) → take n (placed lt x ys) ≡ take n (placed lt x zs) → take n (y ∷ ys) ≡ take n (y ∷ zs)
       → take (suc n) (cond b (x ∷ y ∷ ys) (y ∷ placed lt x ys)) ≡ take (suc n) (cond b (x ∷ y ∷ zs) (y ∷ placed lt x zs))
@@ -89,6 +95,7 @@ module _ {X : Type 0} (lt : X → X → Bool) (o : IsStrictWeakOrder lt) where
   sorted_if true x y ys is up rest = sorted_cons lt x (y ∷ ys) (λ d some. o.one_way x y is) up
   sorted_if false x y ys is up rest = sorted_cons lt y (placed lt x ys) (λ d some. first_placed x y ys is (sorted_head lt y ys up) d) rest
 
+  -- it is in order
   pub sorted_placed : (x : X) (ys : List X) → IsSortedBy lt ys → IsSortedBy lt (placed lt x ys)
   sorted_placed x [] up = λ k d low high. absurd (omega arith)
   sorted_placed x (y ∷ ys) up = sorted_if (lt x y) x y ys refl up (sorted_placed x ys (sorted_tail lt y ys up))
@@ -128,14 +135,10 @@ module _ {X : Type 0} (lt : X → X → Bool) (o : IsStrictWeakOrder lt) where
   stable_placed z x [] up = refl
   stable_placed z x (y ∷ ys) up = stable_if z (lt x y) x y ys refl up (stable_placed z x ys (sorted_tail lt y ys up))
 
+  -- and what ties keeps its order, the one more behind
   pub stable_more : (x : X) (xs ys : List X) → IsSortedBy lt ys → IsStableBy lt xs ys → IsStableBy lt (xs ++ x ∷ []) (placed lt x ys)
   stable_more x xs ys up stable z =
       stable_placed z x ys up ∙ filter-append (ties lt z) ys (x ∷ []) ∙ ap (λ (t : List X). t ++ filter (ties lt z) (x ∷ [])) (stable z) ∙ sym (filter-append (ties lt z) xs (x ∷ []))
-
-module _ {X : Type 0} (lt : X → X → Bool) where
-  pub members_more : (x : X) (xs ys : List X) → IsPermutation xs ys → IsPermutation (xs ++ x ∷ []) (placed lt x ys)
-  members_more x xs ys members =
-      IsPermutation-trans (xs ++ x ∷ []) (ys ++ x ∷ []) (placed lt x ys) (IsPermutation-append_left (x ∷ []) xs ys members) (perm_placed lt x ys)
 
 module _ {X Y : Type 0} (f : X → Y) (lt : Y → Y → Bool) where
   map_if : (b : Bool) (x y : X) (ys : List X) (zs : List Y) → zs ≡ map f (placed (λ a e. lt (f a) (f e)) x ys)
@@ -143,6 +146,17 @@ module _ {X Y : Type 0} (f : X → Y) (lt : Y → Y → Bool) where
   map_if true x y ys zs rest = refl
   map_if false x y ys zs rest = ap (λ t. f y ∷ t) rest
 
+  -- a list in order stays so where each element is given by a function
   pub placed-map : (x : X) (ys : List X) → placed lt (f x) (map f ys) ≡ map f (placed (λ a e. lt (f a) (f e)) x ys)
   placed-map x [] = refl
   placed-map x (y ∷ ys) = map_if (lt (f x) (f y)) x y ys _ (placed-map x ys)
+
+module _ {X : Type 0} where
+  take_min : (n : ℕ) (xs : List X) → take (min n (length xs)) xs ≡ take n xs
+  take_min n xs = grind (arith, common_steps)
+
+  -- a bound that no list of the length reaches takes nothing away
+  pub take_bounded : (most n room : ℕ) (xs : List X) → room ≡ min n most → length xs ≤ most → take room xs ≡ take n xs
+  take_bounded most n room xs is short =
+      let alike : min room (length xs) ≡ min n (length xs) = omega arith in
+      sym (take_min room xs) ∙ ap (λ k. take k xs) alike ∙ take_min n xs

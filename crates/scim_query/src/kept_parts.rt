@@ -92,10 +92,8 @@ pub(crate) fn parts_from(
 ) -> Result<Vec<Part>, NoMemory>
     ensures { IfOk result (λ v. v.items ≡ map (λ k. k.part) (drop first held.items)) }
 {
-    let mut held = held;
-    let behind = held.split_off(first.min(held.len()))?;
-    let mut parts = Vec::with_capacity(alloc, behind.len())?;
-    for kept in behind {
+    let mut parts = Vec::with_capacity(alloc, held.len().saturating_sub(first))?;
+    for kept in held.into_iter().skip(first) {
         parts.push(kept.part)?;
     }
     Ok(parts)

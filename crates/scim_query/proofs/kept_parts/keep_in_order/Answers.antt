@@ -5,8 +5,7 @@ use Rattle.std.proofs.lemmas.List.Sorted.{ranks_by}
 use Rattle.scim_query.specs.declared.kept_parts.KeptPart.{KeptPart}
 use Rattle.scim_query.specs.code.Kept as code
 use Rattle.scim_query.proofs.OrderLemmas.{rank_cmp_total}
-use Rattle.scim_query.proofs.PlacedLemmas.{partitioned, placed_at, placed_past}
-use Rattle.scim_query.proofs.SliceLemmas.{take_bounded}
+use Rattle.scim_query.proofs.PlacedLemmas.{partitioned, placed_at, placed_past, take_bounded}
 use Rattle.scim_query.proofs.kept_parts.keep_in_order.Goals as goal
 use Rattle.scim_query.proofs.kept_parts.keep_in_order.Goals.{then-place-room+in_ok-insert, else-place-room}
 
