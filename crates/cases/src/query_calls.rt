@@ -7,7 +7,7 @@ use crate::policy_calls::policy;
 use crate::view_calls::{viewer, wanted};
 use scim_filter::Filter;
 use scim_json::to_json;
-use scim_query::{Page, Query, read_sort_by, search, search_view};
+use scim_query::{Page, Pager, Query, read_sort_by, search, search_view};
 use scim_samples::{atom_text, leaf_text, part, read_leaf, resource, sample_groups, sample_users};
 use scim_schema::{Kind, Leaf};
 use scim_value::{Part, Resource};
@@ -17,6 +17,7 @@ use std::alloc::Global;
 pub fn answer(case: &Case<'_>, call: &str) -> Option<Result<String, CaseFault>> {
     match call {
         "search" => Some(search_call(case)),
+        "pager" => Some(pager_call(case)),
         "search_view" => Some(search_view_call(case)),
         "read_sort_by" => Some(read_sort_by_call(case)),
         _ => None,
@@ -85,6 +86,32 @@ fn search_call(case: &Case<'_>) -> Result<String, CaseFault> {
     let parts = parts_of(case)?;
     let page = search(case.alloc, parts.as_slice(), &query)?;
     page_text(case, &page)
+}
+
+/// The parts of the list `parts`, where it is given, else those of the resources that `users` or the kind names.
+fn pushed_parts(case: &Case<'_>) -> Result<Vec<Part>, CaseFault> {
+    if !case.list("parts").is_empty() {
+        return parts_of(case);
+    }
+    let mut parts = Vec::new(case.alloc);
+    for resource in resources_of(case)? {
+        parts.push(resource.into_part())?;
+    }
+    Ok(parts)
+}
+
+/// The page of the parts that are pushed one by one, and the most that were held between two of them.
+fn pager_call(case: &Case<'_>) -> Result<String, CaseFault> {
+    let query = query_of(case)?;
+    let mut pager = Pager::new(case.alloc, &query);
+    let mut most = 0;
+    for part in pushed_parts(case)? {
+        pager.push(part)?;
+        most = pager.held().max(most);
+    }
+    let page = pager.end()?;
+    let text = page_text(case, &page)?;
+    Ok(format!(in case.alloc; "{text}, held {most}")?)
 }
 
 /// So many users, whose names are `user0`, `user1` and so on, by their ids.

@@ -44,7 +44,8 @@ module _ {X : Type 0} (lt : X → X → Bool) (o : IsStrictWeakOrder lt) where
   ties_itself : (x : X) → ties lt x x ≡ true
   ties_itself x = rw (irreflexive x) refl
 
-  less_on : (x y e : X) → lt x y ≡ true → lt e y ≡ false → lt x e ≡ true
+  -- what is less than one is less than all that aren't less than that one
+  pub less_on : (x y e : X) → lt x y ≡ true → lt e y ≡ false → lt x e ≡ true
   less_on x y e below above = true_unless (lt x e) (λ f. true≢false (sym below ∙ o.chain x e y f above))
 
   no_ties : (x y : X) (es : List X) → lt x y ≡ true → All (λ e. lt e y ≡ false) es → filter (ties lt x) es ≡ []

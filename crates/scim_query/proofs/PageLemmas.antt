@@ -17,7 +17,7 @@ use Rattle.scim_query.specs.Pages.{IsInOrder, slice_of}
 
 -- an order by key carries over to what a function gives, where that has the same keys
 module _ {X Y K : Type 0} (f : X → Y) (of_x : X → K) (of_y : Y → K) (R : K → K → Ordering) (back : Y → X) where
-  IsSortedByKey-map : (xs : List X) → All (λ x. of_y (f x) ≡ of_x x) xs → IsSortedByKey of_x R xs → IsSortedByKey of_y R (map f xs)
+  pub IsSortedByKey-map : (xs : List X) → All (λ x. of_y (f x) ≡ of_x x) xs → IsSortedByKey of_x R xs → IsSortedByKey of_y R (map f xs)
   IsSortedByKey-map xs alike sorted k d low high =
       let inside : k + 1 < length xs = omega (arith, length-map xs f) in
       rw (get_or-map f xs (k + 1) (back d) d inside, get_or-map f xs k (back d) d (omega arith), alike (k + 1) (back d) inside, alike k (back d) (omega arith))

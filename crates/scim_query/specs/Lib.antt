@@ -3,4 +3,5 @@ pub mod SortKeys
 pub mod Keys
 pub mod Order
 pub mod Pages
+pub mod Pagers
 pub mod code

@@ -5,7 +5,7 @@ ghost use Rattle.scim_query.specs.Order.{rank_cmp};
 ghost use Rattle.scim_query.specs.code.Entries as spec;
 ghost use Rattle.scim_query.specs.Pages.{is_match, matching};
 
-use crate::keys::{compare_keys, key_by};
+use crate::keys::{compare_ranks, key_by};
 use crate::queries::Query;
 use scim_cell::Atom;
 use scim_filter::holds;
@@ -21,7 +21,8 @@ pub(crate) struct Entry<'a> {
     part: &'a Part,
 }
 
-fn is_matching(alloc: Global, query: &Query, part: &Part) -> Result<bool, NoMemory>
+/// Whether a part is one of those that the query means. NoMemory where none was to be had.
+pub(crate) fn is_matching(alloc: Global, query: &Query, part: &Part) -> Result<bool, NoMemory>
     ensures { IfOk result (λ b. b ≡ is_match query.now.filter part.now) }
 {
     match &query.filter {
@@ -52,7 +53,7 @@ pub(crate) fn matching_entries<'a>(
 fn compare(descending: bool, a: &Entry<'_>, b: &Entry<'_>) -> Ordering
     ensures { result ≡ rank_cmp descending (spec.entry_rank a.now) (spec.entry_rank b.now) }
 {
-    compare_keys(descending, &a.key, &b.key).then_with(|| a.part.id().cmp(&b.part.id()))
+    compare_ranks(descending, &a.key, a.part.id(), &b.key, b.part.id())
 }
 
 /// Puts entries in order by key, and ties by id. NoMemory where none was to be had.

@@ -6,7 +6,7 @@ ghost use Rattle.scim_cell.specs.Rows.{rows, values};
 ghost use Rattle.scim_query.specs.Keys as spec;
 ghost use Rattle.scim_query.specs.Order as order;
 
-use scim_cell::{Atom, Row, Text};
+use scim_cell::{Atom, Id, Row, Text};
 use scim_schema::{Leaf, is_case_exact, unit_of};
 use scim_text::{NoMemory, fold};
 use scim_value::Part;
@@ -88,7 +88,7 @@ fn compare_ascending(a: &Option<Atom>, b: &Option<Atom>) -> Ordering
 }
 
 /// The order of keys: what has none comes last, and descending first.
-pub(crate) fn compare_keys(descending: bool, a: &Option<Atom>, b: &Option<Atom>) -> Ordering
+fn compare_keys(descending: bool, a: &Option<Atom>, b: &Option<Atom>) -> Ordering
     ensures { result ≡ order.key_cmp descending a.now b.now }
 {
     if descending {
@@ -96,4 +96,17 @@ pub(crate) fn compare_keys(descending: bool, a: &Option<Atom>, b: &Option<Atom>)
     } else {
         compare_ascending(a, b)
     }
+}
+
+/// The order of two parts by their keys and ids: by key, and ties by id.
+pub(crate) fn compare_ranks(
+    descending: bool,
+    key: &Option<Atom>,
+    id: Id,
+    other_key: &Option<Atom>,
+    other_id: Id,
+) -> Ordering
+    ensures { result ≡ order.rank_cmp descending (key.now, id) (other_key.now, other_id) }
+{
+    compare_keys(descending, key, other_key).then_with(|| id.cmp(&other_id))
 }

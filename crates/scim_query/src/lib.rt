@@ -4,12 +4,15 @@
 
 mod client_searches;
 mod entries;
+mod kept_parts;
 mod keys;
 mod laws;
+mod pagers;
 mod queries;
 mod sort_keys;
 
 pub use client_searches::search_view;
 pub use laws::queries_have_one_page;
+pub use pagers::Pager;
 pub use queries::{Page, Query, search};
 pub use sort_keys::read_sort_by;

@@ -39,7 +39,7 @@ pub struct Page {
 }
 
 /// The position that a page starts from: 0 counts as 1.
-fn first_position(start: usize) -> usize
+pub(crate) fn first_position(start: usize) -> usize
     ensures { result ≡ spec.first_position start }
 {
     start.max(1)
