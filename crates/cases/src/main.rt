@@ -6,6 +6,7 @@
 #![tactic(auto)]
 
 mod arguments;
+mod audit_calls;
 mod case;
 mod cell_calls;
 mod command_calls;
@@ -122,6 +123,9 @@ fn answer(case: &Case<'_>) -> Result<String, CaseFault> {
         return found;
     }
     if let Some(found) = view_calls::answer(case, call) {
+        return found;
+    }
+    if let Some(found) = audit_calls::answer(case, call) {
         return found;
     }
     Err(CaseFault::NoSuchCall)

@@ -7,7 +7,7 @@ use Rattle.scim_policy.specs.File.{policy_of}
 use Rattle.scim_view.specs.View.{Viewer}
 use Rattle.scim_wire.specs.declared.heads.Head.{Head}
 use Rattle.scim_wire.specs.Streams.{OpensWith, OpensBadly}
-use Rattle.scim_command.specs.declared.refusals.Refusal.TheVariants.{BadHead, Store}
+use Rattle.scim_audit.specs.declared.refusals.Refusal.TheVariants.{BadHead, Store}
 use Rattle.scim_command.specs.declared.run_once.Setting.{Setting}
 use Rattle.scim_command.specs.Refusals.{refusal_text}
 use Rattle.scim_command.specs.Directories.{IsSortedById}

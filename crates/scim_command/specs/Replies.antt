@@ -9,7 +9,7 @@ use Rattle.scim_view.specs.Groups.{view_with_groups}
 use Rattle.scim_view.specs.Shown.{shown}
 use Rattle.scim_view.specs.declared.projection.Wanted.TheVariants.{Default}
 use Rattle.scim_wire.specs.declared.heads.Head.{Head}
-use Rattle.scim_command.specs.declared.refusals.Refusal.TheVariants.{NoRoute, NotFound}
+use Rattle.scim_audit.specs.declared.refusals.Refusal.TheVariants.{NoRoute, NotFound}
 use Rattle.scim_command.specs.Requests.{IsGetOf}
 use Rattle.scim_command.specs.Refusals.{refusal_text, shown_text}
 use Rattle.scim_command.specs.Directories.{groups_among, found}

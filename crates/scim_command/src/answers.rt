@@ -7,8 +7,9 @@ ghost use Rattle.scim_command.specs.code.Held.{IsDirectoryOf};
 ghost use Rattle.scim_command.specs.Replies as spec;
 
 use crate::directories::Directory;
-use crate::refusals::{Refusal, refusal_text, shown_text};
+use crate::refusals::{refusal_text, shown_text};
 use crate::requests::asked_for;
+use scim_audit::Refusal;
 use scim_json::to_json;
 use scim_text::NoMemory;
 use scim_value::Resource;

@@ -8,7 +8,7 @@ ghost use Rattle.scim_policy.specs.declared.faults.Cause.{Cause};
 ghost use Rattle.scim_view.specs.View.{viewer_of};
 ghost use Rattle.scim_wire.specs.Streams.{IsUnended, AppendsFront};
 ghost use Rattle.scim_command.specs.declared.faults.OnceFault.{OnceFault};
-ghost use Rattle.scim_command.specs.declared.refusals.Refusal.{Refusal};
+ghost use Rattle.scim_audit.specs.declared.refusals.Refusal.{Refusal};
 ghost use Rattle.scim_command.specs.Refusals.{refusal_text};
 ghost use Rattle.scim_command.specs.code.Exits.{IsOfUsers, IsOfInput, text_or_store};
 ghost use Rattle.scim_command.specs.code.Held.{IsDirectoryOf};
@@ -17,7 +17,8 @@ ghost use Rattle.scim_command.specs.Once.{Answers, AreSound, AreSortedResourcesO
 use crate::answers::answer;
 use crate::directories::Directory;
 use crate::faults::OnceFault;
-use crate::refusals::{Refusal, refusal_text};
+use crate::refusals::refusal_text;
+use scim_audit::Refusal;
 use scim_json::read_documents;
 use scim_policy::read_policy;
 use scim_text::{Failed, NoMemory};

@@ -4,7 +4,7 @@ use Rattle.std.specs.declared.alloc.Global.{Global}
 use Rattle.scim_text.specs.declared.memory.NoMemory.{NoMemory}
 use Rattle.scim_command.specs.declared.faults.OnceFault.{OnceFault}
 use Rattle.scim_command.specs.declared.faults.OnceFault.TheVariants.{Users, InputEnded, InputFailed, NoMemory as WantOfMemory}
-use Rattle.scim_command.specs.declared.refusals.Refusal.TheVariants.{Store}
+use Rattle.scim_audit.specs.declared.refusals.Refusal.TheVariants.{Store}
 use Rattle.scim_command.specs.Refusals.{refusal_text}
 
 -- a fault of the users file, or want of memory

@@ -1,0 +1,150 @@
+//! The calls of `scim_audit`.
+use crate::case::Case;
+use crate::faults::CaseFault;
+use scim_audit::{AuditRow, Decided, Methods, Refusal, leaf_path, print_row};
+use scim_cell::{Id, Text};
+use scim_samples::read_leaf;
+use scim_schema::Leaf;
+use scim_text::read_printed_moment;
+
+/// All refusals.
+const REFUSALS: [Refusal; 24] = [
+    Refusal::BadHead,
+    Refusal::TooLarge,
+    Refusal::BadFraming,
+    Refusal::UnknownCoding,
+    Refusal::NoRoute,
+    Refusal::NotSupported,
+    Refusal::BadMethod(Methods::Collection),
+    Refusal::BadMethod(Methods::Search),
+    Refusal::BadMethod(Methods::Resource),
+    Refusal::BadMethod(Methods::Discovery),
+    Refusal::NoToken,
+    Refusal::Syntax,
+    Refusal::Filter,
+    Refusal::Path,
+    Refusal::MessageValue,
+    Refusal::NotFound,
+    Refusal::Denied,
+    Refusal::Mutability,
+    Refusal::NoTarget,
+    Refusal::ResultValue,
+    Refusal::Taken,
+    Refusal::Widens,
+    Refusal::IdInUse,
+    Refusal::Store,
+];
+
+const DECIDED: [Decided; 5] = [
+    Decided::Allow,
+    Decided::Deny,
+    Decided::Hidden,
+    Decided::Absent,
+    Decided::Refused,
+];
+
+/// What a call of `scim_audit` gives; None where it isn't one.
+pub fn answer(case: &Case<'_>, call: &str) -> Option<Result<String, CaseFault>> {
+    match call {
+        "refusal" => Some(refusal_call(case)),
+        "refusal_body" => Some(refusal_body(case)),
+        "leaf_path" => Some(leaf_path_call(case)),
+        "print_row" => Some(print_row_call(case)),
+        "copied_audit_row" => Some(copied_row(case)),
+        _ => None,
+    }
+}
+
+/// The refusal that `refusal` names, as `NotFound` or `BadMethod(Search)`.
+fn refusal(case: &Case<'_>) -> Result<Refusal, CaseFault> {
+    let name = case.text("refusal")?;
+    for refusal in REFUSALS.iter() {
+        if format!(in case.alloc; "{refusal:?}")?.as_str() == name {
+            return Ok(*refusal);
+        }
+    }
+    Err(CaseFault::Missing("refusal"))
+}
+
+/// The number of a refusal, its status, its keyword where it has one, and what else the reply says.
+fn refusal_call(case: &Case<'_>) -> Result<String, CaseFault> {
+    let refusal = refusal(case)?;
+    let number = refusal.number();
+    let status = refusal.status().as_u16();
+    let mut text = format!(in case.alloc; "F{number} {status}")?;
+    if let Some(scim_type) = refusal.scim_type() {
+        text.push_str(format!(in case.alloc; " {scim_type}")?.as_str())?;
+    }
+    if let Some(allow) = refusal.allow() {
+        text.push_str(format!(in case.alloc; ", Allow: {allow}")?.as_str())?;
+    }
+    if refusal.asks_for_token() {
+        text.push_str(", asks for a token")?;
+    }
+    if refusal.closes() {
+        text.push_str(", closes")?;
+    }
+    Ok(text)
+}
+
+fn refusal_body(case: &Case<'_>) -> Result<String, CaseFault> {
+    Ok(String::from_str(case.alloc, refusal(case)?.body())?)
+}
+
+fn leaf_path_call(case: &Case<'_>) -> Result<String, CaseFault> {
+    Ok(leaf_path(case.alloc, read_leaf(case.text("leaf")?)?)?)
+}
+
+/// What `decided` names; `Allow` where it isn't given.
+fn decided(case: &Case<'_>) -> Result<Decided, CaseFault> {
+    let name = case.text_or("decided", "Allow");
+    for decided in DECIDED.iter() {
+        if decided.name() == name {
+            return Ok(*decided);
+        }
+    }
+    Err(CaseFault::Missing("decided"))
+}
+
+fn rule(case: &Case<'_>) -> Option<u32> {
+    u32::try_from(case.number("rule").ok()?).ok()
+}
+
+fn leaf(case: &Case<'_>) -> Option<Leaf> {
+    read_leaf(case.text("leaf").ok()?).ok()
+}
+
+/// A row of the arguments; what isn't given is absent in it.
+fn row(case: &Case<'_>) -> Result<AuditRow, CaseFault> {
+    let Some(moment) = read_printed_moment(case.alloc, case.text("moment")?)? else {
+        return Err(CaseFault::Missing("moment"));
+    };
+    let decided = decided(case)?;
+    let client = Text::copy_of(case.alloc, case.text("client")?)?;
+    Ok(AuditRow {
+        moment,
+        client,
+        op: case.op(),
+        kind: case.kind(),
+        id: Id::read(case.text_or("id", "")),
+        decided,
+        rule: rule(case),
+        leaf: leaf(case),
+        refusal: refusal(case).ok(),
+    })
+}
+
+/// The number of a row; 1 where it isn't given.
+fn number(case: &Case<'_>) -> u64 {
+    u64::try_from(case.number("number").unwrap_or(1)).unwrap_or(0)
+}
+
+fn print_row_call(case: &Case<'_>) -> Result<String, CaseFault> {
+    Ok(print_row(case.alloc, number(case), &row(case)?)?)
+}
+
+/// The line of a copy of a row.
+fn copied_row(case: &Case<'_>) -> Result<String, CaseFault> {
+    let copy = row(case)?.try_copy(case.alloc)?;
+    Ok(print_row(case.alloc, number(case), &copy)?)
+}

@@ -1,0 +1,215 @@
+//! Refusals: what is answered in place of what was asked for (RFC 7644 section 3.12).
+ghost use Rattle.std.specs.Prelude.{◌≡◌};
+ghost use Rattle.std.specs.Option.{option_copied};
+ghost use Rattle.scim_audit.specs.Refusals as spec;
+
+use crate::methods::Methods;
+use http::StatusCode;
+
+/// Why a request isn't answered with what it asks for, in the order in which it is looked for.
+#[derive(Clone, Copy, Debug, PartialEq, Eq, Hash)]
+pub enum Refusal {
+    /// What came is no head of a request (RFC 9112 sections 2 and 3), or is too long for one.
+    BadHead,
+    /// The body is longer than this server takes (RFC 9110 section 15.5.14).
+    TooLarge,
+    /// Where the body ends can't be told (RFC 9112 section 6).
+    BadFraming,
+    /// The body comes in a transfer coding that isn't known (RFC 9112 section 6.1).
+    UnknownCoding,
+    /// There is no such endpoint.
+    NoRoute,
+    /// The endpoint is one of SCIM that this server hasn't, as `/Bulk` and `/Me` (RFC 7644 sections 3.7 and 3.11).
+    NotSupported,
+    /// The endpoint has these methods alone, which are told in `Allow` (RFC 9110 section 15.5.6).
+    BadMethod(Methods),
+    /// No token came that a client has (RFC 6750 section 3).
+    NoToken,
+    /// The body isn't of the form that is asked for.
+    Syntax,
+    /// The filter is none, or compares what can't be compared.
+    Filter,
+    /// A path of a change is none, or names nothing.
+    Path,
+    /// A value in the message is none for its attribute.
+    MessageValue,
+    /// There is no such resource, or the client doesn't see it: it can't tell which.
+    NotFound,
+    /// The policy doesn't allow it.
+    Denied,
+    /// The attribute can't be changed (RFC 7643 section 7).
+    Mutability,
+    /// The filter of a path of a change matched no value.
+    NoTarget,
+    /// The resource would lack what it must have, or have what it mustn't.
+    ResultValue,
+    /// Another resource has the value, which must be unique (RFC 7643 section 7).
+    Taken,
+    /// The change would let the client do more with the resource than before.
+    Widens,
+    /// The id that was to be the new resource's is that of another.
+    IdInUse,
+    /// No memory was to be had, or the store failed.
+    Store,
+}
+
+/// The JSON of an error message, its keys in byte order.
+macro_rules! error_message {
+    ($status:literal, $detail:literal) => {
+        concat!(
+            "{\"detail\":\"",
+            $detail,
+            "\",\"schemas\":[\"urn:ietf:params:scim:api:messages:2.0:Error\"],\"status\":\"",
+            $status,
+            "\"}"
+        )
+    };
+    ($status:literal, $scim_type:literal, $detail:literal) => {
+        concat!(
+            "{\"detail\":\"",
+            $detail,
+            "\",\"schemas\":[\"urn:ietf:params:scim:api:messages:2.0:Error\"],\"scimType\":\"",
+            $scim_type,
+            "\",\"status\":\"",
+            $status,
+            "\"}"
+        )
+    };
+}
+
+impl Refusal {
+    /// The number of this refusal, from 1, by which the audit names it.
+    pub fn number(self) -> u8
+        ensures { result ≡ spec.number_of self }
+    {
+        match self {
+            Refusal::BadHead => 1,
+            Refusal::TooLarge => 2,
+            Refusal::BadFraming => 3,
+            Refusal::UnknownCoding => 4,
+            Refusal::NoRoute => 5,
+            Refusal::NotSupported => 6,
+            Refusal::BadMethod(_) => 7,
+            Refusal::NoToken => 8,
+            Refusal::Syntax => 9,
+            Refusal::Filter => 10,
+            Refusal::Path => 11,
+            Refusal::MessageValue => 12,
+            Refusal::NotFound => 13,
+            Refusal::Denied => 14,
+            Refusal::Mutability => 15,
+            Refusal::NoTarget => 16,
+            Refusal::ResultValue => 17,
+            Refusal::Taken => 18,
+            Refusal::Widens => 19,
+            Refusal::IdInUse => 20,
+            Refusal::Store => 21,
+        }
+    }
+
+    /// The status code of the reply.
+    pub fn status(self) -> StatusCode
+        ensures { result ≡ spec.status_of self }
+    {
+        match self {
+            Refusal::BadHead
+            | Refusal::BadFraming
+            | Refusal::Syntax
+            | Refusal::Filter
+            | Refusal::Path
+            | Refusal::MessageValue
+            | Refusal::Mutability
+            | Refusal::NoTarget
+            | Refusal::ResultValue => StatusCode::BAD_REQUEST,
+            Refusal::TooLarge => StatusCode::PAYLOAD_TOO_LARGE,
+            Refusal::UnknownCoding | Refusal::NotSupported => StatusCode::NOT_IMPLEMENTED,
+            Refusal::NoRoute | Refusal::NotFound => StatusCode::NOT_FOUND,
+            Refusal::BadMethod(_) => StatusCode::METHOD_NOT_ALLOWED,
+            Refusal::NoToken => StatusCode::UNAUTHORIZED,
+            Refusal::Denied | Refusal::Widens => StatusCode::FORBIDDEN,
+            Refusal::Taken => StatusCode::CONFLICT,
+            Refusal::IdInUse => StatusCode::SERVICE_UNAVAILABLE,
+            Refusal::Store => StatusCode::INTERNAL_SERVER_ERROR,
+        }
+    }
+
+    /// The detail error keyword, where the standard has one (RFC 7644 table 9).
+    pub fn scim_type(self) -> Option<&'static str>
+        ensures { option_copied result ≡ spec.scim_type_of self }
+    {
+        match self {
+            Refusal::Syntax => Some("invalidSyntax"),
+            Refusal::Filter => Some("invalidFilter"),
+            Refusal::Path => Some("invalidPath"),
+            Refusal::MessageValue | Refusal::ResultValue => Some("invalidValue"),
+            Refusal::Mutability => Some("mutability"),
+            Refusal::NoTarget => Some("noTarget"),
+            Refusal::Taken => Some("uniqueness"),
+            _ => None,
+        }
+    }
+
+    /// The body of the reply: the JSON of an error message (RFC 7644 section 3.12).
+    pub fn body(self) -> &'static str
+        ensures { result.now ≡ spec.body_of self }
+    {
+        match self {
+            Refusal::BadHead => error_message!(400, "Malformed request head."),
+            Refusal::TooLarge => error_message!(413, "Request body too large."),
+            Refusal::BadFraming => error_message!(400, "Malformed message framing."),
+            Refusal::UnknownCoding => error_message!(501, "Unknown transfer coding."),
+            Refusal::NoRoute => error_message!(404, "No such endpoint."),
+            Refusal::NotSupported => error_message!(501, "Not supported."),
+            Refusal::BadMethod(_) => error_message!(405, "Method not allowed."),
+            Refusal::NoToken => error_message!(401, "A valid bearer token is required."),
+            Refusal::Syntax => error_message!(400, "invalidSyntax", "Malformed request body."),
+            Refusal::Filter => error_message!(400, "invalidFilter", "The filter is not valid."),
+            Refusal::Path => error_message!(400, "invalidPath", "The path is not valid."),
+            Refusal::MessageValue => error_message!(
+                400,
+                "invalidValue",
+                "A value in the request is not valid."
+            ),
+            Refusal::NotFound => error_message!(404, "Resource not found."),
+            Refusal::Denied => error_message!(403, "Denied by policy."),
+            Refusal::Mutability => error_message!(
+                400,
+                "mutability",
+                "The attribute cannot be changed."
+            ),
+            Refusal::NoTarget => error_message!(400, "noTarget", "The path matched nothing."),
+            Refusal::ResultValue => error_message!(400, "invalidValue", "The result is not valid."),
+            Refusal::Taken => error_message!(409, "uniqueness", "A unique value is taken."),
+            Refusal::Widens => error_message!(403, "The change would widen access."),
+            Refusal::IdInUse => error_message!(503, "The identifier is in use."),
+            Refusal::Store => error_message!(500, "The server could not complete the request."),
+        }
+    }
+
+    /// Whether the connection is closed after the reply: what follows can't be told from the message then.
+    pub fn closes(self) -> bool
+        ensures { result ≡ spec.closes self }
+    {
+        matches!(
+            self,
+            Refusal::BadHead | Refusal::TooLarge | Refusal::BadFraming | Refusal::UnknownCoding
+        )
+    }
+
+    /// Whether the reply asks for a token, by the header `WWW-Authenticate` (RFC 9110 section 15.5.2).
+    pub fn asks_for_token(self) -> bool
+        ensures { result ≡ spec.asks_for_token self }
+    {
+        self == Refusal::NoToken
+    }
+
+    /// The text of the header `Allow`, where the refusal has one (RFC 9110 section 10.2.1).
+    pub fn allow(self) -> Option<&'static str>
+        ensures { option_copied result ≡ spec.allow_of self }
+    {
+        match self {
+            Refusal::BadMethod(methods) => Some(methods.allow()),
+            _ => None,
+        }
+    }
+}
