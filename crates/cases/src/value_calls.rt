@@ -203,7 +203,10 @@ fn resource_call(case: &Case<'_>) -> Result<String, CaseFault> {
 }
 
 /// The cells of a resource that was made, or `Invalid`.
-fn resource_text(alloc: Global, made: Result<Resource, Failed<Invalid>>) -> Result<String, CaseFault> {
+fn resource_text(
+    alloc: Global,
+    made: Result<Resource, Failed<Invalid>>,
+) -> Result<String, CaseFault> {
     match made {
         Ok(resource) => Ok(part_text(alloc, resource.part())?),
         Err(Failed::Because(Invalid)) => said(alloc, "Invalid"),

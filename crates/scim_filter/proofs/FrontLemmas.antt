@@ -1,5 +1,5 @@
 -- What stands at the front of bytes, and what is behind it.
-use Rattle.std.proofs.Common.{◌≡◌, ℕ, suc, ◌<◌, ◌≤◌, Bool, true, false, cond, eqb, List, [], ◌∷◌, ◌++◌, length, drop, Option, Some, None, Result, Ok, Err, refl, sym, ap, subst, ◌∙◌, append_assoc, arith, length-append}
+use Rattle.std.proofs.Common.{◌≡◌, ℕ, suc, ◌<◌, Bool, true, false, cond, eqb, List, [], ◌∷◌, ◌++◌, length, drop, Option, Some, None, Result, Ok, Err, refl, sym, ap, subst, ◌∙◌, append_assoc, arith, length-append}
 use Rattle.std.specs.Prelude.{slice_index, option_and_then, ◌&&◌, not}
 use Rattle.std.proofs.lemmas.Bool.{eqb-true}
 use Rattle.scim_filter.specs.code.Reading.{Fault}

@@ -188,7 +188,12 @@ pub(crate) fn meant(scope: Scope, word: &[u8]) -> Option<Meant>
 }
 
 /// The path that a whole word is; a fault with `left` bytes left where it is none.
-pub(crate) fn path(alloc: Global, scope: Scope, word: &[u8], left: usize) -> Result<Path, Failed<ReadError>>
+pub(crate) fn path(
+    alloc: Global,
+    scope: Scope,
+    word: &[u8],
+    left: usize,
+) -> Result<Path, Failed<ReadError>>
     ensures { Gives (λ x. x) result (path_of scope word.now) }
 {
     let Some((urn, name, sub)) = parts(scope, word) else {

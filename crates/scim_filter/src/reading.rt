@@ -135,7 +135,12 @@ fn behind_path(
 /// A term that begins with a word.
 #[cycle(filter)]
 #[tactic(auto, unfolding(crate::specs::code::Reading::worded_at))]
-fn worded(alloc: Global, depth: u32, scope: Scope, bytes: &[u8]) -> Result<(Node, &[u8]), Failed<ReadError>>
+fn worded(
+    alloc: Global,
+    depth: u32,
+    scope: Scope,
+    bytes: &[u8],
+) -> Result<(Node, &[u8]), Failed<ReadError>>
     ensures gives { Gives (λ x. (view x.0, x.1.now)) result (worded_at (filter_at depth) scope bytes.now) }
     ensures shorter { IfOk result (λ x. length x.1.now < length bytes.now) }
 {
@@ -153,7 +158,12 @@ fn worded(alloc: Global, depth: u32, scope: Scope, bytes: &[u8]) -> Result<(Node
 /// A term in front.
 #[cycle(filter)]
 #[tactic(auto, unfolding(crate::specs::code::Reading::term_at))]
-fn term(alloc: Global, depth: u32, scope: Scope, bytes: &[u8]) -> Result<(Node, &[u8]), Failed<ReadError>>
+fn term(
+    alloc: Global,
+    depth: u32,
+    scope: Scope,
+    bytes: &[u8],
+) -> Result<(Node, &[u8]), Failed<ReadError>>
     ensures gives { Gives (λ x. (view x.0, x.1.now)) result (term_at (filter_at depth) scope bytes.now) }
     ensures shorter { IfOk result (λ x. length x.1.now < length bytes.now) }
 {
@@ -209,7 +219,12 @@ fn disjunction(
 
 /// A filter in less than this many brackets.
 #[cycle(filter)]
-fn filter(alloc: Global, depth: u32, scope: Scope, bytes: &[u8]) -> Result<(Node, &[u8]), Failed<ReadError>>
+fn filter(
+    alloc: Global,
+    depth: u32,
+    scope: Scope,
+    bytes: &[u8],
+) -> Result<(Node, &[u8]), Failed<ReadError>>
     ensures gives { Gives (λ x. (view x.0, x.1.now)) result (filter_at depth scope bytes.now) }
     ensures shorter { IfOk result (λ x. length x.1.now < length bytes.now) }
 {

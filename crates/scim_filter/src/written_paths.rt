@@ -39,7 +39,11 @@ fn ended(path: WrittenPath, bytes: &[u8]) -> Result<WrittenPath, Failed<ReadErro
 
 /// What stands behind the bracket that closes a value path.
 #[tactic(auto, unfolding(crate::specs::code::PathReading::sub_at))]
-fn with_sub_attribute(alloc: Global, filter: Filter, bytes: &[u8]) -> Result<WrittenPath, Failed<ReadError>>
+fn with_sub_attribute(
+    alloc: Global,
+    filter: Filter,
+    bytes: &[u8],
+) -> Result<WrittenPath, Failed<ReadError>>
     ensures { Gives written_of result (sub_at (tree_of filter) bytes.now) }
 {
     let [b'.', rest @ ..] = bytes else {
@@ -55,7 +59,12 @@ fn with_sub_attribute(alloc: Global, filter: Filter, bytes: &[u8]) -> Result<Wri
 
 /// What stands behind a path and an open bracket.
 #[tactic(auto, unfolding(crate::specs::code::PathReading::filtered_at))]
-fn filtered(alloc: Global, kind: Kind, path: Path, bytes: &[u8]) -> Result<WrittenPath, Failed<ReadError>>
+fn filtered(
+    alloc: Global,
+    kind: Kind,
+    path: Path,
+    bytes: &[u8],
+) -> Result<WrittenPath, Failed<ReadError>>
     ensures { Gives written_of result (filtered_at 32 kind path bytes.now) }
 {
     let (node, rest) = listed(alloc, 32, Scope::Attributes(kind), path, bytes)?;

@@ -1,13 +1,13 @@
 -- Readings are in the order of their instants.
-use Rattle.std.proofs.Common.{◌≡◌, ◌↔◌, ℕ, ◌<◌, ◌≤◌, refl, sym, ap, subst, ◌∙◌, arith, ℤ, pos, ◌<ℤ◌, Bool, true, false}
+use Rattle.std.proofs.Common.{◌≡◌, ℕ, ◌<◌, refl, sym, ap, ◌∙◌, arith, pos, ◌<ℤ◌, Bool, true, false}
 use Rattle.std.specs.declared.cmp.Ordering.{Ordering}
 use Rattle.std.specs.declared.cmp.Ordering.TheVariants.{Less, Equal, Greater}
 use Rattle.std.specs.Ordering.{nat_cmp, int_cmp, bool_cmp, ordering_then, MatchOrdering}
 use Rattle.std.specs.Cmp.{IsTotalOrder, ranked, int_ranked, int_cmp_is, on_total, then_total, int_cmp_total, bool_cmp_total, tied_itself}
 use Rattle.jiff_core.proofs.SignedLemmas.{signed_arith}
 use Rattle.scim_text.specs.declared.readings.Reading.{Reading}
-use Rattle.scim_text.specs.Moments.{last_moment, moment_text}
-use Rattle.scim_text.specs.Readings.{reading_cmp, ReadingsAreOrdered, PrintedInOrder, Spells}
+use Rattle.scim_text.specs.Moments.{moment_text}
+use Rattle.scim_text.specs.Readings.{reading_cmp, ReadingsAreOrdered, PrintedInOrder}
 use Rattle.scim_text.proofs.MomentInLemmas.{one_reading}
 use Rattle.scim_text.proofs.Printed.{printed_reads_back}
 use Rattle.scim_text.proofs.Spellings.{same_reading}

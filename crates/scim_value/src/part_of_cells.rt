@@ -21,7 +21,12 @@ impl Part {
     /// Invalid where no part of the kind has these cells: a leaf or an atom's type isn't the
     /// kind's, two cells stand at one place, positions have a gap, or a single-valued attribute has
     /// a position beyond 0. NoMemory where none was to be had.
-    pub fn of(alloc: Global, kind: Kind, id: Id, mut cells: Vec<Cell>) -> Result<Part, Failed<Invalid>>
+    pub fn of(
+        alloc: Global,
+        kind: Kind,
+        id: Id,
+        mut cells: Vec<Cell>,
+    ) -> Result<Part, Failed<Invalid>>
         ensures kind { IfOk result (λ p. p.kind ≡ kind) }
         ensures id { IfOk result (λ p. p.id ≡ id) }
         ensures cells { IfOk result (λ p. IsPermutation (entries_of cells.items) (entries p.cells)) }
@@ -36,7 +41,12 @@ impl Part {
     /// table, by position, by sub-attribute.
     ///
     /// Invalid where they don't, and where [`Part::of`] says it. NoMemory where none was to be had.
-    pub fn of_sorted(alloc: Global, kind: Kind, id: Id, cells: Vec<Cell>) -> Result<Part, Failed<Invalid>>
+    pub fn of_sorted(
+        alloc: Global,
+        kind: Kind,
+        id: Id,
+        cells: Vec<Cell>,
+    ) -> Result<Part, Failed<Invalid>>
         ensures kind { IfOk result (λ p. p.kind ≡ kind) }
         ensures id { IfOk result (λ p. p.id ≡ id) }
         ensures cells { IfOk result (λ p. entries p.cells ≡ entries_of cells.items) }

@@ -43,7 +43,12 @@ impl Resource {
     ///
     /// Invalid where what is left is no resource, as where the cell was required. NoMemory where
     /// none was to be had.
-    pub fn without(&self, alloc: Global, leaf: Leaf, position: usize) -> Result<Resource, Failed<Invalid>>
+    pub fn without(
+        &self,
+        alloc: Global,
+        leaf: Leaf,
+        position: usize,
+    ) -> Result<Resource, Failed<Invalid>>
         ensures ok { IfOk result (λ r. r ≡ without_cell leaf position self.now) }
         ensures valid { OnOk result (IsResource (without_cell leaf position self.now)) }
         ensures invalid { OnFault result (¬ IsResource (without_cell leaf position self.now)) }

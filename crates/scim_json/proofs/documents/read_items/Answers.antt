@@ -1,4 +1,4 @@
-use Rattle.std.proofs.Common.{◌≡◌, ◌≤◌, ◌+◌, refl, sym, subst, ◌∷◌, [], rules, arith}
+use Rattle.std.proofs.Common.{◌≤◌, refl, sym, subst, ◌∷◌, [], rules, arith}
 use Rattle.std.proofs.lemmas.List.{length-append}
 use Rattle.serde_json.specs.Data.{depth, items_depth}
 use Rattle.serde_json.specs.View.{view, items_view}

@@ -1,5 +1,5 @@
-use Rattle.std.proofs.Common.{◌≡◌, ◌≤◌, length, List, ℕ, Option, None, Result, Ok, Err, inr, sym, subst, ◌∙◌}
-use Rattle.std.specs.Prelude.{◌⊎◌, MatchOption, MatchResult}
+use Rattle.std.proofs.Common.{◌≡◌, ◌≤◌, length, List, ℕ, Option, None, Result, Ok, Err, sym, subst, ◌∙◌}
+use Rattle.std.specs.Prelude.{MatchOption}
 use Rattle.scim_schema.specs.declared.Kind.{Kind}
 use Rattle.scim_schema.specs.declared.schemas.Schema.{Schema}
 use Rattle.scim_filter.specs.declared.limits.TheConstants.{LONGEST_TEXT}
@@ -7,9 +7,7 @@ use Rattle.scim_filter.specs.declared.written_paths.WrittenPath.{WrittenPath}
 use Rattle.scim_filter.specs.WrittenPaths.{Written, IsWritten, written_of}
 use Rattle.scim_path.specs.declared.faults.PathFault.{PathFault}
 use Rattle.scim_path.specs.declared.faults.PathFault.TheVariants.{Syntax}
-use Rattle.scim_path.specs.declared.paths.Path.{Path}
-use Rattle.scim_path.specs.Paths.{PathTarget, OfExtension, path_target, extension_named, Reads, spelled, unspelled, Names, written_target}
-use Rattle.scim_path.specs.code.Results.{target_read}
+use Rattle.scim_path.specs.Paths.{PathTarget, OfExtension, extension_named, Reads, spelled, unspelled, Names, written_target}
 use Rattle.scim_path.proofs.reading.read_path.Goals as goal
 
 -- where no extension's URN stands alone, what is read of the text is what it names
