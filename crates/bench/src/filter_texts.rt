@@ -11,7 +11,8 @@ use crate::filter_texts::dice::Dice;
 use crate::filter_texts::printing::plain_text;
 use crate::filter_texts::texts::{Sample, Sort, random_sample};
 use anyhow::{Result, bail, ensure};
-use scim_filter::{FilterFault, Node, mentioned_names, read_filter, read_tokens};
+use scim_filter::{Filter, FilterFault, Node, mentioned_names, read_filter, read_tokens};
+use scim_schema::Kind;
 use scim_text::Failed;
 use std::alloc::Global;
 use std::io::Print;
@@ -75,19 +76,27 @@ fn check_tree(alloc: Global, sample: &Sample, tree: &Node) -> Result<()> {
         ensure!(is_same_tree(known, tree), "another tree was read");
         ensure!(has_right_types(known), "a value of a wrong type was read");
     }
+    ensure!(read_tokens(alloc, text).is_ok(), "a filter has no tokens");
+    check_again(alloc, sample.kind, tree)
+}
+
+/// Checks that a tree is read again of its own text.
+fn check_again(alloc: Global, kind: Kind, tree: &Node) -> Result<()> {
     let again = plain_text(alloc, tree)?;
-    let Ok(filter) = read_filter(alloc, sample.kind, again.as_str()) else {
-        bail!("what was read is not read again")
-    };
+    match read_filter(alloc, kind, again.as_str()) {
+        Ok(filter) => check_filter(alloc, &filter, tree),
+        Err(_) => bail!("what was read is not read again"),
+    }
+}
+
+/// Checks that a filter has this tree and its names.
+fn check_filter(alloc: Global, filter: &Filter, tree: &Node) -> Result<()> {
     ensure!(
         is_same_tree(filter.tree(), tree),
         "another tree was read again"
     );
-    ensure!(
-        mentioned_names(alloc, &filter)?.len() == paths_in(tree),
-        "names are missing"
-    );
-    ensure!(read_tokens(alloc, text).is_ok(), "a filter has no tokens");
+    let names = mentioned_names(alloc, filter)?;
+    ensure!(names.len() == paths_in(tree), "names are missing");
     Ok(())
 }
 

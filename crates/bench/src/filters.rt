@@ -113,11 +113,22 @@ fn filtering(
     wanted: usize,
 ) -> Result<u128> {
     let filter = read_filter(alloc, Kind::User, written)?;
-    if count(alloc, &filter, users)? != wanted {
-        bail!("other users are found by {written}");
+    counting(rt, alloc, users, &filter, wanted)
+}
+
+/// How long it takes for each user to count those of which a filter holds, in nanoseconds.
+fn counting(
+    rt: &impl Clock,
+    alloc: Global,
+    users: &[Part],
+    filter: &Filter,
+    wanted: usize,
+) -> Result<u128> {
+    if count(alloc, filter, users)? != wanted {
+        bail!("other users are found than {wanted}");
     }
     let took = fastest(rt, PASSES, 1, || {
-        count(alloc, &filter, users)?;
+        count(alloc, filter, users)?;
         Ok(())
     })?;
     Ok(took / users.len().max(1) as u128)

@@ -3,7 +3,7 @@ use crate::arguments::{said, truth};
 use crate::case::Case;
 use crate::faults::CaseFault;
 use scim_filter::{
-    Filter, FilterFault, Literal, Meant, Node, WrittenPath, attribute_path, holds, holds_at,
+    Filter, FilterFault, Literal, Meant, Named, Node, WrittenPath, attribute_path, holds, holds_at,
     knows_names, lone_word, mentioned_names, read_filter, read_tokens, written_path,
 };
 use scim_samples::leaf_text;
@@ -162,11 +162,21 @@ fn attribute_text(attribute: Option<Attribute>) -> &'static str {
 
 /// The names in the order of the text, each as it is written and with its attribute.
 fn names_call(case: &Case<'_>) -> Result<String, CaseFault> {
-    let Ok(filter) = filter_of(case)? else {
-        return said(case.alloc, "no filter");
-    };
-    let mut text = String::new(case.alloc);
-    for name in &mentioned_names(case.alloc, &filter)? {
+    match filter_of(case)? {
+        Ok(filter) => listed_names(case.alloc, &filter),
+        Err(_) => said(case.alloc, "no filter"),
+    }
+}
+
+/// The names in a filter, each with its attribute.
+fn listed_names(alloc: Global, filter: &Filter) -> Result<String, CaseFault> {
+    let names = mentioned_names(alloc, filter)?;
+    names_text(alloc, names.as_slice())
+}
+
+fn names_text(alloc: Global, names: &[Named]) -> Result<String, CaseFault> {
+    let mut text = String::new(alloc);
+    for name in names {
         if !text.is_empty() {
             text.push_str(", ")?;
         }
@@ -186,17 +196,20 @@ fn knows_names_call(case: &Case<'_>) -> Result<String, CaseFault> {
 
 /// Of a comparison with a string the text, its folding, and the second of the moment that it spells.
 fn string_literal_call(case: &Case<'_>) -> Result<String, CaseFault> {
-    let filter = match filter_of(case)? {
-        Ok(filter) => filter,
-        Err(fault) => return fault_text(case.alloc, fault),
-    };
-    let Node::Compare(_, _, Literal::Text(string)) = filter.tree() else {
-        return said(case.alloc, "no string");
+    match filter_of(case)? {
+        Ok(filter) => string_text(case.alloc, filter.tree()),
+        Err(fault) => fault_text(case.alloc, fault),
+    }
+}
+
+fn string_text(alloc: Global, node: &Node) -> Result<String, CaseFault> {
+    let Node::Compare(_, _, Literal::Text(string)) = node else {
+        return said(alloc, "no string");
     };
     let (text, folded) = (string.as_str(), string.folded());
     match string.moment() {
-        Some(reading) => Ok(format!(in case.alloc; "{text}|{folded}|{}", reading.second)?),
-        None => Ok(format!(in case.alloc; "{text}|{folded}|none")?),
+        Some(reading) => Ok(format!(in alloc; "{text}|{folded}|{}", reading.second)?),
+        None => Ok(format!(in alloc; "{text}|{folded}|none")?),
     }
 }
 
@@ -246,22 +259,32 @@ fn lone_word_call(case: &Case<'_>) -> Result<String, CaseFault> {
 /// the filter compares values of wrong types.
 fn written_path_call(case: &Case<'_>) -> Result<String, CaseFault> {
     let source = spaced_text(case, "text")?;
-    let Some(path) = written_path(case.alloc, case.kind(), source.as_str())? else {
-        return said(case.alloc, "none");
-    };
-    let mut text = String::new(case.alloc);
+    match written_path(case.alloc, case.kind(), source.as_str())? {
+        Some(path) => written_text(case.alloc, &path),
+        None => said(case.alloc, "none"),
+    }
+}
+
+fn written_text(alloc: Global, path: &WrittenPath) -> Result<String, CaseFault> {
     match path {
-        WrittenPath::Plain(path) => push_meant(case.alloc, path.meant, &mut text)?,
+        WrittenPath::Plain(path) => meant_text(alloc, path.meant),
         WrittenPath::Filtered(filter, sub_name) => {
-            if !filter.has_right_types() {
-                text.push_str("wrong types ")?;
-            }
-            push_tree(case.alloc, filter.tree(), &mut text)?;
+            let mut text = filter_text(alloc, filter)?;
             if let Some(name) = sub_name {
                 text.push('.')?;
                 text.push_str(name.as_str())?;
             }
+            Ok(text)
         }
     }
+}
+
+/// The tree of a filter, behind a word where its values are of wrong types.
+fn filter_text(alloc: Global, filter: &Filter) -> Result<String, CaseFault> {
+    let mut text = String::new(alloc);
+    if !filter.has_right_types() {
+        text.push_str("wrong types ")?;
+    }
+    push_tree(alloc, filter.tree(), &mut text)?;
     Ok(text)
 }

@@ -7,6 +7,7 @@ use crate::policy_calls::policy;
 use crate::view_calls::{viewer, wanted};
 use scim_filter::Filter;
 use scim_json::to_json;
+use scim_policy::Policy;
 use scim_query::{Page, Pager, Query, read_sort_by, search, search_view};
 use scim_samples::{atom_text, leaf_text, part, read_leaf, resource, sample_groups, sample_users};
 use scim_schema::{Kind, Leaf};
@@ -83,8 +84,13 @@ fn parts_of(case: &Case<'_>) -> Result<Vec<Part>, CaseFault> {
 
 fn search_call(case: &Case<'_>) -> Result<String, CaseFault> {
     let query = query_of(case)?;
+    found_page(case, &query)
+}
+
+/// The page of the parts of the list `parts` that a query asks for.
+fn found_page(case: &Case<'_>, query: &Query) -> Result<String, CaseFault> {
     let parts = parts_of(case)?;
-    let page = search(case.alloc, parts.as_slice(), &query)?;
+    let page = search(case.alloc, parts.as_slice(), query)?;
     page_text(case, &page)
 }
 
@@ -103,14 +109,29 @@ fn pushed_parts(case: &Case<'_>) -> Result<Vec<Part>, CaseFault> {
 /// The page of the parts that are pushed one by one, and the most that were held between two of them.
 fn pager_call(case: &Case<'_>) -> Result<String, CaseFault> {
     let query = query_of(case)?;
-    let mut pager = Pager::new(case.alloc, &query);
+    let parts = pushed_parts(case)?;
+    paged(case, &query, parts)
+}
+
+fn paged(case: &Case<'_>, query: &Query, parts: Vec<Part>) -> Result<String, CaseFault> {
+    let mut pager = Pager::new(case.alloc, query);
+    let most = push_all(&mut pager, parts)?;
+    let page = pager.end()?;
+    told_page(case, &page, most)
+}
+
+/// Pushes the parts, and tells the most that were held between two of them.
+fn push_all(pager: &mut Pager<'_>, parts: Vec<Part>) -> Result<usize, CaseFault> {
     let mut most = 0;
-    for part in pushed_parts(case)? {
+    for part in parts {
         pager.push(part)?;
         most = pager.held().max(most);
     }
-    let page = pager.end()?;
-    let text = page_text(case, &page)?;
+    Ok(most)
+}
+
+fn told_page(case: &Case<'_>, page: &Page, most: usize) -> Result<String, CaseFault> {
+    let text = page_text(case, page)?;
     Ok(format!(in case.alloc; "{text}, held {most}")?)
 }
 
@@ -138,17 +159,26 @@ fn resources_of(case: &Case<'_>) -> Result<Vec<Resource>, CaseFault> {
 
 fn search_view_call(case: &Case<'_>) -> Result<String, CaseFault> {
     let query = query_of(case)?;
+    let page = page_of_view(case, &query)?;
+    page_text(case, &page)
+}
+
+/// The page that a query asks for of what the client sees by the policy.
+fn page_of_view(case: &Case<'_>, query: &Query) -> Result<Page, CaseFault> {
     let policy = policy(case)?;
+    page_by(case, &policy, query)
+}
+
+fn page_by(case: &Case<'_>, policy: &Policy, query: &Query) -> Result<Page, CaseFault> {
     let groups = sample_groups(case.alloc)?;
     let resources = resources_of(case)?;
-    let page = search_view(
+    Ok(search_view(
         case.alloc,
-        &viewer(case, &policy)?,
+        &viewer(case, policy)?,
         groups.as_slice(),
         resources.as_slice(),
-        &query,
-    )?;
-    page_text(case, &page)
+        query,
+    )?)
 }
 
 /// A page as its total, its start and its items: of each its JSON, or where the argument `tell` names a leaf

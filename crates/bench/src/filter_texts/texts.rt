@@ -12,6 +12,15 @@ const CHARACTERS: [char; 24] = [
     '\n', '\u{0}', 'é', 'ſ', 'K', '😀',
 ];
 
+/// What a deep text begins with.
+const OPENING: [&str; 6] = ["(", "(", "( ", "not(", "NOT (", "title pr or ("];
+
+/// What it ends with.
+const CLOSING: [&str; 4] = [")", ")", " )", ") and x eq 1"];
+
+/// What stands between two terms.
+const JOINS: [&str; 3] = [" and ", " or ", " OR "];
+
 const TOKENS: [&str; 40] = [
     "title",
     "emails",
@@ -98,22 +107,36 @@ pub fn random_sample(alloc: Global, dice: &mut Dice, sort: Sort) -> Result<Sampl
 
 /// A printed tree with one to three characters replaced, put in or taken out, or cut off.
 fn mutated(alloc: Global, dice: &mut Dice, kind: Kind) -> Result<String, NoMemory> {
-    let tree = random_tree(alloc, dice, kind)?;
-    let text = playful_text(alloc, &tree, dice)?;
-    let mut characters: Vec<char> = text.chars().collect(alloc)?;
+    let mut characters = printed_characters(alloc, dice, kind)?;
     if dice.one_in(4) {
         let end = dice.below(characters.len());
         characters.truncate(end);
     } else {
-        for _ in 0..=dice.below(3) {
-            mutate(dice, &mut characters)?;
-        }
+        mutate_some(dice, &mut characters)?;
     }
+    text_of(alloc, characters.as_slice())
+}
+
+/// The characters of a printed tree.
+fn printed_characters(alloc: Global, dice: &mut Dice, kind: Kind) -> Result<Vec<char>, NoMemory> {
+    let tree = random_tree(alloc, dice, kind)?;
+    let text = playful_text(alloc, &tree, dice)?;
+    Ok(text.chars().collect(alloc)?)
+}
+
+fn text_of(alloc: Global, characters: &[char]) -> Result<String, NoMemory> {
     let mut text = String::new(alloc);
-    for character in characters.iter() {
+    for character in characters {
         text.push(*character)?;
     }
     Ok(text)
+}
+
+fn mutate_some(dice: &mut Dice, characters: &mut Vec<char>) -> Result<(), NoMemory> {
+    for _ in 0..=dice.below(3) {
+        mutate(dice, characters)?;
+    }
+    Ok(())
 }
 
 fn mutate(dice: &mut Dice, characters: &mut Vec<char>) -> Result<(), NoMemory> {
@@ -146,39 +169,74 @@ fn of_tokens(alloc: Global, dice: &mut Dice) -> Result<String, NoMemory> {
 fn deep(alloc: Global, dice: &mut Dice, kind: Kind) -> Result<String, NoMemory> {
     let mut text = String::new(alloc);
     let brackets = dice.below(17).saturating_add(24);
-    for _ in 0..brackets {
-        text.push_str(dice.word(&["(", "(", "( ", "not(", "NOT (", "title pr or ("]))?;
-    }
-    let term = random_term(alloc, dice, kind)?;
-    text.push_str(playful_text(alloc, &term, dice)?.as_str())?;
+    push_words(dice, &OPENING, brackets, &mut text)?;
+    push_term(alloc, dice, kind, &mut text)?;
     let closing = if dice.one_in(8) {
         dice.below(41)
     } else {
         brackets
     };
-    for _ in 0..closing {
-        text.push_str(dice.word(&[")", ")", " )", ") and x eq 1"]))?;
-    }
+    push_words(dice, &CLOSING, closing, &mut text)?;
     Ok(text)
+}
+
+/// So many of the words, one behind another.
+fn push_words(
+    dice: &mut Dice,
+    words: &[&'static str],
+    count: usize,
+    text: &mut String,
+) -> Result<(), NoMemory> {
+    for _ in 0..count {
+        text.push_str(dice.word(words))?;
+    }
+    Ok(())
+}
+
+fn push_term(
+    alloc: Global,
+    dice: &mut Dice,
+    kind: Kind,
+    text: &mut String,
+) -> Result<(), NoMemory> {
+    let term = printed_term(alloc, dice, kind)?;
+    text.push_str(term.as_str())?;
+    Ok(())
+}
+
+fn printed_term(alloc: Global, dice: &mut Dice, kind: Kind) -> Result<String, NoMemory> {
+    let term = random_term(alloc, dice, kind)?;
+    playful_text(alloc, &term, dice)
 }
 
 /// Terms with `and` or `or` between them, of 4,086 to 4,105 bytes with the spaces behind them.
 fn long(alloc: Global, dice: &mut Dice, kind: Kind) -> Result<String, NoMemory> {
     let end = dice.below(20).saturating_add(4_086);
     let mut text = String::new(alloc);
+    push_terms(alloc, dice, kind, end, &mut text)?;
+    text.push_str("title pr")?;
+    for _ in text.len()..end {
+        text.push(' ')?;
+    }
+    Ok(text)
+}
+
+/// As many terms as leave room for one more, each with a word behind it.
+fn push_terms(
+    alloc: Global,
+    dice: &mut Dice,
+    kind: Kind,
+    end: usize,
+    text: &mut String,
+) -> Result<(), NoMemory> {
     for _ in 0..end {
-        let term = random_term(alloc, dice, kind)?;
-        let term = playful_text(alloc, &term, dice)?;
-        let join = dice.word(&[" and ", " or ", " OR "]);
+        let term = printed_term(alloc, dice, kind)?;
+        let join = dice.word(&JOINS);
         if text.len().saturating_add(term.len()).saturating_add(16) > end {
             break;
         }
         text.push_str(term.as_str())?;
         text.push_str(join)?;
     }
-    text.push_str("title pr")?;
-    for _ in text.len()..end {
-        text.push(' ')?;
-    }
-    Ok(text)
+    Ok(())
 }

@@ -189,20 +189,31 @@ fn joined(alloc: Global, dice: &mut Dice, mut nodes: Vec<Node>) -> Result<Option
 
 /// A value path behind this path.
 fn values(alloc: Global, dice: &mut Dice, path: Path) -> Result<Node, NoMemory> {
+    let inner = inner_terms(alloc, dice, path.meant)?;
+    Ok(Node::Values(path, Box::new(alloc, inner)?))
+}
+
+/// One to three terms on the values of what a path means.
+fn inner_terms(alloc: Global, dice: &mut Dice, outer: Meant) -> Result<Node, NoMemory> {
+    let first = inner_term(alloc, dice, outer)?;
+    match inner_others(alloc, dice, outer)? {
+        None => Ok(first),
+        Some(others) => Ok(Node::Or(Box::new(alloc, first)?, Box::new(alloc, others)?)),
+    }
+}
+
+/// Up to two such terms; None where there are none.
+fn inner_others(alloc: Global, dice: &mut Dice, outer: Meant) -> Result<Option<Node>, NoMemory> {
     let mut terms = Vec::new(alloc);
-    let inner = inner_path(alloc, dice, path.meant)?;
-    let last = plain_term(alloc, dice, inner)?;
     for _ in 0..dice.below(3) {
-        let inner = inner_path(alloc, dice, path.meant)?;
-        terms.push(plain_term(alloc, dice, inner)?)?;
+        terms.push(inner_term(alloc, dice, outer)?)?;
     }
-    match joined(alloc, dice, terms)? {
-        None => Ok(Node::Values(path, Box::new(alloc, last)?)),
-        Some(others) => {
-            let node = Node::Or(Box::new(alloc, last)?, Box::new(alloc, others)?);
-            Ok(Node::Values(path, Box::new(alloc, node)?))
-        }
-    }
+    joined(alloc, dice, terms)
+}
+
+fn inner_term(alloc: Global, dice: &mut Dice, outer: Meant) -> Result<Node, NoMemory> {
+    let path = inner_path(alloc, dice, outer)?;
+    plain_term(alloc, dice, path)
 }
 
 /// A term on resources of a kind: a value path, `pr` or a comparison, with `not` before it at times.
