@@ -2,8 +2,9 @@
 use crate::arguments::{said, truth};
 use crate::case::Case;
 use crate::faults::CaseFault;
-use scim_policy::{ClientName, Decision, Policy, Rule, is_client_name, read_policy};
+use scim_policy::{ClientName, Decision, Decisions, Policy, Rule, is_client_name, read_policy};
 use scim_samples::{POLICY, read_leaf};
+use scim_value::Resource;
 use serde_json::Value;
 use std::alloc::Global;
 
@@ -141,9 +142,18 @@ fn decide_call(case: &Case<'_>) -> Result<String, CaseFault> {
 /// The decisions on some leaves, one after another.
 fn decisions_call(case: &Case<'_>) -> Result<String, CaseFault> {
     let policy = policy(case)?;
+    let decisions = decisions_by(case, &policy)?;
+    decisions_text(case, &decisions)
+}
+
+/// The decisions on the resource by a policy.
+fn decisions_by(case: &Case<'_>, policy: &Policy) -> Result<Decisions, CaseFault> {
     let resource = case.resource()?;
     let client = case.text("client")?;
-    let decisions = policy.decisions(case.alloc, client, case.op(), &resource)?;
+    Ok(policy.decisions(case.alloc, client, case.op(), &resource)?)
+}
+
+fn decisions_text(case: &Case<'_>, decisions: &Decisions) -> Result<String, CaseFault> {
     let mut text = String::new(case.alloc);
     for path in case.list("leaves") {
         let leaf = read_leaf(path.as_str().ok_or(CaseFault::Missing("leaves"))?)?;
@@ -160,11 +170,15 @@ fn decisions_call(case: &Case<'_>) -> Result<String, CaseFault> {
 fn misfit_call(case: &Case<'_>) -> Result<String, CaseFault> {
     let policy = policy(case)?;
     let resource = case.resource()?;
+    misfit_text(case, &policy, &resource)
+}
+
+fn misfit_text(case: &Case<'_>, policy: &Policy, resource: &Resource) -> Result<String, CaseFault> {
     let leaf = read_leaf(case.text("leaf")?)?;
     let client = case.text("client")?;
     match usize::try_from(case.number("number")?) {
         Ok(number) if 1 <= number && number <= policy.rule_count() => {
-            let misfit = policy.misfit(case.alloc, number, client, case.op(), &resource, leaf)?;
+            let misfit = policy.misfit(case.alloc, number, client, case.op(), resource, leaf)?;
             Ok(format!(in case.alloc; "{misfit:?}")?)
         }
         _ => Err(CaseFault::Missing("number")),
