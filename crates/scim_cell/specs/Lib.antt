@@ -2,6 +2,8 @@ pub mod Atoms
 pub mod Content
 pub mod Equality
 pub mod Ids
+pub mod Kinds
+pub mod Order
 pub mod Place
 pub mod Rows
 pub mod code

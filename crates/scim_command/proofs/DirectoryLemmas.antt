@@ -8,8 +8,9 @@ use Rattle.std.proofs.lemmas.List.Sorted.{All-permutation, ranks_by}
 use Rattle.scim_schema.specs.declared.Kind.{Kind}
 use Rattle.scim_cell.specs.Content.{Content}
 use Rattle.scim_cell.specs.Ids.{IsId}
-use Rattle.scim_view.specs.Groups.{id_cmp}
-use Rattle.scim_command.specs.Directories.{is_of, of_kind, has_id, found, IsSortedById}
+use Rattle.scim_cell.specs.Order.{id_cmp}
+use Rattle.scim_cell.specs.Kinds.{is_of, of_kind}
+use Rattle.scim_command.specs.Directories.{has_id, found, IsSortedById}
 use Rattle.scim_command.specs.code.Held.{AreInOrder}
 
 -- resources whose ids are ids, put in order of id

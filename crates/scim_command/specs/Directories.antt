@@ -1,27 +1,18 @@
 -- The resources of a users file: their order, those of a kind, and the one that a segment names.
-use Rattle.std.specs.Prelude.{ℕ, Bool, ◌&&◌, List, filter, find, nat_eq, Option}
+use Rattle.std.specs.Prelude.{ℕ, Bool, ◌&&◌, List, find, nat_eq, Option}
 use Rattle.std.specs.Cmp.Lexicographic.{pointwise}
 use Rattle.std.specs.List.Sorted.{IsPermutation, IsSorted}
-use denote.Enum.Bare.{sameb}
 use Rattle.scim_schema.specs.declared.Kind.{Kind}
 use Rattle.scim_schema.specs.declared.Kind.TheVariants.{Group}
-use Rattle.scim_schema.specs.contracts.Kind.{the_type as the_kind}
 use Rattle.scim_cell.specs.Content.{Content}
 use Rattle.scim_cell.specs.Ids.{id_text}
-use Rattle.scim_view.specs.Groups.{id_cmp}
+use Rattle.scim_cell.specs.Kinds.{is_of, of_kind}
+use Rattle.scim_cell.specs.Order.{id_cmp}
 
 -- the second list is the first in order of id
 pub record IsSortedById (cs sorted : List Content) : Type 0 where
   pub members : IsPermutation cs sorted
   pub in_order : IsSorted id_cmp sorted
-
--- whether a resource is of the kind
-abbrev pub is_of : Kind → Content → Bool
-is_of kind c = sameb the_kind c.kind kind
-
--- the resources of the kind, in the order of the list
-abbrev pub of_kind : Kind → List Content → List Content
-of_kind kind cs = filter (is_of kind) cs
 
 -- the groups, in the order of the list
 abbrev pub groups_among : List Content → List Content

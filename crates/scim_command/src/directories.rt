@@ -3,6 +3,7 @@ ghost use Rattle.std.specs.Prelude.{◌≡◌, ℕ, List, OnOk, IfOk, IfSome, If
 ghost use Rattle.std.specs.Option.{option_copied};
 ghost use Rattle.scim_cell.specs.Content.{Content};
 ghost use Rattle.scim_cell.specs.Ids.{IsId, id_text};
+ghost use Rattle.scim_cell.specs.Kinds.{of_kind};
 ghost use Rattle.scim_command.specs.Directories as spec;
 ghost use Rattle.scim_command.specs.code.Held.{IsDirectoryOf, AreInOrder};
 
@@ -49,7 +50,7 @@ impl Directory {
 
     /// The resources of the kind, in order of id.
     fn of_kind(&self, kind: Kind) -> &[Resource]
-        ensures { (cs : List Content) → IsDirectoryOf self.now cs → result.now ≡ spec.of_kind kind cs }
+        ensures { (cs : List Content) → IsDirectoryOf self.now cs → result.now ≡ of_kind kind cs }
     {
         match kind {
             Kind::User => self.users.as_slice(),

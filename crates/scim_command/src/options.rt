@@ -25,43 +25,44 @@ pub struct OnceOptions<'a> {
 
 /// The command line that is understood. AllocError where no memory was to be had.
 pub fn command<'a>(alloc: Global) -> Result<Command<'a>, AllocError> {
+    let once = once_command(alloc)?;
     Command::new(alloc, "scimd")
         .version(VERSION)
         .about("A SCIM 2.0 service provider whose access policy is proved to be kept")
         .subcommand_required(true)
         .arg_required_else_help(true)
-        .subcommand(once_command(alloc)?)
+        .subcommand(once)
 }
 
 fn once_command<'a>(alloc: Global) -> Result<Command<'a>, AllocError> {
-    let policy = Arg::new(alloc, "policy")
-        .long("policy")
-        .value_name("FILE")
-        .help("The policy: a JSON file of rules, of which the first that fits decides")
-        .required(true);
-    let users = Arg::new(alloc, "users")
-        .long("users")
-        .value_name("FILE")
-        .help("The users: a JSON list of resources as they are stored")
-        .required(true);
-    let client = Arg::new(alloc, "client")
-        .long("client")
-        .value_name("NAME")
-        .help("The client that asks, as the policy names it")
-        .required(true);
-    let base = Arg::new(alloc, "base")
-        .long("base")
-        .value_name("URL")
-        .help("That below which the resources stand")
-        .default_value(DEFAULT_BASE);
+    let policy = "The policy: a JSON file of rules, of which the first that fits decides";
+    let users = "The users: a JSON list of resources as they are stored";
+    let client = "The client that asks, as the policy names it";
     Command::new(alloc, "once")
         .about(
             "Answer one request from standard input over a users file, and write the reply to standard output",
         )
-        .arg(policy)?
-        .arg(users)?
-        .arg(client)?
-        .arg(base)
+        .arg(required(alloc, "policy", "FILE", policy))?
+        .arg(required(alloc, "users", "FILE", users))?
+        .arg(required(alloc, "client", "NAME", client))?
+        .arg(base(alloc))
+}
+
+/// An option that has to be given.
+fn required<'a>(alloc: Global, name: &'a str, value_name: &'a str, help: &'a str) -> Arg<'a> {
+    Arg::new(alloc, name)
+        .long(name)
+        .value_name(value_name)
+        .help(help)
+        .required(true)
+}
+
+fn base<'a>(alloc: Global) -> Arg<'a> {
+    Arg::new(alloc, "base")
+        .long("base")
+        .value_name("URL")
+        .help("That below which the resources stand")
+        .default_value(DEFAULT_BASE)
 }
 
 impl<'a> OnceOptions<'a> {

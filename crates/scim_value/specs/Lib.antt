@@ -2,6 +2,7 @@ pub mod Changes
 pub mod Equality
 pub mod Laws
 pub mod Listing
+pub mod Members
 pub mod Positions
 pub mod Resource
 pub mod Uniqueness

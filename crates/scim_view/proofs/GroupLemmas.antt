@@ -32,7 +32,9 @@ use Rattle.scim_policy.specs.declared.rules.Decision.{Decision}
 use Rattle.scim_view.specs.declared.groups.SeenGroup.{SeenGroup}
 use Rattle.scim_view.specs.View.{Viewer, read_decision, is_write_only, may_be_seen, visible_by, view_by}
 use Rattle.scim_view.specs.Groups as spec
-use Rattle.scim_view.specs.Groups.{is_text, lists, seen, text_in, display_of, membership_of, membership, membership_at, id_cmp, memberships}
+use Rattle.scim_cell.specs.Order.{id_cmp}
+use Rattle.scim_value.specs.Members.{is_text, lists}
+use Rattle.scim_view.specs.Groups.{seen, text_in, display_of, membership_of, membership, membership_at, memberships}
 use Rattle.scim_view.specs.code.Memberships.{kept_of, kept_where_shown, kept_where_listed, kept_groups, kept_cmp}
 use Rattle.scim_view.specs.Sorted.{sorted_by}
 use Rattle.scim_view.proofs.SortLemmas.{sorted_by-map}

@@ -14,7 +14,8 @@ use Rattle.scim_cell.specs.Ids.{IsId}
 use Rattle.scim_view.specs.declared.groups.SeenGroup.{SeenGroup}
 use Rattle.scim_view.specs.declared.index.GroupIndex.{GroupIndex}
 use Rattle.scim_view.specs.View.{Viewer, view}
-use Rattle.scim_view.specs.Groups.{lists, and_those, seen}
+use Rattle.scim_value.specs.Members.{lists}
+use Rattle.scim_view.specs.Groups.{and_those, seen}
 use Rattle.scim_view.specs.code.Index.{ends_in, noted, at_positions, positions_of, Indexes, positions_from, IsMadeOf}
 use Rattle.scim_view.specs.code.Memberships.{kept_of}
 

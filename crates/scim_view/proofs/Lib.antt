@@ -4,6 +4,8 @@ pub mod ShownLemmas
 pub mod NamesLemmas
 pub mod SortLemmas
 pub mod GroupLemmas
+pub mod NarrowedLemmas
 pub mod MemberLemmas
 pub mod IndexLemmas
 pub mod ListLemmas
+pub mod Facts

@@ -17,7 +17,7 @@ use Rattle.scim_cell.specs.Ids.{IsId, IsIdText, id_text}
 use Rattle.scim_cell.proofs.Facts.{IsIdText-id_text, id_text-injective}
 use Rattle.scim_policy.specs.declared.rules.Decision.{Decision}
 use Rattle.scim_view.specs.View.{may_be_seen, visible_by}
-use Rattle.scim_view.specs.Groups.{is_text, lists}
+use Rattle.scim_value.specs.Members.{is_text, lists}
 use Rattle.scim_cell.specs.Equality.{is_same_id}
 use Rattle.scim_view.specs.code.Index.{is_found}
 use Rattle.scim_view.proofs.GroupLemmas.{lists_visible}

@@ -1,15 +1,11 @@
 -- The groups of a user (RFC 7643 section 4.1.2), and what a client sees of resources with them.
-use Rattle.std.specs.Prelude.{ℕ, Bool, false, List, [], ◌∷◌, ◌++◌, map, filter, codes, nat_eq, Option, None, Some, if◌then◌else◌}
-use Rattle.std.specs.List.{list_any}
-use Rattle.std.specs.declared.cmp.Ordering.{Ordering}
-use Rattle.std.specs.Ordering.{nat_cmp}
-use Rattle.std.specs.Cmp.Lexicographic.{pointwise, slice_cmp}
+use Rattle.std.specs.Prelude.{ℕ, List, [], ◌∷◌, ◌++◌, map, filter, codes, Option, None, Some, if◌then◌else◌}
 use denote.Enum.Bare.{sameb}
 use denote.Ref.{Bor}
 use Rattle.scim_schema.specs.contracts.Kind.{the_type as the_kind}
 use Rattle.scim_schema.specs.declared.Kind.TheVariants.{User, Group}
 use Rattle.scim_schema.specs.declared.Leaf.{Leaf}
-use Rattle.scim_schema.specs.declared.Attribute.TheVariants.{DisplayName, Groups, Members}
+use Rattle.scim_schema.specs.declared.Attribute.TheVariants.{DisplayName, Groups}
 use Rattle.scim_schema.specs.declared.SubAttribute.{SubAttribute}
 use Rattle.scim_schema.specs.declared.SubAttribute.TheVariants.{Value, Reference, Display, TypeName}
 use Rattle.scim_schema.specs.Units.{simple, leaf_at, whole}
@@ -18,21 +14,14 @@ use Rattle.scim_cell.specs.declared.atoms.Atom.TheVariants.{Text}
 use Rattle.scim_cell.specs.declared.rows.Field.{Field}
 use Rattle.scim_cell.specs.Content.{Content}
 use Rattle.scim_cell.specs.Ids.{id_text}
+use Rattle.scim_cell.specs.Order.{id_cmp}
+use Rattle.scim_value.specs.Members.{lists}
 use Rattle.scim_value.specs.Resource.{location}
-use Rattle.scim_cell.specs.Rows.{Row, rows, values, put_values, restricted, content, atom_in, cell_at}
+use Rattle.scim_cell.specs.Rows.{Row, rows, put_values, restricted, content, cell_at}
 use Rattle.scim_policy.specs.declared.rules.Decision.{Decision}
 use Rattle.scim_view.specs.declared.groups.SeenGroup.{SeenGroup}
 use Rattle.scim_view.specs.View.{Viewer, read_decision, may_be_seen, sees, view}
 use Rattle.scim_view.specs.Sorted.{sorted_by}
-
--- whether an atom is this text
-abbrev pub is_text : List ℕ → Option Atom → Bool
-is_text t (Some (Text u)) = pointwise nat_eq t u
-is_text t _ = false
-
--- whether a group lists the resource of an id: some value of its `members` is the text of the id (RFC 7643 section 4.2)
-abbrev pub lists : List ℕ → Content → Bool
-lists id g = list_any (λ (m : Row). is_text (id_text id) (atom_in (leaf_at Members Value) m.fields)) (values (whole Members) (rows g))
 
 -- what is there, before a list
 abbrev pub and_those : {X : Type 0} → Option X → List X → List X
@@ -75,10 +64,6 @@ membership base g = membership_of base g.id (display_of g)
 -- the same for what the code keeps of a group
 abbrev pub membership_at : List ℕ → Bor SeenGroup → Row
 membership_at base g = membership_of base g.now.id g.now.display
-
--- how two resources compare by id
-abbrev pub id_cmp : Content → Content → Ordering
-id_cmp a b = slice_cmp nat_cmp a.id b.id
 
 -- the values of `groups` for the resource of an id: the groups that list it, of those that are seen, in order of id
 abbrev pub memberships : List ℕ → List Content → List ℕ → List Row

@@ -3,4 +3,5 @@ pub mod Names
 pub mod Shown
 pub mod Sorted
 pub mod Groups
+pub mod Indexes
 pub mod code

@@ -1,5 +1,5 @@
 -- What the texts of an attribute list name (RFC 7644 sections 3.9 and 3.10).
-use Rattle.std.specs.Prelude.{ℕ, Bool, false, ◌&&◌, ◌||◌, List, Option, None, Some, option_map, unwrap_or}
+use Rattle.std.specs.Prelude.{ℕ, Bool, false, ◌||◌, List, Option, None, Some, option_map, unwrap_or}
 use Rattle.std.specs.HashSet.{contains}
 use Rattle.scim_schema.specs.declared.Kind.{Kind}
 use Rattle.scim_schema.specs.declared.Attribute.{Attribute}

@@ -2,6 +2,7 @@
 ghost use Rattle.std.specs.Prelude.{◌≡◌, true, ℕ, List, IfOk, OnOk, map, filter};
 ghost use Rattle.std.specs.Option.{option_copied};
 ghost use Rattle.std.specs.List.{list_any};
+ghost use Rattle.scim_schema.specs.declared.Leaf.{Leaf};
 ghost use Rattle.scim_schema.specs.Units.{whole, leaf_at};
 ghost use Rattle.scim_cell.specs.Ids.{id_text};
 ghost use Rattle.scim_cell.specs.Rows.{rows, values, atom_in, restricted};
@@ -10,6 +11,7 @@ ghost use Rattle.scim_view.specs.View as seeing;
 ghost use Rattle.scim_view.specs.View.{viewer_of, visible_by};
 ghost use Rattle.scim_view.specs.code.Memberships as kept;
 ghost use Rattle.scim_view.specs.Sorted.{sorted_by};
+ghost use Rattle.scim_value.specs.Members as members;
 ghost use Rattle.scim_view.specs.Groups as spec;
 
 use crate::memberships::membership;
@@ -137,8 +139,23 @@ impl Viewer<'_> {
         ensures { IfOk result (λ p. p ≡ spec.with_groups (viewer_of self.now) groups.now resource.now) }
     {
         let decisions = self.decisions(alloc, resource)?;
+        self.with_groups_by(alloc, &decisions, groups, resource)
+    }
+
+    /// The same as [`Viewer::with_groups`], by decisions that [`Viewer::decisions`] gave for the resource, so
+    /// that the policy isn't asked about it again. NoMemory where none was to be had.
+    pub fn with_groups_by(
+        &self,
+        alloc: Global,
+        decisions: &Decisions,
+        groups: &[Resource],
+        resource: &Resource,
+    ) -> Result<Part, NoMemory>
+        requires { (l : Leaf) → decision decisions.now l ≡ seeing.read_decision (viewer_of self.now) resource.now l }
+        ensures { IfOk result (λ p. p ≡ spec.with_groups (viewer_of self.now) groups.now resource.now) }
+    {
         let seen = groups_of(alloc, self, groups, resource)?;
-        visible_among(alloc, &decisions, resource, seen.as_slice(), self.base)
+        visible_among(alloc, decisions, resource, seen.as_slice(), self.base)
     }
 
     /// The same as [`Viewer::with_groups`]; None where the client doesn't see that the resource is there.
@@ -221,7 +238,7 @@ fn seen_groups(
     groups: &[Resource],
     id: Id,
 ) -> Result<Vec<SeenGroup>, NoMemory>
-    ensures { IfOk result (λ v. v.items ≡ map kept.kept_of (filter (spec.lists id) (spec.seen (viewer_of viewer.now) groups.now))) }
+    ensures { IfOk result (λ v. v.items ≡ map kept.kept_of (filter (members.lists id) (spec.seen (viewer_of viewer.now) groups.now))) }
 {
     let mut buffer = [0; Id::TEXT_LENGTH];
     let member = id.write(&mut buffer);
@@ -281,7 +298,7 @@ pub(crate) fn shows_members(decisions: &Decisions, group: &Resource) -> bool
 
 /// Whether a group, of which this is the part, has a member with this value.
 pub(crate) fn lists(group: &Part, member: &str) -> bool
-    ensures { result ≡ list_any (λ m. spec.is_text member.now (atom_in (leaf_at Attribute.Members SubAttribute.Value) m.fields))
+    ensures { result ≡ list_any (λ m. members.is_text member.now (atom_in (leaf_at Attribute.Members SubAttribute.Value) m.fields))
         (values (whole Attribute.Members) (rows group.now)) }
 {
     let value = Leaf::of(Attribute::Members, SubAttribute::Value);
@@ -293,7 +310,7 @@ pub(crate) fn lists(group: &Part, member: &str) -> bool
 
 /// Whether an atom is this text.
 fn is_text(text: &str, atom: Option<&Atom>) -> bool
-    ensures { result ≡ spec.is_text text.now (option_copied atom.entry) }
+    ensures { result ≡ members.is_text text.now (option_copied atom.entry) }
 {
     match atom {
         Some(Atom::Text(own)) => text == own.as_str(),

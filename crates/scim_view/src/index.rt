@@ -5,9 +5,10 @@ ghost use Rattle.scim_cell.specs.Content.{Content};
 ghost use Rattle.scim_cell.specs.Equality.{is_same_id};
 ghost use Rattle.scim_cell.specs.Ids.{IsId};
 ghost use Rattle.scim_policy.specs.Table.{decision};
-ghost use Rattle.scim_view.specs.View.{viewer_of, visible_by};
+ghost use Rattle.scim_view.specs.View.{Viewer as SpecViewer, viewer_of, visible_by};
 ghost use Rattle.scim_view.specs.code.Index as spec;
-ghost use Rattle.scim_view.specs.code.Index.{IsIndexOf, IsMadeOf};
+ghost use Rattle.scim_view.specs.Indexes.{IsIndexOf};
+ghost use Rattle.scim_view.specs.code.Index.{IsMadeOf};
 
 use crate::groups::{SeenGroup, seen_group};
 use crate::viewers::Viewer;
@@ -20,16 +21,47 @@ use std::alloc::Global;
 use std::collections::HashMap;
 
 /// The groups that a client sees, and which of them show whom as a member.
+///
+/// It is made group by group, and answers for one resource at a time ([`Viewer::view_by_index`]), so that a
+/// store's groups and users needn't be held as lists.
 #[derive(Drop)]
-pub(crate) struct GroupIndex {
+pub struct GroupIndex {
     groups: Vec<SeenGroup>,
     /// The positions in `groups` of those that show a member's id, ascending, none twice.
     by_member: HashMap<Id, Vec<usize>>,
 }
 
 impl GroupIndex {
-    /// The index of those of the groups that the client sees. The policy is asked once about each.
-    /// NoMemory where none was to be had.
+    /// The index of no groups. It takes no memory.
+    pub fn new(alloc: Global) -> GroupIndex
+        ensures { (v : SpecViewer) → IsIndexOf v [] result }
+    {
+        GroupIndex {
+            groups: Vec::new(alloc),
+            by_member: HashMap::new(alloc),
+        }
+    }
+
+    /// Adds a group, if the viewer sees it. The policy is asked once about it. NoMemory where none was to be
+    /// had; then the index is of no use.
+    pub fn push(
+        &mut self,
+        alloc: Global,
+        viewer: &Viewer<'_>,
+        group: &Resource,
+    ) -> Result<(), NoMemory>
+        ensures { OnOk result ((groups : List Content) → IsIndexOf (viewer_of viewer.now) groups self.old
+            → IsIndexOf (viewer_of viewer.now) (groups ++ group.now ∷ []) self.new) }
+    {
+        let decisions = viewer.decisions(alloc, group)?;
+        if !decisions.of(Leaf::simple(Attribute::Id)).allow {
+            return Ok(());
+        }
+        self.add(alloc, &decisions, group)?;
+        Ok(())
+    }
+
+    /// The index of those of the groups that the viewer sees. NoMemory where none was to be had.
     pub(crate) fn of(
         alloc: Global,
         viewer: &Viewer<'_>,
@@ -39,10 +71,7 @@ impl GroupIndex {
     {
         let mut index = GroupIndex::new(alloc);
         for group in groups {
-            let decisions = viewer.decisions(alloc, group)?;
-            if decisions.of(Leaf::simple(Attribute::Id)).allow {
-                index.add(alloc, &decisions, group)?;
-            }
+            index.push(alloc, viewer, group)?;
         }
         Ok(index)
     }
@@ -58,16 +87,6 @@ impl GroupIndex {
             }
         }
         Ok(groups)
-    }
-
-    /// The index of no groups.
-    fn new(alloc: Global) -> GroupIndex
-        ensures { IsMadeOf [] result }
-    {
-        GroupIndex {
-            groups: Vec::new(alloc),
-            by_member: HashMap::new(alloc),
-        }
     }
 
     fn positions_of(&self, id: Id) -> &[usize]

@@ -10,6 +10,7 @@ mod projection;
 mod viewers;
 mod views;
 
+pub use index::GroupIndex;
 pub use names::Names;
 pub use projection::{Wanted, project};
 pub use viewers::Viewer;

@@ -3,7 +3,8 @@ ghost use Rattle.std.specs.Prelude.{◌≡◌, ℕ, IfOk, List, map};
 ghost use Rattle.scim_cell.specs.Content.{Content};
 ghost use Rattle.scim_view.specs.View.{viewer_of};
 ghost use Rattle.scim_view.specs.Groups as spec;
-ghost use Rattle.scim_view.specs.code.Index.{Indexes, IsIndexOf};
+ghost use Rattle.scim_view.specs.Indexes.{IsIndexOf};
+ghost use Rattle.scim_view.specs.code.Index.{Indexes};
 
 use crate::groups::{SeenGroup, put_in_order, visible_with};
 use crate::index::GroupIndex;
@@ -28,32 +29,34 @@ impl Viewer<'_> {
         let index = GroupIndex::of(alloc, self, groups)?;
         let mut views = Vec::new(alloc);
         for resource in resources {
-            let view = view_by_index(alloc, self, &index, resource)?;
+            let view = self.view_by_index(alloc, &index, resource)?;
             if let Some(view) = view {
                 views.push(view)?;
             }
         }
         Ok(views)
     }
-}
 
-/// The client's view of one resource, with the groups that the index has for it.
-fn view_by_index(
-    alloc: Global,
-    viewer: &Viewer<'_>,
-    index: &GroupIndex,
-    resource: &Resource,
-) -> Result<Option<Part>, NoMemory>
-    ensures { (groups : List Content) → IsIndexOf (viewer_of viewer.now) groups index.now
-        → IfOk result (λ o. o ≡ spec.view_with_groups (viewer_of viewer.now) groups resource.now) }
-{
-    let decisions = viewer.decisions(alloc, resource)?;
-    if !decisions.of(Leaf::simple(Attribute::Id)).allow {
-        return Ok(None);
+    /// What the client may see of one resource, as [`Viewer::view_with_groups`], where these are the groups
+    /// of the index; None where the client doesn't see that it is there. The policy is asked once about it.
+    /// NoMemory where none was to be had.
+    pub fn view_by_index(
+        &self,
+        alloc: Global,
+        index: &GroupIndex,
+        resource: &Resource,
+    ) -> Result<Option<Part>, NoMemory>
+        ensures { IfOk result (λ o. (groups : List Content) → IsIndexOf (viewer_of self.now) groups index.now
+            → o ≡ spec.view_with_groups (viewer_of self.now) groups resource.now) }
+    {
+        let decisions = self.decisions(alloc, resource)?;
+        if !decisions.of(Leaf::simple(Attribute::Id)).allow {
+            return Ok(None);
+        }
+        let groups = groups_beside(alloc, index, resource)?;
+        let view = visible_with(alloc, &decisions, resource, groups.as_slice(), self.base)?;
+        Ok(Some(view))
     }
-    let groups = groups_beside(alloc, index, resource)?;
-    let view = visible_with(alloc, &decisions, resource, groups.as_slice(), viewer.base)?;
-    Ok(Some(view))
 }
 
 /// The groups that the index has for a resource, in order of id: none for one that isn't a user, whose

@@ -22,12 +22,9 @@ pub struct Viewer<'a> {
 }
 
 impl Viewer<'_> {
-    /// What the policy decides on the client's reading of the resource. NoMemory where none was to be had.
-    pub(crate) fn decisions(
-        &self,
-        alloc: Global,
-        resource: &Resource,
-    ) -> Result<Decisions, NoMemory>
+    /// What the policy decides on the client's reading of each leaf of the resource. The client sees that the
+    /// resource is there where it may read `id`. NoMemory where none was to be had.
+    pub fn decisions(&self, alloc: Global, resource: &Resource) -> Result<Decisions, NoMemory>
         ensures { IfOk result (λ decisions. (l : Leaf)
             → decision decisions l ≡ spec.read_decision (spec.viewer_of self.now) resource.now l) }
     {

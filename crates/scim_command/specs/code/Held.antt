@@ -4,9 +4,10 @@ use Rattle.std.specs.List.Sorted.{IsSorted}
 use Rattle.scim_schema.specs.declared.Kind.TheVariants.{User}
 use Rattle.scim_cell.specs.Content.{Content}
 use Rattle.scim_cell.specs.Ids.{IsId}
-use Rattle.scim_view.specs.Groups.{id_cmp}
+use Rattle.scim_cell.specs.Order.{id_cmp}
 use Rattle.scim_command.specs.declared.directories.Directory.{Directory}
-use Rattle.scim_command.specs.Directories.{of_kind, groups_among}
+use Rattle.scim_cell.specs.Kinds.{of_kind}
+use Rattle.scim_command.specs.Directories.{groups_among}
 
 -- resources in order of id
 pub record AreInOrder (cs : List Content) : Type 0 where

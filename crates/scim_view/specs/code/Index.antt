@@ -13,8 +13,8 @@ use Rattle.scim_cell.specs.Ids.{IsId, id_text}
 use Rattle.scim_cell.specs.Rows.{Row, atom_in}
 use Rattle.scim_view.specs.declared.groups.SeenGroup.{SeenGroup}
 use Rattle.scim_view.specs.declared.index.GroupIndex.{GroupIndex}
-use Rattle.scim_view.specs.View.{Viewer}
-use Rattle.scim_view.specs.Groups.{is_text, lists, and_those, seen}
+use Rattle.scim_value.specs.Members.{is_text, lists}
+use Rattle.scim_view.specs.Groups.{and_those}
 use Rattle.scim_view.specs.code.Memberships.{kept_of}
 
 -- whether this is the id that was found
@@ -54,10 +54,6 @@ groups_of index id = at_positions index.groups.items (positions_of index id)
 -- for each id, the index has those of these groups that list it, in their order
 abbrev pub Indexes : List Content → GroupIndex → Type 0
 Indexes gs index = (id : List ℕ) → IsId id → groups_of index id ≡ map kept_of (filter (lists id) gs)
-
--- the same of the groups that the client sees
-abbrev pub IsIndexOf : Viewer → List Content → GroupIndex → Type 0
-IsIndexOf v groups index = Indexes (seen v groups) index
 
 -- the positions of the groups that list an id, where the first stands at n
 abbrev pub positions_from : ℕ → List ℕ → List Content → List ℕ

@@ -16,7 +16,8 @@ use Rattle.scim_cell.specs.Content.{Content}
 use Rattle.scim_policy.specs.declared.rules.Decision.{Decision}
 use Rattle.scim_view.specs.declared.groups.SeenGroup.{SeenGroup}
 use Rattle.scim_view.specs.View.{Viewer, is_write_only, visible_by}
-use Rattle.scim_view.specs.Groups.{lists, seen, display_of}
+use Rattle.scim_value.specs.Members.{lists}
+use Rattle.scim_view.specs.Groups.{seen, display_of}
 
 -- those of some fields that may be seen, by these decisions on reading a resource of the kind
 abbrev pub shown_fields : (Leaf → Decision) → Kind → List Field → List Field

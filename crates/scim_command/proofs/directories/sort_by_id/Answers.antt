@@ -3,7 +3,7 @@ use Rattle.std.proofs.lemmas.Cmp.{nat_list_cmp_total}
 use Rattle.std.proofs.lemmas.List.Sorted.{ranks_by}
 use Rattle.std.proofs.lemmas.Fn.{always_returns_same}
 use Rattle.scim_cell.specs.Content.{Content}
-use Rattle.scim_view.specs.Groups.{id_cmp}
+use Rattle.scim_cell.specs.Order.{id_cmp}
 use Rattle.scim_command.proofs.directories.sort_by_id.Goals as goal
 
 pub returns : goal.returns

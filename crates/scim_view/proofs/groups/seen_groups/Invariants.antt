@@ -1,6 +1,7 @@
 use Rattle.std.proofs.Common.{◌≡◌, ◌++◌, map, filter, drop}
 use Rattle.scim_view.specs.View.{viewer_of}
-use Rattle.scim_view.specs.Groups.{lists, seen}
+use Rattle.scim_value.specs.Members.{lists}
+use Rattle.scim_view.specs.Groups.{seen}
 use Rattle.scim_view.specs.code.Memberships.{kept_of}
 use Rattle.scim_view.proofs.groups.seen_groups.Given as goal
 

@@ -11,7 +11,7 @@ use Rattle.scim_cell.specs.Rows.{Row, rows, values, atom_in}
 use Rattle.scim_policy.specs.Table.{decision}
 use Rattle.scim_view.specs.declared.groups.SeenGroup.{SeenGroup}
 use Rattle.scim_view.specs.View.{viewer_of, read_decision, view}
-use Rattle.scim_view.specs.Groups.{is_text, lists}
+use Rattle.scim_value.specs.Members.{is_text, lists}
 use Rattle.scim_view.specs.code.Memberships.{kept_where_shown, kept_where_listed}
 use Rattle.scim_view.proofs.ViewLemmas.{same_view}
 use Rattle.scim_view.proofs.GroupLemmas.{kept_listed, kept_unlisted}

@@ -9,7 +9,7 @@ use Rattle.scim_cell.specs.declared.atoms.Atom.{Atom}
 use Rattle.scim_cell.specs.declared.atoms.Atom.TheVariants.{Text}
 use Rattle.scim_cell.specs.Ids.{id_text}
 use Rattle.scim_cell.specs.Rows.{atom_in}
-use Rattle.scim_view.specs.Groups.{is_text}
+use Rattle.scim_value.specs.Members.{is_text}
 use Rattle.scim_view.proofs.MemberLemmas.{text_read}
 use Rattle.scim_view.proofs.index.member_id.Goals as goal
 

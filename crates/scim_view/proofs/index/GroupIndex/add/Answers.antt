@@ -9,7 +9,7 @@ use Rattle.scim_policy.specs.declared.rules.Decision.{Decision}
 use Rattle.scim_policy.specs.Table.{decision}
 use Rattle.scim_view.specs.declared.index.GroupIndex.{GroupIndex}
 use Rattle.scim_view.specs.View.{visible_by}
-use Rattle.scim_view.specs.Groups.{lists}
+use Rattle.scim_value.specs.Members.{lists}
 use Rattle.scim_view.specs.code.Index as spec
 use Rattle.scim_view.specs.code.Memberships.{kept_of}
 use Rattle.scim_view.proofs.IndexLemmas.{added}

@@ -1,8 +1,7 @@
 use Rattle.std.proofs.Common.{take}
 use Rattle.scim_view.specs.View.{viewer_of}
-use Rattle.scim_view.specs.Groups.{seen}
-use Rattle.scim_view.specs.code.Index.{IsMadeOf}
+use Rattle.scim_view.specs.Indexes.{IsIndexOf}
 use Rattle.scim_view.proofs.index.GroupIndex.of.Given as goal
 
 abbrev pub invariant-loop-group : goal.invariant-loop-group
-invariant-loop-group l = IsMadeOf (seen (viewer_of l.viewer) (take l.group-index l.groups)) l.index
+invariant-loop-group l = IsIndexOf (viewer_of l.viewer) (take l.group-index l.groups) l.index

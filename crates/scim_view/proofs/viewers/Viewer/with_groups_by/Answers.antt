@@ -9,11 +9,11 @@ use Rattle.scim_view.specs.Groups as spec
 use Rattle.scim_view.specs.code.Memberships.{kept_cmp}
 use Rattle.scim_view.specs.Sorted.{sorted_by}
 use Rattle.scim_view.proofs.GroupLemmas.{same_with_groups}
-use Rattle.scim_view.proofs.viewers.Viewer.with_groups.Goals as goal
+use Rattle.scim_view.proofs.viewers.Viewer.with_groups_by.Goals as goal
 
 pub returns : goal.returns
 returns c =
-    let d = decision c.in_ok-decisions.decisions in
+    let d = decision c.args.decisions.now in
     let viewer = viewer_of c.args.self.now in
     let own = c.args.resource.now in
     let made : SeenGroup → Row = λ g. spec.membership_of viewer.base g.id g.display in
@@ -22,5 +22,5 @@ returns c =
     (λ (p : Content). p ≡ spec.with_groups viewer c.args.groups.now own)
     (λ p e.
     e ∙ ap (λ (gs : List SeenGroup). spec.visible_with d (map made (sorted_by kept_cmp gs)) own) (c.as_slice.ensures.value ∙ c.in_ok-seen.ensures)
-    ∙ same_with_groups d viewer c.args.groups.now own c.in_ok-decisions.ensures)
+    ∙ same_with_groups d viewer c.args.groups.now own c.requires)
     c.visible_among.ensures
