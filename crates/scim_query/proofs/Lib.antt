@@ -3,3 +3,5 @@ pub mod OrderLemmas
 pub mod PageLemmas
 pub mod PagerLemmas
 pub mod PlacedLemmas
+pub mod ArrangedLemmas
+pub mod Facts

@@ -8,25 +8,22 @@ use Rattle.std.proofs.lemmas.List.Kept.{IsSortedBy-filter}
 use Rattle.std.proofs.lemmas.List.Sorted.{IsPermutation-refl, ranks_by}
 use Rattle.scim_schema.specs.declared.Leaf.{Leaf}
 use Rattle.scim_cell.specs.Content.{Content}
-use Rattle.scim_view.specs.Groups.{id_cmp}
+use Rattle.scim_cell.specs.Order.{id_cmp}
 use Rattle.scim_query.specs.declared.queries.Query.{Query}
 use Rattle.scim_query.specs.declared.kept_parts.KeptPart.{KeptPart}
 use Rattle.scim_query.specs.Order.{part_cmp, rank_of, rank_cmp}
 use Rattle.scim_query.specs.Pages.{is_match, matching, IsInOrder, slice_of}
 use Rattle.scim_query.specs.Pagers.{keyed, Holds, HoldsFirst, ComeInOrder}
-use Rattle.scim_query.specs.code.Kept.{kept_rank, kept_cmp, comes_before, placed}
+use Rattle.scim_query.specs.Arranged.{placed, before}
+use Rattle.scim_query.specs.code.Kept.{kept_rank, kept_cmp, comes_before}
 use Rattle.scim_query.proofs.OrderLemmas.{rank_cmp_total}
 use Rattle.scim_query.proofs.PageLemmas.{IsSortedByKey-map}
 use Rattle.scim_query.proofs.PlacedLemmas.{IsSortedBy-take, take_placed, placed-map, members_more, sorted_placed, stable_more}
 
--- a part's place in the order that is asked for
-abbrev before : Query → Content → Content → Bool
-before query p q = is_lt (part_cmp query.sort_by query.descending p q)
-
 before_is_order : (query : Query) → IsStrictWeakOrder (before query)
 before_is_order query = ranks_by (rank_cmp_total query.descending) (rank_of query.sort_by)
 
-in_order_more : (query : Query) (found sorted : List Content) (p : Content) → IsInOrder query found sorted → IsInOrder query (found ++ p ∷ []) (placed (before query) p sorted)
+pub in_order_more : (query : Query) (found sorted : List Content) (p : Content) → IsInOrder query found sorted → IsInOrder query (found ++ p ∷ []) (placed (before query) p sorted)
 in_order_more query found sorted p is = record {
   members = members_more (before query) p found sorted is.members;
   in_order = sorted_placed (before query) (before_is_order query) p sorted is.in_order;

@@ -7,7 +7,7 @@ use Rattle.std.proofs.lemmas.List.{append-nil, take-take, take-append-le, length
 use Rattle.std.proofs.lemmas.List.Elements.{filter-append}
 use Rattle.std.proofs.lemmas.List.Sorted.{IsPermutation-refl, IsPermutation-cons, IsPermutation-to_front, IsPermutation-append_left, IsPermutation-trans, sorted_far}
 use Rattle.std.proofs.lemmas.Grind.{common_steps}
-use Rattle.scim_query.specs.code.Kept.{placed}
+use Rattle.scim_query.specs.Arranged.{placed}
 use Rattle.scim_query.proofs.OneOrderLemmas.{less_on}
 
 false_of_not : (b : Bool) → not b ≡ true → b ≡ false

@@ -1,3 +1,4 @@
+pub mod Arranged
 pub mod ClientSearches
 pub mod SortKeys
 pub mod Keys

@@ -4,7 +4,7 @@ use Rattle.std.specs.List.Sorted.{IsSorted}
 use Rattle.scim_schema.specs.declared.Leaf.{Leaf}
 use Rattle.scim_cell.specs.Content.{Content}
 use Rattle.scim_cell.specs.Rows.{rows}
-use Rattle.scim_view.specs.Groups.{id_cmp}
+use Rattle.scim_cell.specs.Order.{id_cmp}
 use Rattle.scim_query.specs.declared.queries.Query.{Query}
 use Rattle.scim_query.specs.declared.kept_parts.KeptPart.{KeptPart}
 use Rattle.scim_query.specs.declared.pagers.Pager.{Pager}

@@ -32,8 +32,8 @@ pub fn search_view(
     shown_page(alloc, found, &query.wanted)
 }
 
-/// The page with each item as it is shown.
-fn shown_page(alloc: Global, found: Page, wanted: &Wanted) -> Result<Page, NoMemory>
+/// The page with each item as it is shown. NoMemory where none was to be had.
+pub fn shown_page(alloc: Global, found: Page, wanted: &Wanted) -> Result<Page, NoMemory>
     ensures total { IfOk result (λ page. page.total ≡ found.total) }
     ensures start { IfOk result (λ page. page.start ≡ found.start) }
     ensures items { IfOk result (λ page. page.items.items ≡ map (shown wanted.now) found.items.items) }

@@ -1,5 +1,5 @@
 //! The parts that match, each with its sort key.
-ghost use Rattle.std.specs.Prelude.{◌≡◌, ◌-◌, IfOk, OnOk, All, take, drop};
+ghost use Rattle.std.specs.Prelude.{◌≡◌, ◌-◌, ◌++◌, ◌∷◌, [], IfOk, OnOk, All, take, drop};
 ghost use Rattle.std.specs.List.Sorted.{IsPermutation, IsSorted, IsStable};
 ghost use Rattle.scim_query.specs.Order.{rank_cmp};
 ghost use Rattle.scim_query.specs.code.Entries as spec;
@@ -31,6 +31,25 @@ pub(crate) fn is_matching(alloc: Global, query: &Query, part: &Part) -> Result<b
     }
 }
 
+/// Puts the entry of a part that matches behind the others. NoMemory where none was to be had.
+fn push_matching<'a>(
+    alloc: Global,
+    query: &Query,
+    part: &'a Part,
+    entries: &mut Vec<Entry<'a>>,
+) -> Result<(), NoMemory>
+    ensures members { OnOk result (spec.parts_of entries.new.items
+        ≡ spec.parts_of entries.old.items ++ matching query.now.filter (part.now ∷ [])) }
+    ensures keys { OnOk result (All (spec.HasKey query.now.sort_by) entries.old.items
+        → All (spec.HasKey query.now.sort_by) entries.new.items) }
+{
+    if is_matching(alloc, query, part)? {
+        let key = key_by(alloc, query.sort_by, part)?;
+        entries.push(Entry { key, part })?;
+    }
+    Ok(())
+}
+
 /// The parts that match, in the order of the list. NoMemory where none was to be had.
 pub(crate) fn matching_entries<'a>(
     alloc: Global,
@@ -42,10 +61,7 @@ pub(crate) fn matching_entries<'a>(
 {
     let mut entries = Vec::new(alloc);
     for part in parts {
-        if is_matching(alloc, query, part)? {
-            let key = key_by(alloc, query.sort_by, part)?;
-            entries.push(Entry { key, part })?;
-        }
+        push_matching(alloc, query, part, &mut entries)?;
     }
     Ok(entries)
 }

@@ -2,6 +2,7 @@
 ghost use Rattle.std.specs.Prelude.{◌≡◌, ◌+◌, ◌-◌, ◌++◌, ◌∷◌, [], List, IfOk, OnOk, OnErr, length, map, take, drop};
 ghost use Rattle.std.specs.List.Sorted.{IsSorted};
 ghost use Rattle.scim_query.specs.Pagers as spec;
+ghost use Rattle.scim_query.specs.Arranged.{placed};
 ghost use Rattle.scim_query.specs.code.Kept as code;
 
 use crate::keys::{compare_ranks, key_by};
@@ -29,7 +30,7 @@ fn comes_before(descending: bool, a: &KeptPart, b: &KeptPart) -> bool
 fn keep_in_order(held: &mut Vec<KeptPart>, query: &Query, part: KeptPart) -> Result<(), NoMemory>
     ensures kept { OnOk result (IsSorted (code.kept_cmp query.now.descending) held.old.items
         → held.new.items ≡ take (query.now.start - 1 + query.now.count)
-        (code.placed (code.comes_before query.now.descending) part held.old.items)) }
+        (placed (code.comes_before query.now.descending) part held.old.items)) }
     ensures refused { OnErr result (held.new.items ≡ held.old.items) }
 {
     let room = query.start.saturating_sub(1).saturating_add(query.count);
@@ -92,9 +93,10 @@ pub(crate) fn parts_from(
 ) -> Result<Vec<Part>, NoMemory>
     ensures { IfOk result (λ v. v.items ≡ map (λ k. k.part) (drop first held.items)) }
 {
-    let mut parts = Vec::with_capacity(alloc, held.len().saturating_sub(first))?;
-    for kept in held.into_iter().skip(first) {
-        parts.push(kept.part)?;
-    }
-    Ok(parts)
+    Ok(
+        held.into_iter()
+            .skip(first)
+            .map(|kept| kept.part)
+            .collect(alloc)?,
+    )
 }

@@ -11,7 +11,7 @@ mod pagers;
 mod queries;
 mod sort_keys;
 
-pub use client_searches::search_view;
+pub use client_searches::{search_view, shown_page};
 pub use laws::queries_have_one_page;
 pub use pagers::Pager;
 pub use queries::{Page, Query, search};

@@ -1,5 +1,5 @@
 -- How the parts that are held stay in order.
-use Rattle.std.specs.Prelude.{Bool, cond, List, [], ◌∷◌}
+use Rattle.std.specs.Prelude.{Bool}
 use Rattle.std.specs.declared.cmp.Ordering.{Ordering}
 use Rattle.std.specs.Ordering.{is_lt}
 use Rattle.scim_query.specs.declared.kept_parts.KeptPart.{KeptPart}
@@ -16,8 +16,3 @@ kept_cmp descending a b = rank_cmp descending (kept_rank a) (kept_rank b)
 -- whether one comes before another
 abbrev pub comes_before : Bool → KeptPart → KeptPart → Bool
 comes_before descending a b = is_lt (kept_cmp descending a b)
-
--- a list in order with one more, which comes before the first that it is less than
-abbrev pub placed : {X : Type 0} → (X → X → Bool) → X → List X → List X
-placed lt x [] = x ∷ []
-placed lt x (y ∷ ys) = cond (lt x y) (x ∷ y ∷ ys) (y ∷ placed lt x ys)
