@@ -1,3 +1,4 @@
+pub mod AddedTokens
 pub mod Adding
 pub mod Ascending
 pub mod Kept
@@ -14,3 +15,5 @@ pub mod ReadingLemmas
 pub mod TakenLemmas
 pub mod DocumentLemmas
 pub mod OwnRows
+pub mod BodyLemmas
+pub mod SameValueLemmas

@@ -1,6 +1,11 @@
+pub mod Bodies
+pub mod BodyNames
+pub mod BodyValues
 pub mod Documents
+pub mod Drafts
 pub mod Found
 pub mod Laws
+pub mod ListData
 pub mod PartData
 pub mod Stored
 pub mod code

@@ -282,7 +282,7 @@ fn read_cell(
 }
 
 /// The value as an atom of a type, where it is one (RFC 7643 section 2.3).
-fn atom_of(
+pub(crate) fn atom_of(
     alloc: Global,
     value: &Value,
     attribute_type: AttributeType,

@@ -61,7 +61,12 @@ fn text_of(alloc: Global, part: &Part, form: JsonForm) -> Result<String, NoMemor
 }
 
 #[tactic(auto, unfolding(crate::specs::PartData::data_of))]
-fn write_part(alloc: Global, out: &mut Writer, part: &Part, form: JsonForm) -> Result<(), NoMemory>
+pub(crate) fn write_part(
+    alloc: Global,
+    out: &mut Writer,
+    part: &Part,
+    form: JsonForm,
+) -> Result<(), NoMemory>
     ensures { OnOk result (Adds out.old out.new (value_tokens (spec.data_of form part.now))) }
 {
     out.begin_object()?;
