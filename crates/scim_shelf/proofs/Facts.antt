@@ -1,0 +1,2 @@
+-- What other crates may use of the proofs here.
+pub use Rattle.scim_shelf.proofs.StoreLemmas.{All-keep, All-without, keep_keyed, without_keyed, IsStore-keep, IsStore-without}

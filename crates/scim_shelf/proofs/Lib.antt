@@ -1,0 +1,9 @@
+pub mod PlaceLemmas
+pub mod StoreLemmas
+pub mod NameLemmas
+pub mod CollectionLemmas
+pub mod OwnerLemmas
+pub mod ShowLemmas
+pub mod LeftLemmas
+pub mod CopyLemmas
+pub mod Facts

@@ -1,0 +1,23 @@
+-- Who has which unique name, as the code keeps it.
+use Rattle.std.specs.Prelude.{ℕ, Bool, List, Option}
+use Rattle.std.specs.List.{list_any}
+use Rattle.std.specs.HashMap.{get, spare}
+use Rattle.scim_value.specs.declared.uniqueness.UniqueName.{UniqueName}
+use Rattle.scim_value.specs.contracts.uniqueness.UniqueNamePartialEq.TheImpl as name_eq
+use Rattle.scim_shelf.specs.declared.owners.Owners.{Owners}
+
+-- whether the code takes two names for one
+abbrev pub is_alike : UniqueName → UniqueName → Bool
+is_alike = (name_eq.ghosts).eq
+
+-- whether a name is among these
+abbrev pub is_among : UniqueName → List UniqueName → Bool
+is_among q names = list_any (λ n. is_alike n q) names
+
+-- the id of the resource that has a name
+abbrev pub owner : Owners → UniqueName → Option (List ℕ)
+owner owners q = get is_alike owners.by_name q
+
+-- how many more names can be noted with no want of memory
+abbrev pub room : Owners → ℕ
+room owners = spare owners.by_name

@@ -1,0 +1,53 @@
+//! All resources of a kind, copied off a shelf.
+ghost use Rattle.std.specs.Prelude.{◌≡◌, ◌≢◌, IfOk, Err};
+ghost use Rattle.scim_text.specs.declared.memory.Failed.{Failed};
+ghost use Rattle.scim_cell.specs.Kinds.{of_kind};
+ghost use Rattle.scim_shelf.specs.declared.faults.ShelfFault.{ShelfFault};
+ghost use Rattle.scim_shelf.specs.Shelves.{Counts, KeepsStore, Answers};
+
+use crate::faults::ShelfFault;
+use crate::shelf::{Shelf, Visitor};
+use scim_schema::Kind;
+use scim_text::{Failed, NoMemory};
+use scim_value::Resource;
+use std::alloc::Global;
+
+/// A visitor that copies what it is shown.
+#[derive(Drop)]
+struct Copies {
+    resources: Vec<Resource>,
+}
+
+impl Visitor for Copies {
+    ghost use Rattle.scim_shelf.specs.code.Copies.{Takes};
+
+    ghost takes = { Takes };
+
+    fn take(&mut self, alloc: Global, resource: &Resource) -> Result<(), NoMemory> {
+        let copy = resource.try_copy(alloc)?;
+        self.resources.push(copy)?;
+        Ok(())
+    }
+}
+
+/// The resources of the kind, in order of id. Where one after another will do, `Shelf::each` copies none.
+///
+/// Fails as `Shelf::each` does.
+pub fn all_of<S: Shelf>(
+    alloc: Global,
+    shelf: &mut S,
+    kind: Kind,
+) -> Result<Vec<Resource>, Failed<ShelfFault>>
+    ensures answer { IfOk result (Answers S.stands S.is_honest shelf.old shelf.new (λ store all. all.items ≡ of_kind kind store.resources)) }
+    ensures store { KeepsStore S.stands shelf.old shelf.new }
+    ensures honest { S.is_honest shelf.new → S.is_honest shelf.old }
+    ensures counts { Counts (S.failures shelf.old) (S.failures shelf.new) result }
+    ensures not_full { result ≢ Err (Failed.Because ShelfFault.Full) }
+{
+    let mut copies = Copies {
+        resources: Vec::new(alloc),
+    };
+    shelf.each(alloc, kind, &mut copies)?;
+    let Copies { resources } = copies;
+    Ok(resources)
+}

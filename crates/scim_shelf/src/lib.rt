@@ -1,0 +1,17 @@
+//! Where a service provider keeps its resources and the rows of its audit.
+#![tactic(auto)]
+
+mod changes;
+mod collections;
+mod copies;
+mod faults;
+mod groups;
+mod memory;
+mod owners;
+mod shelf;
+
+pub use changes::Change;
+pub use copies::all_of;
+pub use faults::ShelfFault;
+pub use memory::MemoryShelf;
+pub use shelf::{Shelf, Visitor};

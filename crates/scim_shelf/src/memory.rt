@@ -1,0 +1,156 @@
+//! A shelf in memory.
+ghost use Rattle.std.specs.Prelude.{◌≡◌, List, [], IfOk, OnOk, OnErr, AllPairs, ⊤};
+ghost use Rattle.std.specs.Option.{option_copied};
+ghost use Rattle.scim_cell.specs.Content.{Content};
+ghost use Rattle.scim_value.specs.Uniqueness.{AreApart};
+ghost use Rattle.scim_shelf.specs.Stores.{Store, IsNewStore, CanKeep, changed};
+ghost use Rattle.scim_shelf.specs.code.Collections.{IsCollection, only_of};
+
+use crate::changes::Change;
+use crate::collections::Collection;
+use crate::faults::ShelfFault;
+use crate::shelf::{Shelf, Visitor};
+use scim_audit::AuditRow;
+use scim_cell::Id;
+use scim_schema::Kind;
+use scim_text::{Failed, NoMemory};
+use scim_value::{Resource, UniqueName};
+use std::alloc::Global;
+
+/// The last number that a row of the audit can have.
+const LAST_NUMBER: u64 = 9_223_372_036_854_775_807;
+
+/// A shelf in memory, which has no device that could fail.
+///
+/// A resource is found by its id by halves, and by a unique name at once; a commit looks at the resource with the
+/// id of its change alone. The groups that list a member are looked for one by one.
+#[derive(Drop)]
+pub struct MemoryShelf {
+    collection: Collection,
+    audit: Vec<AuditRow>,
+}
+
+impl MemoryShelf {
+    /// A shelf of these resources, which may come in any order, with no rows of the audit. No two have one id
+    /// or share a unique name (RFC 7643 sections 2.2 and 3.1).
+    ///
+    /// The only error is [`NoMemory`].
+    pub fn new(alloc: Global, resources: Vec<Resource>) -> Result<MemoryShelf, NoMemory>
+        requires { AllPairs AreApart resources.items }
+        ensures { IfOk result (λ shelf. (store : Store) × IsNewStore resources.items store × ⟦<MemoryShelf as Shelf>⟧.stands shelf store) }
+    {
+        let collection = Collection::of(alloc, resources)?;
+        Ok(MemoryShelf {
+            collection,
+            audit: Vec::new(alloc),
+        })
+    }
+
+    /// The rows of the audit, in their order: the first has number 1.
+    pub fn audit(&self) -> &[AuditRow]
+        ensures { (store : Store) → ⟦<MemoryShelf as Shelf>⟧.stands self.now store → result.now ≡ store.audit }
+    {
+        self.audit.as_slice()
+    }
+}
+
+/// A copy of what was found. NoMemory where none was to be had.
+fn copy_of(alloc: Global, found: Option<&Resource>) -> Result<Option<Resource>, NoMemory>
+    ensures { IfOk result (λ copy. copy ≡ option_copied found.entry) }
+{
+    match found {
+        Some(resource) => Ok(Some(resource.try_copy(alloc)?)),
+        None => Ok(None),
+    }
+}
+
+/// What was found, if it is of the kind.
+fn if_of(kind: Kind, found: Option<&Resource>) -> Option<&Resource>
+    ensures { option_copied result ≡ only_of kind (option_copied found.entry) }
+{
+    match found {
+        Some(resource) if resource.kind() == kind => Some(resource),
+        _ => None,
+    }
+}
+
+/// Makes the change. NoMemory where none was to be had: nothing is changed then.
+fn make(collection: &mut Collection, alloc: Global, change: Change) -> Result<(), NoMemory>
+    ensures ok { OnOk result ((store : Store) → IsCollection store.resources collection.old → CanKeep store change
+        → IsCollection (changed change store.resources) collection.new) }
+    ensures err { OnErr result ((cs : List Content) → IsCollection cs collection.old → IsCollection cs collection.new) }
+{
+    match change {
+        Change::Nothing => Ok(()),
+        Change::Keep(resource) => collection.keep(alloc, resource),
+        Change::Remove(_, id) => collection.remove(alloc, id),
+    }
+}
+
+impl Shelf for MemoryShelf {
+    ghost stands = { λ shelf store. IsCollection store.resources shelf.collection × (shelf.audit.items ≡ store.audit) };
+
+    ghost is_honest = { λ _. ⊤ };
+
+    ghost failures = { λ _. 0 };
+
+    fn by_id(
+        &mut self,
+        alloc: Global,
+        kind: Kind,
+        id: Id,
+    ) -> Result<Option<Resource>, Failed<ShelfFault>> {
+        let found = if_of(kind, self.collection.with_id(id));
+        Ok(copy_of(alloc, found)?)
+    }
+
+    fn name_owner(
+        &mut self,
+        alloc: Global,
+        name: &UniqueName,
+    ) -> Result<Option<Resource>, Failed<ShelfFault>> {
+        let found = self.collection.named(name);
+        Ok(copy_of(alloc, found)?)
+    }
+
+    fn groups_with(
+        &mut self,
+        alloc: Global,
+        value: &str,
+    ) -> Result<Vec<Resource>, Failed<ShelfFault>> {
+        Ok(self.collection.groups_with(alloc, value)?)
+    }
+
+    fn each<V: Visitor>(
+        &mut self,
+        alloc: Global,
+        kind: Kind,
+        visitor: &mut V,
+    ) -> Result<(), Failed<ShelfFault>> {
+        self.collection.show(alloc, kind, visitor)?;
+        Ok(())
+    }
+
+    fn commit(
+        &mut self,
+        alloc: Global,
+        change: Change,
+        row: AuditRow,
+    ) -> Result<(), Failed<ShelfFault>> {
+        if self.audit.len() as u64 >= LAST_NUMBER {
+            return Err(Failed::Because(ShelfFault::Full));
+        }
+        self.audit.push(row)?;
+        match make(&mut self.collection, alloc, change) {
+            Ok(()) => Ok(()),
+            Err(_) => {
+                let _row = self.audit.pop();
+                Err(Failed::NoMemory)
+            }
+        }
+    }
+
+    fn failures(&self) -> u64 {
+        0
+    }
+}

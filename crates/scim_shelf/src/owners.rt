@@ -1,0 +1,64 @@
+//! Who has which unique name.
+ghost use Rattle.std.specs.Prelude.{◌≡◌, ◌≤◌, OnOk, None, Some, cond, vec_len};
+ghost use Rattle.scim_value.specs.declared.uniqueness.UniqueName.{UniqueName};
+ghost use Rattle.scim_shelf.specs.code.Owners.{owner, room, is_among};
+
+use scim_cell::Id;
+use scim_text::NoMemory;
+use scim_value::UniqueName;
+use std::alloc::Global;
+use std::collections::HashMap;
+
+/// The ids of the resources that have unique names, by name.
+#[derive(Drop)]
+pub(crate) struct Owners {
+    by_name: HashMap<UniqueName, Id>,
+}
+
+impl Owners {
+    /// No name has an owner.
+    pub(crate) fn new(alloc: Global) -> Owners
+        ensures { (q : UniqueName) → owner result q ≡ None }
+    {
+        Owners {
+            by_name: HashMap::new(alloc),
+        }
+    }
+
+    /// The id of the resource that has the name; None where none has it.
+    pub(crate) fn of(&self, name: &UniqueName) -> Option<Id>
+        ensures { result ≡ owner self.now name.now }
+    {
+        self.by_name.get(name).copied()
+    }
+
+    /// Makes room for this many more names. NoMemory where none was to be had.
+    pub(crate) fn reserve(&mut self, count: usize) -> Result<(), NoMemory>
+        ensures same { (q : UniqueName) → owner self.new q ≡ owner self.old q }
+        ensures room { OnOk result (count ≤ room self.new) }
+    {
+        self.by_name.reserve(count)?;
+        Ok(())
+    }
+
+    /// Lets these names have no owner.
+    pub(crate) fn forget(&mut self, names: &[UniqueName])
+        ensures owners { (q : UniqueName) → owner self.new q ≡ cond (is_among q names.now) None (owner self.old q) }
+        ensures room { room self.old ≤ room self.new }
+    {
+        for name in names {
+            self.by_name.remove(name);
+        }
+    }
+
+    /// Lets the resource of this id have these names, for which there is room.
+    pub(crate) fn note(&mut self, names: Vec<UniqueName>, id: Id)
+        requires { vec_len names ≤ room self.old }
+        ensures { (q : UniqueName) → owner self.new q ≡ cond (is_among q names.items) (Some id) (owner self.old q) }
+    {
+        let mut left = names;
+        'names: while let Some(name) = left.pop() {
+            let _ = self.by_name.insert(name, id);
+        }
+    }
+}

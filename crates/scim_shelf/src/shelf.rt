@@ -1,0 +1,130 @@
+//! What a service asks of the place where it keeps its resources and the rows of its audit.
+ghost use Rattle.std.specs.Prelude.{◌≡◌, ◌≢◌, ℕ, List, IfOk, OnOk, OnErr, Err, length, find, filter};
+ghost use Rattle.std.specs.List.{FoldsTo};
+ghost use Rattle.scim_text.specs.declared.memory.Failed.{Failed};
+ghost use Rattle.scim_cell.specs.Kinds.{of_kind};
+ghost use Rattle.scim_value.specs.Uniqueness.{name_of};
+ghost use Rattle.scim_shelf.specs.declared.faults.ShelfFault.{ShelfFault};
+ghost use Rattle.scim_shelf.specs.Stores.{Store, AreKeyed, CanKeep, is_at, has_name, is_group_with, after, last_number};
+ghost use Rattle.scim_shelf.specs.Shelves.{Counts, KeepsStore, Answers};
+
+use crate::changes::Change;
+use crate::faults::ShelfFault;
+use scim_audit::AuditRow;
+use scim_cell::Id;
+use scim_schema::Kind;
+use scim_text::{Failed, NoMemory};
+use scim_value::{Resource, UniqueName};
+use std::alloc::Global;
+
+/// What is shown resources, one after another.
+pub trait Visitor {
+    ghost use Rattle.scim_cell.specs.Content.{Content};
+
+    /// What a call of `take` that doesn't fail makes of it.
+    ghost takes: { Self → Content → Self → Type 0 };
+
+    /// Is shown a resource, of which it copies what it keeps.
+    ///
+    /// NoMemory where none was to be had: the visitor is of no use then.
+    fn take(&mut self, alloc: Global, resource: &Resource) -> Result<(), NoMemory>
+        ensures { OnOk result (takes self.old resource.now self.new) };
+}
+
+/// A place where resources and the rows of the audit are kept.
+///
+/// Contracts say which store it stands for. That is a relation, since a shelf that can't be read any more
+/// goes on standing for what it last stood for.
+pub trait Shelf {
+    /// It stands for this store.
+    ghost stands: { Self → Store → Type 0 };
+
+    /// Nobody else has written what it keeps, and its device gave back what was written.
+    ghost is_honest: { Self → Type 0 };
+
+    /// How often its device failed.
+    ghost failures: { Self → ℕ };
+
+    /// The resource of the kind with the id; None where there is none (RFC 7644 section 3.4.1).
+    ///
+    /// Fails by Device where the device did, or where memory was wanting, and leaves what is kept as it was.
+    fn by_id(
+        &mut self,
+        alloc: Global,
+        kind: Kind,
+        id: Id,
+    ) -> Result<Option<Resource>, Failed<ShelfFault>>
+        ensures answer { IfOk result (Answers stands is_honest self.old self.new (λ store found. found ≡ find (is_at kind id) store.resources)) }
+        ensures store { KeepsStore stands self.old self.new }
+        ensures honest { is_honest self.new → is_honest self.old }
+        ensures counts { Counts (failures self.old) (failures self.new) result }
+        ensures not_full { result ≢ Err (Failed.Because ShelfFault.Full) };
+
+    /// The resource that has the unique name; None where no resource has it (RFC 7643 section 2.2, uniqueness).
+    ///
+    /// Fails as `by_id` does.
+    fn name_owner(
+        &mut self,
+        alloc: Global,
+        name: &UniqueName,
+    ) -> Result<Option<Resource>, Failed<ShelfFault>>
+        ensures answer { IfOk result (Answers stands is_honest self.old self.new (λ store found. found ≡ find (has_name (name_of name.now)) store.resources)) }
+        ensures store { KeepsStore stands self.old self.new }
+        ensures honest { is_honest self.new → is_honest self.old }
+        ensures counts { Counts (failures self.old) (failures self.new) result }
+        ensures not_full { result ≢ Err (Failed.Because ShelfFault.Full) };
+
+    /// The groups that list the value among their members, in order of id (RFC 7643 section 4.2).
+    ///
+    /// Fails as `by_id` does.
+    fn groups_with(
+        &mut self,
+        alloc: Global,
+        value: &str,
+    ) -> Result<Vec<Resource>, Failed<ShelfFault>>
+        ensures answer { IfOk result (Answers stands is_honest self.old self.new (λ store found. found.items ≡ filter (is_group_with value.now) store.resources)) }
+        ensures store { KeepsStore stands self.old self.new }
+        ensures honest { is_honest self.new → is_honest self.old }
+        ensures counts { Counts (failures self.old) (failures self.new) result }
+        ensures not_full { result ≢ Err (Failed.Because ShelfFault.Full) };
+
+    /// Shows the visitor the resources of the kind, in order of id.
+    ///
+    /// Fails as `by_id` does, and where the visitor wants memory; the visitor is of no use then.
+    fn each<V: Visitor>(
+        &mut self,
+        alloc: Global,
+        kind: Kind,
+        visitor: &mut V,
+    ) -> Result<(), Failed<ShelfFault>>
+        ensures answer { OnOk result ((store : Store) → stands self.old store → is_honest self.new
+            → FoldsTo V.takes visitor.old (of_kind kind store.resources) visitor.new) }
+        ensures store { KeepsStore stands self.old self.new }
+        ensures honest { is_honest self.new → is_honest self.old }
+        ensures counts { Counts (failures self.old) (failures self.new) result }
+        ensures not_full { result ≢ Err (Failed.Because ShelfFault.Full) };
+
+    /// Makes the change and adds the row to the audit, numbered one above the last; the first has number 1.
+    ///
+    /// No resource of another id shares a unique name with one that is to be kept, and none of its id is of
+    /// the other kind: the caller sees to that, by `name_owner` and `by_id`.
+    ///
+    /// Fails by Device where the device did, by Full where the last number of the audit is in use, or where
+    /// memory was wanting. Then nothing is changed, and no row is added.
+    fn commit(
+        &mut self,
+        alloc: Global,
+        change: Change,
+        row: AuditRow,
+    ) -> Result<(), Failed<ShelfFault>>
+        ensures ok { OnOk result ((store : Store) → stands self.old store → AreKeyed store.resources → CanKeep store change
+            → stands self.new (after change row store)) }
+        ensures err { OnErr result (KeepsStore stands self.old self.new) }
+        ensures honest { is_honest self.new → is_honest self.old }
+        ensures counts { Counts (failures self.old) (failures self.new) result }
+        ensures full { result ≡ Err (Failed.Because ShelfFault.Full) → (store : Store) → stands self.old store → length store.audit ≡ last_number };
+
+    /// How often the device failed, 2^64 - 1 at most.
+    fn failures(&self) -> u64
+        ensures { result ≡ failures self.now };
+}
