@@ -1,0 +1,13 @@
+use Rattle.std.proofs.Common.{◌∙◌}
+use Rattle.serde_json.specs.Written.{compact_text}
+use Rattle.scim_json.specs.ListData.{list_data}
+use Rattle.scim_query.proofs.Facts.{page_says}
+use Rattle.scim_service.proofs.plans.list_text.Goals as goal
+
+pub returns : goal.returns
+returns c view is =
+    let page = c.in_ok-page.page in
+    let says = page_says view c.args.query.now page
+    (record { found = c.args.found; is_page = is; total = c.in_ok-page.ensures.total; start = c.in_ok-page.ensures.start; items = c.in_ok-page.ensures.items }) in
+    let items = c.as_slice.ensures.value ∙ says.items in
+    c.new.ensures ∙ c.in_ok-text.ensures ∙ (λ i. compact_text (list_data (says.total i) (says.start i) (items i)))

@@ -1,0 +1,20 @@
+use Rattle.std.proofs.Common.{sym, subst, []}
+use denote.Ref.{Bor}
+use Rattle.scim_schema.specs.declared.Kind.TheVariants.{Group}
+use Rattle.scim_cell.specs.Kinds.{of_kind}
+use Rattle.scim_view.specs.declared.viewers.Viewer.{Viewer as ViewerInCode}
+use Rattle.scim_view.specs.declared.index.GroupIndex.{GroupIndex}
+use Rattle.scim_view.specs.View.{viewer_of}
+use Rattle.scim_view.specs.Indexes.{IsIndexOf}
+use Rattle.scim_service.proofs.VisitLemmas.{took_groups}
+use Rattle.scim_service.proofs.plans.seen_groups.Goals as goal
+
+pub returns-clause-index : goal.returns-clause-index
+returns-clause-index g c store stands honest =
+    let gs = of_kind Group store.resources in
+    let first = c.new-groups.result in
+    let last = c.each.new.visitor in
+    let walk = took_groups first gs last (c.in_ok-each.ensures.answer store stands honest) in
+    let made : IsIndexOf (viewer_of first.viewer.now) gs last.index = walk.index [] (c.new-groups.ensures.index (viewer_of first.viewer.now)) in
+    subst (λ (i : GroupIndex). IsIndexOf (viewer_of c.args.viewer.now) gs i) (sym c.end.ensures)
+    (subst (λ (u : Bor ViewerInCode). IsIndexOf (viewer_of u.now) gs last.index) c.new-groups.ensures.viewer made)

@@ -1,0 +1,41 @@
+-- What a service answers to turns, faults included.
+use Rattle.std.specs.Prelude.{◌≡◌, ◌⊎◌, ◌<◌, ⊤, ℕ, List, length, zip, Err}
+use Rattle.std.specs.List.{FoldsTo}
+use Rattle.scim_text.specs.declared.memory.Failed.{Failed}
+use Rattle.scim_text.specs.declared.memory.Failed.TheVariants.{Because}
+use Rattle.scim_audit.specs.declared.refusals.Refusal.TheVariants.{Store as NoStore}
+use Rattle.scim_policy.specs.Rules.{Rule}
+use Rattle.scim_shelf.specs.declared.faults.ShelfFault.{ShelfFault}
+use Rattle.scim_shelf.specs.declared.faults.ShelfFault.TheVariants.{Device, Full}
+use Rattle.scim_shelf.specs.Stores.{Store, last_number}
+use Rattle.scim_service.specs.declared.requests.Turn.{Turn}
+use Rattle.scim_service.specs.declared.replies.Reply.{Reply}
+use Rattle.scim_service.specs.declared.replies.Reply.TheVariants.{Refused, Failed as Failure}
+use Rattle.scim_service.specs.Step.{plan, next_store}
+
+-- why a turn failed: the count of the device's failures rose, or the last number of the audit is in use; else memory was wanting
+pub record IsCause (before now : ℕ) (store : Store) (fault : Failed ShelfFault) : Type 0 where
+  pub device : fault ≡ Because Device → (before < now) ⊎ (before ≡ 18446744073709551615)
+  pub full : fault ≡ Because Full → length store.audit ≡ last_number
+
+-- the turn is answered as it is planned, and done
+abbrev pub IsDone : List Rule → List ℕ → Turn → Store → Reply → Store → Type 0
+IsDone policy base turn store reply next = (reply ≡ (plan policy base turn store).reply) × (next ≡ next_store policy base turn store)
+
+-- it failed for a cause, and nothing was done
+abbrev pub HasFailed : (Failed ShelfFault → Type 0) → Store → Reply → Store → Type 0
+HasFailed Cause store reply next = (fault : Failed ShelfFault) × (reply ≡ Failure fault) × Cause fault × (next ≡ store)
+
+-- memory was wanting before the request could be told, which is answered and not noted
+abbrev pub WasNotTold : Turn → Store → Reply → Store → Type 0
+WasNotTold turn store reply next = (turn.request.ask ≡ Err NoStore) × (reply ≡ Refused NoStore) × (next ≡ store)
+
+-- what a turn is answered, over a store, and the store after it
+abbrev pub Answered : List Rule → List ℕ → (Failed ShelfFault → Type 0) → Turn → Store → Reply → Store → Type 0
+Answered policy base Cause turn store reply next =
+    WasNotTold turn store reply next ⊎ (IsDone policy base turn store reply next ⊎ HasFailed Cause store reply next)
+
+-- what turns are answered one after another, and the store after the last
+abbrev pub Runs : List Rule → List ℕ → Store → List Turn → List Reply → Store → Type 0
+Runs policy base store turns replies next =
+    FoldsTo (λ s (pair : Turn × Reply) t. Answered policy base (λ _. ⊤) pair.0 s pair.1 t) store (zip turns replies) next

@@ -1,0 +1,133 @@
+-- One request: what it is answered, what it changes, and what the audit says of it (RFC 7644 section 3).
+use Rattle.std.specs.Prelude.{ℕ, List, find, Option, None, Some, option_and_then, Result, Ok, Err, if◌then◌else◌}
+use Rattle.serde_json.specs.Written.{compact_text}
+use Rattle.scim_schema.specs.declared.Kind.TheVariants.{Group}
+use Rattle.scim_schema.specs.declared.Op.TheVariants.{Delete}
+use Rattle.scim_schema.specs.declared.Leaf.{Leaf}
+use Rattle.scim_schema.specs.declared.Attribute.TheVariants.{Id}
+use Rattle.scim_schema.specs.Units.{simple}
+use Rattle.scim_cell.specs.Content.{Content}
+use Rattle.scim_cell.specs.Kinds.{of_kind}
+use Rattle.scim_audit.specs.declared.refusals.Refusal.{Refusal}
+use Rattle.scim_audit.specs.declared.refusals.Refusal.TheVariants.{NotFound, Denied}
+use Rattle.scim_audit.specs.declared.rows.Decided.{Decided}
+use Rattle.scim_audit.specs.declared.rows.Decided.TheVariants as decided
+use Rattle.scim_audit.specs.declared.rows.AuditRow.{AuditRow}
+use Rattle.scim_json.specs.PartData.{part_data}
+use Rattle.scim_json.specs.ListData.{list_data}
+use Rattle.scim_policy.specs.Rules.{Rule}
+use Rattle.scim_policy.specs.declared.rules.Decision.{Decision}
+use Rattle.scim_policy.specs.Decide.{decide}
+use Rattle.scim_view.specs.declared.projection.Wanted.{Wanted}
+use Rattle.scim_view.specs.View.{Viewer, read_decision}
+use Rattle.scim_view.specs.Groups.{with_groups, views}
+use Rattle.scim_view.specs.Shown.{shown}
+use Rattle.scim_query.specs.declared.queries.Query.{Query}
+use Rattle.scim_query.specs.Pages.{first_position}
+use Rattle.scim_query.specs.Arranged.{total_of, shown_items}
+use Rattle.scim_shelf.specs.declared.changes.Change.TheVariants.{Nothing, Remove as TakeOut}
+use Rattle.scim_shelf.specs.Stores.{Store, is_at, after}
+use Rattle.scim_service.specs.declared.requests.Ask.{Ask}
+use Rattle.scim_service.specs.declared.requests.Ask.TheVariants.{Get, Search, Remove}
+use Rattle.scim_service.specs.declared.requests.Turn.{Turn}
+use Rattle.scim_service.specs.declared.replies.Reply.TheVariants.{Shown, Done, Refused}
+use Rattle.scim_service.specs.declared.plans.Plan.{Plan}
+
+-- a row of the audit: of the turn its moment, client, operation and kind, and what is said of it
+abbrev pub row_of : Turn → Option (List ℕ) → Decided → Option ℕ → Option Leaf → Option Refusal → AuditRow
+row_of turn id decided rule leaf refusal = record {
+  moment = turn.moment;
+  client = turn.request.client;
+  op = turn.request.op;
+  kind = turn.request.kind;
+  id = id;
+  decided = decided;
+  rule = rule;
+  leaf = leaf;
+  refusal = refusal;
+}
+
+-- ---- what is refused: it changes nothing, and its row names the id that the request has
+
+abbrev pub refused_as : Turn → Decided → Option ℕ → Option Leaf → Refusal → Plan
+refused_as turn how rule leaf refusal = record { reply = Refused refusal; change = Nothing; row = row_of turn turn.request.id how rule leaf (Some refusal) }
+
+-- for what the request says: no rule decides it
+unfoldable pub refused : Turn → Refusal → Plan
+refused turn refusal = refused_as turn decided.Refused None None refusal
+
+-- since there is no such resource
+unfoldable pub absent : Turn → Plan
+absent turn = refused_as turn decided.Absent None None NotFound
+
+-- since the client doesn't see the resource, by this decision on reading its `id`: it is answered as if there were none
+unfoldable pub hidden : Turn → Decision → Plan
+hidden turn d = refused_as turn decided.Hidden (Some d.rule) (Some (simple Id)) NotFound
+
+-- since this decision denies it at a leaf
+unfoldable pub denied : Turn → Decision → Leaf → Plan
+denied turn d l = refused_as turn decided.Deny (Some d.rule) (Some l) Denied
+
+-- ---- what is done
+
+-- the row of what a rule allows
+abbrev pub allowed : Turn → ℕ → AuditRow
+allowed turn rule = row_of turn turn.request.id decided.Allow (Some rule) None None
+
+-- a resource is shown as the client sees it, with its groups among these, and of that what is wanted (RFC 7644 section 3.4.1)
+unfoldable pub resource_text : Viewer → List Content → Wanted → Content → List ℕ
+resource_text v groups wanted c = compact_text (part_data (shown wanted (with_groups v groups c)))
+
+unfoldable pub got : Viewer → Turn → List Content → Wanted → Content → Plan
+got v turn cs wanted c = record { reply = Shown (resource_text v (of_kind Group cs) wanted c); change = Nothing; row = allowed turn (read_decision v c (simple Id)).rule }
+
+-- the client is shown what the query finds of what it sees, and nothing of what it doesn't (RFC 7644 section 3.4.2); no one rule allows that
+abbrev pub view_of_kind : Viewer → Turn → List Content → List Content
+view_of_kind v turn cs = views v (of_kind Group cs) (of_kind turn.request.kind cs)
+
+abbrev pub list_text : Query → List Content → List ℕ
+list_text query view = compact_text (list_data (total_of query view) (first_position query.start) (shown_items query view))
+
+unfoldable pub listed : Viewer → Turn → List Content → Query → Plan
+listed v turn cs query = record { reply = Shown (list_text query (view_of_kind v turn cs)); change = Nothing; row = row_of turn None decided.Allow None None None }
+
+-- the policy's decision on removing a resource: that on deleting its `id`
+abbrev pub delete_decision : Viewer → Content → Decision
+delete_decision v c = decide v.policy v.client Delete c (simple Id)
+
+-- the resource goes, if the policy lets the client delete it (RFC 7644 section 3.6)
+unfoldable pub removed : Viewer → Turn → Content → Plan
+removed v turn c =
+    if (delete_decision v c).allow
+    then record { reply = Done; change = TakeOut c.kind c.id; row = allowed turn (delete_decision v c).rule }
+    else denied turn (delete_decision v c) (simple Id)
+
+-- ---- all requests
+
+-- the resource that a request names
+abbrev pub sought : Turn → List Content → Option Content
+sought turn cs = option_and_then (λ id. find (is_at turn.request.kind id) cs) turn.request.id
+
+-- what becomes of a request for a resource: it has to be there, and the client has to see it
+abbrev pub at_seen : Viewer → Turn → (Content → Plan) → Option Content → Plan
+at_seen v turn plan None = absent turn
+at_seen v turn plan (Some c) = if (read_decision v c (simple Id)).allow then plan c else hidden turn (read_decision v c (simple Id))
+
+-- by what is asked, over these resources
+abbrev pub planned : Viewer → Turn → List Content → Result Ask Refusal → Plan
+planned v turn cs (Err refusal) = refused turn refusal
+planned v turn cs (Ok (Get wanted)) = at_seen v turn (got v turn cs wanted) (sought turn cs)
+planned v turn cs (Ok (Search query)) = listed v turn cs query
+planned v turn cs (Ok Remove) = at_seen v turn (removed v turn) (sought turn cs)
+
+-- for whom a turn is: its client, by the policy, below the base
+abbrev pub viewer_at : List Rule → List ℕ → Turn → Viewer
+viewer_at policy base turn = record { policy = policy; client = turn.request.client; base = base }
+
+-- what a turn is answered, what it changes, and its row of the audit
+abbrev pub plan : List Rule → List ℕ → Turn → Store → Plan
+plan policy base turn store = planned (viewer_at policy base turn) turn store.resources turn.request.ask
+
+-- the store after a turn
+abbrev pub next_store : List Rule → List ℕ → Turn → Store → Store
+next_store policy base turn store = after (plan policy base turn store).change (plan policy base turn store).row store

@@ -1,0 +1,13 @@
+//! The service: what one request of a client is answered, what it changes, and what the audit says of it; and
+//! a list of requests (RFC 7644 section 3).
+#![tactic(auto)]
+
+mod plans;
+mod replies;
+mod requests;
+mod service;
+mod visitors;
+
+pub use replies::Reply;
+pub use requests::{Ask, Request, Turn};
+pub use service::Service;

@@ -1,0 +1,403 @@
+//! What is to be done for a turn: told by reads alone, before anything is changed.
+ghost use Rattle.std.specs.Prelude.{◌≡◌, ◌≢◌, ℕ, List, IfOk, Err};
+ghost use Rattle.scim_text.specs.declared.memory.Failed.{Failed};
+ghost use Rattle.scim_schema.specs.declared.Kind.{Kind};
+ghost use Rattle.scim_schema.specs.declared.Leaf.{Leaf};
+ghost use Rattle.scim_cell.specs.Content.{Content};
+ghost use Rattle.scim_cell.specs.Kinds.{of_kind};
+ghost use Rattle.scim_policy.specs.Table.{decision};
+ghost use Rattle.scim_view.specs.View as view;
+ghost use Rattle.scim_view.specs.View.{viewer_of};
+ghost use Rattle.scim_view.specs.Groups.{with_groups, views};
+ghost use Rattle.scim_view.specs.Indexes.{IsIndexOf};
+ghost use Rattle.scim_query.specs.Pages.{IsPage};
+ghost use Rattle.scim_shelf.specs.declared.faults.ShelfFault.{ShelfFault};
+ghost use Rattle.scim_shelf.specs.Shelves.{Counts, KeepsStore, Answers};
+ghost use Rattle.scim_shelf.specs.Stores.{IsStore};
+ghost use Rattle.scim_service.specs.Step as spec;
+
+use crate::replies::Reply;
+use crate::requests::{Ask, Turn};
+use crate::visitors::{GroupVisitor, SearchVisitor};
+use scim_audit::{AuditRow, Decided, Refusal};
+use scim_cell::{Id, Text};
+use scim_json::{to_json, to_list_json};
+use scim_policy::{Decision, Decisions};
+use scim_query::{Page, Query, shown_page};
+use scim_schema::{Attribute, Kind, Leaf, Op};
+use scim_shelf::{Change, Shelf, ShelfFault};
+use scim_text::{Failed, NoMemory};
+use scim_value::Resource;
+use scim_view::{GroupIndex, Viewer, Wanted, project};
+use std::alloc::Global;
+
+/// What is to be answered, changed and noted.
+#[derive(Drop)]
+pub(crate) struct Plan {
+    pub(crate) reply: Reply,
+    pub(crate) change: Change,
+    pub(crate) row: AuditRow,
+}
+
+/// What of a row of the audit isn't the turn's.
+#[derive(Clone, Copy)]
+struct Finding {
+    decided: Decided,
+    rule: Option<u32>,
+    leaf: Option<Leaf>,
+    refusal: Option<Refusal>,
+}
+
+fn row_of(
+    alloc: Global,
+    turn: &Turn,
+    id: Option<Id>,
+    finding: Finding,
+) -> Result<AuditRow, NoMemory>
+    ensures { IfOk result (λ row. row
+        ≡ spec.row_of turn.now id finding.decided finding.rule finding.leaf finding.refusal) }
+{
+    Ok(AuditRow {
+        moment: turn.moment,
+        client: turn.request.client.try_copy(alloc)?,
+        op: turn.request.op,
+        kind: turn.request.kind,
+        id,
+        decided: finding.decided,
+        rule: finding.rule,
+        leaf: finding.leaf,
+        refusal: finding.refusal,
+    })
+}
+
+fn refused_as(
+    alloc: Global,
+    turn: &Turn,
+    decided: Decided,
+    rule: Option<u32>,
+    leaf: Option<Leaf>,
+    refusal: Refusal,
+) -> Result<Plan, NoMemory>
+    ensures { IfOk result (λ plan. plan ≡ spec.refused_as turn.now decided rule leaf refusal) }
+{
+    let finding = Finding {
+        decided,
+        rule,
+        leaf,
+        refusal: Some(refusal),
+    };
+    Ok(Plan {
+        reply: Reply::Refused(refusal),
+        change: Change::Nothing,
+        row: row_of(alloc, turn, turn.request.id, finding)?,
+    })
+}
+
+#[tactic(auto, unfolding(crate::specs::Step::refused))]
+fn refused(alloc: Global, turn: &Turn, refusal: Refusal) -> Result<Plan, NoMemory>
+    ensures { IfOk result (λ plan. plan ≡ spec.refused turn.now refusal) }
+{
+    refused_as(alloc, turn, Decided::Refused, None, None, refusal)
+}
+
+#[tactic(auto, unfolding(crate::specs::Step::absent))]
+fn absent(alloc: Global, turn: &Turn) -> Result<Plan, NoMemory>
+    ensures { IfOk result (λ plan. plan ≡ spec.absent turn.now) }
+{
+    refused_as(alloc, turn, Decided::Absent, None, None, Refusal::NotFound)
+}
+
+#[tactic(auto, unfolding(crate::specs::Step::hidden))]
+fn hidden(alloc: Global, turn: &Turn, decision: Decision) -> Result<Plan, NoMemory>
+    ensures { IfOk result (λ plan. plan ≡ spec.hidden turn.now decision) }
+{
+    let id = Leaf::simple(Attribute::Id);
+    refused_as(
+        alloc,
+        turn,
+        Decided::Hidden,
+        Some(decision.rule),
+        Some(id),
+        Refusal::NotFound,
+    )
+}
+
+#[tactic(auto, unfolding(crate::specs::Step::denied))]
+fn denied(alloc: Global, turn: &Turn, decision: Decision, leaf: Leaf) -> Result<Plan, NoMemory>
+    ensures { IfOk result (λ plan. plan ≡ spec.denied turn.now decision leaf) }
+{
+    refused_as(
+        alloc,
+        turn,
+        Decided::Deny,
+        Some(decision.rule),
+        Some(leaf),
+        Refusal::Denied,
+    )
+}
+
+fn allowed(alloc: Global, turn: &Turn, rule: u32) -> Result<AuditRow, NoMemory>
+    ensures { IfOk result (λ row. row ≡ spec.allowed turn.now rule) }
+{
+    let finding = Finding {
+        decided: Decided::Allow,
+        rule: Some(rule),
+        leaf: None,
+        refusal: None,
+    };
+    row_of(alloc, turn, turn.request.id, finding)
+}
+
+/// The resource that the turn's request names.
+fn found<S: Shelf>(
+    alloc: Global,
+    shelf: &mut S,
+    turn: &Turn,
+) -> Result<Option<Resource>, Failed<ShelfFault>>
+    ensures answer { IfOk result (Answers S.stands S.is_honest shelf.old shelf.new (λ store o. o ≡ spec.sought turn.now store.resources)) }
+    ensures store { KeepsStore S.stands shelf.old shelf.new }
+    ensures honest { S.is_honest shelf.new → S.is_honest shelf.old }
+    ensures counts { Counts (S.failures shelf.old) (S.failures shelf.new) result }
+    ensures not_full { result ≢ Err (Failed.Because ShelfFault.Full) }
+{
+    match turn.request.id {
+        Some(id) => shelf.by_id(alloc, turn.request.kind, id),
+        None => Ok(None),
+    }
+}
+
+/// The groups by which a resource's own `groups` are told: those that list it; of one that isn't a user none.
+fn groups_beside<S: Shelf>(
+    alloc: Global,
+    shelf: &mut S,
+    resource: &Resource,
+) -> Result<Vec<Resource>, Failed<ShelfFault>>
+    ensures answer { IfOk result (Answers S.stands S.is_honest shelf.old shelf.new (λ store groups. (v : view.Viewer) (base : List ℕ)
+        → IsStore base store → with_groups v groups.items resource.now ≡ with_groups v (of_kind Kind.Group store.resources) resource.now)) }
+    ensures store { KeepsStore S.stands shelf.old shelf.new }
+    ensures honest { S.is_honest shelf.new → S.is_honest shelf.old }
+    ensures counts { Counts (S.failures shelf.old) (S.failures shelf.new) result }
+    ensures not_full { result ≢ Err (Failed.Because ShelfFault.Full) }
+{
+    match resource.kind() {
+        Kind::User => {
+            let mut buffer = [0; Id::TEXT_LENGTH];
+            shelf.groups_with(alloc, resource.id().write(&mut buffer))
+        }
+        Kind::Group => Ok(Vec::new(alloc)),
+    }
+}
+
+/// The JSON of a resource as it is shown, where these are the decisions on reading it.
+#[tactic(auto, unfolding(crate::specs::Step::resource_text))]
+fn resource_text(
+    alloc: Global,
+    viewer: &Viewer<'_>,
+    decisions: &Decisions,
+    groups: &[Resource],
+    resource: &Resource,
+    wanted: &Wanted,
+) -> Result<Text, NoMemory>
+    requires { (l : Leaf) → decision decisions.now l ≡ view.read_decision (viewer_of viewer.now) resource.now l }
+    ensures { IfOk result (λ text. text ≡ spec.resource_text (viewer_of viewer.now) groups.now wanted.now resource.now) }
+{
+    let visible = viewer.with_groups_by(alloc, decisions, groups, resource)?;
+    let shown = project(alloc, visible, wanted)?;
+    Ok(Text::new(to_json(alloc, &shown)?))
+}
+
+/// What is to be done for a request to show the resource that it names.
+#[tactic(auto, unfolding(crate::specs::Step::got))]
+fn plan_get<S: Shelf>(
+    alloc: Global,
+    viewer: &Viewer<'_>,
+    shelf: &mut S,
+    turn: &Turn,
+    wanted: &Wanted,
+) -> Result<Plan, Failed<ShelfFault>>
+    ensures plan { IfOk result (Answers S.stands S.is_honest shelf.old shelf.new (λ store plan. (base : List ℕ) → IsStore base store
+        → plan ≡ spec.at_seen (viewer_of viewer.now) turn.now
+        (spec.got (viewer_of viewer.now) turn.now store.resources wanted.now) (spec.sought turn.now store.resources))) }
+    ensures store { KeepsStore S.stands shelf.old shelf.new }
+    ensures honest { S.is_honest shelf.new → S.is_honest shelf.old }
+    ensures counts { Counts (S.failures shelf.old) (S.failures shelf.new) result }
+    ensures not_full { result ≢ Err (Failed.Because ShelfFault.Full) }
+{
+    let Some(resource) = found(alloc, shelf, turn)? else {
+        return Ok(absent(alloc, turn)?);
+    };
+    let decisions = viewer.decisions(alloc, &resource)?;
+    let seen = decisions.of(Leaf::simple(Attribute::Id));
+    if !seen.allow {
+        return Ok(hidden(alloc, turn, seen)?);
+    }
+    let groups = groups_beside(alloc, shelf, &resource)?;
+    let text = resource_text(
+        alloc,
+        viewer,
+        &decisions,
+        groups.as_slice(),
+        &resource,
+        wanted,
+    )?;
+    Ok(Plan {
+        reply: Reply::Shown(text),
+        change: Change::Nothing,
+        row: allowed(alloc, turn, seen.rule)?,
+    })
+}
+
+/// What is to be done for a request to remove a resource that the client sees.
+#[tactic(auto, unfolding(crate::specs::Step::removed))]
+fn removed(
+    alloc: Global,
+    viewer: &Viewer<'_>,
+    turn: &Turn,
+    resource: &Resource,
+) -> Result<Plan, NoMemory>
+    ensures { IfOk result (λ plan. plan ≡ spec.removed (viewer_of viewer.now) turn.now resource.now) }
+{
+    let id = Leaf::simple(Attribute::Id);
+    let decision = viewer
+        .policy
+        .decide(alloc, viewer.client, Op::Delete, resource, id)?;
+    if !decision.allow {
+        return denied(alloc, turn, decision, id);
+    }
+    Ok(Plan {
+        reply: Reply::Done,
+        change: Change::Remove(resource.kind(), resource.id()),
+        row: allowed(alloc, turn, decision.rule)?,
+    })
+}
+
+/// What is to be done for a request to remove the resource that it names.
+fn plan_remove<S: Shelf>(
+    alloc: Global,
+    viewer: &Viewer<'_>,
+    shelf: &mut S,
+    turn: &Turn,
+) -> Result<Plan, Failed<ShelfFault>>
+    ensures plan { IfOk result (Answers S.stands S.is_honest shelf.old shelf.new (λ store plan.
+        plan ≡ spec.at_seen (viewer_of viewer.now) turn.now (spec.removed (viewer_of viewer.now) turn.now) (spec.sought turn.now store.resources))) }
+    ensures store { KeepsStore S.stands shelf.old shelf.new }
+    ensures honest { S.is_honest shelf.new → S.is_honest shelf.old }
+    ensures counts { Counts (S.failures shelf.old) (S.failures shelf.new) result }
+    ensures not_full { result ≢ Err (Failed.Because ShelfFault.Full) }
+{
+    let Some(resource) = found(alloc, shelf, turn)? else {
+        return Ok(absent(alloc, turn)?);
+    };
+    let id = Leaf::simple(Attribute::Id);
+    let seen = viewer
+        .policy
+        .decide(alloc, viewer.client, Op::Read, &resource, id)?;
+    if !seen.allow {
+        return Ok(hidden(alloc, turn, seen)?);
+    }
+    Ok(removed(alloc, viewer, turn, &resource)?)
+}
+
+/// The groups that the client sees, by their members.
+fn seen_groups<S: Shelf>(
+    alloc: Global,
+    viewer: &Viewer<'_>,
+    shelf: &mut S,
+) -> Result<GroupIndex, Failed<ShelfFault>>
+    ensures index { IfOk result (Answers S.stands S.is_honest shelf.old shelf.new (λ store index.
+        IsIndexOf (viewer_of viewer.now) (of_kind Kind.Group store.resources) index)) }
+    ensures store { KeepsStore S.stands shelf.old shelf.new }
+    ensures honest { S.is_honest shelf.new → S.is_honest shelf.old }
+    ensures counts { Counts (S.failures shelf.old) (S.failures shelf.new) result }
+    ensures not_full { result ≢ Err (Failed.Because ShelfFault.Full) }
+{
+    let mut groups = GroupVisitor::new(alloc, viewer);
+    shelf.each(alloc, Kind::Group, &mut groups)?;
+    Ok(groups.end())
+}
+
+/// The page that the client's query asks for of the resources of a kind, where these are the groups that it
+/// sees.
+fn page<S: Shelf>(
+    alloc: Global,
+    viewer: &Viewer<'_>,
+    shelf: &mut S,
+    kind: Kind,
+    index: &GroupIndex,
+    query: &Query,
+) -> Result<Page, Failed<ShelfFault>>
+    ensures page { IfOk result (Answers S.stands S.is_honest shelf.old shelf.new (λ store page. (groups : List Content) (base : List ℕ)
+        → IsIndexOf (viewer_of viewer.now) groups index.now → IsStore base store
+        → IsPage (views (viewer_of viewer.now) groups (of_kind kind store.resources)) query.now page)) }
+    ensures store { KeepsStore S.stands shelf.old shelf.new }
+    ensures honest { S.is_honest shelf.new → S.is_honest shelf.old }
+    ensures counts { Counts (S.failures shelf.old) (S.failures shelf.new) result }
+    ensures not_full { result ≢ Err (Failed.Because ShelfFault.Full) }
+{
+    let mut search = SearchVisitor::new(alloc, viewer, index, query);
+    shelf.each(alloc, kind, &mut search)?;
+    Ok(search.end()?)
+}
+
+/// The JSON of a page of a client's view, each item as the query wants it.
+fn list_text(alloc: Global, found: Page, query: &Query) -> Result<Text, NoMemory>
+    ensures { IfOk result (λ text. (view : List Content) → IsPage view query.now found → text ≡ spec.list_text query.now view) }
+{
+    let page = shown_page(alloc, found, &query.wanted)?;
+    let text = to_list_json(alloc, page.total, page.start, page.items.as_slice())?;
+    Ok(Text::new(text))
+}
+
+/// What is to be done for a search.
+#[tactic(auto, unfolding(crate::specs::Step::listed))]
+fn plan_search<S: Shelf>(
+    alloc: Global,
+    viewer: &Viewer<'_>,
+    shelf: &mut S,
+    turn: &Turn,
+    query: &Query,
+) -> Result<Plan, Failed<ShelfFault>>
+    ensures plan { IfOk result (Answers S.stands S.is_honest shelf.old shelf.new (λ store plan. (base : List ℕ) → IsStore base store
+        → plan ≡ spec.listed (viewer_of viewer.now) turn.now store.resources query.now)) }
+    ensures store { KeepsStore S.stands shelf.old shelf.new }
+    ensures honest { S.is_honest shelf.new → S.is_honest shelf.old }
+    ensures counts { Counts (S.failures shelf.old) (S.failures shelf.new) result }
+    ensures not_full { result ≢ Err (Failed.Because ShelfFault.Full) }
+{
+    let index = seen_groups(alloc, viewer, shelf)?;
+    let found = page(alloc, viewer, shelf, turn.request.kind, &index, query)?;
+    let text = list_text(alloc, found, query)?;
+    let finding = Finding {
+        decided: Decided::Allow,
+        rule: None,
+        leaf: None,
+        refusal: None,
+    };
+    Ok(Plan {
+        reply: Reply::Shown(text),
+        change: Change::Nothing,
+        row: row_of(alloc, turn, None, finding)?,
+    })
+}
+
+/// What is to be done for a turn, whatever it asks.
+pub(crate) fn planned<S: Shelf>(
+    alloc: Global,
+    viewer: &Viewer<'_>,
+    shelf: &mut S,
+    turn: &Turn,
+) -> Result<Plan, Failed<ShelfFault>>
+    ensures plan { IfOk result (Answers S.stands S.is_honest shelf.old shelf.new (λ store plan. (base : List ℕ) → IsStore base store
+        → plan ≡ spec.planned (viewer_of viewer.now) turn.now store.resources turn.now.request.ask)) }
+    ensures store { KeepsStore S.stands shelf.old shelf.new }
+    ensures honest { S.is_honest shelf.new → S.is_honest shelf.old }
+    ensures counts { Counts (S.failures shelf.old) (S.failures shelf.new) result }
+    ensures not_full { result ≢ Err (Failed.Because ShelfFault.Full) }
+{
+    match &turn.request.ask {
+        Ok(Ask::Get(wanted)) => plan_get(alloc, viewer, shelf, turn, wanted),
+        Ok(Ask::Search(query)) => plan_search(alloc, viewer, shelf, turn, query),
+        Ok(Ask::Remove) => plan_remove(alloc, viewer, shelf, turn),
+        Err(refusal) => Ok(refused(alloc, turn, *refusal)?),
+    }
+}

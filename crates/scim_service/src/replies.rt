@@ -1,0 +1,60 @@
+//! What requests are answered.
+ghost use Rattle.std.specs.Prelude.{◌≡◌};
+ghost use Rattle.std.specs.Option.{option_copied};
+ghost use Rattle.scim_service.specs.Replies as spec;
+
+use http::StatusCode;
+use scim_audit::Refusal;
+use scim_cell::Text;
+use scim_shelf::ShelfFault;
+use scim_text::Failed;
+
+/// What a request is answered.
+#[derive(Debug, Drop)]
+pub enum Reply {
+    /// 200, with a JSON text: of a resource, or of a list.
+    Shown(Text),
+    /// 204: it is done, and there is nothing to show.
+    Done,
+    /// A refusal.
+    Refused(Refusal),
+    /// 500: nothing was done, for this cause, which isn't told outside.
+    Failed(Failed<ShelfFault>),
+}
+
+impl Reply {
+    /// The refusal that it is, if it is one.
+    pub fn refusal(&self) -> Option<Refusal>
+        ensures { result ≡ spec.refusal_of self.now }
+    {
+        match self {
+            Reply::Refused(refusal) => Some(*refusal),
+            Reply::Failed(_) => Some(Refusal::Store),
+            _ => None,
+        }
+    }
+
+    /// The status code.
+    pub fn status(&self) -> StatusCode
+        ensures { result ≡ spec.status_of self.now }
+    {
+        match self {
+            Reply::Shown(_) => StatusCode::OK,
+            Reply::Done => StatusCode::NO_CONTENT,
+            Reply::Refused(refusal) => refusal.status(),
+            Reply::Failed(_) => Refusal::Store.status(),
+        }
+    }
+
+    /// The body, if it has one: a JSON text.
+    pub fn body(&self) -> Option<&str>
+        ensures { option_copied result ≡ spec.body_of self.now }
+    {
+        match self {
+            Reply::Shown(text) => Some(text.as_str()),
+            Reply::Done => None,
+            Reply::Refused(refusal) => Some(refusal.body()),
+            Reply::Failed(_) => Some(Refusal::Store.body()),
+        }
+    }
+}

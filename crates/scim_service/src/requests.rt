@@ -1,0 +1,43 @@
+//! What clients ask of the service.
+use scim_audit::Refusal;
+use scim_cell::{Id, Text};
+use scim_query::Query;
+use scim_schema::{Kind, Op};
+use scim_text::Moment;
+use scim_view::Wanted;
+
+/// What is asked of resources of a kind.
+#[derive(Drop)]
+pub enum Ask {
+    /// To show the resource that the request names (RFC 7644 section 3.4.1), of it what is wanted.
+    Get(Wanted),
+    /// To show those that the query finds (RFC 7644 section 3.4.2).
+    Search(Query),
+    /// To remove the resource that the request names (RFC 7644 section 3.6).
+    Remove,
+}
+
+/// A request of a client.
+#[derive(Drop)]
+pub struct Request {
+    /// The name of the client.
+    pub client: Text,
+    /// What it is about to do: the operation that the policy is asked about.
+    pub op: Op,
+    /// With which kind of resources.
+    pub kind: Kind,
+    /// The id of the resource; None where none is named, or what names it is no id. No resource is found then.
+    pub id: Option<Id>,
+    /// What it asks; or what is wrong with how it asks.
+    pub ask: Result<Ask, Refusal>,
+}
+
+/// A request at its turn: with its moment, and the id for the resource that it may create.
+#[derive(Drop)]
+pub struct Turn {
+    pub request: Request,
+    /// When it came.
+    pub moment: Moment,
+    /// The id of the resource that it creates, if it does.
+    pub fresh: Id,
+}

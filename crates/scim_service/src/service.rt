@@ -1,0 +1,141 @@
+//! The service: turns over a shelf.
+ghost use Rattle.std.specs.Prelude.{◌≡◌, ◌≢◌, ◌≤◌, ℕ, List, IfOk, OnErr, Err, length};
+ghost use Rattle.scim_text.specs.declared.memory.Failed.{Failed};
+ghost use Rattle.scim_view.specs.View.{viewer_of};
+ghost use Rattle.scim_shelf.specs.declared.faults.ShelfFault.{ShelfFault};
+ghost use Rattle.scim_shelf.specs.Shelves.{Counts, KeepsStore, Answers};
+ghost use Rattle.scim_shelf.specs.Stores.{Store, IsStore, after, last_number};
+ghost use Rattle.scim_service.specs.Step as spec;
+ghost use Rattle.scim_service.specs.Answers.{IsCause, Answered, Runs};
+
+use crate::plans::{Plan, planned};
+use crate::replies::Reply;
+use crate::requests::Turn;
+use scim_audit::Refusal;
+use scim_cell::Text;
+use scim_policy::Policy;
+use scim_shelf::{Shelf, ShelfFault};
+use scim_text::{Failed, NoMemory};
+use scim_view::Viewer;
+use std::alloc::Global;
+
+/// Answers clients' requests by a policy, over what a shelf keeps.
+///
+/// Each turn is planned by reads alone; then its change and its row of the audit are committed as one. So the
+/// reply is whole before anything is changed.
+#[derive(Drop)]
+pub struct Service<S> {
+    policy: Policy,
+    base: Text,
+    shelf: S,
+}
+
+/// Plans a turn, commits its change with its row, and gives its reply; or a fault, and nothing is done.
+fn answer_or_fault<S: Shelf>(
+    alloc: Global,
+    viewer: &Viewer<'_>,
+    shelf: &mut S,
+    turn: &Turn,
+) -> Result<Reply, Failed<ShelfFault>>
+    ensures done { IfOk result (Answers S.stands S.is_honest shelf.old shelf.new (λ store reply. IsStore viewer.now.base.now store
+        → (reply ≡ (spec.planned (viewer_of viewer.now) turn.now store.resources turn.now.request.ask).reply)
+        × S.stands shelf.new (after (spec.planned (viewer_of viewer.now) turn.now store.resources turn.now.request.ask).change
+        (spec.planned (viewer_of viewer.now) turn.now store.resources turn.now.request.ask).row store))) }
+    ensures err { OnErr result (KeepsStore S.stands shelf.old shelf.new) }
+    ensures honest { S.is_honest shelf.new → S.is_honest shelf.old }
+    ensures counts { Counts (S.failures shelf.old) (S.failures shelf.new) result }
+    ensures full { result ≡ Err (Failed.Because ShelfFault.Full) → (store : Store) → S.stands shelf.old store → length store.audit ≡ last_number }
+{
+    let Plan { reply, change, row } = planned(alloc, viewer, shelf, turn)?;
+    shelf.commit(alloc, change, row)?;
+    Ok(reply)
+}
+
+impl<S: Shelf> Service<S> {
+    /// A service by this policy over this shelf, whose resources stand below the base, as
+    /// `http://127.0.0.1:8080`. It takes no memory.
+    pub fn new(policy: Policy, base: Text, shelf: S) -> Service<S>
+        ensures policy { result.policy ≡ policy }
+        ensures base { result.base ≡ base }
+        ensures shelf { result.shelf ≡ shelf }
+    {
+        Service {
+            policy,
+            base,
+            shelf,
+        }
+    }
+
+    /// Answers one turn. Where the shelf fails or memory is wanting the reply is [`Reply::Failed`], and
+    /// nothing is done or noted.
+    pub fn answer(&mut self, alloc: Global, turn: &Turn) -> Reply
+        ensures policy { self.new.policy ≡ self.old.policy }
+        ensures base { self.new.base ≡ self.old.base }
+        ensures answered { (store : Store) → S.stands self.old.shelf store → S.is_honest self.new.shelf → IsStore self.old.base store
+            → (next : Store) × S.stands self.new.shelf next × IsStore self.old.base next
+            × Answered self.old.policy self.old.base (IsCause (S.failures self.old.shelf) (S.failures self.new.shelf) store) turn.now store result next }
+        ensures honest { S.is_honest self.new.shelf → S.is_honest self.old.shelf }
+        ensures grown { S.failures self.old.shelf ≤ S.failures self.new.shelf }
+    {
+        if let Err(Refusal::Store) = &turn.request.ask {
+            return Reply::Refused(Refusal::Store);
+        }
+        let viewer = Viewer {
+            policy: &self.policy,
+            client: turn.request.client.as_str(),
+            base: self.base.as_str(),
+        };
+        match answer_or_fault(alloc, &viewer, &mut self.shelf, turn) {
+            Ok(reply) => reply,
+            Err(fault) => Reply::Failed(fault),
+        }
+    }
+
+    /// Answers turns one after another. NoMemory where none was to be had for the replies; then no turn
+    /// was answered.
+    pub fn run(&mut self, alloc: Global, turns: &[Turn]) -> Result<Vec<Reply>, NoMemory>
+        ensures ran { IfOk result (λ replies. (store : Store) → S.stands self.old.shelf store → S.is_honest self.new.shelf → IsStore self.old.base store
+            → (next : Store) × S.stands self.new.shelf next × IsStore self.old.base next
+            × Runs self.old.policy self.old.base store turns.now replies.items next) }
+        ensures nothing { OnErr result (self.new ≡ self.old) }
+    {
+        let mut replies = reserved(alloc, turns.len())?;
+        let mut at = 0;
+        for turn in turns {
+            let reply = self.answer(alloc, turn);
+            replies[at] = reply;
+            at += 1;
+        }
+        Ok(replies)
+    }
+
+    /// The shelf.
+    pub fn shelf(&self) -> &S
+        ensures { result.now ≡ self.now.shelf }
+    {
+        &self.shelf
+    }
+
+    /// The shelf, to keep.
+    pub fn into_shelf(self) -> S
+        ensures { result ≡ self.shelf }
+    {
+        let Service {
+            policy: _policy,
+            base: _base,
+            shelf,
+        } = self;
+        shelf
+    }
+}
+
+/// So many replies, to be overwritten.
+fn reserved(alloc: Global, count: usize) -> Result<Vec<Reply>, NoMemory>
+    ensures { IfOk result (λ replies. length replies.items ≡ count) }
+{
+    let mut replies = Vec::with_capacity(alloc, count)?;
+    for _ in 0..count {
+        replies.push(Reply::Done)?;
+    }
+    Ok(replies)
+}
