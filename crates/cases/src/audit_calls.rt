@@ -6,6 +6,7 @@ use scim_cell::{Id, Text};
 use scim_samples::read_leaf;
 use scim_schema::Leaf;
 use scim_text::read_printed_moment;
+use std::alloc::Global;
 
 /// All refusals.
 const REFUSALS: [Refusal; 24] = [
@@ -59,11 +60,16 @@ pub fn answer(case: &Case<'_>, call: &str) -> Option<Result<String, CaseFault>> 
 fn refusal(case: &Case<'_>) -> Result<Refusal, CaseFault> {
     let name = case.text("refusal")?;
     for refusal in REFUSALS.iter() {
-        if format!(in case.alloc; "{refusal:?}")?.as_str() == name {
+        if is_named(case.alloc, *refusal, name)? {
             return Ok(*refusal);
         }
     }
     Err(CaseFault::Missing("refusal"))
+}
+
+fn is_named(alloc: Global, refusal: Refusal, name: &str) -> Result<bool, CaseFault> {
+    let own = format!(in alloc; "{refusal:?}")?;
+    Ok(own.as_str() == name)
 }
 
 /// The number of a refusal, its status, its keyword where it has one, and what else the reply says.
@@ -72,19 +78,31 @@ fn refusal_call(case: &Case<'_>) -> Result<String, CaseFault> {
     let number = refusal.number();
     let status = refusal.status().as_u16();
     let mut text = format!(in case.alloc; "F{number} {status}")?;
+    push_words(refusal, &mut text)?;
+    push_asks(refusal, &mut text)?;
+    Ok(text)
+}
+
+/// Writes the keyword and the methods that are allowed, where there are any.
+fn push_words(refusal: Refusal, text: &mut String) -> Result<(), CaseFault> {
     if let Some(scim_type) = refusal.scim_type() {
-        text.push_str(format!(in case.alloc; " {scim_type}")?.as_str())?;
+        write!(text, " {scim_type}")?;
     }
     if let Some(allow) = refusal.allow() {
-        text.push_str(format!(in case.alloc; ", Allow: {allow}")?.as_str())?;
+        write!(text, ", Allow: {allow}")?;
     }
+    Ok(())
+}
+
+/// Writes whether a token is asked for, and whether the connection is closed.
+fn push_asks(refusal: Refusal, text: &mut String) -> Result<(), CaseFault> {
     if refusal.asks_for_token() {
         text.push_str(", asks for a token")?;
     }
     if refusal.closes() {
         text.push_str(", closes")?;
     }
-    Ok(text)
+    Ok(())
 }
 
 fn refusal_body(case: &Case<'_>) -> Result<String, CaseFault> {
@@ -140,11 +158,21 @@ fn number(case: &Case<'_>) -> u64 {
 }
 
 fn print_row_call(case: &Case<'_>) -> Result<String, CaseFault> {
-    Ok(print_row(case.alloc, number(case), &row(case)?)?)
+    let row = row(case)?;
+    line_of(case, &row)
 }
 
 /// The line of a copy of a row.
 fn copied_row(case: &Case<'_>) -> Result<String, CaseFault> {
-    let copy = row(case)?.try_copy(case.alloc)?;
-    Ok(print_row(case.alloc, number(case), &copy)?)
+    let row = row(case)?;
+    copy_line(case, &row)
+}
+
+fn copy_line(case: &Case<'_>, row: &AuditRow) -> Result<String, CaseFault> {
+    let copy = row.try_copy(case.alloc)?;
+    line_of(case, &copy)
+}
+
+fn line_of(case: &Case<'_>, row: &AuditRow) -> Result<String, CaseFault> {
+    Ok(print_row(case.alloc, number(case), row)?)
 }

@@ -83,21 +83,28 @@ impl Case<'_> {
 
 /// Makes the call of a line, and tells what was expected and what came.
 pub fn make(alloc: Global, line: &str) -> Result<Outcome, FolderFault> {
-    let Ok(value) = Value::from_str(alloc, line) else {
-        return Ok(Outcome {
-            call: String::new(alloc),
-            expected: String::from_str(alloc, "a JSON object")?,
-            found: String::from_str(alloc, line)?,
-            since: String::new(alloc),
-        });
-    };
-    let case = Case {
-        alloc,
-        value: &value,
-    };
+    match Value::from_str(alloc, line) {
+        Ok(value) => outcome_of(alloc, &value),
+        Err(_) => no_object(alloc, line),
+    }
+}
+
+fn no_object(alloc: Global, line: &str) -> Result<Outcome, FolderFault> {
+    let expected = String::from_str(alloc, "a JSON object")?;
+    let found = String::from_str(alloc, line)?;
+    Ok(Outcome {
+        call: String::new(alloc),
+        expected,
+        found,
+        since: String::new(alloc),
+    })
+}
+
+fn outcome_of(alloc: Global, value: &Value) -> Result<Outcome, FolderFault> {
+    let case = Case { alloc, value };
     Ok(Outcome {
         call: String::from_str(alloc, case.text_or("call", ""))?,
-        expected: expected(alloc, &value)?,
+        expected: expected(alloc, value)?,
         found: found(alloc, &case)?,
         since: String::from_str(alloc, case.text_or("since", ""))?,
     })

@@ -25,13 +25,11 @@ pub fn answer(case: &Case<'_>, call: &str) -> Option<Result<String, CaseFault>> 
         "order_of_places" => Some(order_of_places(case)),
         "order_of_units" => Some(order_of_units(case)),
         "sub_attributes_by_place" => Some(sub_attributes_call(case)),
-        "copied_row" => Some(copied_row(case)),
-        "copied_fields" => Some(copied_fields(case)),
-        "atom_of_row" => Some(atom_of_row(case)),
+        "copied_row" | "copied_fields" | "atom_of_row" | "same_row" | "restricted_row" => {
+            Some(row_call(case, call))
+        }
         "are_values" => Some(are_values_call(case)),
-        "same_row" => Some(same_row(case)),
         "same_field" => Some(same_field(case)),
-        "restricted_row" => Some(restricted_row(case)),
         _ => None,
     }
 }
@@ -126,17 +124,15 @@ fn sub_attributes_call(case: &Case<'_>) -> Result<String, CaseFault> {
     Ok(text)
 }
 
+fn field_of(cell: Cell) -> Field {
+    let Cell { leaf, atom, .. } = cell;
+    Field { leaf, atom }
+}
+
 /// The fields of a text of cells.
 fn fields(alloc: Global, text: &str) -> Result<Vec<Field>, CaseFault> {
-    let mut fields = Vec::new(alloc);
-    for Cell {
-        leaf,
-        position: _,
-        atom,
-    } in read_cells(alloc, text)? {
-        fields.push(Field { leaf, atom })?;
-    }
-    Ok(fields)
+    let cells = read_cells(alloc, text)?;
+    Ok(cells.into_iter().map(field_of).collect(alloc)?)
 }
 
 /// A row: a leaf of its unit and its cells, with a bar between them, as `emails.value|emails.type=work`.
@@ -154,40 +150,58 @@ pub fn rows(case: &Case<'_>) -> Result<Vec<Row>, CaseFault> {
     Ok(rows)
 }
 
-fn copied_row(case: &Case<'_>) -> Result<String, CaseFault> {
-    let copy = row(case.alloc, case.text("row")?)?.try_copy(case.alloc)?;
-    Ok(row_text(case.alloc, &copy)?)
+/// What is told of the row.
+fn row_call(case: &Case<'_>, call: &str) -> Result<String, CaseFault> {
+    let row = row(case.alloc, case.text("row")?)?;
+    told_of_row(case, call, &row)
+}
+
+fn told_of_row(case: &Case<'_>, call: &str, row: &Row) -> Result<String, CaseFault> {
+    match call {
+        "copied_row" => fields_text(case.alloc, &row.try_copy(case.alloc)?),
+        "copied_fields" => copied_fields(case.alloc, row),
+        "atom_of_row" => atom_of_row(case, row),
+        "same_row" => same_row(case, row),
+        _ => restricted_row(case, row),
+    }
+}
+
+fn fields_text(alloc: Global, row: &Row) -> Result<String, CaseFault> {
+    Ok(row_text(alloc, row)?)
 }
 
 /// The row of copies of the fields of a row.
-fn copied_fields(case: &Case<'_>) -> Result<String, CaseFault> {
-    let row = row(case.alloc, case.text("row")?)?;
-    let unit = row.unit();
-    let mut copies = Vec::new(case.alloc);
-    for field in row.into_fields() {
-        copies.push(field.try_copy(case.alloc)?)?;
+fn copied_fields(alloc: Global, row: &Row) -> Result<String, CaseFault> {
+    let mut copies = Vec::new(alloc);
+    for field in row.fields() {
+        copies.push(field.try_copy(alloc)?)?;
     }
-    Ok(row_text(case.alloc, &Row::new(unit, copies))?)
+    fields_text(alloc, &Row::new(row.unit(), copies))
 }
 
 /// The atom that a row has at a leaf; `none` where it has none.
-fn atom_of_row(case: &Case<'_>) -> Result<String, CaseFault> {
-    let row = row(case.alloc, case.text("row")?)?;
+fn atom_of_row(case: &Case<'_>, row: &Row) -> Result<String, CaseFault> {
     let atom = row.get(read_leaf(case.text("leaf")?)?);
     Ok(atom_text(case.alloc, atom)?)
 }
 
-/// Whether rows are values of a leaf's unit.
-fn are_values_call(case: &Case<'_>) -> Result<String, CaseFault> {
-    let rows = rows(case)?;
-    let unit = unit_of(read_leaf(case.text("leaf")?)?);
-    truth(case.alloc, are_values(case.kind(), unit, rows.as_slice()))
+fn same_row(case: &Case<'_>, one: &Row) -> Result<String, CaseFault> {
+    let other = row(case.alloc, case.text("other")?)?;
+    truth(case.alloc, *one == other)
 }
 
-fn same_row(case: &Case<'_>) -> Result<String, CaseFault> {
-    let first = row(case.alloc, case.text("row")?)?;
-    let second = row(case.alloc, case.text("other")?)?;
-    truth(case.alloc, first == second)
+/// What is left of a row where the fields of one sub-attribute are kept.
+fn restricted_row(case: &Case<'_>, row: &Row) -> Result<String, CaseFault> {
+    let test = of_sub_attribute(case)?;
+    let rest = row.restrict(case.alloc, &test)?;
+    fields_text(case.alloc, &rest)
+}
+
+/// Whether rows are values of a leaf's unit.
+fn are_values_call(case: &Case<'_>) -> Result<String, CaseFault> {
+    let unit = unit_of(read_leaf(case.text("leaf")?)?);
+    let rows = rows(case)?;
+    truth(case.alloc, are_values(case.kind(), unit, rows.as_slice()))
 }
 
 /// Whether the first fields of two texts are equal.
@@ -195,13 +209,6 @@ fn same_field(case: &Case<'_>) -> Result<String, CaseFault> {
     let first = fields(case.alloc, case.text("cell")?)?;
     let second = fields(case.alloc, case.text("other")?)?;
     truth(case.alloc, first.first() == second.first())
-}
-
-/// What is left of a row where the fields of one sub-attribute are kept.
-fn restricted_row(case: &Case<'_>) -> Result<String, CaseFault> {
-    let row = row(case.alloc, case.text("row")?)?;
-    let test = of_sub_attribute(case)?;
-    Ok(row_text(case.alloc, &row.restrict(case.alloc, &test)?)?)
 }
 
 /// The test that keeps the sub-attribute of the leaf `keep`.

@@ -2,6 +2,7 @@
 use crate::arguments::said;
 use crate::case::Case;
 use crate::faults::CaseFault;
+use clap::ArgMatches;
 use scim_command::{CommandFault, OnceFault, OnceOptions, Setting, command, once};
 use scim_samples::{BASE, POLICY, USERS};
 use serde_json::Value;
@@ -25,14 +26,25 @@ fn once_call(case: &Case<'_>) -> Result<String, CaseFault> {
         client: case.text_or("client", "hr"),
         base: case.text_or("base", BASE),
     };
+    once_text(case, &setting)
+}
+
+fn once_text(case: &Case<'_>, setting: &Setting<'_>) -> Result<String, CaseFault> {
     let mut reader = case.text("request")?.as_bytes();
     let mut written = case.text_or("before", "").as_bytes().to_vec(case.alloc)?;
-    let done = once(case.alloc, &setting, &mut reader, &mut written);
-    let text = str::from_utf8(written.as_slice()).unwrap_or("no UTF-8");
-    match done {
-        Ok(()) => Ok(String::from_str(case.alloc, text)?),
-        Err(fault) => Ok(format!(in case.alloc; "{text}{fault}")?),
+    match once(case.alloc, setting, &mut reader, &mut written) {
+        Ok(()) => said(case.alloc, text_of(written.as_slice())),
+        Err(fault) => fault_behind(case.alloc, written.as_slice(), &fault),
     }
+}
+
+fn text_of(written: &[u8]) -> &str {
+    str::from_utf8(written).unwrap_or("no UTF-8")
+}
+
+fn fault_behind(alloc: Global, written: &[u8], fault: &OnceFault) -> Result<String, CaseFault> {
+    let text = text_of(written);
+    Ok(format!(in alloc; "{text}{fault}")?)
 }
 
 /// The words of a command line.
@@ -47,37 +59,46 @@ fn words(case: &Case<'_>) -> Result<Vec<String>, CaseFault> {
 /// The options that the words of a command line give, or the exit status where they are none.
 fn command_line(case: &Case<'_>) -> Result<String, CaseFault> {
     let words = words(case)?;
-    let matches = match command(case.alloc)?.try_get_matches_from(words.as_slice()) {
-        Ok(matches) => matches,
-        Err(error) => return Ok(format!(in case.alloc; "exit {}", error.exit_code())?),
-    };
+    let command = command(case.alloc)?;
+    match command.try_get_matches_from(words.as_slice()) {
+        Ok(matches) => matches_text(case.alloc, &matches),
+        Err(error) => exit_text(case.alloc, error.exit_code()),
+    }
+}
+
+fn exit_text(alloc: Global, status: i32) -> Result<String, CaseFault> {
+    Ok(format!(in alloc; "exit {status}")?)
+}
+
+fn matches_text(alloc: Global, matches: &ArgMatches<'_>) -> Result<String, CaseFault> {
     let Some(("once", matches)) = matches.subcommand() else {
-        return said(case.alloc, "no command");
+        return said(alloc, "no command");
     };
     match OnceOptions::of(matches) {
-        Ok(options) => Ok(format!(in case.alloc;
+        Ok(options) => Ok(format!(in alloc;
             "policy {}, users {}, client {}, base {}",
             options.policy, options.users, options.client, options.base
         )?),
-        Err(fault) => line_and_status(case.alloc, &fault),
+        Err(fault) => line_and_status(alloc, &fault),
     }
 }
 
 /// The line that tells a fault, and the exit status.
 fn fault_line(case: &Case<'_>) -> Result<String, CaseFault> {
-    let alloc = case.alloc;
+    let fault = fault_of(case)?;
+    line_and_status(case.alloc, &fault)
+}
+
+fn fault_of(case: &Case<'_>) -> Result<CommandFault, CaseFault> {
     match case.text("fault")? {
-        "not_text" => line_and_status(alloc, &CommandFault::NotText),
-        "cannot_read" => line_and_status(
-            alloc,
-            &CommandFault::cannot_read(alloc, case.text("path")?),
-        ),
+        "not_text" => Ok(CommandFault::NotText),
+        "cannot_read" => Ok(CommandFault::cannot_read(case.alloc, case.text("path")?)),
         "users" => {
             let item = usize::try_from(case.number("item")?).unwrap_or(0);
-            line_and_status(alloc, &CommandFault::Once(OnceFault::Users(item)))
+            Ok(CommandFault::Once(OnceFault::Users(item)))
         }
-        "input_ended" => line_and_status(alloc, &CommandFault::Once(OnceFault::InputEnded)),
-        "no_memory" => line_and_status(alloc, &CommandFault::Once(OnceFault::NoMemory)),
+        "input_ended" => Ok(CommandFault::Once(OnceFault::InputEnded)),
+        "no_memory" => Ok(CommandFault::Once(OnceFault::NoMemory)),
         _ => Err(CaseFault::Missing("fault")),
     }
 }

@@ -2,9 +2,11 @@
 use crate::arguments::{said, truth};
 use crate::case::Case;
 use crate::faults::CaseFault;
+use scim_cell::Text;
 use scim_filter::{
-    Filter, FilterFault, Literal, Meant, Named, Node, WrittenPath, attribute_path, holds, holds_at,
-    knows_names, lone_word, mentioned_names, read_filter, read_tokens, written_path,
+    Filter, FilterFault, Literal, Meant, Named, Node, Operator, Token, WrittenPath, attribute_path,
+    holds, holds_at, knows_names, lone_word, mentioned_names, read_filter, read_tokens,
+    written_path,
 };
 use scim_samples::leaf_text;
 use scim_schema::{Attribute, Leaf};
@@ -15,12 +17,10 @@ use std::str;
 /// What a call of `scim_filter` gives; None where it isn't one.
 pub fn answer(case: &Case<'_>, call: &str) -> Option<Result<String, CaseFault>> {
     match call {
-        "read_filter" => Some(read_filter_call(case)),
-        "holds" => Some(holds_call(case)),
-        "holds_at" => Some(holds_at_call(case)),
+        "read_filter" | "holds" | "holds_at" | "knows_names" | "string_literal" => {
+            Some(filter_call(case, call))
+        }
         "names" => Some(names_call(case)),
-        "knows_names" => Some(knows_names_call(case)),
-        "string_literal" => Some(string_literal_call(case)),
         "tokens" => Some(tokens_call(case)),
         "attribute_path" => Some(attribute_path_call(case)),
         "lone_word" => Some(lone_word_call(case)),
@@ -81,39 +81,34 @@ fn literal_text(alloc: Global, literal: &Literal) -> Result<String, CaseFault> {
     }
 }
 
+/// What a node is written with in front.
+fn opening(node: &Node) -> &'static str {
+    match node {
+        Node::Or(_, _) => "(or ",
+        Node::And(_, _) => "(and ",
+        Node::Not(_) => "(not ",
+        Node::Present(_) => "(pr ",
+        Node::Compare(_, _, _) => "(",
+        Node::Values(_, _) => "(of ",
+    }
+}
+
 /// Writes a tree with its operators in front, as `(and (pr title) (Eq emails.value "a"))`, by what its paths
 /// name; a value path as `(of emails (pr emails.type))`.
 pub fn push_tree(alloc: Global, node: &Node, text: &mut String) -> Result<(), CaseFault> {
+    text.push_str(opening(node))?;
     match node {
         Node::Or(a, b) | Node::And(a, b) => {
-            let word = if let Node::Or(_, _) = node {
-                "(or "
-            } else {
-                "(and "
-            };
-            text.push_str(word)?;
             push_tree(alloc, a, text)?;
             text.push(' ')?;
             push_tree(alloc, b, text)?;
         }
-        Node::Not(a) => {
-            text.push_str("(not ")?;
-            push_tree(alloc, a, text)?;
-        }
-        Node::Present(path) => {
-            text.push_str("(pr ")?;
-            push_meant(alloc, path.meant, text)?;
-        }
+        Node::Not(a) => push_tree(alloc, a, text)?,
+        Node::Present(path) => push_meant(alloc, path.meant, text)?,
         Node::Compare(path, operator, literal) => {
-            let value = literal_text(alloc, literal)?;
-            let operator = format!(in alloc; "({operator:?} ")?;
-            text.push_str(operator.as_str())?;
-            push_meant(alloc, path.meant, text)?;
-            text.push(' ')?;
-            text.push_str(value.as_str())?;
+            push_comparison(alloc, path.meant, *operator, literal, text)?;
         }
         Node::Values(path, inner) => {
-            text.push_str("(of ")?;
             push_meant(alloc, path.meant, text)?;
             text.push(' ')?;
             push_tree(alloc, inner, text)?;
@@ -123,34 +118,57 @@ pub fn push_tree(alloc: Global, node: &Node, text: &mut String) -> Result<(), Ca
     Ok(())
 }
 
-/// The tree of the filter, or its fault.
-fn read_filter_call(case: &Case<'_>) -> Result<String, CaseFault> {
+fn push_comparison(
+    alloc: Global,
+    meant: Meant,
+    operator: Operator,
+    literal: &Literal,
+    text: &mut String,
+) -> Result<(), CaseFault> {
+    write!(text, "{operator:?} ")?;
+    push_meant(alloc, meant, text)?;
+    text.push(' ')?;
+    let value = literal_text(alloc, literal)?;
+    text.push_str(value.as_str())?;
+    Ok(())
+}
+
+/// What the filter gives, or its fault.
+fn filter_call(case: &Case<'_>, call: &str) -> Result<String, CaseFault> {
     match filter_of(case)? {
-        Ok(filter) => {
-            let mut text = String::new(case.alloc);
-            push_tree(case.alloc, filter.tree(), &mut text)?;
-            Ok(text)
-        }
+        Ok(filter) => told_of_filter(case, call, &filter),
         Err(fault) => fault_text(case.alloc, fault),
     }
 }
 
-fn holds_call(case: &Case<'_>) -> Result<String, CaseFault> {
-    let part = case.part()?;
-    match filter_of(case)? {
-        Ok(filter) => truth(case.alloc, holds(case.alloc, &filter, &part)?),
-        Err(fault) => fault_text(case.alloc, fault),
+fn told_of_filter(case: &Case<'_>, call: &str, filter: &Filter) -> Result<String, CaseFault> {
+    match call {
+        "read_filter" => tree_text(case.alloc, filter.tree()),
+        "holds" => holds_text(case, filter),
+        "holds_at" => holds_at_text(case, filter),
+        "knows_names" => truth(case.alloc, knows_names(filter.tree())),
+        _ => string_text(case.alloc, filter.tree()),
     }
+}
+
+fn tree_text(alloc: Global, node: &Node) -> Result<String, CaseFault> {
+    let mut text = String::new(alloc);
+    push_tree(alloc, node, &mut text)?;
+    Ok(text)
+}
+
+fn holds_text(case: &Case<'_>, filter: &Filter) -> Result<String, CaseFault> {
+    let part = case.part()?;
+    let found = holds(case.alloc, filter, &part)?;
+    truth(case.alloc, found)
 }
 
 /// Whether the filter holds at the position `position`.
-fn holds_at_call(case: &Case<'_>) -> Result<String, CaseFault> {
-    let part = case.part()?;
+fn holds_at_text(case: &Case<'_>, filter: &Filter) -> Result<String, CaseFault> {
     let position = usize::try_from(case.number("position")?).unwrap_or(0);
-    match filter_of(case)? {
-        Ok(filter) => truth(case.alloc, holds_at(case.alloc, &filter, &part, position)?),
-        Err(fault) => fault_text(case.alloc, fault),
-    }
+    let part = case.part()?;
+    let found = holds_at(case.alloc, filter, &part, position)?;
+    truth(case.alloc, found)
 }
 
 fn attribute_text(attribute: Option<Attribute>) -> &'static str {
@@ -177,31 +195,22 @@ fn listed_names(alloc: Global, filter: &Filter) -> Result<String, CaseFault> {
 fn names_text(alloc: Global, names: &[Named]) -> Result<String, CaseFault> {
     let mut text = String::new(alloc);
     for name in names {
-        if !text.is_empty() {
-            text.push_str(", ")?;
-        }
-        text.push_str(name.text.as_str())?;
-        text.push(' ')?;
-        text.push_str(attribute_text(name.attribute))?;
+        push_name(name, &mut text)?;
     }
     Ok(text)
 }
 
-fn knows_names_call(case: &Case<'_>) -> Result<String, CaseFault> {
-    match filter_of(case)? {
-        Ok(filter) => truth(case.alloc, knows_names(filter.tree())),
-        Err(fault) => fault_text(case.alloc, fault),
+fn push_name(name: &Named, text: &mut String) -> Result<(), CaseFault> {
+    if !text.is_empty() {
+        text.push_str(", ")?;
     }
+    text.push_str(name.text.as_str())?;
+    text.push(' ')?;
+    text.push_str(attribute_text(name.attribute))?;
+    Ok(())
 }
 
 /// Of a comparison with a string the text, its folding, and the second of the moment that it spells.
-fn string_literal_call(case: &Case<'_>) -> Result<String, CaseFault> {
-    match filter_of(case)? {
-        Ok(filter) => string_text(case.alloc, filter.tree()),
-        Err(fault) => fault_text(case.alloc, fault),
-    }
-}
-
 fn string_text(alloc: Global, node: &Node) -> Result<String, CaseFault> {
     let Node::Compare(_, _, Literal::Text(string)) = node else {
         return said(alloc, "no string");
@@ -216,38 +225,51 @@ fn string_text(alloc: Global, node: &Node) -> Result<String, CaseFault> {
 /// Each token with where it begins and ends, as `0-5 title|6-8 pr`.
 fn tokens_call(case: &Case<'_>) -> Result<String, CaseFault> {
     let source = spaced_text(case, "text")?;
-    let found = match read_tokens(case.alloc, source.as_str()) {
-        Ok(found) => found,
-        Err(fault) => return fault_text(case.alloc, fault),
-    };
-    let mut text = String::new(case.alloc);
-    for token in &found {
-        if !text.is_empty() {
-            text.push('|')?;
-        }
-        let span = format!(in case.alloc; "{}-{} ", token.start, token.end)?;
-        text.push_str(span.as_str())?;
-        text.push_str(token.slice)?;
+    match read_tokens(case.alloc, source.as_str()) {
+        Ok(tokens) => tokens_text(case.alloc, tokens.as_slice()),
+        Err(fault) => fault_text(case.alloc, fault),
+    }
+}
+
+fn tokens_text(alloc: Global, tokens: &[Token<'_>]) -> Result<String, CaseFault> {
+    let mut text = String::new(alloc);
+    for token in tokens {
+        push_token(token, &mut text)?;
     }
     Ok(text)
+}
+
+fn push_token(token: &Token<'_>, text: &mut String) -> Result<(), CaseFault> {
+    if !text.is_empty() {
+        text.push('|')?;
+    }
+    write!(text, "{}-{} ", token.start, token.end)?;
+    text.push_str(token.slice)?;
+    Ok(())
 }
 
 /// What the path names; the attribute whose sub-attributes may stand between brackets, the attribute that is
 /// named, and the leaf that is compared.
 fn attribute_path_call(case: &Case<'_>) -> Result<String, CaseFault> {
-    let Some(meant) = attribute_path(case.kind(), case.text("text")?) else {
-        return said(case.alloc, "none");
-    };
-    let named = meant_text(case.alloc, meant)?;
-    let leaf = match meant.compared_leaf() {
-        Some(leaf) => leaf_text(case.alloc, leaf)?,
-        None => said(case.alloc, "none")?,
-    };
-    let (inside, own) = (
-        attribute_text(meant.attribute()),
-        attribute_text(meant.mentioned_attribute()),
-    );
-    Ok(format!(in case.alloc; "{named}, {inside}, {own}, {leaf}")?)
+    match attribute_path(case.kind(), case.text("text")?) {
+        Some(meant) => told_of_meant(case.alloc, meant),
+        None => said(case.alloc, "none"),
+    }
+}
+
+fn told_of_meant(alloc: Global, meant: Meant) -> Result<String, CaseFault> {
+    let inside = attribute_text(meant.attribute());
+    let own = attribute_text(meant.mentioned_attribute());
+    let named = meant_text(alloc, meant)?;
+    let leaf = compared_text(alloc, meant)?;
+    Ok(format!(in alloc; "{named}, {inside}, {own}, {leaf}")?)
+}
+
+fn compared_text(alloc: Global, meant: Meant) -> Result<String, CaseFault> {
+    match meant.compared_leaf() {
+        Some(leaf) => Ok(leaf_text(alloc, leaf)?),
+        None => said(alloc, "none"),
+    }
 }
 
 fn lone_word_call(case: &Case<'_>) -> Result<String, CaseFault> {
@@ -269,22 +291,27 @@ fn written_text(alloc: Global, path: &WrittenPath) -> Result<String, CaseFault> 
     match path {
         WrittenPath::Plain(path) => meant_text(alloc, path.meant),
         WrittenPath::Filtered(filter, sub_name) => {
-            let mut text = filter_text(alloc, filter)?;
-            if let Some(name) = sub_name {
-                text.push('.')?;
-                text.push_str(name.as_str())?;
-            }
+            let mut text = String::new(alloc);
+            push_filter(alloc, filter, sub_name.as_ref(), &mut text)?;
             Ok(text)
         }
     }
 }
 
-/// The tree of a filter, behind a word where its values are of wrong types.
-fn filter_text(alloc: Global, filter: &Filter) -> Result<String, CaseFault> {
-    let mut text = String::new(alloc);
+/// Writes the tree of a filter, behind a word where its values are of wrong types, and the name behind it.
+fn push_filter(
+    alloc: Global,
+    filter: &Filter,
+    sub_name: Option<&Text>,
+    text: &mut String,
+) -> Result<(), CaseFault> {
     if !filter.has_right_types() {
         text.push_str("wrong types ")?;
     }
-    push_tree(alloc, filter.tree(), &mut text)?;
-    Ok(text)
+    push_tree(alloc, filter.tree(), text)?;
+    if let Some(name) = sub_name {
+        text.push('.')?;
+        text.push_str(name.as_str())?;
+    }
+    Ok(())
 }

@@ -6,6 +6,7 @@ use scim_json::{Damaged, read_stored, stored_text, to_json};
 use scim_samples::{BASE, part_text};
 use scim_text::Failed;
 use scim_value::Resource;
+use std::alloc::Global;
 
 /// What a call of `scim_json` gives; None where it isn't one.
 pub fn answer(case: &Case<'_>, call: &str) -> Option<Result<String, CaseFault>> {
@@ -48,10 +49,14 @@ fn resource_text(case: &Case<'_>, call: &str, resource: &Resource) -> Result<Str
 /// Whether what is read of a resource's document is the resource.
 fn reads_back(case: &Case<'_>) -> Result<String, CaseFault> {
     let resource = case.resource()?;
-    let text = stored_text(case.alloc, &resource)?;
-    match read_stored(case.alloc, BASE, text.as_str()) {
-        Ok(again) if again == resource => said(case.alloc, "true"),
-        Ok(_) => said(case.alloc, "another resource"),
-        Err(_) => said(case.alloc, "Damaged"),
+    read_again(case.alloc, &resource)
+}
+
+fn read_again(alloc: Global, resource: &Resource) -> Result<String, CaseFault> {
+    let text = stored_text(alloc, resource)?;
+    match read_stored(alloc, BASE, text.as_str()) {
+        Ok(again) if again == *resource => said(alloc, "true"),
+        Ok(_) => said(alloc, "another resource"),
+        Err(_) => said(alloc, "Damaged"),
     }
 }

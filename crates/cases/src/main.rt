@@ -7,6 +7,7 @@
 
 mod arguments;
 mod audit_calls;
+mod body_calls;
 mod case;
 mod cell_calls;
 mod command_calls;
@@ -20,6 +21,7 @@ mod query_calls;
 mod row_tests;
 mod samples_calls;
 mod schema_calls;
+mod service_calls;
 mod tally;
 mod text_calls;
 mod value_calls;
@@ -49,11 +51,7 @@ fn main(rt: HostRuntime) -> ExitCode {
 /// Goes through the files of the folder that the command line names.
 fn run(rt: &HostRuntime) -> Result<Tally, FolderFault> {
     let alloc = rt.alloc();
-    let mut folder = None;
-    for word in env::args(rt)?.skip(1) {
-        folder = Some(word);
-    }
-    let folder = folder.ok_or(FolderFault::NoFolder)?;
+    let folder = folder_named(rt)?;
     let mut tally = Tally::new();
     for name in folder::case_files(rt, alloc, folder.as_str())? {
         let text = folder::read(rt, alloc, folder.as_str(), name.as_str())?;
@@ -61,6 +59,15 @@ fn run(rt: &HostRuntime) -> Result<Tally, FolderFault> {
     }
     tally.print(rt)?;
     Ok(tally)
+}
+
+/// The last word of the command line.
+fn folder_named(rt: &HostRuntime) -> Result<String, FolderFault> {
+    let mut folder = None;
+    for word in env::args(rt)?.skip(1) {
+        folder = Some(word);
+    }
+    folder.ok_or(FolderFault::NoFolder)
 }
 
 /// Goes through the lines of a file; empty ones and those that begin with `#` are no cases.
@@ -126,6 +133,17 @@ fn answer(case: &Case<'_>) -> Result<String, CaseFault> {
         return found;
     }
     if let Some(found) = audit_calls::answer(case, call) {
+        return found;
+    }
+    later_answer(case, call)
+}
+
+/// What the call gives, if it is one of a body or of the service.
+fn later_answer(case: &Case<'_>, call: &str) -> Result<String, CaseFault> {
+    if let Some(found) = body_calls::answer(case, call) {
+        return found;
+    }
+    if let Some(found) = service_calls::answer(case, call) {
         return found;
     }
     Err(CaseFault::NoSuchCall)

@@ -2,7 +2,9 @@
 use crate::arguments::{said, truth};
 use crate::case::Case;
 use crate::faults::CaseFault;
-use scim_policy::{ClientName, Decision, Decisions, Policy, Rule, is_client_name, read_policy};
+use scim_policy::{
+    ClientName, Decision, Decisions, Policy, Rule, Target, is_client_name, read_policy,
+};
 use scim_samples::{POLICY, read_leaf};
 use scim_value::Resource;
 use serde_json::Value;
@@ -13,13 +15,8 @@ pub fn answer(case: &Case<'_>, call: &str) -> Option<Result<String, CaseFault>> 
     match call {
         "is_client_name" => Some(is_client_name_call(case)),
         "read_policy" => Some(read_policy_call(case)),
-        "rule" => Some(rule_call(case)),
-        "rule_paths" => Some(rule_paths_call(case)),
-        "rule_targets" => Some(rule_targets_call(case)),
-        "decide" => Some(decide_call(case)),
-        "decisions" => Some(decisions_call(case)),
-        "misfit" => Some(misfit_call(case)),
-        "misfits" => Some(misfits_call(case)),
+        "rule" | "rule_paths" | "rule_targets" => Some(rule_call(case, call)),
+        "decide" | "decisions" | "misfit" | "misfits" => Some(decision_call(case, call)),
         _ => None,
     }
 }
@@ -32,9 +29,14 @@ fn is_client_name_call(case: &Case<'_>) -> Result<String, CaseFault> {
 fn read_policy_call(case: &Case<'_>) -> Result<String, CaseFault> {
     let text = policy_text(case)?;
     match read_policy(case.alloc, text.as_str()) {
-        Ok(policy) => Ok(format!(in case.alloc; "ok, {} rules", policy.rule_count())?),
+        Ok(policy) => count_text(case.alloc, policy.rule_count()),
         Err(fault) => Ok(format!(in case.alloc; "{fault}")?),
     }
+}
+
+/// What is told of a policy of so many rules.
+pub fn count_text(alloc: Global, rules: usize) -> Result<String, CaseFault> {
+    Ok(format!(in alloc; "ok, {rules} rules")?)
 }
 
 /// The text of a policy file: `policy`, a text or a JSON value; or the file of the list `rules`; or of `times`
@@ -42,8 +44,7 @@ fn read_policy_call(case: &Case<'_>) -> Result<String, CaseFault> {
 fn policy_text(case: &Case<'_>) -> Result<String, CaseFault> {
     let alloc = case.alloc;
     if let Some(rules) = case.value.get("rules") {
-        let rules = rules.to_string(alloc)?;
-        return Ok(format!(in alloc; "{{\"version\":1,\"rules\":{rules}}}")?);
+        return file_of(alloc, rules);
     }
     if let Some(rule) = case.value.get("rule") {
         return repeated(alloc, rule, case.number("times")?);
@@ -53,6 +54,12 @@ fn policy_text(case: &Case<'_>) -> Result<String, CaseFault> {
         Some(value) => Ok(value.to_string(alloc)?),
         None => said(alloc, POLICY),
     }
+}
+
+/// The file of a list of rules.
+fn file_of(alloc: Global, rules: &Value) -> Result<String, CaseFault> {
+    let rules = rules.to_string(alloc)?;
+    Ok(format!(in alloc; "{{\"version\":1,\"rules\":{rules}}}")?)
 }
 
 /// The file of a rule so many times.
@@ -91,38 +98,73 @@ fn rule_of<'p>(case: &Case<'_>, policy: &'p Policy) -> Result<&'p Rule, CaseFaul
     }
 }
 
-/// Whether a rule allows, for which clients, and for which operations and kinds.
-fn rule_call(case: &Case<'_>) -> Result<String, CaseFault> {
+/// What is told of a rule of the policy.
+fn rule_call(case: &Case<'_>, call: &str) -> Result<String, CaseFault> {
     let policy = policy(case)?;
-    let rule = rule_of(case, &policy)?;
-    let mut text = said(case.alloc, if rule.allows() { "allow" } else { "deny" })?;
-    for client in rule.clients() {
+    told_of_rule(case, call, &policy)
+}
+
+fn told_of_rule(case: &Case<'_>, call: &str, policy: &Policy) -> Result<String, CaseFault> {
+    let rule = rule_of(case, policy)?;
+    match call {
+        "rule" => rule_text(case.alloc, rule),
+        "rule_paths" => Ok(format!(in case.alloc; "{:?}", rule.paths_on(case.kind()))?),
+        _ => targets_text(case.alloc, rule.targets()),
+    }
+}
+
+/// Whether a rule allows, for which clients, and for which operations and kinds.
+fn rule_text(alloc: Global, rule: &Rule) -> Result<String, CaseFault> {
+    let mut text = said(alloc, if rule.allows() { "allow" } else { "deny" })?;
+    push_clients(rule.clients(), &mut text)?;
+    write!(text, " {:?} {:?}", rule.ops(), rule.kinds())?;
+    Ok(text)
+}
+
+fn push_clients(clients: &[ClientName], text: &mut String) -> Result<(), CaseFault> {
+    for client in clients {
         text.push_str(" ")?;
         match client {
             ClientName::Everyone => text.push_str("*")?,
             ClientName::Named(name) => text.push_str(name.as_str())?,
         }
     }
-    text.push_str(format!(in case.alloc; " {:?} {:?}", rule.ops(), rule.kinds())?.as_str())?;
-    Ok(text)
-}
-
-/// What a rule covers on resources of the kind.
-fn rule_paths_call(case: &Case<'_>) -> Result<String, CaseFault> {
-    let policy = policy(case)?;
-    let rule = rule_of(case, &policy)?;
-    Ok(format!(in case.alloc; "{:?}", rule.paths_on(case.kind()))?)
+    Ok(())
 }
 
 /// The targets of a rule, and of each whether its values are of the types of their attributes.
-fn rule_targets_call(case: &Case<'_>) -> Result<String, CaseFault> {
-    let policy = policy(case)?;
-    let mut text = String::new(case.alloc);
-    for target in rule_of(case, &policy)?.targets() {
+fn targets_text(alloc: Global, targets: &[Target]) -> Result<String, CaseFault> {
+    let mut text = String::new(alloc);
+    for target in targets {
         let typed = target.filter().has_right_types();
-        text.push_str(format!(in case.alloc; "{target:?} {typed} ")?.as_str())?;
+        write!(text, "{target:?} {typed} ")?;
     }
     Ok(text)
+}
+
+/// What the policy decides of the resource.
+fn decision_call(case: &Case<'_>, call: &str) -> Result<String, CaseFault> {
+    let policy = policy(case)?;
+    decided_by(case, call, &policy)
+}
+
+fn decided_by(case: &Case<'_>, call: &str, policy: &Policy) -> Result<String, CaseFault> {
+    let resource = case.resource()?;
+    told_of_decision(case, call, policy, &resource)
+}
+
+fn told_of_decision(
+    case: &Case<'_>,
+    call: &str,
+    policy: &Policy,
+    resource: &Resource,
+) -> Result<String, CaseFault> {
+    match call {
+        "decide" => decision_of(case, policy, resource),
+        "decisions" => decisions_of(case, policy, resource),
+        "misfit" => misfit_text(case, policy, resource),
+        _ => misfits_text(case, policy, resource),
+    }
 }
 
 fn decision_text(alloc: Global, decision: Decision) -> Result<String, CaseFault> {
@@ -130,49 +172,43 @@ fn decision_text(alloc: Global, decision: Decision) -> Result<String, CaseFault>
     Ok(format!(in alloc; "rule {}: {effect}", decision.rule)?)
 }
 
-fn decide_call(case: &Case<'_>) -> Result<String, CaseFault> {
-    let policy = policy(case)?;
-    let resource = case.resource()?;
+fn decision_of(case: &Case<'_>, policy: &Policy, resource: &Resource) -> Result<String, CaseFault> {
     let leaf = read_leaf(case.text("leaf")?)?;
     let client = case.text("client")?;
-    let decision = policy.decide(case.alloc, client, case.op(), &resource, leaf)?;
+    let decision = policy.decide(case.alloc, client, case.op(), resource, leaf)?;
     decision_text(case.alloc, decision)
 }
 
 /// The decisions on some leaves, one after another.
-fn decisions_call(case: &Case<'_>) -> Result<String, CaseFault> {
-    let policy = policy(case)?;
-    let decisions = decisions_by(case, &policy)?;
-    decisions_text(case, &decisions)
-}
-
-/// The decisions on the resource by a policy.
-fn decisions_by(case: &Case<'_>, policy: &Policy) -> Result<Decisions, CaseFault> {
-    let resource = case.resource()?;
+fn decisions_of(
+    case: &Case<'_>,
+    policy: &Policy,
+    resource: &Resource,
+) -> Result<String, CaseFault> {
     let client = case.text("client")?;
-    Ok(policy.decisions(case.alloc, client, case.op(), &resource)?)
+    let decisions = policy.decisions(case.alloc, client, case.op(), resource)?;
+    decisions_text(case, &decisions)
 }
 
 fn decisions_text(case: &Case<'_>, decisions: &Decisions) -> Result<String, CaseFault> {
     let mut text = String::new(case.alloc);
     for path in case.list("leaves") {
         let leaf = read_leaf(path.as_str().ok_or(CaseFault::Missing("leaves"))?)?;
-        let decision = decision_text(case.alloc, decisions.of(leaf))?;
-        if !text.is_empty() {
-            text.push_str("; ")?;
-        }
-        text.push_str(decision.as_str())?;
+        push_decision(case.alloc, decisions.of(leaf), &mut text)?;
     }
     Ok(text)
 }
 
-/// What of the rule `number` doesn't fit, asked of the policy.
-fn misfit_call(case: &Case<'_>) -> Result<String, CaseFault> {
-    let policy = policy(case)?;
-    let resource = case.resource()?;
-    misfit_text(case, &policy, &resource)
+fn push_decision(alloc: Global, decision: Decision, text: &mut String) -> Result<(), CaseFault> {
+    if !text.is_empty() {
+        text.push_str("; ")?;
+    }
+    let decision = decision_text(alloc, decision)?;
+    text.push_str(decision.as_str())?;
+    Ok(())
 }
 
+/// What of the rule `number` doesn't fit, asked of the policy.
 fn misfit_text(case: &Case<'_>, policy: &Policy, resource: &Resource) -> Result<String, CaseFault> {
     let leaf = read_leaf(case.text("leaf")?)?;
     let client = case.text("client")?;
@@ -186,15 +222,17 @@ fn misfit_text(case: &Case<'_>, policy: &Policy, resource: &Resource) -> Result<
 }
 
 /// What of each of the rules doesn't fit.
-fn misfits_call(case: &Case<'_>) -> Result<String, CaseFault> {
-    let policy = policy(case)?;
-    let resource = case.resource()?;
+fn misfits_text(
+    case: &Case<'_>,
+    policy: &Policy,
+    resource: &Resource,
+) -> Result<String, CaseFault> {
     let leaf = read_leaf(case.text("leaf")?)?;
     let client = case.text("client")?;
     let mut text = String::new(case.alloc);
     for rule in policy.rules() {
-        let misfit = rule.misfit(case.alloc, client, case.op(), &resource, leaf)?;
-        text.push_str(format!(in case.alloc; "{misfit:?} ")?.as_str())?;
+        let misfit = rule.misfit(case.alloc, client, case.op(), resource, leaf)?;
+        write!(text, "{misfit:?} ")?;
     }
     Ok(text)
 }

@@ -12,14 +12,13 @@ use scim_query::{Page, Pager, Query, read_sort_by, search, search_view};
 use scim_samples::{atom_text, leaf_text, part, read_leaf, resource, sample_groups, sample_users};
 use scim_schema::{Kind, Leaf};
 use scim_value::{Part, Resource};
+use scim_view::Viewer;
 use std::alloc::Global;
 
 /// What a call of `scim_query` gives; None where it isn't one.
 pub fn answer(case: &Case<'_>, call: &str) -> Option<Result<String, CaseFault>> {
     match call {
-        "search" => Some(search_call(case)),
-        "pager" => Some(pager_call(case)),
-        "search_view" => Some(search_view_call(case)),
+        "search" | "pager" | "search_view" => Some(query_call(case, call)),
         "read_sort_by" => Some(read_sort_by_call(case)),
         _ => None,
     }
@@ -59,14 +58,15 @@ fn count_of(case: &Case<'_>, name: &'static str, other: usize) -> usize {
 }
 
 /// The query of a case, by default all by id.
-fn query_of(case: &Case<'_>) -> Result<Query, CaseFault> {
+pub fn query_of(case: &Case<'_>) -> Result<Query, CaseFault> {
+    let wanted = wanted(case)?;
     Ok(Query {
         filter: wanted_filter(case)?,
         sort_by: sort_leaf(case),
         descending: case.is_true("descending"),
         start: count_of(case, "startIndex", 1),
         count: count_of(case, "count", 100),
-        wanted: wanted(case)?,
+        wanted,
     })
 }
 
@@ -74,17 +74,28 @@ fn query_of(case: &Case<'_>) -> Result<Query, CaseFault> {
 fn parts_of(case: &Case<'_>) -> Result<Vec<Part>, CaseFault> {
     let mut parts = Vec::new(case.alloc);
     for value in case.list("parts") {
-        let text = value.as_str().unwrap_or("");
-        let (digits, cells) = text.split_once(' ').unwrap_or((text, ""));
-        let id = format!(in case.alloc; "00000000-0000-4000-8000-0000000000{digits}")?;
-        parts.push(part(case.alloc, case.kind(), id.as_str(), cells)?)?;
+        parts.push(part_of(case, value.as_str().unwrap_or(""))?)?;
     }
     Ok(parts)
 }
 
-fn search_call(case: &Case<'_>) -> Result<String, CaseFault> {
+fn part_of(case: &Case<'_>, text: &str) -> Result<Part, CaseFault> {
+    let (digits, cells) = text.split_once(' ').unwrap_or((text, ""));
+    let id = format!(in case.alloc; "00000000-0000-4000-8000-0000000000{digits}")?;
+    Ok(part(case.alloc, case.kind(), id.as_str(), cells)?)
+}
+
+fn query_call(case: &Case<'_>, call: &str) -> Result<String, CaseFault> {
     let query = query_of(case)?;
-    found_page(case, &query)
+    told_of_query(case, call, &query)
+}
+
+fn told_of_query(case: &Case<'_>, call: &str, query: &Query) -> Result<String, CaseFault> {
+    match call {
+        "search" => found_page(case, query),
+        "pager" => paged(case, query),
+        _ => seen_page(case, query),
+    }
 }
 
 /// The page of the parts of the list `parts` that a query asks for.
@@ -99,21 +110,18 @@ fn pushed_parts(case: &Case<'_>) -> Result<Vec<Part>, CaseFault> {
     if !case.list("parts").is_empty() {
         return parts_of(case);
     }
-    let mut parts = Vec::new(case.alloc);
-    for resource in resources_of(case)? {
-        parts.push(resource.into_part())?;
-    }
-    Ok(parts)
+    let resources = resources_of(case)?;
+    Ok(
+        resources
+            .into_iter()
+            .map(Resource::into_part)
+            .collect(case.alloc)?,
+    )
 }
 
 /// The page of the parts that are pushed one by one, and the most that were held between two of them.
-fn pager_call(case: &Case<'_>) -> Result<String, CaseFault> {
-    let query = query_of(case)?;
+fn paged(case: &Case<'_>, query: &Query) -> Result<String, CaseFault> {
     let parts = pushed_parts(case)?;
-    paged(case, &query, parts)
-}
-
-fn paged(case: &Case<'_>, query: &Query, parts: Vec<Part>) -> Result<String, CaseFault> {
     let mut pager = Pager::new(case.alloc, query);
     let most = push_all(&mut pager, parts)?;
     let page = pager.end()?;
@@ -139,11 +147,15 @@ fn told_page(case: &Case<'_>, page: &Page, most: usize) -> Result<String, CaseFa
 fn numbered_users(alloc: Global, number: i64) -> Result<Vec<Resource>, CaseFault> {
     let mut users = Vec::new(alloc);
     for index in 0..number {
-        let id = format!(in alloc; "00000000-0000-4000-8000-000000000{index:03}")?;
-        let cells = format!(in alloc; "userName=user{index}")?;
-        users.push(resource(alloc, Kind::User, id.as_str(), cells.as_str())?)?;
+        users.push(numbered_user(alloc, index)?)?;
     }
     Ok(users)
+}
+
+fn numbered_user(alloc: Global, index: i64) -> Result<Resource, CaseFault> {
+    let id = format!(in alloc; "00000000-0000-4000-8000-000000000{index:03}")?;
+    let cells = format!(in alloc; "userName=user{index}")?;
+    Ok(resource(alloc, Kind::User, id.as_str(), cells.as_str())?)
 }
 
 /// So many users as the argument `users` says, or the samples of the kind.
@@ -157,9 +169,9 @@ fn resources_of(case: &Case<'_>) -> Result<Vec<Resource>, CaseFault> {
     }
 }
 
-fn search_view_call(case: &Case<'_>) -> Result<String, CaseFault> {
-    let query = query_of(case)?;
-    let page = page_of_view(case, &query)?;
+/// The page of what the client sees by the policy.
+fn seen_page(case: &Case<'_>, query: &Query) -> Result<String, CaseFault> {
+    let page = page_of_view(case, query)?;
     page_text(case, &page)
 }
 
@@ -170,15 +182,19 @@ fn page_of_view(case: &Case<'_>, query: &Query) -> Result<Page, CaseFault> {
 }
 
 fn page_by(case: &Case<'_>, policy: &Policy, query: &Query) -> Result<Page, CaseFault> {
+    let viewer = viewer(case, policy)?;
     let groups = sample_groups(case.alloc)?;
+    page_among(case, &viewer, groups.as_slice(), query)
+}
+
+fn page_among(
+    case: &Case<'_>,
+    viewer: &Viewer<'_>,
+    groups: &[Resource],
+    query: &Query,
+) -> Result<Page, CaseFault> {
     let resources = resources_of(case)?;
-    Ok(search_view(
-        case.alloc,
-        &viewer(case, policy)?,
-        groups.as_slice(),
-        resources.as_slice(),
-        query,
-    )?)
+    Ok(search_view(case.alloc, viewer, groups, resources.as_slice(), query)?)
 }
 
 /// A page as its total, its start and its items: of each its JSON, or where the argument `tell` names a leaf
@@ -186,12 +202,21 @@ fn page_by(case: &Case<'_>, policy: &Policy, query: &Query) -> Result<Page, Case
 fn page_text(case: &Case<'_>, page: &Page) -> Result<String, CaseFault> {
     let mut text = format!(in case.alloc; "{} from {}:", page.total, page.start)?;
     for item in &page.items {
-        let told = match case.text("tell") {
-            Ok(path) => atom_text(case.alloc, item.get(read_leaf(path)?, 0))?,
-            Err(_) => to_json(case.alloc, item)?,
-        };
-        text.push(' ')?;
-        text.push_str(told.as_str())?;
+        push_item(case, item, &mut text)?;
     }
     Ok(text)
+}
+
+fn push_item(case: &Case<'_>, item: &Part, text: &mut String) -> Result<(), CaseFault> {
+    text.push(' ')?;
+    let told = item_text(case, item)?;
+    text.push_str(told.as_str())?;
+    Ok(())
+}
+
+fn item_text(case: &Case<'_>, item: &Part) -> Result<String, CaseFault> {
+    match case.text("tell") {
+        Ok(path) => Ok(atom_text(case.alloc, item.get(read_leaf(path)?, 0))?),
+        Err(_) => Ok(to_json(case.alloc, item)?),
+    }
 }

@@ -4,10 +4,10 @@ use crate::case::Case;
 use crate::faults::CaseFault;
 use scim_samples::{leaf_text, read_leaf};
 use scim_schema::{
-    Attribute, AttributeType, Characteristics, Leaf, Mutability, Returned, Schema, Uniqueness,
-    attribute_characteristics, attribute_named, attribute_named_in, attributes, characteristics_of,
-    core_schema, extension_of, extensions, has_leaf, is_multi_valued, leaves, schema_of,
-    sub_attribute_named, sub_attributes, unit_of,
+    Attribute, AttributeType, Characteristics, Kind, Leaf, Mutability, Returned, Schema,
+    Uniqueness, attribute_characteristics, attribute_named, attribute_named_in, attributes,
+    characteristics_of, core_schema, extension_of, extensions, has_leaf, is_multi_valued, leaves,
+    schema_of, sub_attribute_named, sub_attributes, unit_of,
 };
 use std::alloc::Global;
 
@@ -174,14 +174,18 @@ fn sub_attribute_list(case: &Case<'_>) -> Result<String, CaseFault> {
 fn leaf(case: &Case<'_>) -> Result<String, CaseFault> {
     let kind = case.kind();
     let place = usize::try_from(case.number("place")?).unwrap_or(0);
-    let Some(leaf) = leaves(kind).get(place.wrapping_sub(1)).copied() else {
-        return said(case.alloc, "none");
-    };
+    match leaves(kind).get(place.wrapping_sub(1)) {
+        Some(leaf) => told_of_leaf(case.alloc, kind, *leaf),
+        None => said(case.alloc, "none"),
+    }
+}
+
+fn told_of_leaf(alloc: Global, kind: Kind, leaf: Leaf) -> Result<String, CaseFault> {
     let schema = schema_word(schema_of(kind, leaf.attribute));
-    let path = leaf_text(case.alloc, leaf)?;
+    let path = leaf_text(alloc, leaf)?;
     let of = characteristics_of(kind, leaf);
-    let text = characteristics_text(case.alloc, is_multi_valued(leaf.attribute), &of)?;
-    Ok(format!(in case.alloc; "{schema} {path} {text}")?)
+    let text = characteristics_text(alloc, is_multi_valued(leaf.attribute), &of)?;
+    Ok(format!(in alloc; "{schema} {path} {text}")?)
 }
 
 /// The characteristics of a whole complex attribute.

@@ -8,39 +8,49 @@ use scim_cell::{Atom, Cell, Id, Row, Text, are_values};
 use scim_samples::{
     ALICE, BASE, atom_text, leaf_text, part, part_text, read_cells, read_leaf, row_text,
 };
-use scim_schema::{Attribute, Kind, Leaf, SubAttribute, unique_leaves, unit_of};
+use scim_schema::{Attribute, Kind, Leaf, SubAttribute, Unit, unique_leaves, unit_of};
 use scim_text::Failed;
-use scim_value::{Invalid, Part, Resource, is_resource, known_text, location, unique_names};
+use scim_value::{
+    Invalid, Part, Resource, UniqueName, is_resource, known_text, location, unique_names,
+};
 use std::alloc::Global;
 
 /// What a call of `scim_value` gives; None where it isn't one.
 pub fn answer(case: &Case<'_>, call: &str) -> Option<Result<String, CaseFault>> {
     match call {
         "part" | "sorted_part" => Some(part_call(case, call)),
-        "rows" | "attribute_rows" | "values" => Some(rows_call(case, call)),
-        "atom" => Some(atom_call(case)),
-        "positions" => Some(positions_call(case)),
-        "same_part" => Some(same_part(case)),
-        "copied_part" => Some(copied_part(case)),
         "taken_apart" => Some(taken_apart(case)),
         "with" => Some(with_call(case)),
         "without" => Some(without_call(case)),
         "put" => Some(put_call(case)),
-        "restrict" => Some(restrict_call(case)),
-        "restrict_by_atom" => Some(restrict_by_atom(case)),
-        "restricted_positions" => Some(restricted_positions(case)),
-        "is_resource" => Some(is_resource_call(case)),
+        "rows" | "attribute_rows" | "values" => Some(part_told(case, call)),
+        "restrict" | "restrict_by_atom" | "restricted_positions" => Some(part_told(case, call)),
+        _ => other_answer(case, call),
+    }
+}
+
+/// What a call on one part, or on a leaf gives.
+fn other_answer(case: &Case<'_>, call: &str) -> Option<Result<String, CaseFault>> {
+    match call {
+        "atom" | "positions" | "same_part" | "copied_part" | "is_resource" => {
+            Some(part_told(case, call))
+        }
+        "location" => Some(location_call(case)),
+        "unique_leaves" => Some(unique_leaves_call(case)),
+        "known_text" => Some(known_text_call(case)),
+        "fault" => Some(fault_call(case)),
+        _ => resource_answer(case, call),
+    }
+}
+
+/// What a call on a resource gives.
+fn resource_answer(case: &Case<'_>, call: &str) -> Option<Result<String, CaseFault>> {
+    match call {
         "resource" => Some(resource_call(case)),
         "resource_with" => Some(resource_with(case)),
         "resource_without" => Some(resource_without(case)),
         "resource_far_away" => Some(resource_far_away(case)),
-        "copied_resource" => Some(copied_resource(case)),
-        "told_of_resource" => Some(told_of_resource(case)),
-        "location" => Some(location_call(case)),
-        "unique_names" => Some(unique_names_call(case)),
-        "unique_leaves" => Some(unique_leaves_call(case)),
-        "known_text" => Some(known_text_call(case)),
-        "fault" => Some(fault_call(case)),
+        "copied_resource" | "told_of_resource" | "unique_names" => Some(resource_told(case, call)),
         _ => None,
     }
 }
@@ -48,7 +58,7 @@ pub fn answer(case: &Case<'_>, call: &str) -> Option<Result<String, CaseFault>> 
 /// The cells of a part that was made, or `Invalid`.
 fn made_text(alloc: Global, made: Result<Part, Failed<Invalid>>) -> Result<String, CaseFault> {
     match made {
-        Ok(part) => Ok(part_text(alloc, &part)?),
+        Ok(part) => cells_text(alloc, &part),
         Err(Failed::Because(Invalid)) => said(alloc, "Invalid"),
         Err(Failed::NoMemory) => Err(CaseFault::NoMemory),
     }
@@ -83,9 +93,32 @@ fn position(case: &Case<'_>) -> usize {
     usize::try_from(case.number("position").unwrap_or(0)).unwrap_or(0)
 }
 
-/// The rows of a part, or those of the attribute or of the unit of a leaf, with a bar between two.
-fn rows_call(case: &Case<'_>, call: &str) -> Result<String, CaseFault> {
+/// What is told of the part.
+fn part_told(case: &Case<'_>, call: &str) -> Result<String, CaseFault> {
     let part = case.part()?;
+    told_of_part(case, call, &part)
+}
+
+fn told_of_part(case: &Case<'_>, call: &str, part: &Part) -> Result<String, CaseFault> {
+    match call {
+        "atom" => atom_told(case, part),
+        "positions" => positions_text(case, part),
+        "same_part" => same_part(case, part),
+        "copied_part" => part_copy_text(case.alloc, part),
+        "is_resource" => truth(case.alloc, is_resource(part)),
+        "restrict_by_atom" => restrict_by_atom(case, part),
+        "restrict" | "restricted_positions" => restricted(case, call, part),
+        _ => rows_told(case, call, part),
+    }
+}
+
+fn part_copy_text(alloc: Global, part: &Part) -> Result<String, CaseFault> {
+    let copy = part.try_copy(alloc)?;
+    cells_text(alloc, &copy)
+}
+
+/// The rows of a part, or those of the attribute or of the unit of a leaf, with a bar between two.
+fn rows_told(case: &Case<'_>, call: &str, part: &Part) -> Result<String, CaseFault> {
     match call {
         "rows" => rows_text(case.alloc, part.rows()),
         "values" => rows_text(case.alloc, part.values(unit_of(leaf(case)?))),
@@ -93,46 +126,55 @@ fn rows_call(case: &Case<'_>, call: &str) -> Result<String, CaseFault> {
     }
 }
 
+fn cells_text(alloc: Global, part: &Part) -> Result<String, CaseFault> {
+    Ok(part_text(alloc, part)?)
+}
+
+/// Rows, with a bar between two.
 fn rows_text(alloc: Global, rows: &[Row]) -> Result<String, CaseFault> {
     let mut text = String::new(alloc);
     for row in rows {
-        if !text.is_empty() {
-            text.push_str(" | ")?;
-        }
-        text.push_str(row_text(alloc, row)?.as_str())?;
+        push_row(alloc, row, &mut text)?;
     }
     Ok(text)
 }
 
+fn push_row(alloc: Global, row: &Row, text: &mut String) -> Result<(), CaseFault> {
+    if !text.is_empty() {
+        text.push_str(" | ")?;
+    }
+    let cells = row_text(alloc, row)?;
+    text.push_str(cells.as_str())?;
+    Ok(())
+}
+
 /// The atom at a position of a leaf; `none` where there is none.
-fn atom_call(case: &Case<'_>) -> Result<String, CaseFault> {
-    let part = case.part()?;
+fn atom_told(case: &Case<'_>, part: &Part) -> Result<String, CaseFault> {
     let atom = part.get(leaf(case)?, position(case));
     Ok(atom_text(case.alloc, atom)?)
 }
 
 /// The number of positions of a leaf's attribute.
-fn positions_call(case: &Case<'_>) -> Result<String, CaseFault> {
-    let positions = case.part()?.positions(leaf(case)?.attribute);
+fn positions_text(case: &Case<'_>, part: &Part) -> Result<String, CaseFault> {
+    let positions = part.positions(leaf(case)?.attribute);
     Ok(format!(in case.alloc; "{positions}")?)
 }
 
 /// Whether the part equals that of a user with Alice's id and other cells.
-fn same_part(case: &Case<'_>) -> Result<String, CaseFault> {
+fn same_part(case: &Case<'_>, one: &Part) -> Result<String, CaseFault> {
     let other = part(case.alloc, Kind::User, ALICE, case.text("other")?)?;
-    truth(case.alloc, case.part()? == other)
-}
-
-fn copied_part(case: &Case<'_>) -> Result<String, CaseFault> {
-    let copy = case.part()?.try_copy(case.alloc)?;
-    Ok(part_text(case.alloc, &copy)?)
+    truth(case.alloc, *one == other)
 }
 
 /// The kind and the rows that a part gives away.
 fn taken_apart(case: &Case<'_>) -> Result<String, CaseFault> {
     let (kind, _, rows) = case.part()?.into_parts();
-    let rows = rows_text(case.alloc, rows.as_slice())?;
-    Ok(format!(in case.alloc; "{} {rows}", kind.name())?)
+    kind_and_rows(case.alloc, kind, rows.as_slice())
+}
+
+fn kind_and_rows(alloc: Global, kind: Kind, rows: &[Row]) -> Result<String, CaseFault> {
+    let rows = rows_text(alloc, rows)?;
+    Ok(format!(in alloc; "{} {rows}", kind.name())?)
 }
 
 fn with_call(case: &Case<'_>) -> Result<String, CaseFault> {
@@ -146,9 +188,9 @@ fn with_call(case: &Case<'_>) -> Result<String, CaseFault> {
 }
 
 fn without_call(case: &Case<'_>) -> Result<String, CaseFault> {
-    let part = case.part()?;
-    let left = part.without(case.alloc, leaf(case)?, position(case))?;
-    Ok(part_text(case.alloc, &left)?)
+    let leaf = leaf(case)?;
+    let left = case.part()?.without(case.alloc, leaf, position(case))?;
+    cells_text(case.alloc, &left)
 }
 
 /// The part with these values of a leaf's unit; `no values` where they are none.
@@ -156,42 +198,33 @@ fn put_call(case: &Case<'_>) -> Result<String, CaseFault> {
     let unit = unit_of(leaf(case)?);
     let values = rows(case)?;
     let part = case.part()?;
+    put_text(case.alloc, part, unit, values)
+}
+
+fn put_text(alloc: Global, part: Part, unit: Unit, values: Vec<Row>) -> Result<String, CaseFault> {
     if !are_values(part.kind(), unit, values.as_slice()) {
-        return said(case.alloc, "no values");
+        return said(alloc, "no values");
     }
-    let part = part.put(unit, values)?;
-    Ok(part_text(case.alloc, &part)?)
+    let changed = part.put(unit, values)?;
+    cells_text(alloc, &changed)
 }
 
-/// What is left where the fields of one sub-attribute are kept.
-fn restrict_call(case: &Case<'_>) -> Result<String, CaseFault> {
+/// What is left where the fields of one sub-attribute are kept, or how many positions the attribute of a leaf
+/// has then.
+fn restricted(case: &Case<'_>, call: &str, part: &Part) -> Result<String, CaseFault> {
     let test = of_sub_attribute(case)?;
-    let rest = case.part()?.restrict(case.alloc, &test)?;
-    Ok(part_text(case.alloc, &rest)?)
-}
-
-/// How many positions the attribute of a leaf has then.
-fn restricted_positions(case: &Case<'_>) -> Result<String, CaseFault> {
-    let test = of_sub_attribute(case)?;
-    let rest = case.part()?.restrict(case.alloc, &test)?;
-    let positions = rest.positions(leaf(case)?.attribute);
-    Ok(format!(in case.alloc; "{positions}")?)
+    let rest = part.restrict(case.alloc, &test)?;
+    match call {
+        "restrict" => cells_text(case.alloc, &rest),
+        _ => positions_text(case, &rest),
+    }
 }
 
 /// What is left where the values with the atom of a cell are kept.
-fn restrict_by_atom(case: &Case<'_>) -> Result<String, CaseFault> {
-    let Cell {
-        leaf,
-        position: _,
-        atom,
-    } = cell(case, "cell")?;
-    let rest = case.part()?.restrict(case.alloc, &WithAtom { leaf, atom })?;
-    Ok(part_text(case.alloc, &rest)?)
-}
-
-fn is_resource_call(case: &Case<'_>) -> Result<String, CaseFault> {
-    let part = case.part()?;
-    truth(case.alloc, is_resource(&part))
+fn restrict_by_atom(case: &Case<'_>, part: &Part) -> Result<String, CaseFault> {
+    let Cell { leaf, atom, .. } = cell(case, "cell")?;
+    let rest = part.restrict(case.alloc, &WithAtom { leaf, atom })?;
+    cells_text(case.alloc, &rest)
 }
 
 /// `ok` where the part is a resource below the base, by default that of the samples; else `Invalid`.
@@ -208,7 +241,7 @@ fn resource_text(
     made: Result<Resource, Failed<Invalid>>,
 ) -> Result<String, CaseFault> {
     match made {
-        Ok(resource) => Ok(part_text(alloc, resource.part())?),
+        Ok(resource) => cells_text(alloc, resource.part()),
         Err(Failed::Because(Invalid)) => said(alloc, "Invalid"),
         Err(Failed::NoMemory) => Err(CaseFault::NoMemory),
     }
@@ -225,21 +258,18 @@ fn resource_with(case: &Case<'_>) -> Result<String, CaseFault> {
 }
 
 fn resource_without(case: &Case<'_>) -> Result<String, CaseFault> {
+    let leaf = leaf(case)?;
     let resource = case.resource()?;
     resource_text(
         case.alloc,
-        resource.without(case.alloc, leaf(case)?, position(case)),
+        resource.without(case.alloc, leaf, position(case)),
     )
 }
 
 /// `ok` where a resource may stand below a base of so many letters `x`.
 fn resource_far_away(case: &Case<'_>) -> Result<String, CaseFault> {
-    let mut base = String::new(case.alloc);
-    for _ in 0..case.number("length")? {
-        base.push('x')?;
-    }
     let resource = case.resource()?;
-    let place = location(case.alloc, base.as_str(), resource.kind(), resource.id())?;
+    let place = far_location(case, &resource)?;
     let leaf = Leaf::of(Attribute::Meta, SubAttribute::Location);
     match resource.with(case.alloc, leaf, 0, Atom::Text(place)) {
         Ok(_) => said(case.alloc, "ok"),
@@ -247,25 +277,61 @@ fn resource_far_away(case: &Case<'_>) -> Result<String, CaseFault> {
     }
 }
 
-/// The cells of a copy, where it equals the resource.
-fn copied_resource(case: &Case<'_>) -> Result<String, CaseFault> {
-    let resource = case.resource()?;
-    let copy = resource.try_copy(case.alloc)?;
-    if copy != resource {
-        return said(case.alloc, "another resource");
+/// The location of a resource below a base of so many letters `x`.
+fn far_location(case: &Case<'_>, resource: &Resource) -> Result<Text, CaseFault> {
+    let mut base = String::new(case.alloc);
+    for _ in 0..case.number("length")? {
+        base.push('x')?;
     }
-    Ok(part_text(case.alloc, &copy.into_part())?)
+    Ok(location(case.alloc, base.as_str(), resource.kind(), resource.id())?)
+}
+
+/// What is told of the resource.
+fn resource_told(case: &Case<'_>, call: &str) -> Result<String, CaseFault> {
+    let resource = case.resource()?;
+    match call {
+        "copied_resource" => copy_text(case.alloc, &resource),
+        "told_of_resource" => told_of_resource(case, &resource),
+        _ => unique_names_text(case.alloc, &resource),
+    }
+}
+
+/// The cells of a copy, where it equals the resource.
+fn copy_text(alloc: Global, resource: &Resource) -> Result<String, CaseFault> {
+    let copy = resource.try_copy(alloc)?;
+    if copy != *resource {
+        return said(alloc, "another resource");
+    }
+    cells_text(alloc, &copy.into_part())
 }
 
 /// The kind, the id, how many positions a leaf's attribute has, and the atom at its first one.
-fn told_of_resource(case: &Case<'_>) -> Result<String, CaseFault> {
-    let resource = case.resource()?;
+fn told_of_resource(case: &Case<'_>, resource: &Resource) -> Result<String, CaseFault> {
     let leaf = leaf(case)?;
     let positions = resource.positions(leaf.attribute);
     let atom = atom_text(case.alloc, resource.get(leaf, 0))?;
     let id = resource.id().text(case.alloc)?;
     let kind = resource.kind().name();
     Ok(format!(in case.alloc; "{kind} {} {positions} {atom}", id.as_str())?)
+}
+
+/// The unique names of a resource, each as `LEAF=TEXT`, with a space behind each.
+fn unique_names_text(alloc: Global, resource: &Resource) -> Result<String, CaseFault> {
+    let names = unique_names(alloc, resource)?;
+    let mut text = String::new(alloc);
+    for name in &names {
+        push_unique_name(alloc, name, &mut text)?;
+    }
+    Ok(text)
+}
+
+fn push_unique_name(alloc: Global, name: &UniqueName, text: &mut String) -> Result<(), CaseFault> {
+    let leaf = leaf_text(alloc, name.leaf)?;
+    text.push_str(leaf.as_str())?;
+    text.push('=')?;
+    text.push_str(name.text.as_str())?;
+    text.push(' ')?;
+    Ok(())
 }
 
 fn location_call(case: &Case<'_>) -> Result<String, CaseFault> {
@@ -275,19 +341,6 @@ fn location_call(case: &Case<'_>) -> Result<String, CaseFault> {
     let base = case.text_or("base", BASE);
     let place: Text = location(case.alloc, base, case.kind(), id)?;
     Ok(place.into_string())
-}
-
-/// The unique names of a resource, each as `LEAF=TEXT`, with a space behind each.
-fn unique_names_call(case: &Case<'_>) -> Result<String, CaseFault> {
-    let resource = case.resource()?;
-    let mut text = String::new(case.alloc);
-    for name in unique_names(case.alloc, &resource)? {
-        text.push_str(leaf_text(case.alloc, name.leaf)?.as_str())?;
-        text.push('=')?;
-        text.push_str(name.text.as_str())?;
-        text.push(' ')?;
-    }
-    Ok(text)
 }
 
 /// The leaves of a kind where names are unique, with a space behind each.

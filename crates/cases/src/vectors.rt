@@ -2,10 +2,12 @@
 use crate::arguments::said;
 use crate::case::Case;
 use crate::faults::CaseFault;
+use crate::policy_calls::count_text;
 use scim_json::{DamagedItem, read_documents};
 use scim_policy::read_policy;
 use scim_samples::BASE;
 use scim_text::Failed;
+use std::alloc::Global;
 
 /// What is said of a policy file or a users file; None where the line is another's.
 pub fn answer(case: &Case<'_>, call: &str) -> Option<Result<String, CaseFault>> {
@@ -36,9 +38,13 @@ fn policy_file(case: &Case<'_>) -> Result<String, CaseFault> {
     let Some(text) = file_text(case, "policy", "policy_hex")? else {
         return said(case.alloc, "rule 0: json");
     };
-    match read_policy(case.alloc, text.as_str()) {
-        Ok(policy) => Ok(format!(in case.alloc; "ok, {} rules", policy.rule_count())?),
-        Err(Failed::Because(fault)) => Ok(format!(in case.alloc; "{fault}")?),
+    policy_told(case.alloc, text.as_str())
+}
+
+fn policy_told(alloc: Global, text: &str) -> Result<String, CaseFault> {
+    match read_policy(alloc, text) {
+        Ok(policy) => count_text(alloc, policy.rule_count()),
+        Err(Failed::Because(fault)) => Ok(format!(in alloc; "{fault}")?),
         Err(Failed::NoMemory) => Err(CaseFault::NoMemory),
     }
 }
@@ -48,9 +54,17 @@ fn users_file(case: &Case<'_>) -> Result<String, CaseFault> {
     let Some(text) = file_text(case, "users", "users_hex")? else {
         return said(case.alloc, "item 0");
     };
-    match read_documents(case.alloc, case.text_or("base", BASE), text.as_str()) {
-        Ok(resources) => Ok(format!(in case.alloc; "ok, {} resources", resources.len())?),
-        Err(Failed::Because(DamagedItem(item))) => Ok(format!(in case.alloc; "item {item}")?),
+    users_told(case.alloc, case.text_or("base", BASE), text.as_str())
+}
+
+fn users_told(alloc: Global, base: &str, text: &str) -> Result<String, CaseFault> {
+    match read_documents(alloc, base, text) {
+        Ok(resources) => resources_text(alloc, resources.len()),
+        Err(Failed::Because(DamagedItem(item))) => Ok(format!(in alloc; "item {item}")?),
         Err(Failed::NoMemory) => Err(CaseFault::NoMemory),
     }
+}
+
+fn resources_text(alloc: Global, resources: usize) -> Result<String, CaseFault> {
+    Ok(format!(in alloc; "ok, {resources} resources")?)
 }

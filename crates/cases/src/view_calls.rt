@@ -14,11 +14,9 @@ use std::alloc::Global;
 /// What a call of `scim_view` gives; None where it isn't one.
 pub fn answer(case: &Case<'_>, call: &str) -> Option<Result<String, CaseFault>> {
     match call {
-        "sees" => Some(sees_call(case)),
-        "visible" => Some(visible_call(case)),
-        "view" => Some(view_call(case)),
-        "with_groups" => Some(with_groups_call(case)),
-        "view_with_groups" => Some(view_with_groups_call(case)),
+        "sees" | "visible" | "view" | "with_groups" | "view_with_groups" => {
+            Some(view_call(case, call))
+        }
         "views" => Some(views_call(case)),
         "project" => Some(project_call(case)),
         "includes" => Some(includes_call(case)),
@@ -35,31 +33,73 @@ pub fn viewer<'c>(case: &'c Case<'_>, policy: &'c Policy) -> Result<Viewer<'c>, 
     })
 }
 
-fn sees_call(case: &Case<'_>) -> Result<String, CaseFault> {
+/// What the client sees of the resource.
+fn view_call(case: &Case<'_>, call: &str) -> Result<String, CaseFault> {
     let policy = policy(case)?;
-    let resource = case.resource()?;
-    let seen = viewer(case, &policy)?.sees(case.alloc, &resource)?;
-    truth(case.alloc, seen)
+    let viewer = viewer(case, &policy)?;
+    seen_by(case, call, &viewer)
 }
 
-fn visible_call(case: &Case<'_>) -> Result<String, CaseFault> {
-    let policy = policy(case)?;
+fn seen_by(case: &Case<'_>, call: &str, viewer: &Viewer<'_>) -> Result<String, CaseFault> {
     let resource = case.resource()?;
-    let part = viewer(case, &policy)?.visible(case.alloc, &resource)?;
-    Ok(part_text(case.alloc, &part)?)
+    told_of_view(case, call, viewer, &resource)
+}
+
+fn told_of_view(
+    case: &Case<'_>,
+    call: &str,
+    viewer: &Viewer<'_>,
+    resource: &Resource,
+) -> Result<String, CaseFault> {
+    let alloc = case.alloc;
+    match call {
+        "sees" => truth(alloc, viewer.sees(alloc, resource)?),
+        "visible" => cells_text(alloc, &viewer.visible(alloc, resource)?),
+        "view" => seen_text(alloc, viewer.view(alloc, resource)?),
+        _ => told_with_groups(case, call, viewer, resource),
+    }
+}
+
+fn told_with_groups(
+    case: &Case<'_>,
+    call: &str,
+    viewer: &Viewer<'_>,
+    resource: &Resource,
+) -> Result<String, CaseFault> {
+    let groups = groups(case)?;
+    if call == "with_groups" {
+        with_groups(case.alloc, viewer, groups.as_slice(), resource)
+    } else {
+        view_with_groups(case.alloc, viewer, groups.as_slice(), resource)
+    }
+}
+
+fn with_groups(
+    alloc: Global,
+    viewer: &Viewer<'_>,
+    groups: &[Resource],
+    resource: &Resource,
+) -> Result<String, CaseFault> {
+    cells_text(alloc, &viewer.with_groups(alloc, groups, resource)?)
+}
+
+fn view_with_groups(
+    alloc: Global,
+    viewer: &Viewer<'_>,
+    groups: &[Resource],
+    resource: &Resource,
+) -> Result<String, CaseFault> {
+    seen_text(alloc, viewer.view_with_groups(alloc, groups, resource)?)
+}
+
+fn cells_text(alloc: Global, part: &Part) -> Result<String, CaseFault> {
+    Ok(part_text(alloc, part)?)
 }
 
 /// The part that is seen; `unseen` where the resource isn't.
-fn view_call(case: &Case<'_>) -> Result<String, CaseFault> {
-    let policy = policy(case)?;
-    let resource = case.resource()?;
-    let part = viewer(case, &policy)?.view(case.alloc, &resource)?;
-    seen_text(case.alloc, part)
-}
-
 fn seen_text(alloc: Global, part: Option<Part>) -> Result<String, CaseFault> {
     match part {
-        Some(part) => Ok(part_text(alloc, &part)?),
+        Some(part) => cells_text(alloc, &part),
         None => said(alloc, "unseen"),
     }
 }
@@ -85,36 +125,50 @@ fn resource_of(alloc: Global, kind: Kind, value: &Value) -> Result<Resource, Cas
     }
 }
 
-fn with_groups_call(case: &Case<'_>) -> Result<String, CaseFault> {
-    let policy = policy(case)?;
-    let groups = resources(case.alloc, Kind::Group, case.list("groups"))?;
-    let resource = case.resource()?;
-    let viewer = viewer(case, &policy)?;
-    let part = viewer.with_groups(case.alloc, groups.as_slice(), &resource)?;
-    Ok(part_text(case.alloc, &part)?)
-}
-
-fn view_with_groups_call(case: &Case<'_>) -> Result<String, CaseFault> {
-    let policy = policy(case)?;
-    let groups = resources(case.alloc, Kind::Group, case.list("groups"))?;
-    let resource = case.resource()?;
-    let part = viewer(case, &policy)?.view_with_groups(case.alloc, groups.as_slice(), &resource)?;
-    seen_text(case.alloc, part)
+/// The groups of the list `groups`.
+fn groups(case: &Case<'_>) -> Result<Vec<Resource>, CaseFault> {
+    resources(case.alloc, Kind::Group, case.list("groups"))
 }
 
 /// The parts that are seen of the list `resources`, one after another.
 fn views_call(case: &Case<'_>) -> Result<String, CaseFault> {
-    let alloc = case.alloc;
+    let parts = seen_parts(case)?;
+    parts_text(case.alloc, parts.as_slice())
+}
+
+fn seen_parts(case: &Case<'_>) -> Result<Vec<Part>, CaseFault> {
     let policy = policy(case)?;
-    let groups = resources(alloc, Kind::Group, case.list("groups"))?;
-    let resources = resources(alloc, case.kind(), case.list("resources"))?;
-    let viewer = viewer(case, &policy)?;
+    views_by(case, &policy)
+}
+
+fn views_by(case: &Case<'_>, policy: &Policy) -> Result<Vec<Part>, CaseFault> {
+    let viewer = viewer(case, policy)?;
+    let groups = groups(case)?;
+    views_among(case, &viewer, groups.as_slice())
+}
+
+fn views_among(
+    case: &Case<'_>,
+    viewer: &Viewer<'_>,
+    groups: &[Resource],
+) -> Result<Vec<Part>, CaseFault> {
+    let resources = resources(case.alloc, case.kind(), case.list("resources"))?;
+    Ok(viewer.views(case.alloc, groups, resources.as_slice())?)
+}
+
+fn parts_text(alloc: Global, parts: &[Part]) -> Result<String, CaseFault> {
     let mut text = String::new(alloc);
-    for part in viewer.views(alloc, groups.as_slice(), resources.as_slice())? {
-        text.push_str(part_text(alloc, &part)?.as_str())?;
-        text.push_str(" | ")?;
+    for part in parts {
+        push_part(alloc, part, &mut text)?;
     }
     Ok(text)
+}
+
+fn push_part(alloc: Global, part: &Part, text: &mut String) -> Result<(), CaseFault> {
+    let cells = part_text(alloc, part)?;
+    text.push_str(cells.as_str())?;
+    text.push_str(" | ")?;
+    Ok(())
 }
 
 /// The texts of a list.
@@ -126,28 +180,37 @@ fn texts<'c>(alloc: Global, values: &'c [Value]) -> Result<Vec<&'c str>, CaseFau
     Ok(texts)
 }
 
+/// The names that a list has.
+fn names(case: &Case<'_>, list: &'static str) -> Result<Names, CaseFault> {
+    let texts = texts(case.alloc, case.list(list))?;
+    Ok(Names::of(case.alloc, case.kind(), texts.as_slice())?)
+}
+
 /// What is wanted: by the list `attributes`, by the list `excludedAttributes`, or the default.
 pub fn wanted(case: &Case<'_>) -> Result<Wanted, CaseFault> {
-    let kind = case.kind();
     if case.value.get("attributes").is_some() {
-        let texts = texts(case.alloc, case.list("attributes"))?;
-        return Ok(Wanted::Only(Names::of(case.alloc, kind, texts.as_slice())?));
+        return Ok(Wanted::Only(names(case, "attributes")?));
     }
     if case.value.get("excludedAttributes").is_some() {
-        let texts = texts(case.alloc, case.list("excludedAttributes"))?;
-        return Ok(Wanted::Without(Names::of(case.alloc, kind, texts.as_slice())?));
+        return Ok(Wanted::Without(names(case, "excludedAttributes")?));
     }
     Ok(Wanted::Default)
 }
 
 fn project_call(case: &Case<'_>) -> Result<String, CaseFault> {
-    let shown = project(case.alloc, case.part()?, &wanted(case)?)?;
-    Ok(part_text(case.alloc, &shown)?)
+    let wanted = wanted(case)?;
+    let shown = shown_part(case, &wanted)?;
+    cells_text(case.alloc, &shown)
+}
+
+fn shown_part(case: &Case<'_>, wanted: &Wanted) -> Result<Part, CaseFault> {
+    let part = case.part()?;
+    Ok(project(case.alloc, part, wanted)?)
 }
 
 /// Whether the list `attributes` names the leaf.
 fn includes_call(case: &Case<'_>) -> Result<String, CaseFault> {
-    let texts = texts(case.alloc, case.list("attributes"))?;
-    let names = Names::of(case.alloc, case.kind(), texts.as_slice())?;
-    truth(case.alloc, names.includes(read_leaf(case.text("leaf")?)?))
+    let leaf = read_leaf(case.text("leaf")?)?;
+    let names = names(case, "attributes")?;
+    truth(case.alloc, names.includes(leaf))
 }

@@ -1,10 +1,10 @@
 //! Reading a path.
-ghost use Rattle.std.specs.Prelude.{◌≡◌};
+ghost use Rattle.std.specs.Prelude.{◌≡◌, ℕ, List, Option, option_map};
 ghost use Rattle.scim_text.specs.Failures.{UnlessMemory};
-ghost use Rattle.scim_filter.specs.Tree.{tree_of};
-ghost use Rattle.scim_filter.specs.WrittenPaths.{written_of};
+ghost use Rattle.scim_filter.specs.Tree.{Tree, tree_of};
+ghost use Rattle.scim_filter.specs.WrittenPaths.{Filtered, written_of};
 ghost use Rattle.scim_path.specs.Paths as spec;
-ghost use Rattle.scim_path.specs.code.Results.{target_read};
+ghost use Rattle.scim_path.specs.code.Results.{target_read, values_read, chosen_read, filtered_read, parts_read};
 
 use crate::faults::PathFault;
 use crate::paths::{Path, ValuePath};
@@ -12,7 +12,9 @@ use scim_cell::Text;
 use scim_filter::{
     Filter, LONGEST_TEXT, Meant, Node, WrittenPath, knows_names, lone_word, written_path,
 };
-use scim_schema::{Attribute, Kind, Schema, extensions, is_multi_valued, sub_attribute_named};
+use scim_schema::{
+    Attribute, Kind, Schema, SubAttribute, extensions, is_multi_valued, sub_attribute_named,
+};
 use scim_text::Failed;
 use std::alloc::Global;
 
@@ -45,26 +47,22 @@ fn path_of_names(meant: Meant) -> Result<Path, PathFault>
     }
 }
 
-/// The values that a filter chooses of an attribute, or the sub-attribute of these with this name.
-fn chosen(attribute: Attribute, filter: Filter, sub_name: Option<Text>) -> Result<Path, PathFault>
-    ensures { target_read result ≡ spec.chosen attribute (tree_of filter) sub_name }
+/// The sub-attribute with the name that stands behind a filter, if one does.
+fn chosen(attribute: Attribute, sub_name: Option<&Text>) -> Result<Option<SubAttribute>, PathFault>
+    ensures { (tree : Tree) → values_read tree attribute result ≡ spec.chosen attribute tree (option_map (λ t. t.now) sub_name.entry) }
 {
-    let sub_attribute = match sub_name {
-        None => None,
-        Some(name) => Some(sub_attribute_named(attribute, name.as_str()).ok_or(
-            PathFault::Unknown,
-        )?),
-    };
-    Ok(Path::Values(ValuePath {
-        attribute,
-        filter,
-        sub_attribute,
-    }))
+    match sub_name {
+        None => Ok(None),
+        Some(name) => match sub_attribute_named(attribute, name.as_str()) {
+            None => Err(PathFault::Unknown),
+            found => Ok(found),
+        },
+    }
 }
 
-/// What a value path names, where the path before its bracket names this.
-fn filtered(meant: Meant, filter: Filter, sub_name: Option<Text>) -> Result<Path, PathFault>
-    ensures { target_read result ≡ spec.filtered_target meant (tree_of filter) sub_name }
+/// The attribute of which a filter chooses values, where the path before its bracket names this.
+fn filtered_attribute(meant: Meant, filter: &Filter) -> Result<Attribute, PathFault>
+    ensures { (sub : Option (List ℕ)) → chosen_read (tree_of filter.now) sub result ≡ spec.filtered_target meant (tree_of filter.now) sub }
 {
     let attribute = match meant {
         Meant::Nothing => return Err(PathFault::Unknown),
@@ -77,7 +75,44 @@ fn filtered(meant: Meant, filter: Filter, sub_name: Option<Text>) -> Result<Path
     if !knows_names(filter.tree()) {
         return Err(PathFault::Unknown);
     }
-    chosen(attribute, filter, sub_name)
+    Ok(attribute)
+}
+
+/// What the path before a filter's bracket names; None where the filter is no value path.
+fn meant_before(filter: &Filter) -> Option<Meant>
+    ensures { (sub : Option (List ℕ)) → filtered_read (tree_of filter.now) sub result ≡ spec.written_target (Filtered (tree_of filter.now) sub) }
+{
+    match filter.tree() {
+        Node::Values(path, _) => Some(path.meant),
+        _ => None,
+    }
+}
+
+/// What a filter chooses values of, and which sub-attribute of these.
+fn parts_of(
+    filter: &Filter,
+    sub_name: Option<&Text>,
+) -> Result<(Attribute, Option<SubAttribute>), PathFault>
+    ensures { parts_read (tree_of filter.now) result ≡ spec.written_target (Filtered (tree_of filter.now) (option_map (λ t. t.now) sub_name.entry)) }
+{
+    let meant = meant_before(filter).ok_or(PathFault::Syntax)?;
+    let attribute = filtered_attribute(meant, filter)?;
+    let sub_attribute = chosen(attribute, sub_name)?;
+    Ok((attribute, sub_attribute))
+}
+
+/// What a filter names, and the name of a sub-attribute behind it.
+fn filtered(filter: Filter, sub_name: Option<&Text>) -> Result<Path, PathFault>
+    ensures { target_read result ≡ spec.written_target (Filtered (tree_of filter) (option_map (λ t. t.now) sub_name.entry)) }
+{
+    match parts_of(&filter, sub_name) {
+        Ok((attribute, sub_attribute)) => Ok(Path::Values(ValuePath {
+            attribute,
+            filter,
+            sub_attribute,
+        })),
+        Err(fault) => Err(fault),
+    }
 }
 
 /// What a written path names.
@@ -86,13 +121,7 @@ fn written(path: WrittenPath) -> Result<Path, PathFault>
 {
     match path {
         WrittenPath::Plain(path) => path_of_names(path.meant),
-        WrittenPath::Filtered(filter, sub_name) => {
-            let meant = match filter.tree() {
-                Node::Values(path, _) => path.meant,
-                _ => return Err(PathFault::Syntax),
-            };
-            filtered(meant, filter, sub_name)
-        }
+        WrittenPath::Filtered(filter, sub_name) => filtered(filter, sub_name.as_ref()),
     }
 }
 
