@@ -1,6 +1,6 @@
 -- What of a store a service looks at: the groups that list a user, and what a client sees in order of id.
 use Rattle.std.proofs.Common.{◌≡◌, refl, sym, ◌∙◌, ap, subst, ℕ, zero, suc, ◌+◌, false, List, [], ◌∷◌, filter, inl, inr, arith, is_lt}
-use Rattle.std.specs.Prelude.{All}
+use Rattle.std.specs.Prelude.{All, Option, Some}
 use Rattle.std.specs.List.{AllByRecursion}
 use Rattle.std.specs.List.Sorted.{IsStrictlySortedBy, IsSorted}
 use Rattle.std.specs.Ordering.{nat_cmp, ordering_reverse}
@@ -10,14 +10,16 @@ use Rattle.std.specs.List.{slice_index_or}
 use Rattle.std.proofs.lemmas.Bool.{cases_Bool}
 use Rattle.std.proofs.lemmas.Cmp.{nat_list_cmp_total}
 use Rattle.std.proofs.lemmas.List.Elements.{All-weaker}
+use denote.Enum.Bare.{same_true}
 use Rattle.scim_schema.specs.declared.Kind.TheVariants.{Group}
+use Rattle.scim_schema.specs.contracts.Kind.{the_type as the_kind}
 use Rattle.scim_cell.specs.Content.{Content, IsPart}
 use Rattle.scim_cell.specs.Ids.{id_text}
-use Rattle.scim_cell.specs.Kinds.{of_kind}
+use Rattle.scim_cell.specs.Kinds.{is_of, of_kind}
 use Rattle.scim_cell.specs.Order.{id_cmp}
 use Rattle.scim_value.specs.Resource.{IsResource, HasBase}
 use Rattle.scim_view.specs.View.{Viewer, sees}
-use Rattle.scim_view.specs.Groups.{with_groups, visible_with, views}
+use Rattle.scim_view.specs.Groups.{and_those, with_groups, visible_with, view_with_groups, views}
 use Rattle.scim_view.proofs.Facts.{narrowed_groups}
 use Rattle.scim_shelf.specs.Stores.{Store, IsStore, is_group_with}
 
@@ -34,6 +36,19 @@ suffice v base store c is = narrowed_groups v store.resources c (parts_of base s
 pub none_of_group : (v : Viewer) (gs hs : List Content) (c : Content) → c.kind ≡ Group → with_groups v gs c ≡ with_groups v hs c
 unfolding with_groups visible_with
 none_of_group v gs hs c is = rw is refl
+
+view_of_group : (v : Viewer) (gs hs : List Content) (c : Content) → c.kind ≡ Group → view_with_groups v gs c ≡ view_with_groups v hs c
+view_of_group v gs hs c is = elim (cases_Bool (sees v c)) [ inl t ↦ rw t (ap (λ (w : Content). Some w) (none_of_group v gs hs c is)) | inr f ↦ rw f refl ]
+
+-- so a client's view of groups is told without looking at others
+pub views_of_groups : (v : Viewer) (gs hs cs : List Content) → views v gs (of_kind Group cs) ≡ views v hs (of_kind Group cs)
+views_of_groups v gs hs [] = refl
+views_of_groups v gs hs (c ∷ cs) =
+    let rest = views_of_groups v gs hs cs in
+    elim (cases_Bool (is_of Group c)) [
+      | inl t ↦ rw t (ap (λ (o : Option Content). and_those o (views v gs (of_kind Group cs))) (view_of_group v gs hs c (same_true the_kind tt c.kind Group t)) ∙ ap (and_those (view_with_groups v hs c)) rest)
+      | inr f ↦ rw f rest
+    ]
 
 -- ids above one stay above it in a client's view
 id_kept : (v : Viewer) (groups : List Content) (c : Content) → (with_groups v groups c).id ≡ c.id

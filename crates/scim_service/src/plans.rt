@@ -316,6 +316,29 @@ fn seen_groups<S: Shelf>(
     Ok(groups.end())
 }
 
+/// The groups by which what the client sees of the resources of a kind is told, by their members: of users those
+/// that it sees; of groups, which have no `groups`, none.
+fn groups_for<S: Shelf>(
+    alloc: Global,
+    viewer: &Viewer<'_>,
+    shelf: &mut S,
+    kind: Kind,
+) -> Result<GroupIndex, Failed<ShelfFault>>
+    ensures index { IfOk result (Answers S.stands S.is_honest shelf.old shelf.new (λ store index. (groups : List Content)
+        × IsIndexOf (viewer_of viewer.now) groups index
+        × (views (viewer_of viewer.now) groups (of_kind kind store.resources)
+        ≡ views (viewer_of viewer.now) (of_kind Kind.Group store.resources) (of_kind kind store.resources)))) }
+    ensures store { KeepsStore S.stands shelf.old shelf.new }
+    ensures honest { S.is_honest shelf.new → S.is_honest shelf.old }
+    ensures counts { Counts (S.failures shelf.old) (S.failures shelf.new) result }
+    ensures not_full { result ≢ Err (Failed.Because ShelfFault.Full) }
+{
+    match kind {
+        Kind::User => seen_groups(alloc, viewer, shelf),
+        Kind::Group => Ok(GroupIndex::new(alloc)),
+    }
+}
+
 /// The page that the client's query asks for of the resources of a kind, where these are the groups that it
 /// sees.
 fn page<S: Shelf>(
@@ -364,7 +387,7 @@ fn plan_search<S: Shelf>(
     ensures counts { Counts (S.failures shelf.old) (S.failures shelf.new) result }
     ensures not_full { result ≢ Err (Failed.Because ShelfFault.Full) }
 {
-    let index = seen_groups(alloc, viewer, shelf)?;
+    let index = groups_for(alloc, viewer, shelf, turn.request.kind)?;
     let found = page(alloc, viewer, shelf, turn.request.kind, &index, query)?;
     let text = list_text(alloc, found, query)?;
     let finding = Finding {
