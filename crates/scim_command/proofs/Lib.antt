@@ -1,5 +1,2 @@
 pub mod AnswerLemmas
-pub mod DirectoryLemmas
 pub mod IdLemmas
-pub mod SearchLemmas
-pub mod RankLemmas

@@ -5,24 +5,23 @@ use Rattle.scim_json.specs.Documents.{IsDocumentsText}
 use Rattle.scim_policy.specs.Rules.{Rule}
 use Rattle.scim_policy.specs.File.{policy_of}
 use Rattle.scim_view.specs.View.{Viewer}
+use Rattle.scim_shelf.specs.Stores.{Store as ShelfStore, IsNewStore}
 use Rattle.scim_wire.specs.declared.heads.Head.{Head}
 use Rattle.scim_wire.specs.Streams.{OpensWith, OpensBadly}
 use Rattle.scim_audit.specs.declared.refusals.Refusal.TheVariants.{BadHead, Store}
 use Rattle.scim_command.specs.declared.run_once.Setting.{Setting}
-use Rattle.scim_command.specs.Refusals.{refusal_text}
-use Rattle.scim_command.specs.Directories.{IsSortedById}
-use Rattle.scim_command.specs.Replies.{IsReplyTo}
+use Rattle.scim_command.specs.Replies.{refusal_text, IsReplyTo}
 
--- the text is a users file of resources below the base which are these in order of id
-pub record AreSortedResourcesOf (base text : List ℕ) (sorted : List Content) : Type 0 where
+-- the text is a users file of resources below the base, of which this is a new store
+pub record IsStoreOf (base text : List ℕ) (store : ShelfStore) : Type 0 where
   pub resources : List Content
   pub documents : IsDocumentsText base text resources
-  pub in_order : IsSortedById resources sorted
+  pub is_new : IsNewStore resources store
 
--- the text is the answer to an input, over resources in order of id: the reply to the head that it opens with, or the refusal of what is no head; or that of want of memory
-abbrev pub IsAnswer : Viewer → List Content → List ℕ → List ℕ → Type 0
-IsAnswer v cs input text =
-    ((head : Head) × OpensWith input head × IsReplyTo v cs head text)
+-- the text is the answer to an input, over a store: the reply to the head that it opens with, or the refusal of what is no head; or that of want of memory
+abbrev pub IsAnswer : Viewer → ShelfStore → List ℕ → List ℕ → Type 0
+IsAnswer v store input text =
+    ((head : Head) × OpensWith input head × IsReplyTo v store head text)
     ⊎ ((OpensBadly input × (text ≡ refusal_text BadHead)) ⊎ (text ≡ refusal_text Store))
 
 -- both files are sound: a policy file, and a users file of resources below the base
@@ -34,7 +33,7 @@ pub record AreSound (s : Setting) : Type 0 where
 -- the text is the answer to an input by the two files, for the client
 pub record Answers (s : Setting) (input text : List ℕ) : Type 0 where
   pub policy : List Rule
-  pub resources : List Content
+  pub store : ShelfStore
   pub allows : policy_of s.policy.now ≡ Ok policy
-  pub holds : AreSortedResourcesOf s.base.now s.users.now resources
-  pub answer : IsAnswer (record { policy = policy; client = s.client.now; base = s.base.now }) resources input text
+  pub holds : IsStoreOf s.base.now s.users.now store
+  pub answer : IsAnswer (record { policy = policy; client = s.client.now; base = s.base.now }) store input text

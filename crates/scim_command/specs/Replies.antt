@@ -1,30 +1,47 @@
--- What is replied to the head of a request.
-use Rattle.std.specs.Prelude.{◌≡◌, ℕ, ◌⊎◌, List, Option, None, Some, option_and_then}
-use Rattle.serde_json.specs.Written.{compact_text}
-use Rattle.scim_schema.specs.declared.Kind.{Kind}
-use Rattle.scim_cell.specs.Content.{Content}
-use Rattle.scim_json.specs.PartData.{part_data}
-use Rattle.scim_view.specs.View.{Viewer}
-use Rattle.scim_view.specs.Groups.{view_with_groups}
-use Rattle.scim_view.specs.Shown.{shown}
-use Rattle.scim_view.specs.declared.projection.Wanted.TheVariants.{Default}
+-- The texts of replies (RFC 7644 sections 3.4.1 and 3.12), and the one to the head of a request.
+use Rattle.std.specs.Prelude.{◌≡◌, ◌⊎◌, ℕ, false, List, None, Some}
 use Rattle.scim_wire.specs.declared.heads.Head.{Head}
-use Rattle.scim_audit.specs.declared.refusals.Refusal.TheVariants.{NoRoute, NotFound}
-use Rattle.scim_command.specs.Requests.{IsGetOf}
-use Rattle.scim_command.specs.Refusals.{refusal_text, shown_text}
-use Rattle.scim_command.specs.Directories.{groups_among, found}
+use Rattle.scim_wire.specs.Replies.{text_of}
+use Rattle.scim_audit.specs.declared.refusals.Refusal.{Refusal}
+use Rattle.scim_audit.specs.declared.refusals.Refusal.TheVariants.{Store as NoStore}
+use Rattle.scim_audit.specs.Refusals.{status_of, body_of, allow_of, asks_for_token, closes}
+use Rattle.scim_view.specs.View.{Viewer}
+use Rattle.scim_shelf.specs.Stores.{Store}
+use Rattle.scim_service.specs.declared.requests.Turn.{Turn}
+use Rattle.scim_service.specs.declared.replies.Reply.{Reply}
+use Rattle.scim_service.specs.declared.replies.Reply.TheVariants.{Shown, Done, Refused, Failed}
+use Rattle.scim_service.specs.Step.{plan}
+use Rattle.scim_command.specs.Requests.{IsRequestOf}
 
--- the reply that shows what a client may see, or says that nothing was found
-abbrev pub view_text : Option Content → List ℕ
-view_text None = refusal_text NotFound
-view_text (Some v) = shown_text (compact_text (part_data (shown Default v)))
+-- the text of a refusal
+unfoldable pub refusal_text : Refusal → List ℕ
+refusal_text r =
+    text_of
+    (record { status = status_of r; body = Some (body_of r); location = None; allow = allow_of r; asks_for_token = asks_for_token r })
+    (closes r)
 
--- the reply to a client that gets a resource, with those of its groups that the client sees: it can't tell a resource that is absent from one that it doesn't see
-unfoldable pub resource_text : Viewer → List Content → Option Content → List ℕ
-resource_text v groups c = view_text (option_and_then (view_with_groups v groups) c)
+-- the text of a reply that shows a body
+unfoldable pub shown_text : List ℕ → List ℕ
+shown_text body =
+    text_of (record { status = 200; body = Some body; location = None; allow = None; asks_for_token = false }) false
 
--- the text is the reply to the head, over these resources in order of id
-abbrev pub IsReplyTo : Viewer → List Content → Head → List ℕ → Type 0
-IsReplyTo v cs head text =
-    ((kind : Kind) × (segment : List ℕ) × IsGetOf head kind segment × (text ≡ resource_text v (groups_among cs) (found kind segment cs)))
-    ⊎ (((kind : Kind) (segment : List ℕ) → ¬ IsGetOf head kind segment) × (text ≡ refusal_text NoRoute))
+-- the text of the reply that something is done, with nothing to show
+unfoldable pub done_text : List ℕ
+done_text =
+    text_of (record { status = 204; body = None; location = None; allow = None; asks_for_token = false }) false
+
+-- the text of a reply of the service; a failure is told as the refusal of want of memory
+abbrev pub reply_text : Reply → List ℕ
+reply_text (Shown body) = shown_text body
+reply_text Done = done_text
+reply_text (Refused r) = refusal_text r
+reply_text (Failed cause) = refusal_text NoStore
+
+-- the text is the reply to the head, over this store: that which is planned for the request that it makes
+abbrev pub IsReplyTo : Viewer → Store → Head → List ℕ → Type 0
+IsReplyTo v store head text =
+    (turn : Turn) × IsRequestOf v.client head turn.request × (text ≡ reply_text (plan v.policy v.base turn store).reply)
+
+-- it is that, or says that memory was wanting
+abbrev pub IsReplyOrNone : Viewer → Store → Head → List ℕ → Type 0
+IsReplyOrNone v store head text = IsReplyTo v store head text ⊎ (text ≡ refusal_text NoStore)

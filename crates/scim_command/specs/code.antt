@@ -1,3 +1,2 @@
--- How the code keeps the resources, and how its functions end.
+-- How the functions of the commands end.
 pub mod Exits
-pub mod Held

@@ -4,10 +4,9 @@
 
 mod answers;
 mod command_faults;
-mod directories;
 mod faults;
 mod options;
-mod refusals;
+mod replies;
 mod requests;
 mod run_once;
 

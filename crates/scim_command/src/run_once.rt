@@ -1,28 +1,27 @@
 //! `once`: one request, answered over a users file in memory.
 ghost use Rattle.std.specs.Prelude.{◌≡◌, ◌≢◌, ℕ, List, Err, IsOk, IfOk, IfErr, IfSome, OnOk, OnErr};
 ghost use Rattle.std.specs.Io.KnownBytes.{Appends};
-ghost use Rattle.scim_cell.specs.Content.{Content};
 ghost use Rattle.scim_json.specs.Documents.{IsDamagedAt};
 ghost use Rattle.scim_policy.specs.File.{policy_of};
 ghost use Rattle.scim_policy.specs.declared.faults.Cause.{Cause};
-ghost use Rattle.scim_view.specs.View.{viewer_of};
+ghost use Rattle.scim_shelf.specs.Stores.{Store, IsStore};
 ghost use Rattle.scim_wire.specs.Streams.{IsUnended, AppendsFront};
 ghost use Rattle.scim_command.specs.declared.faults.OnceFault.{OnceFault};
 ghost use Rattle.scim_audit.specs.declared.refusals.Refusal.{Refusal};
-ghost use Rattle.scim_command.specs.Refusals.{refusal_text};
-ghost use Rattle.scim_command.specs.code.Exits.{IsOfUsers, IsOfInput, text_or_store};
-ghost use Rattle.scim_command.specs.code.Held.{IsDirectoryOf};
-ghost use Rattle.scim_command.specs.Once.{Answers, AreSound, AreSortedResourcesOf, IsAnswer};
+ghost use Rattle.scim_command.specs.Replies.{refusal_text};
+ghost use Rattle.scim_command.specs.code.Exits.{IsOfFiles, IsOfUsers, IsOfInput, text_or_store};
+ghost use Rattle.scim_command.specs.Once.{Answers, AreSound, IsStoreOf, IsAnswer};
 
 use crate::answers::answer;
-use crate::directories::Directory;
 use crate::faults::OnceFault;
-use crate::refusals::refusal_text;
+use crate::replies::refusal_text;
 use scim_audit::Refusal;
+use scim_cell::Text;
 use scim_json::read_documents;
 use scim_policy::read_policy;
+use scim_service::Service;
+use scim_shelf::{MemoryShelf, Shelf};
 use scim_text::{Failed, NoMemory};
-use scim_view::Viewer;
 use scim_wire::{Head, HeadFault, read_head, write_text};
 use std::alloc::Global;
 use std::io::{Read, Write};
@@ -77,16 +76,32 @@ pub fn once<R: Read, W: Write>(
         × AppendsFront (W.contents writer.old) (W.contents writer.new) output) }
     ensures silent { IfErr result (λ f. f ≢ OnceFault.Output → writer.new ≡ writer.old) }
 {
-    let policy = read_policy(alloc, setting.policy)?;
-    let directory = read_directory(alloc, setting.base, setting.users)?;
+    let mut service = service_over(alloc, setting)?;
     let store = refusal_text(alloc, Refusal::Store)?;
-    let viewer = Viewer {
-        policy: &policy,
-        client: setting.client,
-        base: setting.base,
-    };
-    let reply = reply_to(alloc, &viewer, &directory, reader)?;
+    let reply = reply_to(alloc, setting.client, &mut service, reader)?;
     write_reply(reply, store.as_str(), writer)
+}
+
+/// The service by the policy file, over what the users file holds.
+///
+/// Policy, where the policy file is faulty; else Users, where the users file is damaged; NoMemory where none
+/// was to be had.
+fn service_over(alloc: Global, setting: &Setting<'_>) -> Result<Service<MemoryShelf>, OnceFault>
+    ensures service { IfOk result (λ service. (store : Store)
+        × IsStoreOf setting.now.base.now setting.now.users.now store
+        × ⟦<MemoryShelf as Shelf>⟧.stands service.shelf store
+        × (policy_of setting.now.policy.now ≡ Ok service.policy)
+        × (service.base ≡ setting.now.base.now)) }
+    ensures policy { (rule : ℕ) (cause : Cause) → result ≡ Err (OnceFault.Policy rule cause)
+        → policy_of setting.now.policy.now ≡ Err (record { rule = rule; cause = cause }) }
+    ensures users { (n : ℕ) → result ≡ Err (OnceFault.Users n)
+        → IsOk (policy_of setting.now.policy.now) × IsDamagedAt setting.now.base.now setting.now.users.now n }
+    ensures fault { IfErr result IsOfFiles }
+{
+    let policy = read_policy(alloc, setting.policy)?;
+    let shelf = read_shelf(alloc, setting.base, setting.users)?;
+    let base = Text::copy_of(alloc, setting.base)?;
+    Ok(Service::new(policy, base, shelf))
 }
 
 /// The reply to the request whose head the reader opens with; NoMemory in it stands for the reply that
@@ -95,18 +110,18 @@ pub fn once<R: Read, W: Write>(
 /// InputEnded, where the head doesn't end; InputFailed, where a read fails.
 fn reply_to<R: Read>(
     alloc: Global,
-    viewer: &Viewer<'_>,
-    directory: &Directory,
+    client: &str,
+    service: &mut Service<MemoryShelf>,
     reader: &mut R,
 ) -> Result<Result<String, NoMemory>, OnceFault>
-    ensures answer { (cs : List Content) → IsDirectoryOf directory.now cs
+    ensures answer { (store : Store) → ⟦<MemoryShelf as Shelf>⟧.stands service.old.shelf store → IsStore service.old.base store
         → IfOk result (λ reply. IfSome (R.remaining reader.old) (λ input.
-        IsAnswer (viewer_of viewer.now) cs input (text_or_store reply))) }
+        IsAnswer (record { policy = service.old.policy; client = client.now; base = service.old.base }) store input (text_or_store reply))) }
     ensures ended { result ≡ Err OnceFault.InputEnded → IfSome (R.remaining reader.old) IsUnended }
     ensures fault { IfErr result IsOfInput }
 {
     match read_head(alloc, reader) {
-        Ok(head) => Ok(answer(alloc, viewer, directory, &head)),
+        Ok(head) => Ok(answer(alloc, client, service, &head)),
         Err(Failed::NoMemory) => Ok(Err(NoMemory)),
         Err(Failed::Because(HeadFault::BadHead)) => Ok(refusal_text(alloc, Refusal::BadHead)),
         Err(Failed::Because(HeadFault::Ended)) => Err(OnceFault::InputEnded),
@@ -146,15 +161,15 @@ fn write_or_fault<W: Write>(text: &str, writer: &mut W) -> Result<(), OnceFault>
     }
 }
 
-/// The resources of a users file.
+/// A shelf of the resources of a users file.
 ///
 /// Users, where it is damaged; NoMemory where none was to be had.
-fn read_directory(alloc: Global, base: &str, text: &str) -> Result<Directory, OnceFault>
-    ensures resources { IfOk result (λ d. (cs : List Content)
-        × AreSortedResourcesOf base.now text.now cs × IsDirectoryOf d cs) }
+fn read_shelf(alloc: Global, base: &str, text: &str) -> Result<MemoryShelf, OnceFault>
+    ensures shelf { IfOk result (λ shelf. (store : Store)
+        × IsStoreOf base.now text.now store × ⟦<MemoryShelf as Shelf>⟧.stands shelf store) }
     ensures damaged { (n : ℕ) → result ≡ Err (OnceFault.Users n) → IsDamagedAt base.now text.now n }
     ensures fault { IfErr result IsOfUsers }
 {
     let resources = read_documents(alloc, base, text)?;
-    Ok(Directory::of(alloc, resources)?)
+    Ok(MemoryShelf::new(alloc, resources)?)
 }

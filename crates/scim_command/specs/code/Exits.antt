@@ -3,9 +3,9 @@ use Rattle.std.specs.Prelude.{ℕ, List, Result, Ok, Err, String, string_bytes}
 use Rattle.std.specs.declared.alloc.Global.{Global}
 use Rattle.scim_text.specs.declared.memory.NoMemory.{NoMemory}
 use Rattle.scim_command.specs.declared.faults.OnceFault.{OnceFault}
-use Rattle.scim_command.specs.declared.faults.OnceFault.TheVariants.{Users, InputEnded, InputFailed, NoMemory as WantOfMemory}
+use Rattle.scim_command.specs.declared.faults.OnceFault.TheVariants.{Policy, Users, InputEnded, InputFailed, NoMemory as WantOfMemory}
 use Rattle.scim_audit.specs.declared.refusals.Refusal.TheVariants.{Store}
-use Rattle.scim_command.specs.Refusals.{refusal_text}
+use Rattle.scim_command.specs.Replies.{refusal_text}
 
 -- a fault of the users file, or want of memory
 abbrev pub IsOfUsers : OnceFault → Type 0
@@ -23,3 +23,8 @@ IsOfInput _ = ⊥
 abbrev pub text_or_store : Result (String Global) NoMemory → List ℕ
 text_or_store (Ok t) = string_bytes t
 text_or_store (Err e) = refusal_text Store
+
+-- a fault of a file, or want of memory
+abbrev pub IsOfFiles : OnceFault → Type 0
+IsOfFiles (Policy rule cause) = Unit {0}
+IsOfFiles f = IsOfUsers f
