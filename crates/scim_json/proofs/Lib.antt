@@ -17,3 +17,8 @@ pub mod DocumentLemmas
 pub mod OwnRows
 pub mod BodyLemmas
 pub mod SameValueLemmas
+pub mod CollectedLemmas
+pub mod LeafTables
+pub mod GivenFields
+pub mod GivenRows
+pub mod DraftLemmas

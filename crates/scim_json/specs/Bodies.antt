@@ -1,28 +1,24 @@
 -- What a request's body gives: a draft of a resource (RFC 7644 sections 3.3 and 3.5.1).
-use Rattle.std.specs.Prelude.{◌≡◌, List, [], ◌∷◌, Bool, true, false, not, ◌&&◌, Option, Some, None, Result, Ok, Err, option_map, option_and_then, map, if◌then◌else◌}
-use Rattle.std.specs.List.{list_any, flat_map}
+use Rattle.std.specs.Prelude.{◌≡◌, List, [], ◌∷◌, ◌&&◌, Option, Some, None, Result, Ok, Err, option_map, option_and_then, map, if◌then◌else◌}
+use Rattle.std.specs.List.{flat_map}
 use denote.Enum.Bare.{sameb}
 use Rattle.serde_json.specs.Data.{Data, Members, no_members}
 use Rattle.serde_json.specs.Find.{as_object}
 use Rattle.scim_schema.specs.declared.Kind.{Kind}
 use Rattle.scim_schema.specs.declared.Attribute.{Attribute}
 use Rattle.scim_schema.specs.declared.Attribute.TheVariants.{UserName}
-use Rattle.scim_schema.specs.declared.Leaf.{Leaf}
 use Rattle.scim_schema.specs.declared.Unit.{Unit as AttributeUnit}
 use Rattle.scim_schema.specs.declared.schemas.Schema.{Schema}
 use Rattle.scim_schema.specs.declared.json_keys.JsonShape.{JsonShape}
 use Rattle.scim_schema.specs.declared.json_keys.JsonShape.TheVariants.{Simple, Complex, MultiValued}
-use Rattle.scim_schema.specs.declared.characteristics.Mutability.TheVariants.{WriteOnly}
 use Rattle.scim_schema.specs.contracts.Attribute.{the_type as the_attribute}
-use Rattle.scim_schema.specs.contracts.characteristics.Mutability.{the_type as the_mutability}
 use Rattle.scim_schema.specs.Names.{attribute_name}
 use Rattle.scim_schema.specs.Schemas.{urn, extension_of}
 use Rattle.scim_schema.specs.Table.{attributes}
-use Rattle.scim_schema.specs.Characteristics.{attribute_characteristics, characteristics_of}
+use Rattle.scim_schema.specs.Characteristics.{characteristics_of}
 use Rattle.scim_schema.specs.Units.{simple, unit_of, whole}
 use Rattle.scim_schema.specs.JsonKeys.{shape_of}
 use Rattle.scim_cell.specs.declared.atoms.Atom.{Atom}
-use Rattle.scim_cell.specs.declared.atoms.Atom.TheVariants.{Text}
 use Rattle.scim_cell.specs.declared.rows.Field.{Field}
 use Rattle.scim_cell.specs.Rows.{Row}
 use Rattle.scim_json.specs.declared.drafts.UseFor.{UseFor}
@@ -31,26 +27,17 @@ use Rattle.scim_json.specs.declared.bodies.BodyFault.{BodyFault}
 use Rattle.scim_json.specs.declared.bodies.BodyFault.TheVariants.{Syntax, Value}
 use Rattle.scim_json.specs.BodyNames.{is_read_only, body_clashes}
 use Rattle.scim_json.specs.BodyValues.{collected, if_given, given_named, given_atom, fields_of, values_of}
-use Rattle.scim_json.specs.Drafts.{Draft}
+use Rattle.scim_json.specs.Drafts.{Draft, is_write_only, is_empty, lacks_required}
 
 -- a unit that a body gives, with the values that are kept for it
 pub record Given : Type 0 where
   pub unit : AttributeUnit
   pub values : List Row
 
--- whether nothing is kept of a leaf (RFC 7643 section 2.2, writeOnly)
-abbrev pub is_write_only : Kind → Leaf → Bool
-is_write_only kind l = sameb the_mutability (characteristics_of kind l).mutability WriteOnly
-
 -- the unit of a field of its own; a password is given, but isn't kept
 abbrev pub field_given : Kind → Field → Given
 field_given kind f =
     record { unit = unit_of f.leaf; values = if is_write_only kind f.leaf then [] else record { unit = unit_of f.leaf; fields = f ∷ [] } ∷ [] }
-
--- whether a text is empty
-abbrev pub is_empty : Atom → Bool
-is_empty (Text []) = true
-is_empty _ = false
 
 -- a simple attribute; a `userName` isn't empty (RFC 7643 section 4.1.1)
 abbrev pub named_given : Kind → Attribute → Atom → Option (List Given)
@@ -96,14 +83,6 @@ given_of kind ms a = option_and_then (attribute_given kind a) (schema_members (e
 -- all that a body gives, in the order of the table; None where a value is refused
 unfoldable pub all_given : Kind → Members → Option (List Given)
 all_given kind ms = collected (given_of kind ms) (attributes kind)
-
--- whether the kind requires an attribute (RFC 7643 section 2.2), and no row is of it
-abbrev pub is_missing : Kind → List Row → Attribute → Bool
-is_missing kind rs a = (attribute_characteristics kind a).required && not (list_any (λ r. sameb the_attribute r.unit.attribute a) rs)
-
--- whether rows are without an attribute that the kind requires
-unfoldable pub lacks_required : Kind → List Row → Bool
-lacks_required kind rs = list_any (is_missing kind rs) (attributes kind)
 
 -- what a body is: malformed, or with a wrong value, or of a draft
 pub data Body : Type 0 where

@@ -1,7 +1,7 @@
 //! Bodies of requests that make or replace a resource (RFC 7644 sections 3.3 and 3.5.1): first the form
 //! of a whole body, then its values.
 ghost use Rattle.std.specs.Prelude.{◌≡◌, ◌++◌, IfOk, OnOk, Some, None, option_map, map};
-ghost use Rattle.std.specs.List.{list_any};
+ghost use Rattle.std.specs.List.{flat_map, list_any};
 ghost use denote.Enum.Bare.{sameb};
 ghost use Rattle.serde_json.specs.Read.{read};
 ghost use Rattle.scim_schema.specs.contracts.Attribute.{the_type as the_attribute};
@@ -10,7 +10,8 @@ ghost use Rattle.scim_text.specs.Failures.{UnlessMemory, OnFault};
 ghost use Rattle.scim_json.specs.BodyValues.{collected, values_of};
 ghost use Rattle.scim_json.specs.Bodies as spec;
 ghost use Rattle.scim_json.specs.Bodies.{GivesDraft};
-ghost use Rattle.scim_json.specs.code.Given.{with_given, unit_given, units_given, members_or_none};
+ghost use Rattle.scim_json.specs.Drafts as drafts;
+ghost use Rattle.scim_json.specs.code.Given.{AreOfBody, with_given, unit_given, units_given, members_or_none};
 
 use crate::body_names::{body_clashes, is_read_only};
 use crate::body_values::{WrongValue, given_named, read_atom, read_fields, read_values};
@@ -100,24 +101,7 @@ fn read_draft(
         (spec.body_with kind use_for (spec.all_given kind (members_view members.now.entries)) ≡ spec.wrong) }
 {
     let given = read_all(alloc, members, kind)?;
-    let draft = draft_of(alloc, kind, use_for, given)?;
-    judged(use_for, draft)
-}
-
-/// The draft, where it may be used so: a create needs what is required. Else WrongValue.
-fn judged(use_for: UseFor, draft: Draft) -> Result<Draft, Failed<WrongValue>>
-    ensures given { IfOk result (λ d. spec.judged use_for draft ≡ spec.drafted d) }
-    ensures wrong { OnFault result (spec.judged use_for draft ≡ spec.wrong) }
-{
-    match use_for {
-        UseFor::Creating => {
-            if lacks_required(draft.kind(), draft.rows()) {
-                return Err(Failed::Because(WrongValue));
-            }
-            Ok(draft)
-        }
-        UseFor::Replacing => Ok(draft),
-    }
+    draft_of(alloc, kind, use_for, given)
 }
 
 /// All that the body gives.
@@ -259,7 +243,7 @@ fn read_simple(
 
 /// Whether an atom is an empty text.
 fn is_empty(atom: &Atom) -> bool
-    ensures { result ≡ spec.is_empty atom.now }
+    ensures { result ≡ drafts.is_empty atom.now }
 {
     match atom {
         Atom::Text(text) => text.as_str().is_empty(),
@@ -341,14 +325,33 @@ fn read_multi_valued(
     Ok(())
 }
 
-/// The draft of what is given. NoMemory where none was to be had.
+/// The draft of what a body gives; a create needs what is required.
+///
+/// WrongValue where that is missing. NoMemory where none was to be had.
 fn draft_of(
     alloc: Global,
     kind: Kind,
     use_for: UseFor,
     given: Vec<UnitGiven>,
-) -> Result<Draft, NoMemory>
-    ensures { IfOk result (λ d. d ≡ spec.draft_of kind use_for (units_given given.items)) }
+) -> Result<Draft, Failed<WrongValue>>
+    requires { AreOfBody kind given.items }
+    ensures given { IfOk result
+        (λ d. spec.judged use_for (spec.draft_of kind use_for (units_given given.items)) ≡ spec.drafted d) }
+    ensures wrong { OnFault result
+        (spec.judged use_for (spec.draft_of kind use_for (units_given given.items)) ≡ spec.wrong) }
+{
+    let (units, rows) = parts_of(alloc, given)?;
+    if use_for == UseFor::Creating && lacks_required(kind, rows.as_slice()) {
+        return Err(Failed::Because(WrongValue));
+    }
+    Ok(Draft::new(kind, use_for, units, rows))
+}
+
+/// The units that are given, and the rows of their values, one unit after another. NoMemory where none
+/// was to be had.
+fn parts_of(alloc: Global, given: Vec<UnitGiven>) -> Result<(Vec<Unit>, Vec<Row>), NoMemory>
+    ensures units { IfOk result (λ parts. parts.0.items ≡ map (λ g. g.unit) (units_given given.items)) }
+    ensures rows { IfOk result (λ parts. parts.1.items ≡ flat_map (λ g. g.values) (units_given given.items)) }
 {
     let mut units = Vec::new(alloc);
     let mut rows = Vec::new(alloc);
@@ -357,13 +360,13 @@ fn draft_of(
         units.push(unit)?;
         rows.append(&mut values)?;
     }
-    Ok(Draft::new(kind, use_for, units, rows))
+    Ok((units, rows))
 }
 
 /// Whether rows are without an attribute that the kind requires.
-#[tactic(auto, unfolding(crate::specs::Bodies::lacks_required))]
+#[tactic(auto, unfolding(crate::specs::Drafts::lacks_required))]
 fn lacks_required(kind: Kind, rows: &[Row]) -> bool
-    ensures { result ≡ spec.lacks_required kind rows.now }
+    ensures { result ≡ drafts.lacks_required kind rows.now }
 {
     attributes(kind)
         .iter()
@@ -372,7 +375,7 @@ fn lacks_required(kind: Kind, rows: &[Row]) -> bool
 
 /// Whether the kind requires the attribute, and none of the rows is of it.
 fn is_missing(kind: Kind, rows: &[Row], attribute: Attribute) -> bool
-    ensures { result ≡ spec.is_missing kind rows.now attribute }
+    ensures { result ≡ drafts.is_missing kind rows.now attribute }
 {
     attribute_characteristics(kind, attribute).required && !has_attribute(rows, attribute)
 }

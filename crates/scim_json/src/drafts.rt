@@ -1,5 +1,6 @@
 //! Drafts: what the bodies of requests give of resources.
 ghost use Rattle.std.specs.Prelude.{◌≡◌};
+ghost use Rattle.scim_json.specs.Drafts.{IsDraft};
 
 use scim_cell::Row;
 use scim_schema::{Kind, Unit};
@@ -15,6 +16,9 @@ pub enum UseFor {
 
 /// What a body gives: a kind, what it was read for, the units that have a value in it, and the rows
 /// of the values, without those that aren't kept, as a password.
+///
+/// Contracts know of every draft that its values may stand in a resource of the kind; and of one that was
+/// read for Creating that it has all that the kind requires.
 #[derive(Debug, Drop)]
 pub struct Draft {
     kind: Kind,
@@ -27,7 +31,7 @@ impl Model for Draft {
     ghost use Rattle.std.specs.Coded.{codes};
     ghost use Rattle.scim_schema.specs.contracts.Unit as unit;
     ghost use Rattle.scim_cell.specs.contracts.rows.Row as row;
-    ghost use Rattle.scim_json.specs.Drafts.{Draft};
+    ghost use Rattle.scim_json.specs.Drafts.{Draft, IsDraft};
     ghost use Rattle.scim_json.specs.code.Inside.{draft_of};
 
     ghost Value = { Draft };
@@ -35,11 +39,14 @@ impl Model for Draft {
     ghost coded = { Prim.hlevel (codes, unit.the_row.coded, row.the_row.coded) };
 
     ghost view = { draft_of };
+
+    ghost invariant = { λ d. IsDraft (draft_of d) };
 }
 
 impl Draft {
     /// The draft of these units and rows.
     pub(crate) fn new(kind: Kind, use_for: UseFor, given: Vec<Unit>, rows: Vec<Row>) -> Draft
+        requires { IsDraft (record { kind = kind; use_for = use_for; given = given.items; rows = rows.items }) }
         ensures kind { result.kind ≡ kind }
         ensures use_for { result.use_for ≡ use_for }
         ensures given { result.given ≡ given.items }
@@ -76,21 +83,9 @@ impl Draft {
 
     /// The rows of the values, in order of unit.
     pub fn rows(&self) -> &[Row]
-        ensures { result.now ≡ self.now.rows }
+        ensures rows { result.now ≡ self.now.rows }
+        ensures valid { IsDraft self.now }
     {
         self.rows.as_slice()
-    }
-
-    /// The rows, to keep.
-    pub fn into_rows(self) -> Vec<Row>
-        ensures { result.items ≡ self.rows }
-    {
-        let Draft {
-            kind: _,
-            use_for: _,
-            given: _,
-            rows,
-        } = self;
-        rows
     }
 }

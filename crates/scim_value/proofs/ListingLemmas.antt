@@ -102,7 +102,7 @@ whole_unit l u e m =
 field_in : (kind : Kind) (u : AttributeUnit) (c : Field) → IsSoundField kind u c → In u.attribute (attributes kind) × In c.leaf (leaves_by_place u.attribute)
 field_in kind u c h = subst (λ a. In a (attributes kind) × In c.leaf (leaves_by_place a)) (attribute_of c.leaf u h.0) (in_kind kind c.leaf h.1)
 
-fields_in : (kind : Kind) (r : Row) → IsSoundRow kind r → All (λ (c : Field). In c.leaf (leaves_by_place r.unit.attribute)) r.fields
+pub fields_in : (kind : Kind) (r : Row) → IsSoundRow kind r → All (λ (c : Field). In c.leaf (leaves_by_place r.unit.attribute)) r.fields
 fields_in kind r h = All-weaker (IsSoundField kind r.unit) (λ (c : Field). In c.leaf (leaves_by_place r.unit.attribute)) (λ c s. (field_in kind r.unit c s).1) r.fields h.own
 
 pub row_in : (kind : Kind) (u : AttributeUnit) (cs : List Field) → has_fields (record { unit = u; fields = cs }) ≡ true → All (IsSoundField kind u) cs

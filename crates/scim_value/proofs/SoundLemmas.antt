@@ -169,13 +169,13 @@ module _ (u : AttributeUnit) where
       )
 
 -- two lists in order, one after another
-pairs_append : (xs ys : List Row) → AllPairs Before xs → AllPairs Before ys → All (λ x. All (Before x) ys) xs → AllPairs Before (xs ++ ys)
+pub pairs_append : (xs ys : List Row) → AllPairs Before xs → AllPairs Before ys → All (λ x. All (Before x) ys) xs → AllPairs Before (xs ++ ys)
 pairs_append [] ys a b c = b
 pairs_append (x ∷ xs) ys a b c =
     AllPairs-cons Before x (xs ++ ys) (All-append (Before x) xs ys (head_pairs Before x xs a) (All-head (λ z. All (Before z) ys) x xs c))
     (pairs_append xs ys (tail_pairs Before x xs a) b (All-tail (λ z. All (Before z) ys) x xs c))
 
-across : (P Q : Row → Type 0) → ((r s : Row) → P r → Q s → Before r s) → (xs ys : List Row) → All P xs → All Q ys → All (λ x. All (Before x) ys) xs
+pub across : (P Q : Row → Type 0) → ((r s : Row) → P r → Q s → Before r s) → (xs ys : List Row) → All P xs → All Q ys → All (λ x. All (Before x) ys) xs
 across P Q f xs ys a b = All-weaker P (λ x. All (Before x) ys) (λ x p. All-weaker Q (Before x) (λ y q. f x y p q) ys b) xs a
 
 lt_not_gt : (o : Ordering) → is_lt o ≡ true → is_gt o ≡ false

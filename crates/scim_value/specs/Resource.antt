@@ -18,7 +18,7 @@ use Rattle.scim_cell.specs.declared.atoms.Atom.TheVariants.{Text}
 use Rattle.scim_cell.specs.declared.rows.Field.{Field}
 use Rattle.scim_cell.specs.Place.{place_at}
 use Rattle.scim_cell.specs.Content.{Content, IsPart}
-use Rattle.scim_cell.specs.Rows.{rows, values, atom_in, is_primary}
+use Rattle.scim_cell.specs.Rows.{Row, rows, values, atom_in, is_primary}
 
 -- what stands at the first position of a leaf
 abbrev pub first_at : Leaf → Content → Option Atom
@@ -56,16 +56,16 @@ abbrev pub IsNamed : Content → Type 0
 IsNamed c = IsNamedAs c.kind c
 
 -- each member has a `value` (RFC 7643 section 4.2)
-abbrev pub MembersHaveValues : Content → Type 0
-MembersHaveValues c = All (λ r. IsSome (atom_in (leaf_at Members Value) r.fields)) (values (whole Members) (rows c))
+abbrev pub MembersHaveValues : List Row → Type 0
+MembersHaveValues rs = All (λ r. IsSome (atom_in (leaf_at Members Value) r.fields)) (values (whole Members) rs)
 
--- each attribute has at most one value whose `primary` is true (RFC 7643 section 2.4)
-abbrev pub HasAtMostOnePrimary : Content → Type 0
-HasAtMostOnePrimary c = All (λ a. count_by is_primary (values (whole a) (rows c)) ≤ 1) (attributes c.kind)
+-- each attribute of the kind has at most one value whose `primary` is true (RFC 7643 section 2.4)
+abbrev pub HasAtMostOnePrimary : Kind → List Row → Type 0
+HasAtMostOnePrimary kind rs = All (λ a. count_by is_primary (values (whole a) rs) ≤ 1) (attributes kind)
 
--- no multi-valued attribute has more than 10,000 values
-abbrev pub HasFewValues : Content → Type 0
-HasFewValues c = All (λ a. length (values (whole a) (rows c)) ≤ 10000) (attributes c.kind)
+-- no multi-valued attribute of the kind has more than 10,000 values
+abbrev pub HasFewValues : Kind → List Row → Type 0
+HasFewValues kind rs = All (λ a. length (values (whole a) rs) ≤ 10000) (attributes kind)
 
 abbrev pub IsShort : Atom → Type 0
 IsShort (Text t) = length t ≤ 65536
@@ -84,7 +84,7 @@ pub record IsResource (c : Content) : Type 0 where
   pub has_meta : HasMeta c
   pub located : (base : List ℕ) × HasBase base c
   pub named : IsNamed c
-  pub members_have_values : MembersHaveValues c
-  pub one_primary : HasAtMostOnePrimary c
-  pub few_values : HasFewValues c
+  pub members_have_values : MembersHaveValues (rows c)
+  pub one_primary : HasAtMostOnePrimary c.kind (rows c)
+  pub few_values : HasFewValues c.kind (rows c)
   pub may_be_kept : All (λ r. All (MayBeKept c.kind) r.fields) (rows c)

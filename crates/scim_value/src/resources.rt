@@ -86,6 +86,14 @@ impl Resource {
         }
     }
 
+    /// The resource that the part is known to be. Takes no memory.
+    pub fn of_whole(part: Part) -> Resource
+        requires { IsResource part }
+        ensures { result ≡ part }
+    {
+        Resource { part }
+    }
+
     /// The part, with all cells.
     pub fn part(&self) -> &Part
         ensures value { result.now ≡ self.now }

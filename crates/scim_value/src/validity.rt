@@ -137,7 +137,7 @@ fn is_named(part: &Part) -> bool
 }
 
 fn members_have_values(part: &Part) -> bool
-    ensures { IsTrue result ↔ MembersHaveValues part.now }
+    ensures { IsTrue result ↔ MembersHaveValues (rows part.now) }
 {
     part.values(Unit::whole(Attribute::Members))
         .iter()
@@ -159,7 +159,7 @@ fn has_at_most_one_primary_in(part: &Part, attribute: Attribute) -> bool
 }
 
 fn has_at_most_one_primary(part: &Part) -> bool
-    ensures { IsTrue result ↔ HasAtMostOnePrimary part.now }
+    ensures { IsTrue result ↔ HasAtMostOnePrimary part.now.kind (rows part.now) }
 {
     attributes(part.kind())
         .iter()
@@ -173,7 +173,7 @@ fn has_few_values_in(part: &Part, attribute: Attribute) -> bool
 }
 
 fn has_few_values(part: &Part) -> bool
-    ensures { IsTrue result ↔ HasFewValues part.now }
+    ensures { IsTrue result ↔ HasFewValues part.now.kind (rows part.now) }
 {
     attributes(part.kind())
         .iter()

@@ -1,8 +1,9 @@
 -- What the reader of a body has read of the units so far.
-use Rattle.std.specs.Prelude.{List, ◌++◌, map, Option, None, Some, option_map}
+use Rattle.std.specs.Prelude.{◌≡◌, List, ◌++◌, map, Option, None, Some, option_map}
 use Rattle.serde_json.specs.Data.{Members, no_members}
+use Rattle.scim_schema.specs.declared.Kind.{Kind}
 use Rattle.scim_json.specs.declared.bodies.UnitGiven.{UnitGiven}
-use Rattle.scim_json.specs.Bodies.{Given}
+use Rattle.scim_json.specs.Bodies.{Given, all_given}
 
 -- a unit that is given, by its values
 abbrev pub unit_given : UnitGiven → Given
@@ -22,3 +23,7 @@ with_given gs read = after (units_given gs) read
 abbrev pub members_or_none : Option Members → Members
 members_or_none None = no_members
 members_or_none (Some ms) = ms
+
+-- the units are all that the members of some body of the kind give
+abbrev pub AreOfBody : Kind → List UnitGiven → Type 0
+AreOfBody kind gs = (ms : Members) × (all_given kind ms ≡ Some (units_given gs))

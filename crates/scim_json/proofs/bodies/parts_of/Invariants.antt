@@ -2,7 +2,7 @@ use Rattle.std.proofs.Common.{◌≡◌, map}
 use Rattle.std.specs.List.{flat_map}
 use Rattle.scim_json.specs.Bodies.{Given}
 use Rattle.scim_json.specs.code.Given.{units_given}
-use Rattle.scim_json.proofs.bodies.draft_of.Given as goal
+use Rattle.scim_json.proofs.bodies.parts_of.Given as goal
 
 -- what was yielded is taken over
 abbrev pub invariant-loop-one : goal.invariant-loop-one
