@@ -1,9 +1,14 @@
 pub mod PlaceLemmas
 pub mod StoreLemmas
 pub mod NameLemmas
+pub mod FreshLemmas
 pub mod CollectionLemmas
 pub mod OwnerLemmas
 pub mod ShowLemmas
 pub mod LeftLemmas
+pub mod NoteLemmas
+pub mod ValueLemmas
+pub mod NotedLemmas
+pub mod PickLemmas
 pub mod CopyLemmas
 pub mod Facts

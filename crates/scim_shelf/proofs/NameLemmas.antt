@@ -95,7 +95,7 @@ named_without n id (d ∷ ds) keyed = go (named_without n id ds (keyed_tail d ds
         → find (has_name n) (without id (d ∷ ds)) ≡ cond (has_in n (find (has_id id) (d ∷ ds))) None (find (has_name n) (d ∷ ds))
     go later = by_order (slice_cmp nat_cmp id d.id) less equal (greater later)
 
-is_lt-Less : (o : Ordering) → is_lt o ≡ true → o ≡ Less
+pub is_lt-Less : (o : Ordering) → is_lt o ≡ true → o ≡ Less
 is_lt-Less Less h = refl
 is_lt-Less Equal h = cc
 is_lt-Less Greater h = cc
@@ -164,7 +164,7 @@ none_at : (kind : Kind) (id : List ℕ) (cs : List Content) → AreAbove id cs �
 none_at kind id [] up = refl
 none_at kind id (c ∷ cs) up = rw (not_at kind id c (rw up.0 refl)) (none_at kind id cs up.1)
 
-is_eq-Equal : (o : Ordering) → is_eq o ≡ true → o ≡ Equal
+pub is_eq-Equal : (o : Ordering) → is_eq o ≡ true → o ≡ Equal
 is_eq-Equal Less h = cc
 is_eq-Equal Equal h = refl
 is_eq-Equal Greater h = cc

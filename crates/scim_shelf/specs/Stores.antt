@@ -51,6 +51,14 @@ is_same_name n m = is_same_leaf n.leaf m.leaf && pointwise nat_eq n.text m.text
 abbrev pub has_name : Name → Content → Bool
 has_name name c = list_any (is_same_name name) (unique_names c)
 
+-- whether a resource has a unique name of another (RFC 7643 section 2.2, uniqueness)
+abbrev pub is_taken : List Content → Content → Bool
+is_taken cs c = list_any (λ n. list_any (has_name n) cs) (unique_names c)
+
+-- whether a resource has the id, of whatever kind (RFC 7643 section 3.1)
+abbrev pub is_used : List Content → List ℕ → Bool
+is_used cs id = list_any (λ d. is_same_id id d.id) cs
+
 -- whether it is a group that lists the value (RFC 7643 section 4.2)
 abbrev pub is_group_with : List ℕ → Content → Bool
 is_group_with value c = is_of Group c && lists_value value c

@@ -1,3 +1,4 @@
 pub mod Owners
+pub mod Members
 pub mod Collections
 pub mod Copies

@@ -1,29 +1,36 @@
-//! The resources of a store, to be found by id and by unique name.
-ghost use Rattle.std.specs.Prelude.{◌≡◌, List, [], IfOk, OnOk, OnErr, map, find, filter, AllPairs};
+//! The resources of a store, to be found by id, by unique name and by member.
+ghost use Rattle.std.specs.Prelude.{◌≡◌, ◌&&◌, not, ℕ, List, [], true, IfOk, OnOk, OnErr, map, find, filter, All, AllPairs};
+ghost use Rattle.std.specs.Ordering.{nat_cmp};
+ghost use Rattle.std.specs.Cmp.Lexicographic.{slice_cmp};
+ghost use Rattle.std.specs.BTreeSet.{contains};
 ghost use Rattle.std.specs.List.{FoldsTo};
 ghost use Rattle.std.specs.List.Sorted.{IsPermutation};
 ghost use Rattle.std.specs.Option.{option_copied};
 ghost use Rattle.scim_cell.specs.Content.{Content};
 ghost use Rattle.scim_cell.specs.Kinds.{of_kind};
+ghost use Rattle.scim_value.specs.Members.{lists_value};
 ghost use Rattle.scim_value.specs.Uniqueness.{name_of, AreApart};
 ghost use Rattle.scim_shelf.specs.Stores.{HasPlace, has_name, is_group_with, keep, without};
-ghost use Rattle.scim_shelf.specs.code.Collections.{IsCollection, has_id, names_of};
+ghost use Rattle.scim_shelf.specs.code.Collections.{IsCollection, has_id, names_of, if_passes};
+ghost use Rattle.scim_shelf.specs.code.Members.{is_one_of, lists_in};
 
-use crate::groups::is_group_with;
+use crate::groups::{is_group_with, values_beyond};
+use crate::members::Members;
 use crate::owners::Owners;
 use crate::shelf::Visitor;
-use scim_cell::Id;
+use scim_cell::{Id, Text};
 use scim_schema::Kind;
 use scim_text::NoMemory;
 use scim_value::{Resource, UniqueName, unique_names};
 use std::alloc::Global;
-use std::collections::BTreeMap;
+use std::collections::{BTreeMap, BTreeSet};
 
-/// The resources of a store by id, and which of them has each unique name.
+/// The resources of a store by id, which of them has each unique name, and which of them may list each value.
 #[derive(Drop)]
 pub(crate) struct Collection {
     by_id: BTreeMap<Id, Resource>,
     owners: Owners,
+    members: Members,
 }
 
 impl Collection {
@@ -34,6 +41,7 @@ impl Collection {
         Collection {
             by_id: BTreeMap::new(alloc),
             owners: Owners::new(alloc),
+            members: Members::new(alloc),
         }
     }
 
@@ -77,7 +85,19 @@ impl Collection {
         }
     }
 
-    /// Keeps a resource, instead of the one with its id. NoMemory where none was to be had: nothing is
+    /// The values that the resource with the id of this one lists and this one doesn't; none where there is no such
+    /// resource. NoMemory where none was to be had.
+    fn values_gone(&self, alloc: Global, new: &Resource) -> Result<Vec<Text>, NoMemory>
+        ensures { IfOk result (λ gone. (cs : List Content) → IsCollection cs self.now
+            → (v : List ℕ) → is_one_of v gone.items ≡ (lists_in v (find (has_id new.now.id) cs) && not (lists_value v new.now))) }
+    {
+        match self.with_id(new.id()) {
+            Some(old) => values_beyond(alloc, old, new),
+            None => Ok(Vec::new(alloc)),
+        }
+    }
+
+    /// Keeps a resource, instead of the one with its id. NoMemory where none was to be had: no answer is
     /// changed then.
     pub(crate) fn keep(&mut self, alloc: Global, resource: Resource) -> Result<(), NoMemory>
         ensures ok { OnOk result ((cs : List Content) → IsCollection cs self.old → HasPlace cs resource
@@ -87,10 +107,13 @@ impl Collection {
         let id = resource.id();
         let names = unique_names(alloc, &resource)?;
         let old_names = self.names_at(alloc, id)?;
+        let gone = self.values_gone(alloc, &resource)?;
         self.owners.reserve(names.len())?;
+        self.members.note_group(alloc, &resource)?;
         self.by_id.insert(id, resource)?;
         self.owners.forget(old_names.as_slice());
         self.owners.note(names, id);
+        self.members.forget_values(gone.as_slice(), id);
         Ok(())
     }
 
@@ -101,7 +124,10 @@ impl Collection {
     {
         let names = self.names_at(alloc, id)?;
         self.owners.forget(names.as_slice());
-        self.by_id.remove(&id);
+        let Some(old) = self.by_id.remove(&id) else {
+            return Ok(());
+        };
+        self.members.forget_group(&old, id);
         Ok(())
     }
 
@@ -126,12 +152,40 @@ impl Collection {
     pub(crate) fn groups_with(&self, alloc: Global, value: &str) -> Result<Vec<Resource>, NoMemory>
         ensures { IfOk result (λ groups. (cs : List Content) → IsCollection cs self.now → groups.items ≡ filter (is_group_with value.now) cs) }
     {
+        match self.members.of(value) {
+            Some(ids) => self.groups_among(alloc, ids, value),
+            None => Ok(Vec::new(alloc)),
+        }
+    }
+
+    /// The groups that list the value, in order of id, whose ids are all among these. NoMemory where none was to be
+    /// had.
+    fn groups_among(
+        &self,
+        alloc: Global,
+        ids: &BTreeSet<Id>,
+        value: &str,
+    ) -> Result<Vec<Resource>, NoMemory>
+        ensures { IfOk result (λ groups. (cs : List Content) → IsCollection cs self.now
+            → All (λ c. is_group_with value.now c ≡ true → contains (slice_cmp nat_cmp) ids.now c.id ≡ true) cs
+            → groups.items ≡ filter (is_group_with value.now) cs) }
+    {
         let mut groups = Vec::new(alloc);
-        for resource in self.by_id.values() {
-            if is_group_with(value, resource) {
-                groups.push(resource.try_copy(alloc)?)?;
+        for id in ids {
+            if let Some(group) = self.group_with(*id, value) {
+                groups.push(group.try_copy(alloc)?)?;
             }
         }
         Ok(groups)
+    }
+
+    /// The resource with the id, if it is a group that lists the value.
+    fn group_with(&self, id: Id, value: &str) -> Option<&Resource>
+        ensures { (cs : List Content) → IsCollection cs self.now → option_copied result ≡ if_passes (is_group_with value.now) (find (has_id id) cs) }
+    {
+        match self.with_id(id) {
+            Some(group) if is_group_with(value, group) => Some(group),
+            _ => None,
+        }
     }
 }

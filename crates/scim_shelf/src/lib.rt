@@ -6,6 +6,7 @@ mod collections;
 mod copies;
 mod faults;
 mod groups;
+mod members;
 mod memory;
 mod owners;
 mod shelf;

@@ -1,5 +1,5 @@
 -- How the code keeps the resources of a store, to be found by id and by unique name.
-use Rattle.std.specs.Prelude.{◌≡◌, ℕ, Bool, false, cond, List, [], ◌++◌, map, find, All, AllPairs, Option, None, Some}
+use Rattle.std.specs.Prelude.{◌≡◌, ℕ, Bool, true, false, cond, List, [], ◌∷◌, ◌++◌, map, find, All, AllPairs, Option, None, Some}
 use Rattle.std.specs.List.Sorted.{IsPermutation}
 use Rattle.std.specs.Option.{option_map}
 use Rattle.std.specs.Ordering.{nat_cmp, is_eq}
@@ -10,8 +10,9 @@ use Rattle.scim_cell.specs.Kinds.{is_of}
 use Rattle.scim_value.specs.declared.uniqueness.UniqueName.{UniqueName}
 use Rattle.scim_value.specs.Uniqueness.{Name, name_of, unique_names, AreApart}
 use Rattle.scim_shelf.specs.declared.collections.Collection.{Collection}
-use Rattle.scim_shelf.specs.Stores.{AreKeyed, has_name}
+use Rattle.scim_shelf.specs.Stores.{AreKeyed, has_name, is_group_with}
 use Rattle.scim_shelf.specs.code.Owners.{owner}
+use Rattle.scim_shelf.specs.code.Members.{is_noted}
 
 -- whether a resource has the id
 abbrev pub has_id : List ℕ → Content → Bool
@@ -36,14 +37,31 @@ abbrev pub only_of : Kind → Option Content → Option Content
 only_of kind None = None
 only_of kind (Some c) = cond (is_of kind c) (Some c) None
 
+-- what was found, if it passes a test
+abbrev pub if_passes : (Content → Bool) → Option Content → Option Content
+if_passes test None = None
+if_passes test (Some c) = cond (test c) (Some c) None
+
+-- what was found, if anything was, before others
+abbrev pub before : Option Content → List Content → List Content
+before None cs = cs
+before (Some c) cs = c ∷ cs
+
+-- the resources with these ids that pass a test, in order of the ids
+abbrev pub picked : (Content → Bool) → List Content → List (List ℕ) → List Content
+picked test cs [] = []
+picked test cs (id ∷ ids) = before (if_passes test (find (has_id id) cs)) (picked test cs ids)
+
 -- of all resources, which are apart, these are left when those have been kept
 pub record AreLeft (all left cs : List Content) : Type 0 where
   pub members : IsPermutation all (left ++ cs)
   pub apart : AllPairs AreApart left
   pub across : All (λ d. All (AreApart d) cs) left
 
--- the collection has just these resources, by id, and knows which of them has each unique name
+-- the collection has just these resources, by id, knows which of them has each unique name, and has a note of each group under
+-- each value that it lists
 pub record IsCollection (cs : List Content) (collection : Collection) : Type 0 where
   pub resources : collection.by_id.entries ≡ map keyed cs
   pub keyed_apart : AreKeyed cs
   pub owners : (q : UniqueName) → owner collection.owners q ≡ option_map (λ c. c.id) (find (has_name (name_of q)) cs)
+  pub noted : (value : List ℕ) → All (λ c. is_group_with value c ≡ true → is_noted collection.members value c.id ≡ true) cs

@@ -1,0 +1,59 @@
+-- The values of one more member.
+use Rattle.std.proofs.Common.{◌≡◌, refl, sym, ◌∙◌, ap, subst, ℕ, ◌+◌, ◌<◌, Bool, true, false, ◌&&◌, ◌||◌, not, cond, List, [], ◌∷◌, ◌++◌, length, take, get_or}
+use Rattle.std.specs.Prelude.{nat_eq, Option}
+use Rattle.std.specs.Cmp.Lexicographic.{pointwise, bytes_decides}
+use Rattle.std.proofs.lemmas.List.Folds.{list_any-append, list_any_more}
+use Rattle.scim_cell.specs.Content.{Content}
+use Rattle.scim_cell.specs.Rows.{Row}
+use Rattle.scim_value.specs.Members.{is_text, lists_value}
+use Rattle.scim_shelf.specs.code.Members.{is_found, is_one_of, value_in, is_value_of}
+
+-- the values of members with one more, of which the value was found, if it has one
+pub value_more : (v : List ℕ) (members : List Row) (k : ℕ) (member : Row) (found : Option (List ℕ)) → k < length members → member ≡ get_or members k member
+    → is_text v (value_in member) ≡ is_found v found → is_value_of v (take (k + 1) members) ≡ (is_value_of v (take k members) || is_found v found)
+value_more v members k member found inside is text =
+    list_any_more (λ (m : Row). is_text v (value_in m)) members k member inside
+    ∙ ap (λ (m : Row). is_value_of v (take k members) || is_text v (value_in m)) (sym is)
+    ∙ ap (λ (b : Bool). is_value_of v (take k members) || b) text
+
+pub or_cond : (test b : Bool) → cond test true b ≡ (b || test)
+or_cond true true = refl
+or_cond true false = refl
+or_cond false true = refl
+or_cond false false = refl
+
+pub or_false : (b : Bool) → (b || false) ≡ b
+or_false true = refl
+or_false false = refl
+
+-- what one group lists holds of an equal value
+pub same_lists : (u v : List ℕ) (g : Content) (b : Bool) → lists_value u g ≡ b → pointwise nat_eq v u ≡ true → lists_value v g ≡ b
+same_lists u v g b h same = subst (λ (x : List ℕ). lists_value x g ≡ b) (sym ((bytes_decides v u).0 same)) h
+
+pushed : (before now listed : Bool) → (now ≡ true → listed ≡ false) → ((before && not listed) || (now || false)) ≡ ((before || now) && not listed)
+pushed true true true h = let nothing : true ≡ false = h refl in cc
+pushed true true false h = refl
+pushed true false true h = refl
+pushed true false false h = refl
+pushed false true true h = let nothing : true ≡ false = h refl in cc
+pushed false true false h = refl
+pushed false false true h = refl
+pushed false false false h = refl
+
+skipped : (before now listed : Bool) → (now ≡ true → listed ≡ true) → (before && not listed) ≡ ((before || now) && not listed)
+skipped true now listed h = refl
+skipped false true true h = refl
+skipped false true false h = let nothing : false ≡ true = h refl in cc
+skipped false false listed h = refl
+
+-- one more value is gone, since the new group doesn't list it
+pub gone_more : (v u : List ℕ) (gone : List (List ℕ)) (before : Bool) (new : Content) → is_one_of v gone ≡ (before && not (lists_value v new))
+    → lists_value u new ≡ false → is_one_of v (gone ++ u ∷ []) ≡ ((before || pointwise nat_eq v u) && not (lists_value v new))
+gone_more v u gone before new so_far absent =
+    list_any-append (pointwise nat_eq v) gone (u ∷ []) ∙ ap (λ (b : Bool). b || (pointwise nat_eq v u || false)) so_far
+    ∙ pushed before (pointwise nat_eq v u) (lists_value v new) (same_lists u v new false absent)
+
+-- or isn't, since the new group lists it
+pub gone_same : (v u : List ℕ) (gone : List (List ℕ)) (before : Bool) (new : Content) → is_one_of v gone ≡ (before && not (lists_value v new))
+    → lists_value u new ≡ true → is_one_of v gone ≡ ((before || pointwise nat_eq v u) && not (lists_value v new))
+gone_same v u gone before new so_far present = so_far ∙ skipped before (pointwise nat_eq v u) (lists_value v new) (same_lists u v new true present)

@@ -1,0 +1,59 @@
+-- Which groups may list a value, as the code keeps it.
+use Rattle.std.specs.Prelude.{ℕ, Bool, false, List, nat_eq, Option, None, Some}
+use Rattle.std.specs.List.{list_any}
+use Rattle.std.specs.Ordering.{nat_cmp, is_eq}
+use Rattle.std.specs.Cmp.Lexicographic.{slice_cmp, pointwise}
+use Rattle.std.specs.BTreeMap.{get_by_text}
+use Rattle.std.specs.BTreeSet.{BTreeSet, contains, contains_by}
+use denote.Ref.{Bor}
+use Rattle.scim_schema.specs.declared.Attribute.TheVariants.{Members}
+use Rattle.scim_schema.specs.declared.SubAttribute.TheVariants.{Value}
+use Rattle.scim_schema.specs.Units.{leaf_at}
+use Rattle.scim_cell.specs.declared.atoms.Atom.{Atom}
+use Rattle.scim_cell.specs.Content.{Content}
+use Rattle.scim_cell.specs.Rows.{Row, atom_in}
+use Rattle.scim_value.specs.Members.{is_text, lists_value}
+use Rattle.scim_shelf.specs.declared.members.Members.{Members as Notes}
+
+-- whether two ids are one
+abbrev pub is_same : List ℕ → List ℕ → Bool
+is_same id i = is_eq (slice_cmp nat_cmp id i)
+
+-- the ids that are noted under a value, if any are
+abbrev pub ids_at : Notes → List ℕ → Option (BTreeSet (List ℕ))
+ids_at notes value = get_by_text notes.by_value value
+
+-- whether an id is among those that were found, if any were
+abbrev pub has_in : List ℕ → Option (BTreeSet (List ℕ)) → Bool
+has_in id None = false
+has_in id (Some ids) = contains (slice_cmp nat_cmp) ids id
+
+-- whether an id is noted under a value
+abbrev pub is_noted : Notes → List ℕ → List ℕ → Bool
+is_noted notes value id = has_in id (ids_at notes value)
+
+-- whether a text that was found, if one was, is this one
+abbrev pub is_found : List ℕ → Option (List ℕ) → Bool
+is_found value None = false
+is_found value (Some text) = pointwise nat_eq value text
+
+-- whether a value is among these texts
+abbrev pub is_one_of : List ℕ → List (List ℕ) → Bool
+is_one_of value texts = list_any (pointwise nat_eq value) texts
+
+-- whether a value is among borrowed texts
+abbrev pub is_in : List ℕ → BTreeSet (Bor (List ℕ)) → Bool
+is_in value texts = contains_by (λ text. slice_cmp nat_cmp value text.now) texts
+
+-- the `value` of a member
+abbrev pub value_in : Row → Option Atom
+value_in member = atom_in (leaf_at Members Value) member.fields
+
+-- whether a value is that of one of these members
+abbrev pub is_value_of : List ℕ → List Row → Bool
+is_value_of value members = list_any (λ (m : Row). is_text value (value_in m)) members
+
+-- whether a group that was found, if one was, lists a value
+abbrev pub lists_in : List ℕ → Option Content → Bool
+lists_in value None = false
+lists_in value (Some c) = lists_value value c
