@@ -2,7 +2,6 @@
 ghost use Rattle.std.specs.Prelude.{◌≡◌, IfOk, string_bytes};
 ghost use Rattle.scim_command.specs.Replies as spec;
 
-use http::StatusCode;
 use scim_audit::Refusal;
 use scim_service::Reply;
 use scim_text::NoMemory;
@@ -13,11 +12,9 @@ use std::alloc::Global;
 pub(crate) fn reply_text(alloc: Global, reply: &Reply) -> Result<String, NoMemory>
     ensures { IfOk result (λ t. string_bytes t ≡ spec.reply_text reply.now) }
 {
-    match reply {
-        Reply::Shown(body) => shown_text(alloc, body.as_str()),
-        Reply::Done => done_text(alloc),
-        Reply::Refused(refusal) => refusal_text(alloc, *refusal),
-        Reply::Failed(_) => refusal_text(alloc, Refusal::Store),
+    match reply.refusal() {
+        Some(refusal) => refusal_text(alloc, refusal),
+        None => success_text(alloc, reply),
     }
 }
 
@@ -36,30 +33,15 @@ pub(crate) fn refusal_text(alloc: Global, refusal: Refusal) -> Result<String, No
     print_reply(alloc, &reply, refusal.closes())
 }
 
-/// The text of the reply that shows a body. NoMemory where none was to be had.
-#[tactic(auto, unfolding(crate::specs::Replies::shown_text))]
-fn shown_text(alloc: Global, body: &str) -> Result<String, NoMemory>
-    ensures { IfOk result (λ t. string_bytes t ≡ spec.shown_text body.now) }
+/// The text of a reply that is no refusal. NoMemory where none was to be had.
+#[tactic(auto, unfolding(crate::specs::Replies::success_text))]
+fn success_text(alloc: Global, reply: &Reply) -> Result<String, NoMemory>
+    ensures { IfOk result (λ t. string_bytes t ≡ spec.success_text reply.now) }
 {
     let reply = WireReply {
-        status: StatusCode::OK,
-        body: Some(body),
-        location: None,
-        allow: None,
-        asks_for_token: false,
-    };
-    print_reply(alloc, &reply, false)
-}
-
-/// The text of the reply that something is done. NoMemory where none was to be had.
-#[tactic(auto, unfolding(crate::specs::Replies::done_text))]
-fn done_text(alloc: Global) -> Result<String, NoMemory>
-    ensures { IfOk result (λ t. string_bytes t ≡ spec.done_text) }
-{
-    let reply = WireReply {
-        status: StatusCode::NO_CONTENT,
-        body: None,
-        location: None,
+        status: reply.status(),
+        body: reply.body(),
+        location: reply.location(),
         allow: None,
         asks_for_token: false,
     };

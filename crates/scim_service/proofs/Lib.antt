@@ -1,5 +1,6 @@
 pub mod StoreViews
 pub mod VisitLemmas
 pub mod PlanLemmas
+pub mod CreationLemmas
 pub mod StepLemmas
 pub mod RunLemmas

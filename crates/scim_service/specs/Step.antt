@@ -1,20 +1,29 @@
 -- One request: what it is answered, what it changes, and what the audit says of it (RFC 7644 section 3).
-use Rattle.std.specs.Prelude.{ℕ, List, find, Option, None, Some, option_and_then, Result, Ok, Err, if◌then◌else◌}
+use Rattle.std.specs.Prelude.{ℕ, Bool, not, ◌&&◌, ◌||◌, List, find, Option, None, Some, option_and_then, Result, Ok, Err, if◌then◌else◌}
+use Rattle.std.specs.List.{list_any}
+use denote.Enum.Bare.{sameb}
 use Rattle.serde_json.specs.Written.{compact_text}
 use Rattle.scim_schema.specs.declared.Kind.TheVariants.{Group}
-use Rattle.scim_schema.specs.declared.Op.TheVariants.{Delete}
+use Rattle.scim_schema.specs.declared.Op.TheVariants.{Create, Delete}
 use Rattle.scim_schema.specs.declared.Leaf.{Leaf}
 use Rattle.scim_schema.specs.declared.Attribute.TheVariants.{Id}
-use Rattle.scim_schema.specs.Units.{simple}
+use Rattle.scim_schema.specs.contracts.Kind.{the_type as the_kind}
+use Rattle.scim_schema.specs.Table.{leaves}
+use Rattle.scim_schema.specs.Units.{simple, unit_of, is_same_leaf, is_same_unit}
 use Rattle.scim_cell.specs.Content.{Content}
 use Rattle.scim_cell.specs.Kinds.{of_kind}
 use Rattle.scim_audit.specs.declared.refusals.Refusal.{Refusal}
-use Rattle.scim_audit.specs.declared.refusals.Refusal.TheVariants.{NotFound, Denied}
+use Rattle.scim_audit.specs.declared.refusals.Refusal.TheVariants.{MessageValue, NotFound, Denied, Taken, IdInUse}
 use Rattle.scim_audit.specs.declared.rows.Decided.{Decided}
 use Rattle.scim_audit.specs.declared.rows.Decided.TheVariants as decided
 use Rattle.scim_audit.specs.declared.rows.AuditRow.{AuditRow}
+use Rattle.scim_value.specs.Resource.{location}
+use Rattle.scim_json.specs.declared.drafts.UseFor.TheVariants.{Creating}
+use Rattle.scim_json.specs.contracts.drafts.UseFor.{the_type as the_use_for}
+use Rattle.scim_json.specs.Drafts.{Draft}
 use Rattle.scim_json.specs.PartData.{part_data}
 use Rattle.scim_json.specs.ListData.{list_data}
+use Rattle.scim_change.specs.Create.{created}
 use Rattle.scim_policy.specs.Rules.{Rule}
 use Rattle.scim_policy.specs.declared.rules.Decision.{Decision}
 use Rattle.scim_policy.specs.Decide.{decide}
@@ -25,12 +34,12 @@ use Rattle.scim_view.specs.Shown.{shown}
 use Rattle.scim_query.specs.declared.queries.Query.{Query}
 use Rattle.scim_query.specs.Pages.{first_position}
 use Rattle.scim_query.specs.Arranged.{total_of, shown_items}
-use Rattle.scim_shelf.specs.declared.changes.Change.TheVariants.{Nothing, Remove as TakeOut}
-use Rattle.scim_shelf.specs.Stores.{Store, is_at, after}
+use Rattle.scim_shelf.specs.declared.changes.Change.TheVariants.{Nothing, Keep, Remove as TakeOut}
+use Rattle.scim_shelf.specs.Stores.{Store, is_at, is_taken, is_used, keep, after}
 use Rattle.scim_service.specs.declared.requests.Ask.{Ask}
-use Rattle.scim_service.specs.declared.requests.Ask.TheVariants.{Get, Search, Remove}
+use Rattle.scim_service.specs.declared.requests.Ask.TheVariants.{Get, Search, Create as MakeOne, Remove}
 use Rattle.scim_service.specs.declared.requests.Turn.{Turn}
-use Rattle.scim_service.specs.declared.replies.Reply.TheVariants.{Shown, Done, Refused}
+use Rattle.scim_service.specs.declared.replies.Reply.TheVariants.{Shown, Created, Done, Refused}
 use Rattle.scim_service.specs.declared.plans.Plan.{Plan}
 
 -- a row of the audit: of the turn its moment, client, operation and kind, and what is said of it
@@ -102,6 +111,57 @@ removed v turn c =
     then record { reply = Done; change = TakeOut c.kind c.id; row = allowed turn (delete_decision v c).rule }
     else denied turn (delete_decision v c) (simple Id)
 
+-- ---- what is made
+
+-- the resource that a draft makes at the turn
+abbrev pub new_resource : Viewer → Turn → Draft → Content
+new_resource v turn d = created d turn.fresh turn.moment v.base
+
+-- the policy's decision on making a resource, at a leaf; the targets of rules are tried on the new resource
+abbrev pub create_decision : Viewer → Content → Leaf → Decision
+create_decision v c l = decide v.policy v.client Create c l
+
+-- whether it is decided at a leaf: at `id`, and at those of the units that the body gives
+abbrev pub is_decided : Draft → Leaf → Bool
+is_decided d l = is_same_leaf l (simple Id) || list_any (is_same_unit (unit_of l)) d.given
+
+-- the first of these, in leaf order, at which the policy denies it
+abbrev pub first_denied : Viewer → Draft → Content → Option Leaf
+first_denied v d c = find (λ l. is_decided d l && not (create_decision v c l).allow) (leaves d.kind)
+
+-- what the client is shown of the resource that was made, among the others; nothing, where it doesn't see it
+abbrev pub created_text : Viewer → List Content → Wanted → Content → Option (List ℕ)
+created_text v cs wanted c = if (read_decision v c (simple Id)).allow then Some (resource_text v (of_kind Group (keep c cs)) wanted c) else None
+
+-- the resource is kept, with what the client is shown of it, as the rule allows
+abbrev pub made_with : Viewer → Turn → Content → ℕ → Option (List ℕ) → Plan
+made_with v turn c rule text = record {
+  reply = Created (location v.base c.kind c.id) text;
+  change = Keep c;
+  row = row_of turn (Some c.id) decided.Allow (Some rule) None None;
+}
+
+abbrev pub made : Viewer → Turn → List Content → Wanted → Content → Plan
+made v turn cs wanted c = made_with v turn c (create_decision v c (simple Id)).rule (created_text v cs wanted c)
+
+-- it needs a name and an id that no resource has, be it seen or not (RFC 7644 section 3.3)
+abbrev pub made_if_free : Viewer → Turn → List Content → Wanted → Content → Plan
+made_if_free v turn cs wanted c =
+    if is_taken cs c then refused turn Taken else (if is_used cs c.id then refused turn IdInUse else made v turn cs wanted c)
+
+-- and the policy's leave
+abbrev pub made_if_allowed : Viewer → Turn → List Content → Wanted → Content → Option Leaf → Plan
+made_if_allowed v turn cs wanted c None = made_if_free v turn cs wanted c
+made_if_allowed v turn cs wanted c (Some l) = denied turn (create_decision v c l) l
+
+-- whether the draft is of the request's kind, and was read to make a resource
+abbrev pub is_for : Turn → Draft → Bool
+is_for turn d = sameb the_kind d.kind turn.request.kind && sameb the_use_for d.use_for Creating
+
+unfoldable pub creating : Viewer → Turn → List Content → Draft → Wanted → Plan
+creating v turn cs d wanted =
+    if is_for turn d then made_if_allowed v turn cs wanted (new_resource v turn d) (first_denied v d (new_resource v turn d)) else refused turn MessageValue
+
 -- ---- all requests
 
 -- the resource that a request names
@@ -118,6 +178,7 @@ abbrev pub planned : Viewer → Turn → List Content → Result Ask Refusal →
 planned v turn cs (Err refusal) = refused turn refusal
 planned v turn cs (Ok (Get wanted)) = at_seen v turn (got v turn cs wanted) (sought turn cs)
 planned v turn cs (Ok (Search query)) = listed v turn cs query
+planned v turn cs (Ok (MakeOne draft wanted)) = creating v turn cs draft wanted
 planned v turn cs (Ok Remove) = at_seen v turn (removed v turn) (sought turn cs)
 
 -- for whom a turn is: its client, by the policy, below the base

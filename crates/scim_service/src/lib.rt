@@ -2,6 +2,7 @@
 //! a list of requests (RFC 7644 section 3).
 #![tactic(auto)]
 
+mod creations;
 mod plans;
 mod replies;
 mod requests;

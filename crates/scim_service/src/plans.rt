@@ -11,11 +11,14 @@ ghost use Rattle.scim_view.specs.View.{viewer_of};
 ghost use Rattle.scim_view.specs.Groups.{with_groups, views};
 ghost use Rattle.scim_view.specs.Indexes.{IsIndexOf};
 ghost use Rattle.scim_query.specs.Pages.{IsPage};
+ghost use Rattle.scim_shelf.specs.declared.changes.Change.{Change};
 ghost use Rattle.scim_shelf.specs.declared.faults.ShelfFault.{ShelfFault};
 ghost use Rattle.scim_shelf.specs.Shelves.{Counts, KeepsStore, Answers};
 ghost use Rattle.scim_shelf.specs.Stores.{IsStore};
+ghost use Rattle.scim_service.specs.Answers.{KeepsSound};
 ghost use Rattle.scim_service.specs.Step as spec;
 
+use crate::creations::plan_create;
 use crate::replies::Reply;
 use crate::requests::{Ask, Turn};
 use crate::visitors::{GroupVisitor, SearchVisitor};
@@ -41,14 +44,14 @@ pub(crate) struct Plan {
 
 /// What of a row of the audit isn't the turn's.
 #[derive(Clone, Copy)]
-struct Finding {
-    decided: Decided,
-    rule: Option<u32>,
-    leaf: Option<Leaf>,
-    refusal: Option<Refusal>,
+pub(crate) struct Finding {
+    pub(crate) decided: Decided,
+    pub(crate) rule: Option<u32>,
+    pub(crate) leaf: Option<Leaf>,
+    pub(crate) refusal: Option<Refusal>,
 }
 
-fn row_of(
+pub(crate) fn row_of(
     alloc: Global,
     turn: &Turn,
     id: Option<Id>,
@@ -78,7 +81,8 @@ fn refused_as(
     leaf: Option<Leaf>,
     refusal: Refusal,
 ) -> Result<Plan, NoMemory>
-    ensures { IfOk result (λ plan. plan ≡ spec.refused_as turn.now decided rule leaf refusal) }
+    ensures plan { IfOk result (λ plan. plan ≡ spec.refused_as turn.now decided rule leaf refusal) }
+    ensures change { IfOk result (λ plan. plan.change ≡ Change.Nothing) }
 {
     let finding = Finding {
         decided,
@@ -94,22 +98,25 @@ fn refused_as(
 }
 
 #[tactic(auto, unfolding(crate::specs::Step::refused))]
-fn refused(alloc: Global, turn: &Turn, refusal: Refusal) -> Result<Plan, NoMemory>
-    ensures { IfOk result (λ plan. plan ≡ spec.refused turn.now refusal) }
+pub(crate) fn refused(alloc: Global, turn: &Turn, refusal: Refusal) -> Result<Plan, NoMemory>
+    ensures plan { IfOk result (λ plan. plan ≡ spec.refused turn.now refusal) }
+    ensures change { IfOk result (λ plan. plan.change ≡ Change.Nothing) }
 {
     refused_as(alloc, turn, Decided::Refused, None, None, refusal)
 }
 
 #[tactic(auto, unfolding(crate::specs::Step::absent))]
 fn absent(alloc: Global, turn: &Turn) -> Result<Plan, NoMemory>
-    ensures { IfOk result (λ plan. plan ≡ spec.absent turn.now) }
+    ensures plan { IfOk result (λ plan. plan ≡ spec.absent turn.now) }
+    ensures change { IfOk result (λ plan. plan.change ≡ Change.Nothing) }
 {
     refused_as(alloc, turn, Decided::Absent, None, None, Refusal::NotFound)
 }
 
 #[tactic(auto, unfolding(crate::specs::Step::hidden))]
 fn hidden(alloc: Global, turn: &Turn, decision: Decision) -> Result<Plan, NoMemory>
-    ensures { IfOk result (λ plan. plan ≡ spec.hidden turn.now decision) }
+    ensures plan { IfOk result (λ plan. plan ≡ spec.hidden turn.now decision) }
+    ensures change { IfOk result (λ plan. plan.change ≡ Change.Nothing) }
 {
     let id = Leaf::simple(Attribute::Id);
     refused_as(
@@ -123,8 +130,14 @@ fn hidden(alloc: Global, turn: &Turn, decision: Decision) -> Result<Plan, NoMemo
 }
 
 #[tactic(auto, unfolding(crate::specs::Step::denied))]
-fn denied(alloc: Global, turn: &Turn, decision: Decision, leaf: Leaf) -> Result<Plan, NoMemory>
-    ensures { IfOk result (λ plan. plan ≡ spec.denied turn.now decision leaf) }
+pub(crate) fn denied(
+    alloc: Global,
+    turn: &Turn,
+    decision: Decision,
+    leaf: Leaf,
+) -> Result<Plan, NoMemory>
+    ensures plan { IfOk result (λ plan. plan ≡ spec.denied turn.now decision leaf) }
+    ensures change { IfOk result (λ plan. plan.change ≡ Change.Nothing) }
 {
     refused_as(
         alloc,
@@ -167,7 +180,7 @@ fn found<S: Shelf>(
 }
 
 /// The groups by which a resource's own `groups` are told: those that list it; of one that isn't a user none.
-fn groups_beside<S: Shelf>(
+pub(crate) fn groups_beside<S: Shelf>(
     alloc: Global,
     shelf: &mut S,
     resource: &Resource,
@@ -190,7 +203,7 @@ fn groups_beside<S: Shelf>(
 
 /// The JSON of a resource as it is shown, where these are the decisions on reading it.
 #[tactic(auto, unfolding(crate::specs::Step::resource_text))]
-fn resource_text(
+pub(crate) fn resource_text(
     alloc: Global,
     viewer: &Viewer<'_>,
     decisions: &Decisions,
@@ -218,6 +231,7 @@ fn plan_get<S: Shelf>(
     ensures plan { IfOk result (Answers S.stands S.is_honest shelf.old shelf.new (λ store plan. (base : List ℕ) → IsStore base store
         → plan ≡ spec.at_seen (viewer_of viewer.now) turn.now
         (spec.got (viewer_of viewer.now) turn.now store.resources wanted.now) (spec.sought turn.now store.resources))) }
+    ensures sound { IfOk result (λ plan. KeepsSound viewer.now.base.now plan.change) }
     ensures store { KeepsStore S.stands shelf.old shelf.new }
     ensures honest { S.is_honest shelf.new → S.is_honest shelf.old }
     ensures counts { Counts (S.failures shelf.old) (S.failures shelf.new) result }
@@ -255,7 +269,8 @@ fn removed(
     turn: &Turn,
     resource: &Resource,
 ) -> Result<Plan, NoMemory>
-    ensures { IfOk result (λ plan. plan ≡ spec.removed (viewer_of viewer.now) turn.now resource.now) }
+    ensures plan { IfOk result (λ plan. plan ≡ spec.removed (viewer_of viewer.now) turn.now resource.now) }
+    ensures sound { IfOk result (λ plan. KeepsSound viewer.now.base.now plan.change) }
 {
     let id = Leaf::simple(Attribute::Id);
     let decision = viewer
@@ -280,6 +295,7 @@ fn plan_remove<S: Shelf>(
 ) -> Result<Plan, Failed<ShelfFault>>
     ensures plan { IfOk result (Answers S.stands S.is_honest shelf.old shelf.new (λ store plan.
         plan ≡ spec.at_seen (viewer_of viewer.now) turn.now (spec.removed (viewer_of viewer.now) turn.now) (spec.sought turn.now store.resources))) }
+    ensures sound { IfOk result (λ plan. KeepsSound viewer.now.base.now plan.change) }
     ensures store { KeepsStore S.stands shelf.old shelf.new }
     ensures honest { S.is_honest shelf.new → S.is_honest shelf.old }
     ensures counts { Counts (S.failures shelf.old) (S.failures shelf.new) result }
@@ -382,6 +398,7 @@ fn plan_search<S: Shelf>(
 ) -> Result<Plan, Failed<ShelfFault>>
     ensures plan { IfOk result (Answers S.stands S.is_honest shelf.old shelf.new (λ store plan. (base : List ℕ) → IsStore base store
         → plan ≡ spec.listed (viewer_of viewer.now) turn.now store.resources query.now)) }
+    ensures sound { IfOk result (λ plan. KeepsSound viewer.now.base.now plan.change) }
     ensures store { KeepsStore S.stands shelf.old shelf.new }
     ensures honest { S.is_honest shelf.new → S.is_honest shelf.old }
     ensures counts { Counts (S.failures shelf.old) (S.failures shelf.new) result }
@@ -412,6 +429,7 @@ pub(crate) fn planned<S: Shelf>(
 ) -> Result<Plan, Failed<ShelfFault>>
     ensures plan { IfOk result (Answers S.stands S.is_honest shelf.old shelf.new (λ store plan. (base : List ℕ) → IsStore base store
         → plan ≡ spec.planned (viewer_of viewer.now) turn.now store.resources turn.now.request.ask)) }
+    ensures sound { IfOk result (λ plan. KeepsSound viewer.now.base.now plan.change) }
     ensures store { KeepsStore S.stands shelf.old shelf.new }
     ensures honest { S.is_honest shelf.new → S.is_honest shelf.old }
     ensures counts { Counts (S.failures shelf.old) (S.failures shelf.new) result }
@@ -420,6 +438,7 @@ pub(crate) fn planned<S: Shelf>(
     match &turn.request.ask {
         Ok(Ask::Get(wanted)) => plan_get(alloc, viewer, shelf, turn, wanted),
         Ok(Ask::Search(query)) => plan_search(alloc, viewer, shelf, turn, query),
+        Ok(Ask::Create(draft, wanted)) => { plan_create(alloc, viewer, shelf, turn, draft, wanted) }
         Ok(Ask::Remove) => plan_remove(alloc, viewer, shelf, turn),
         Err(refusal) => Ok(refused(alloc, turn, *refusal)?),
     }

@@ -14,6 +14,8 @@ use scim_text::Failed;
 pub enum Reply {
     /// 200, with a JSON text: of a resource, or of a list.
     Shown(Text),
+    /// 201: a resource was made. Its location, and its JSON; no JSON where the client doesn't see it.
+    Created(Text, Option<Text>),
     /// 204: it is done, and there is nothing to show.
     Done,
     /// A refusal.
@@ -40,6 +42,7 @@ impl Reply {
     {
         match self {
             Reply::Shown(_) => StatusCode::OK,
+            Reply::Created(_, _) => StatusCode::CREATED,
             Reply::Done => StatusCode::NO_CONTENT,
             Reply::Refused(refusal) => refusal.status(),
             Reply::Failed(_) => Refusal::Store.status(),
@@ -52,9 +55,20 @@ impl Reply {
     {
         match self {
             Reply::Shown(text) => Some(text.as_str()),
+            Reply::Created(_, text) => text.as_ref().map(|text| text.as_str()),
             Reply::Done => None,
             Reply::Refused(refusal) => Some(refusal.body()),
             Reply::Failed(_) => Some(Refusal::Store.body()),
+        }
+    }
+
+    /// Where the resource is found that was made, if one was (RFC 7644 section 3.1).
+    pub fn location(&self) -> Option<&str>
+        ensures { option_copied result ≡ spec.location_of self.now }
+    {
+        match self {
+            Reply::Created(location, _) => Some(location.as_str()),
+            _ => None,
         }
     }
 }

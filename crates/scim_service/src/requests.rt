@@ -1,6 +1,7 @@
 //! What clients ask of the service.
 use scim_audit::Refusal;
 use scim_cell::{Id, Text};
+use scim_json::Draft;
 use scim_query::Query;
 use scim_schema::{Kind, Op};
 use scim_text::Moment;
@@ -13,6 +14,9 @@ pub enum Ask {
     Get(Wanted),
     /// To show those that the query finds (RFC 7644 section 3.4.2).
     Search(Query),
+    /// To make a resource of a draft (RFC 7644 section 3.3), and to show of it what is wanted. The draft is of
+    /// the request's kind and was read for Creating; another is answered [`Refusal::MessageValue`].
+    Create(Draft, Wanted),
     /// To remove the resource that the request names (RFC 7644 section 3.6).
     Remove,
 }
@@ -38,6 +42,6 @@ pub struct Turn {
     pub request: Request,
     /// When it came.
     pub moment: Moment,
-    /// The id of the resource that it creates, if it does.
+    /// The id of the resource that it makes, if it makes one.
     pub fresh: Id,
 }

@@ -40,6 +40,8 @@ fn answer_or_fault<S: Shelf>(
     ensures done { IfOk result (Answers S.stands S.is_honest shelf.old shelf.new (λ store reply. IsStore viewer.now.base.now store
         → (reply ≡ (spec.planned (viewer_of viewer.now) turn.now store.resources turn.now.request.ask).reply)
         × S.stands shelf.new (after (spec.planned (viewer_of viewer.now) turn.now store.resources turn.now.request.ask).change
+        (spec.planned (viewer_of viewer.now) turn.now store.resources turn.now.request.ask).row store)
+        × IsStore viewer.now.base.now (after (spec.planned (viewer_of viewer.now) turn.now store.resources turn.now.request.ask).change
         (spec.planned (viewer_of viewer.now) turn.now store.resources turn.now.request.ask).row store))) }
     ensures err { OnErr result (KeepsStore S.stands shelf.old shelf.new) }
     ensures honest { S.is_honest shelf.new → S.is_honest shelf.old }

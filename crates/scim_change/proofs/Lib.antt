@@ -1,0 +1,4 @@
+pub mod RowLemmas
+pub mod ValueLemmas
+pub mod NameLemmas
+pub mod CreateLemmas

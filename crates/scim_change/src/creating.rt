@@ -1,0 +1,110 @@
+//! A new resource (RFC 7644 section 3.3).
+ghost use Rattle.std.specs.Prelude.{◌≡◌, ◌≤◌, ◌∷◌, ◌++◌, IfOk, OnOk};
+ghost use Rattle.scim_text.specs.Moments.{last_moment};
+ghost use Rattle.scim_cell.specs.Ids.{IsId};
+ghost use Rattle.scim_cell.specs.declared.atoms.Atom.{Atom};
+ghost use Rattle.scim_value.specs.Resource.{HasBase};
+ghost use Rattle.scim_json.specs.declared.drafts.UseFor.{UseFor};
+ghost use Rattle.scim_change.specs.Create as spec;
+
+use scim_cell::{Atom, Field, Id, Row, Text};
+use scim_json::{Draft, UseFor};
+use scim_schema::{Attribute, Kind, Leaf, SubAttribute, unit_of};
+use scim_text::{Moment, NoMemory};
+use scim_value::{Part, Resource, location};
+use std::alloc::Global;
+
+/// The resource that a draft makes: the draft's values, `id`, and `meta`, by which it was made and last
+/// modified at the moment and is found below `base`, as `http://127.0.0.1:8080` (RFC 7643 section 3.1).
+/// What the draft gives is copied once.
+///
+/// The draft was read for Creating. The only error is [`NoMemory`].
+pub fn create(
+    alloc: Global,
+    draft: &Draft,
+    id: Id,
+    moment: Moment,
+    base: &str,
+) -> Result<Resource, NoMemory>
+    requires { draft.now.use_for ≡ UseFor.Creating }
+    ensures value { IfOk result (λ r. r ≡ spec.created draft.now id moment base.now) }
+    ensures base { IfOk result (HasBase base.now) }
+{
+    let kind = draft.kind();
+    let meta = meta_rows(alloc, kind, id, moment, base)?;
+    let rows = all_rows(alloc, id, draft.rows(), meta)?;
+    Ok(Resource::of_whole(Part::of_rows(kind, id, rows)))
+}
+
+/// The value of a leaf that is a unit of its own. NoMemory where none was to be had.
+fn row_of(alloc: Global, leaf: Leaf, atom: Atom) -> Result<Row, NoMemory>
+    ensures { IfOk result (λ r. r ≡ spec.row_of leaf atom) }
+{
+    let mut fields = Vec::new(alloc);
+    fields.push(Field { leaf, atom })?;
+    Ok(Row::new(unit_of(leaf), fields))
+}
+
+/// A moment at a sub-attribute of `meta`. NoMemory where none was to be had.
+fn moment_row(alloc: Global, sub_attribute: SubAttribute, moment: Moment) -> Result<Row, NoMemory>
+    ensures row { IfOk result (λ r. r ≡ spec.meta_row sub_attribute (Atom.Moment moment)) }
+    ensures bound { moment ≤ last_moment }
+{
+    // Contracts know of a moment's bound from this call.
+    let _seconds = moment.seconds();
+    let leaf = Leaf::of(Attribute::Meta, sub_attribute);
+    row_of(alloc, leaf, Atom::Moment(moment))
+}
+
+/// A text at a sub-attribute of `meta`. NoMemory where none was to be had.
+fn text_row(alloc: Global, sub_attribute: SubAttribute, text: Text) -> Result<Row, NoMemory>
+    ensures { IfOk result (λ r. r ≡ spec.meta_row sub_attribute (Atom.Text text)) }
+{
+    let leaf = Leaf::of(Attribute::Meta, sub_attribute);
+    row_of(alloc, leaf, Atom::Text(text))
+}
+
+/// `meta` of a resource that is made at the moment. NoMemory where none was to be had.
+fn meta_rows(
+    alloc: Global,
+    kind: Kind,
+    id: Id,
+    moment: Moment,
+    base: &str,
+) -> Result<Vec<Row>, NoMemory>
+    ensures rows { IfOk result (λ rs. rs.items ≡ spec.meta_rows kind id moment base.now) }
+    ensures bound { IfOk result (λ rs. moment ≤ last_moment) }
+{
+    let mut rows = Vec::with_capacity(alloc, 4)?;
+    let kind_name = Text::copy_of(alloc, kind.name())?;
+    let place = location(alloc, base, kind, id)?;
+    rows.push(text_row(alloc, SubAttribute::ResourceType, kind_name)?)?;
+    rows.push(moment_row(alloc, SubAttribute::Created, moment)?)?;
+    rows.push(moment_row(alloc, SubAttribute::LastModified, moment)?)?;
+    rows.push(text_row(alloc, SubAttribute::Location, place)?)?;
+    Ok(rows)
+}
+
+/// `id`, copies of the values of a draft, and `meta`, which is the order of their units. NoMemory where none was
+/// to be had.
+fn all_rows(alloc: Global, id: Id, values: &[Row], mut meta: Vec<Row>) -> Result<Vec<Row>, NoMemory>
+    ensures rows { IfOk result (λ rs. rs.items ≡ spec.id_row id ∷ (values.now ++ meta.items)) }
+    ensures id { IfOk result (λ rs. IsId id) }
+{
+    let text = Atom::Text(id.text(alloc)?);
+    let mut rows = Vec::with_capacity(alloc, 1)?;
+    rows.push(row_of(alloc, Leaf::simple(Attribute::Id), text)?)?;
+    push_copies(alloc, values, &mut rows)?;
+    rows.append(&mut meta)?;
+    Ok(rows)
+}
+
+/// Copies of rows, behind those that are there. NoMemory where none was to be had.
+fn push_copies(alloc: Global, values: &[Row], rows: &mut Vec<Row>) -> Result<(), NoMemory>
+    ensures { OnOk result (rows.new.items ≡ rows.old.items ++ values.now) }
+{
+    for row in values {
+        rows.push(row.try_copy(alloc)?)?;
+    }
+    Ok(())
+}

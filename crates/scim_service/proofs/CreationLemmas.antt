@@ -1,0 +1,145 @@
+-- Names and ids in use, and what a client is shown of what is made.
+use Rattle.std.proofs.Common.{◌≡◌, refl, sym, ◌∙◌, ap, ◌≤◌, ℕ, Bool, true, false, ◌&&◌, ◌||◌, List, [], ◌∷◌, ◌++◌, filter, is_some, ◌-◌, length, length-drop, get_or, drop, take, take_all, inl, inr, arith}
+use Rattle.std.specs.Prelude.{find, not, Option, None, Some}
+use Rattle.std.specs.List.{list_any}
+use Rattle.std.proofs.lemmas.Bool.{cases_Bool}
+use Rattle.std.proofs.lemmas.List.Elements.{filter-append}
+use Rattle.serde_json.specs.Written.{compact_text}
+use denote.Enum.Bare.{sameb}
+use Rattle.scim_schema.specs.declared.Kind.{Kind}
+use Rattle.scim_schema.specs.declared.Kind.TheVariants.{User, Group}
+use Rattle.scim_schema.specs.contracts.Kind.{the_type as the_kind}
+use Rattle.scim_schema.specs.declared.Attribute.TheVariants.{Id}
+use Rattle.scim_schema.specs.declared.Leaf.{Leaf}
+use Rattle.scim_schema.specs.Table.{leaves}
+use Rattle.scim_schema.specs.Units.{simple}
+use Rattle.scim_cell.specs.Content.{Content}
+use Rattle.scim_cell.specs.Kinds.{is_of, of_kind}
+use Rattle.scim_value.specs.Uniqueness.{Name}
+use Rattle.scim_json.specs.Drafts.{Draft}
+use Rattle.scim_json.specs.PartData.{part_data}
+use Rattle.scim_policy.specs.declared.rules.Decision.{Decision}
+use Rattle.scim_view.specs.declared.projection.Wanted.{Wanted}
+use Rattle.scim_view.specs.View.{Viewer, read_decision}
+use Rattle.scim_view.specs.Groups.{with_groups}
+use Rattle.scim_view.specs.Shown.{shown}
+use Rattle.scim_shelf.specs.Stores.{Store, IsStore, is_at, has_name, is_taken, is_used, below, above, keep, without}
+use Rattle.scim_shelf.proofs.Facts.{found_any, used_by_kind, without_unused}
+use Rattle.scim_service.specs.declared.requests.Turn.{Turn}
+use Rattle.scim_service.specs.declared.plans.Plan.{Plan}
+use Rattle.scim_service.specs.Step.{resource_text, created_text, create_decision, is_decided, first_denied, new_resource, made_with, made_if_free, is_for, creating}
+use Rattle.scim_service.proofs.StoreViews.{none_of_group}
+
+-- what isn't denied is so
+pub not_false : (b : Bool) → not b ≡ false → b ≡ true
+not_false true e = refl
+not_false false e = cc
+
+-- of which the rest is all that is behind it
+pub rest_whole : {X : Type 0} (xs : List X) → take (length xs - 1) (drop 1 xs) ≡ drop 1 xs
+rest_whole xs = take_all (length xs - 1) (drop 1 xs) (let long = length-drop 1 xs in omega (arith, long))
+
+-- ---- names
+
+-- a list with an element is its first and the rest
+pub first_and_rest : {X : Type 0} (xs : List X) (x : X) → 1 ≤ length xs → x ≡ get_or xs 0 x → xs ≡ x ∷ drop 1 xs
+first_and_rest [] x long e = absurd (omega (arith, long))
+first_and_rest (y ∷ ys) x long e = ap (λ z. z ∷ ys) (sym e)
+
+-- a name that somebody has is taken
+pub taken_first : (n : Name) (ns : List Name) (cs : List Content) (owner : Option Content) → owner ≡ find (has_name n) cs → is_some owner ≡ true
+    → true ≡ list_any (λ m. list_any (has_name m) cs) (n ∷ ns)
+taken_first n ns cs owner e h =
+    let t : list_any (has_name n) cs ≡ true = sym (found_any (has_name n) cs) ∙ ap is_some (sym e) ∙ h in rw t refl
+
+-- of a name that nobody has, the others decide
+pub taken_later : (n : Name) (ns : List Name) (cs : List Content) (owner : Option Content) (b : Bool) → owner ≡ find (has_name n) cs → is_some owner ≡ false
+    → b ≡ list_any (λ m. list_any (has_name m) cs) ns → b ≡ list_any (λ m. list_any (has_name m) cs) (n ∷ ns)
+taken_later n ns cs owner b e h rest =
+    let f : list_any (has_name n) cs ≡ false = sym (found_any (has_name n) cs) ∙ ap is_some (sym e) ∙ h in rw f rest
+
+-- ---- ids
+
+pub used_by_user : (id : List ℕ) (cs : List Content) (user : Option Content) → user ≡ find (is_at User id) cs → is_some user ≡ true → true ≡ is_used cs id
+used_by_user id cs user e h =
+    let t : is_some (find (is_at User id) cs) ≡ true = ap is_some (sym e) ∙ h in
+    sym (used_by_kind id cs ∙ ap (λ b. b || is_some (find (is_at Group id) cs)) t)
+
+pub used_by_group : (id : List ℕ) (cs : List Content) (user group : Option Content) → user ≡ find (is_at User id) cs → is_some user ≡ false → group ≡ find (is_at Group id) cs → is_some group ≡ is_used cs id
+used_by_group id cs user group e h g =
+    let f : is_some (find (is_at User id) cs) ≡ false = ap is_some (sym e) ∙ h in
+    ap is_some g ∙ sym (used_by_kind id cs ∙ ap (λ b. b || is_some (find (is_at Group id) cs)) f)
+
+-- ---- what is shown
+
+-- a user among others changes nothing of the groups
+groups_beside_user : (c : Content) (cs : List Content) → is_of Group c ≡ false → of_kind Group (keep c cs) ≡ of_kind Group (without c.id cs)
+groups_beside_user c cs other =
+    filter-append (is_of Group) (below c.id cs) (c ∷ above c.id cs)
+    ∙ ap (λ gs. of_kind Group (below c.id cs) ++ gs) (skipped other)
+    ∙ sym (filter-append (is_of Group) (below c.id cs) (above c.id cs))
+  where
+    skipped : is_of Group c ≡ false → of_kind Group (c ∷ above c.id cs) ≡ of_kind Group (above c.id cs)
+    skipped f = rw f refl
+
+by_kind : {G : Type 0} (k : Kind) → (k ≡ User → G) → (k ≡ Group → G) → G
+by_kind User user group = user refl
+by_kind Group user group = group refl
+
+-- a new resource has the groups that it had before it was kept
+pub new_groups : (v : Viewer) (base : List ℕ) (store : Store) (c : Content) → IsStore base store → is_used store.resources c.id ≡ false
+    → with_groups v (of_kind Group store.resources) c ≡ with_groups v (of_kind Group (keep c store.resources)) c
+new_groups v base store c is fresh = by_kind c.kind
+    (λ user. (let other : is_of Group c ≡ false = ap (λ k. sameb the_kind k Group) user in
+    ap (λ gs. with_groups v gs c) (sym (groups_beside_user c store.resources other ∙ ap (of_kind Group) (without_unused c.id store.resources is.keyed fresh)))))
+    (λ group. none_of_group v (of_kind Group store.resources) (of_kind Group (keep c store.resources)) c group)
+
+-- what is told of a new resource that is seen, and of one that isn't
+pub text_seen : (v : Viewer) (cs : List Content) (wanted : Wanted) (c : Content) (groups : List Content) (text : List ℕ) (d : Decision)
+    → text ≡ resource_text v groups wanted c → with_groups v groups c ≡ with_groups v (of_kind Group (keep c cs)) c
+    → d ≡ read_decision v c (simple Id) → d.allow ≡ true → Some text ≡ created_text v cs wanted c
+unfolding resource_text
+text_seen v cs wanted c groups text d text_is groups_are decides allows =
+    let seen : (read_decision v c (simple Id)).allow ≡ true = ap (λ (e : Decision). e.allow) (sym decides) ∙ allows in
+    let told = text_is ∙ ap (λ (w : Content). compact_text (part_data (shown wanted w))) groups_are in
+    rw seen (ap (λ (t : List ℕ). Some t) told)
+
+pub text_unseen : (v : Viewer) (cs : List Content) (wanted : Wanted) (c : Content) (d : Decision)
+    → d ≡ read_decision v c (simple Id) → d.allow ≡ false → None ≡ created_text v cs wanted c
+text_unseen v cs wanted c d decides denies =
+    let unseen : (read_decision v c (simple Id)).allow ≡ false = ap (λ (e : Decision). e.allow) (sym decides) ∙ denies in rw unseen refl
+
+-- ---- what is planned
+
+find_agree : (p q : Leaf → Bool) → ((l : Leaf) → p l ≡ q l) → (ls : List Leaf) → find p ls ≡ find q ls
+find_agree p q same [] = refl
+find_agree p q same (l ∷ ls) = elim (cases_Bool (p l)) [
+  | inl t ↦ (let u : q l ≡ true = sym (same l) ∙ t in rw (t, u) refl)
+  | inr f ↦ (let u : q l ≡ false = sym (same l) ∙ f in rw (f, u) (find_agree p q same ls))
+]
+
+none_found : (o : Option Leaf) → ((l : Leaf) → o ≡ Some l → ⊥) → o ≡ None
+none_found None never = refl
+none_found (Some l) never = absurd (never l refl)
+
+-- where these decisions deny nothing, the policy denies nothing
+pub none_denied : (v : Viewer) (d : Draft) (c : Content) (decides : Leaf → Decision) (o : Option Leaf) → ((l : Leaf) → decides l ≡ create_decision v c l)
+    → o ≡ find (λ l. is_decided d l && not (decides l).allow) (leaves d.kind) → ((l : Leaf) → o ≡ Some l → ⊥) → first_denied v d c ≡ None
+none_denied v d c decides o same is never =
+    sym (find_agree (λ l. is_decided d l && not (decides l).allow) (λ l. is_decided d l && not (create_decision v c l).allow) (λ l. ap (λ (e : Decision). is_decided d l && not e.allow) (same l)) (leaves d.kind))
+    ∙ sym is ∙ none_found o never
+
+-- a resource with names and an id of its own is kept
+pub made_is : (v : Viewer) (turn : Turn) (cs : List Content) (wanted : Wanted) (c : Content) (rule : ℕ) (text : Option (List ℕ)) (plan : Plan)
+    → is_taken cs c ≡ false → is_used cs c.id ≡ false → rule ≡ (create_decision v c (simple Id)).rule → text ≡ created_text v cs wanted c
+    → plan ≡ made_with v turn c rule text → plan ≡ made_if_free v turn cs wanted c
+made_is v turn cs wanted c rule text plan free fresh rule_is text_is plan_is =
+    rw (free, fresh) (plan_is ∙ (λ i. made_with v turn c (rule_is i) (text_is i)))
+
+-- so is one that the policy allows
+pub creating_is : (v : Viewer) (turn : Turn) (cs : List Content) (d : Draft) (wanted : Wanted) (c : Content) → is_for turn d ≡ true → c ≡ new_resource v turn d → first_denied v d c ≡ None
+    → made_if_free v turn cs wanted c ≡ creating v turn cs d wanted
+unfolding creating
+creating_is v turn cs d wanted c for same none =
+    let allowed : first_denied v d (new_resource v turn d) ≡ None = ap (first_denied v d) (sym same) ∙ none in
+    rw (for, allowed) (ap (made_if_free v turn cs wanted) same)

@@ -1,0 +1,269 @@
+//! What is to be done for a request to make a resource (RFC 7644 section 3.3).
+ghost use Rattle.std.specs.Prelude.{◌≡◌, ◌≢◌, ◌&&◌, ℕ, List, not, find, map, IfOk, Err, false};
+ghost use Rattle.std.specs.List.{list_any};
+ghost use Rattle.scim_text.specs.declared.memory.Failed.{Failed};
+ghost use Rattle.scim_schema.specs.declared.Attribute.{Attribute};
+ghost use Rattle.scim_schema.specs.declared.Leaf.{Leaf};
+ghost use Rattle.scim_schema.specs.Table.{leaves};
+ghost use Rattle.scim_schema.specs.Units.{simple, is_same_unit};
+ghost use Rattle.scim_value.specs.Uniqueness.{name_of};
+ghost use Rattle.scim_value.specs.Resource.{HasBase};
+ghost use Rattle.scim_policy.specs.Table.{decision};
+ghost use Rattle.scim_view.specs.View.{viewer_of};
+ghost use Rattle.scim_shelf.specs.declared.faults.ShelfFault.{ShelfFault};
+ghost use Rattle.scim_shelf.specs.Shelves.{Counts, KeepsStore, Answers};
+ghost use Rattle.scim_shelf.specs.Stores.{IsStore, has_name, is_taken, is_used};
+ghost use Rattle.scim_service.specs.Answers.{KeepsSound};
+ghost use Rattle.scim_service.specs.Step as spec;
+
+use crate::plans::{Finding, Plan, denied, groups_beside, refused, resource_text, row_of};
+use crate::replies::Reply;
+use crate::requests::Turn;
+use scim_audit::{Decided, Refusal};
+use scim_cell::{Id, Text};
+use scim_change::create;
+use scim_json::{Draft, UseFor};
+use scim_policy::Decisions;
+use scim_schema::{Attribute, Kind, Leaf, Op, Unit, leaves, unit_of};
+use scim_shelf::{Change, Shelf, ShelfFault};
+use scim_text::{Failed, NoMemory};
+use scim_value::{Resource, UniqueName, location, unique_names};
+use scim_view::{Viewer, Wanted};
+use std::alloc::Global;
+
+/// Whether the draft is of the request's kind, and was read to make a resource.
+fn is_for(turn: &Turn, draft: &Draft) -> bool
+    ensures { result ≡ spec.is_for turn.now draft.now }
+{
+    draft.kind() == turn.request.kind && draft.use_for() == UseFor::Creating
+}
+
+/// Whether the unit is one of these.
+fn is_among(unit: Unit, units: &[Unit]) -> bool
+    ensures { result ≡ list_any (is_same_unit unit) units.now }
+{
+    for other in units {
+        if unit == *other {
+            return true;
+        }
+    }
+    false
+}
+
+/// Whether making a resource of the draft is decided at the leaf.
+fn is_decided(draft: &Draft, leaf: Leaf) -> bool
+    ensures { result ≡ spec.is_decided draft.now leaf }
+{
+    leaf == Leaf::simple(Attribute::Id) || is_among(unit_of(leaf), draft.given())
+}
+
+/// The first of these leaves at which the decisions deny what the draft gives.
+fn first_denied_of(decisions: &Decisions, draft: &Draft, leaves: &[Leaf]) -> Option<Leaf>
+    ensures { result ≡ find (λ l. spec.is_decided draft.now l && not (decision decisions.now l).allow) leaves.now }
+{
+    for leaf in leaves {
+        if is_decided(draft, *leaf) && !decisions.of(*leaf).allow {
+            return Some(*leaf);
+        }
+    }
+    None
+}
+
+/// The first leaf, in leaf order, at which the decisions deny what the draft gives.
+fn first_denied(decisions: &Decisions, draft: &Draft) -> Option<Leaf>
+    ensures { result ≡ find (λ l. spec.is_decided draft.now l && not (decision decisions.now l).allow) (leaves draft.now.kind) }
+{
+    first_denied_of(decisions, draft, leaves(draft.kind()))
+}
+
+/// Whether a resource has one of the names.
+fn any_taken<S: Shelf>(
+    alloc: Global,
+    shelf: &mut S,
+    names: &[UniqueName],
+) -> Result<bool, Failed<ShelfFault>>
+    ensures answer { IfOk result (Answers S.stands S.is_honest shelf.old shelf.new (λ store b. b ≡ list_any (λ n. list_any (has_name n) store.resources) (map name_of names.now))) }
+    ensures store { KeepsStore S.stands shelf.old shelf.new }
+    ensures honest { S.is_honest shelf.new → S.is_honest shelf.old }
+    ensures counts { Counts (S.failures shelf.old) (S.failures shelf.new) result }
+    ensures not_full { result ≢ Err (Failed.Because ShelfFault.Full) }
+{
+    match names {
+        [] => Ok(false),
+        [name, rest @ ..] => {
+            let owner = shelf.name_owner(alloc, name)?;
+            if owner.is_some() {
+                return Ok(true);
+            }
+            any_taken(alloc, shelf, rest)
+        }
+    }
+}
+
+/// Whether a resource, be it seen or not, has a unique name of this one.
+fn has_taken_name<S: Shelf>(
+    alloc: Global,
+    shelf: &mut S,
+    new: &Resource,
+) -> Result<bool, Failed<ShelfFault>>
+    ensures answer { IfOk result (Answers S.stands S.is_honest shelf.old shelf.new (λ store b. b ≡ is_taken store.resources new.now)) }
+    ensures store { KeepsStore S.stands shelf.old shelf.new }
+    ensures honest { S.is_honest shelf.new → S.is_honest shelf.old }
+    ensures counts { Counts (S.failures shelf.old) (S.failures shelf.new) result }
+    ensures not_full { result ≢ Err (Failed.Because ShelfFault.Full) }
+{
+    let names = unique_names(alloc, new)?;
+    any_taken(alloc, shelf, names.as_slice())
+}
+
+/// Whether a resource, of whatever kind, has the id.
+fn has_used_id<S: Shelf>(alloc: Global, shelf: &mut S, id: Id) -> Result<bool, Failed<ShelfFault>>
+    ensures answer { IfOk result (Answers S.stands S.is_honest shelf.old shelf.new (λ store b. b ≡ is_used store.resources id)) }
+    ensures store { KeepsStore S.stands shelf.old shelf.new }
+    ensures honest { S.is_honest shelf.new → S.is_honest shelf.old }
+    ensures counts { Counts (S.failures shelf.old) (S.failures shelf.new) result }
+    ensures not_full { result ≢ Err (Failed.Because ShelfFault.Full) }
+{
+    let user = shelf.by_id(alloc, Kind::User, id)?;
+    if user.is_some() {
+        return Ok(true);
+    }
+    let group = shelf.by_id(alloc, Kind::Group, id)?;
+    Ok(group.is_some())
+}
+
+/// What the client is shown of a resource that is made: nothing, where it doesn't see it.
+fn created_text<S: Shelf>(
+    alloc: Global,
+    viewer: &Viewer<'_>,
+    shelf: &mut S,
+    resource: &Resource,
+    wanted: &Wanted,
+) -> Result<Option<Text>, Failed<ShelfFault>>
+    ensures text { IfOk result (Answers S.stands S.is_honest shelf.old shelf.new (λ store text. (base : List ℕ) → IsStore base store
+        → is_used store.resources resource.now.id ≡ false
+        → text ≡ spec.created_text (viewer_of viewer.now) store.resources wanted.now resource.now)) }
+    ensures store { KeepsStore S.stands shelf.old shelf.new }
+    ensures honest { S.is_honest shelf.new → S.is_honest shelf.old }
+    ensures counts { Counts (S.failures shelf.old) (S.failures shelf.new) result }
+    ensures not_full { result ≢ Err (Failed.Because ShelfFault.Full) }
+{
+    let decisions = viewer.decisions(alloc, resource)?;
+    let seen = decisions.of(Leaf::simple(Attribute::Id));
+    if !seen.allow {
+        return Ok(None);
+    }
+    let groups = groups_beside(alloc, shelf, resource)?;
+    let text = resource_text(
+        alloc,
+        viewer,
+        &decisions,
+        groups.as_slice(),
+        resource,
+        wanted,
+    )?;
+    Ok(Some(text))
+}
+
+/// What is to be done where the resource is made: `text` is what the client is shown of it, and `rule` the one
+/// that allows it.
+fn made(
+    alloc: Global,
+    viewer: &Viewer<'_>,
+    turn: &Turn,
+    resource: Resource,
+    rule: u32,
+    text: Option<Text>,
+) -> Result<Plan, NoMemory>
+    requires { HasBase viewer.now.base.now resource }
+    ensures plan { IfOk result (λ plan. plan ≡ spec.made_with (viewer_of viewer.now) turn.now resource rule text) }
+    ensures sound { IfOk result (λ plan. KeepsSound viewer.now.base.now plan.change) }
+{
+    let id = resource.id();
+    let place = location(alloc, viewer.base, resource.kind(), id)?;
+    let finding = Finding {
+        decided: Decided::Allow,
+        rule: Some(rule),
+        leaf: None,
+        refusal: None,
+    };
+    let row = row_of(alloc, turn, Some(id), finding)?;
+    Ok(Plan {
+        reply: Reply::Created(place, text),
+        change: Change::Keep(resource),
+        row,
+    })
+}
+
+/// What is to be done for a request to make this resource, which the policy allows by the rule.
+fn plan_if_free<S: Shelf>(
+    alloc: Global,
+    viewer: &Viewer<'_>,
+    shelf: &mut S,
+    turn: &Turn,
+    resource: Resource,
+    rule: u32,
+    wanted: &Wanted,
+) -> Result<Plan, Failed<ShelfFault>>
+    requires base { HasBase viewer.now.base.now resource }
+    requires rule { rule ≡ (spec.create_decision (viewer_of viewer.now) resource (simple Attribute.Id)).rule }
+    ensures plan { IfOk result (Answers S.stands S.is_honest shelf.old shelf.new (λ store plan. (base : List ℕ) → IsStore base store
+        → plan ≡ spec.made_if_free (viewer_of viewer.now) turn.now store.resources wanted.now resource)) }
+    ensures sound { IfOk result (λ plan. KeepsSound viewer.now.base.now plan.change) }
+    ensures store { KeepsStore S.stands shelf.old shelf.new }
+    ensures honest { S.is_honest shelf.new → S.is_honest shelf.old }
+    ensures counts { Counts (S.failures shelf.old) (S.failures shelf.new) result }
+    ensures not_full { result ≢ Err (Failed.Because ShelfFault.Full) }
+{
+    if has_taken_name(alloc, shelf, &resource)? {
+        return Ok(refused(alloc, turn, Refusal::Taken)?);
+    }
+    if has_used_id(alloc, shelf, resource.id())? {
+        return Ok(refused(alloc, turn, Refusal::IdInUse)?);
+    }
+    let text = created_text(alloc, viewer, shelf, &resource, wanted)?;
+    Ok(made(alloc, viewer, turn, resource, rule, text)?)
+}
+
+/// What is to be done for a request to make a resource of a draft.
+#[tactic(auto, unfolding(crate::specs::Step::creating))]
+pub(crate) fn plan_create<S: Shelf>(
+    alloc: Global,
+    viewer: &Viewer<'_>,
+    shelf: &mut S,
+    turn: &Turn,
+    draft: &Draft,
+    wanted: &Wanted,
+) -> Result<Plan, Failed<ShelfFault>>
+    ensures plan { IfOk result (Answers S.stands S.is_honest shelf.old shelf.new (λ store plan. (base : List ℕ) → IsStore base store
+        → plan ≡ spec.creating (viewer_of viewer.now) turn.now store.resources draft.now wanted.now)) }
+    ensures sound { IfOk result (λ plan. KeepsSound viewer.now.base.now plan.change) }
+    ensures store { KeepsStore S.stands shelf.old shelf.new }
+    ensures honest { S.is_honest shelf.new → S.is_honest shelf.old }
+    ensures counts { Counts (S.failures shelf.old) (S.failures shelf.new) result }
+    ensures not_full { result ≢ Err (Failed.Because ShelfFault.Full) }
+{
+    if !is_for(turn, draft) {
+        return Ok(refused(alloc, turn, Refusal::MessageValue)?);
+    }
+    let resource = create(alloc, draft, turn.fresh, turn.moment, viewer.base)?;
+    let decisions = create_decisions(alloc, viewer, &resource)?;
+    if let Some(leaf) = first_denied(&decisions, draft) {
+        return Ok(denied(alloc, turn, decisions.of(leaf), leaf)?);
+    }
+    let rule = decisions.of(Leaf::simple(Attribute::Id)).rule;
+    plan_if_free(alloc, viewer, shelf, turn, resource, rule, wanted)
+}
+
+/// The policy's decisions on making the resource.
+fn create_decisions(
+    alloc: Global,
+    viewer: &Viewer<'_>,
+    resource: &Resource,
+) -> Result<Decisions, NoMemory>
+    ensures { IfOk result (λ decisions. (l : Leaf) → decision decisions l ≡ spec.create_decision (viewer_of viewer.now) resource.now l) }
+{
+    viewer
+        .policy
+        .decisions(alloc, viewer.client, Op::Create, resource)
+}
