@@ -1,6 +1,7 @@
 //! Arguments of calls that are more than a text, and the texts of what calls give.
 use crate::case::Case;
 use crate::faults::CaseFault;
+use scim_json::UseFor;
 use scim_samples::{ALICE, part, sample};
 use scim_schema::{Kind, Op};
 use scim_value::{Part, Resource};
@@ -9,9 +10,19 @@ use std::alloc::Global;
 impl Case<'_> {
     /// The argument `kind`, `User` or `Group`; `User` where it isn't given.
     pub fn kind(&self) -> Kind {
-        match self.text_or("kind", "User") {
-            "Group" => Kind::Group,
-            _ => Kind::User,
+        kind_of(self.text_or("kind", "User"))
+    }
+
+    /// The kind that the body is read for: the argument `body_kind`, or else `kind`.
+    pub fn body_kind(&self) -> Kind {
+        kind_of(self.text_or("body_kind", self.text_or("kind", "User")))
+    }
+
+    /// The argument `use`, `creating` or `replacing`: what the body is read for; creating where it isn't given.
+    pub fn use_for(&self) -> UseFor {
+        match self.text_or("use", "creating") {
+            "replacing" => UseFor::Replacing,
+            _ => UseFor::Creating,
         }
     }
 
@@ -48,6 +59,13 @@ impl Case<'_> {
                 text,
             )?),
         }
+    }
+}
+
+fn kind_of(name: &str) -> Kind {
+    match name {
+        "Group" => Kind::Group,
+        _ => Kind::User,
     }
 }
 

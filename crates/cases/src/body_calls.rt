@@ -2,7 +2,7 @@
 use crate::arguments::said;
 use crate::case::Case;
 use crate::faults::CaseFault;
-use scim_json::{BodyFault, Draft, UseFor, read_body};
+use scim_json::{BodyFault, Draft, read_body};
 use scim_samples::row_text;
 use scim_schema::Unit;
 use scim_text::Failed;
@@ -17,11 +17,12 @@ pub fn answer(case: &Case<'_>, call: &str) -> Option<Result<String, CaseFault>> 
 
 /// The units that the body gives and the rows of their values, or its fault.
 fn body_call(case: &Case<'_>) -> Result<String, CaseFault> {
-    let use_for = match case.text("use")? {
-        "creating" => UseFor::Creating,
-        _ => UseFor::Replacing,
-    };
-    match read_body(case.alloc, case.kind(), use_for, case.text("body")?) {
+    match read_body(
+        case.alloc,
+        case.body_kind(),
+        case.use_for(),
+        case.text("body")?,
+    ) {
         Ok(draft) => draft_text(case, &draft),
         Err(Failed::Because(BodyFault::Syntax)) => said(case.alloc, "Syntax"),
         Err(Failed::Because(BodyFault::Value)) => said(case.alloc, "Value"),

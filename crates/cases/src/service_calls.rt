@@ -6,43 +6,53 @@ use crate::query_calls::query_of;
 use crate::view_calls::wanted;
 use scim_audit::{AuditRow, Refusal, print_row};
 use scim_cell::{Id, Text};
-use scim_json::read_documents;
+use scim_json::{BodyFault, read_body, read_documents};
 use scim_policy::Policy;
 use scim_samples::{BASE, USERS};
 use scim_service::{Ask, Reply, Request, Service, Turn};
 use scim_shelf::MemoryShelf;
-use scim_text::Moment;
+use scim_text::{Failed, Moment};
 use std::alloc::Global;
 
 /// 2024-06-01T12:00:00Z, when all turns are.
-const NOON: i64 = 1_717_243_200;
+pub const NOON: i64 = 1_717_243_200;
+
+/// The id for the resource that a turn may make, where the case gives none.
+pub const FRESH: &str = "00000000-0000-4000-8000-0000000000e1";
 
 /// What a call of `scim_service` gives; None where it isn't one.
 pub fn answer(case: &Case<'_>, call: &str) -> Option<Result<String, CaseFault>> {
     match call {
         "service" => Some(service_call(case)),
+        "service_run" => Some(run_call(case)),
         _ => None,
     }
 }
 
-/// What the turns of the list `turns` are answered, one after another, over the sample users and groups, and
-/// then the lines of the audit.
+/// What the turns of the list `turns` are answered, one after another, and then the lines of the audit.
 fn service_call(case: &Case<'_>) -> Result<String, CaseFault> {
     let policy = policy(case)?;
-    let mut service = service_by(case.alloc, policy)?;
+    let mut service = service_by(case, policy)?;
     told_of_turns(case, &mut service)
 }
 
-fn service_by(alloc: Global, policy: Policy) -> Result<Service<MemoryShelf>, CaseFault> {
-    let base = Text::copy_of(alloc, BASE)?;
-    let shelf = sample_shelf(alloc)?;
+/// The same, where the service is given all the turns at once.
+fn run_call(case: &Case<'_>) -> Result<String, CaseFault> {
+    let policy = policy(case)?;
+    let mut service = service_by(case, policy)?;
+    told_of_run(case, &mut service)
+}
+
+fn service_by(case: &Case<'_>, policy: Policy) -> Result<Service<MemoryShelf>, CaseFault> {
+    let base = Text::copy_of(case.alloc, BASE)?;
+    let shelf = shelf_of(case)?;
     Ok(Service::new(policy, base, shelf))
 }
 
-/// A shelf of the sample users and groups.
-fn sample_shelf(alloc: Global) -> Result<MemoryShelf, CaseFault> {
-    match read_documents(alloc, BASE, USERS) {
-        Ok(resources) => Ok(MemoryShelf::new(alloc, resources)?),
+/// A shelf of the argument `users`, the text of a users file; of the sample users and groups where it isn't given.
+fn shelf_of(case: &Case<'_>) -> Result<MemoryShelf, CaseFault> {
+    match read_documents(case.alloc, BASE, case.text_or("users", USERS)) {
+        Ok(resources) => Ok(MemoryShelf::new(case.alloc, resources)?),
         Err(_) => Err(CaseFault::Missing("users")),
     }
 }
@@ -60,7 +70,38 @@ fn told_of_turns(case: &Case<'_>, service: &mut Service<MemoryShelf>) -> Result<
     Ok(text)
 }
 
-/// Adds what a turn is answered: its status, and its body where it has one.
+fn told_of_run(case: &Case<'_>, service: &mut Service<MemoryShelf>) -> Result<String, CaseFault> {
+    let turns = turns_of(case)?;
+    let replies = service.run(case.alloc, turns.as_slice())?;
+    told_of_replies(case.alloc, replies.as_slice(), service.shelf().audit())
+}
+
+fn turns_of(case: &Case<'_>) -> Result<Vec<Turn>, CaseFault> {
+    let mut turns = Vec::new(case.alloc);
+    for value in case.list("turns") {
+        let turn = Case {
+            alloc: case.alloc,
+            value,
+        };
+        turns.push(turn_of(&turn)?)?;
+    }
+    Ok(turns)
+}
+
+fn told_of_replies(
+    alloc: Global,
+    replies: &[Reply],
+    rows: &[AuditRow],
+) -> Result<String, CaseFault> {
+    let mut text = String::new(alloc);
+    for reply in replies {
+        push_reply(reply, &mut text)?;
+    }
+    push_rows(alloc, rows, &mut text)?;
+    Ok(text)
+}
+
+/// Adds what a turn is answered: its status, the location of what it made, and its body where it has one.
 fn push_answer(
     case: &Case<'_>,
     service: &mut Service<MemoryShelf>,
@@ -74,7 +115,10 @@ fn push_answer(
 fn push_reply(reply: &Reply, text: &mut String) -> Result<(), CaseFault> {
     let status = reply.status().as_u16();
     let body = reply.body().unwrap_or("no body");
-    write!(text, "{status} {body}, ")?;
+    match reply.location() {
+        Some(location) => write!(text, "{status} at {location} {body}, ")?,
+        None => write!(text, "{status} {body}, ")?,
+    }
     Ok(())
 }
 
@@ -92,8 +136,8 @@ fn turn_of(case: &Case<'_>) -> Result<Turn, CaseFault> {
     let Some(moment) = Moment::new(NOON) else {
         return Err(CaseFault::Missing("moment"));
     };
-    let Some(fresh) = Id::read("00000000-0000-4000-8000-0000000000e1") else {
-        return Err(CaseFault::Missing("id"));
+    let Some(fresh) = Id::read(case.text_or("fresh", FRESH)) else {
+        return Err(CaseFault::Missing("fresh"));
     };
     let request = request_of(case)?;
     Ok(Turn {
@@ -115,11 +159,12 @@ fn request_of(case: &Case<'_>) -> Result<Request, CaseFault> {
     })
 }
 
-/// What the argument `ask` says: `get`, `search`, `remove`, or what is wrong with it.
+/// What the argument `ask` says: `get`, `search`, `create`, `remove`, or what is wrong with it.
 fn ask_of(case: &Case<'_>) -> Result<Result<Ask, Refusal>, CaseFault> {
     match case.text("ask")? {
         "get" => Ok(Ok(Ask::Get(wanted(case)?))),
         "search" => Ok(Ok(Ask::Search(query_of(case)?))),
+        "create" => create_of(case),
         "remove" => Ok(Ok(Ask::Remove)),
         "Syntax" => Ok(Err(Refusal::Syntax)),
         "Filter" => Ok(Err(Refusal::Filter)),
@@ -127,5 +172,21 @@ fn ask_of(case: &Case<'_>) -> Result<Result<Ask, Refusal>, CaseFault> {
         "MessageValue" => Ok(Err(Refusal::MessageValue)),
         "Store" => Ok(Err(Refusal::Store)),
         _ => Err(CaseFault::Missing("ask")),
+    }
+}
+
+/// To make a resource of the argument `body`; or what is wrong with the body.
+fn create_of(case: &Case<'_>) -> Result<Result<Ask, Refusal>, CaseFault> {
+    let wanted = wanted(case)?;
+    match read_body(
+        case.alloc,
+        case.body_kind(),
+        case.use_for(),
+        case.text("body")?,
+    ) {
+        Ok(draft) => Ok(Ok(Ask::Create(draft, wanted))),
+        Err(Failed::Because(BodyFault::Syntax)) => Ok(Err(Refusal::Syntax)),
+        Err(Failed::Because(BodyFault::Value)) => Ok(Err(Refusal::MessageValue)),
+        Err(Failed::NoMemory) => Err(CaseFault::NoMemory),
     }
 }
