@@ -1,0 +1,302 @@
+//! What turns of a service over a store in memory take, by how many users it has; and what bodies take.
+use crate::filters::samples::id_of;
+use crate::timing::{fastest, ratio};
+use anyhow::{Result, bail};
+use scim_cell::Text;
+use scim_filter::read_filter;
+use scim_json::{Draft, UseFor, read_body};
+use scim_policy::read_policy;
+use scim_query::Query;
+use scim_samples::BASE;
+use scim_schema::{Kind, Op};
+use scim_service::{Ask, Request, Service, Turn};
+use scim_shelf::MemoryShelf;
+use scim_text::Moment;
+use scim_view::Wanted;
+use std::alloc::Global;
+use std::io::Print;
+use std::time::{Clock, Instant};
+
+/// How many users a store has.
+const USERS: [usize; 2] = [1_000, 100_000];
+
+const GROUPS: usize = 1_000;
+
+/// How many members a group has.
+const MEMBERS: usize = 100;
+
+/// The first number of a group, and of a user that is made to be removed.
+const FIRST_GROUP: usize = 1_000_000;
+
+const FIRST_NEW: usize = 2_000_000;
+
+/// So many turns are timed together.
+const TURNS: usize = 100;
+
+/// Of so many passes the fastest counts.
+const PASSES: usize = 5;
+
+/// How many emails a body has.
+const EMAILS: [usize; 2] = [1_000, 10_000];
+
+const POLICY: &str =
+    "{\"version\":1,\"rules\":[{\"allow\":true,\"clients\":[\"hr\"],\"ops\":[\"read\",\"create\",\"delete\"],\"types\":[\"User\",\"Group\"],\"paths\":[\"*\"]}]}";
+
+/// What a turn asks.
+#[derive(Clone, Copy)]
+enum Asked {
+    Get,
+    Create,
+    Remove,
+    Search,
+}
+
+/// Nanoseconds a turn.
+#[derive(Clone, Copy)]
+struct Figures {
+    get: u128,
+    create: u128,
+    remove: u128,
+    search: u128,
+}
+
+impl Figures {
+    /// The lesser of each two.
+    fn least(self, other: Figures) -> Figures {
+        Figures {
+            get: self.get.min(other.get),
+            create: self.create.min(other.create),
+            remove: self.remove.min(other.remove),
+            search: self.search.min(other.search),
+        }
+    }
+}
+
+/// The draft of a body.
+fn draft_of(alloc: Global, kind: Kind, body: &str) -> Result<Draft> {
+    match read_body(alloc, kind, UseFor::Creating, body) {
+        Ok(draft) => Ok(draft),
+        Err(_) => bail!("a body is refused"),
+    }
+}
+
+fn user_draft(alloc: Global, number: usize) -> Result<Draft> {
+    let body = format!(in alloc;
+        "{{\"userName\":\"user{number}\",\"name\":{{\"familyName\":\"Jensen\"}},\"emails\":[{{\"value\":\"user{number}@example.com\"}}]}}"
+    )?;
+    draft_of(alloc, Kind::User, body.as_str())
+}
+
+/// A group of the users that follow those of the group before it.
+fn group_draft(alloc: Global, number: usize, users: usize) -> Result<Draft> {
+    let mut body = format!(in alloc; "{{\"displayName\":\"Team {number}\",\"members\":[")?;
+    for place in 0..MEMBERS {
+        let first = number.saturating_mul(MEMBERS);
+        let member = id_of(first.saturating_add(place) % users.max(1)).text(alloc)?;
+        let comma = if place == 0 { "" } else { "," };
+        write!(body, "{comma}{{\"value\":\"{}\"}}", member.as_str())?;
+    }
+    body.push_str("]}")?;
+    draft_of(alloc, Kind::Group, body.as_str())
+}
+
+/// The search for a user by name.
+fn query_for(alloc: Global, number: usize) -> Result<Query> {
+    let text = format!(in alloc; "userName eq \"USER{number}\"")?;
+    Ok(Query {
+        filter: Some(read_filter(alloc, Kind::User, text.as_str())?),
+        sort_by: None,
+        descending: false,
+        start: 1,
+        count: 10,
+        wanted: Wanted::Default,
+    })
+}
+
+fn ask_of(alloc: Global, asked: Asked, number: usize) -> Result<Ask> {
+    match asked {
+        Asked::Get => Ok(Ask::Get(Wanted::Default)),
+        Asked::Create => Ok(Ask::Create(user_draft(alloc, number)?, Wanted::Default)),
+        Asked::Remove => Ok(Ask::Remove),
+        Asked::Search => Ok(Ask::Search(query_for(alloc, number)?)),
+    }
+}
+
+fn op_of(asked: Asked) -> Op {
+    match asked {
+        Asked::Get | Asked::Search => Op::Read,
+        Asked::Create => Op::Create,
+        Asked::Remove => Op::Delete,
+    }
+}
+
+/// Who asks, and when.
+fn heading(alloc: Global) -> Result<(Text, Moment)> {
+    let Some(moment) = Moment::new(1_717_243_200) else {
+        bail!("there is no such moment");
+    };
+    Ok((Text::copy_of(alloc, "hr")?, moment))
+}
+
+/// A turn for the resource of a number.
+fn turn_with(heading: (Text, Moment), op: Op, kind: Kind, number: usize, ask: Ask) -> Turn {
+    let (client, moment) = heading;
+    let id = id_of(number);
+    Turn {
+        request: Request {
+            client,
+            op,
+            kind,
+            id: Some(id),
+            ask: Ok(ask),
+        },
+        moment,
+        fresh: id,
+    }
+}
+
+fn turn_of(alloc: Global, asked: Asked, number: usize) -> Result<Turn> {
+    let heading = heading(alloc)?;
+    let ask = ask_of(alloc, asked, number)?;
+    Ok(turn_with(heading, op_of(asked), Kind::User, number, ask))
+}
+
+fn turns_of(alloc: Global, asked: Asked, first: usize, count: usize) -> Result<Vec<Turn>> {
+    let mut turns = Vec::new(alloc);
+    for place in 0..count {
+        turns.push(turn_of(alloc, asked, first.saturating_add(place))?)?;
+    }
+    Ok(turns)
+}
+
+fn service_over_nothing(alloc: Global) -> Result<Service<MemoryShelf>> {
+    let base = Text::copy_of(alloc, BASE)?;
+    let shelf = MemoryShelf::new(alloc, Vec::new(alloc))?;
+    let policy = read_policy(alloc, POLICY)?;
+    Ok(Service::new(policy, base, shelf))
+}
+
+/// Makes so many users.
+fn fill_users(alloc: Global, service: &mut Service<MemoryShelf>, users: usize) -> Result<()> {
+    for number in 0..users {
+        let turn = turn_of(alloc, Asked::Create, number)?;
+        let reply = service.answer(alloc, &turn);
+        if reply.location().is_none() {
+            bail!("user {number} isn't made");
+        }
+    }
+    Ok(())
+}
+
+fn group_turn(alloc: Global, number: usize, users: usize) -> Result<Turn> {
+    let heading = heading(alloc)?;
+    let draft = group_draft(alloc, number, users)?;
+    let ask = Ask::Create(draft, Wanted::Default);
+    let place = number.saturating_add(FIRST_GROUP);
+    Ok(turn_with(heading, Op::Create, Kind::Group, place, ask))
+}
+
+/// Makes the groups, of so many users.
+fn fill_groups(alloc: Global, service: &mut Service<MemoryShelf>, users: usize) -> Result<()> {
+    for number in 0..GROUPS {
+        let turn = group_turn(alloc, number, users)?;
+        let reply = service.answer(alloc, &turn);
+        if reply.location().is_none() {
+            bail!("group {number} isn't made");
+        }
+    }
+    Ok(())
+}
+
+/// Nanoseconds a turn, where each is answered with the status.
+fn timed(
+    rt: &impl Clock,
+    alloc: Global,
+    service: &mut Service<MemoryShelf>,
+    turns: &[Turn],
+    status: u16,
+) -> Result<u128> {
+    let start = Instant::now(rt)?;
+    let replies = service.run(alloc, turns)?;
+    let spent = start.elapsed(rt)?;
+    for reply in &replies {
+        if reply.status().as_u16() != status {
+            bail!("a turn is answered {}", reply.status().as_u16());
+        }
+    }
+    Ok(spent.as_nanos() / turns.len().max(1) as u128)
+}
+
+fn pass(
+    rt: &impl Clock,
+    alloc: Global,
+    service: &mut Service<MemoryShelf>,
+    users: usize,
+) -> Result<Figures> {
+    let gets = turns_of(alloc, Asked::Get, users / 2, TURNS)?;
+    let creations = turns_of(alloc, Asked::Create, FIRST_NEW, TURNS)?;
+    let removals = turns_of(alloc, Asked::Remove, FIRST_NEW, TURNS)?;
+    let searches = turns_of(alloc, Asked::Search, users / 2, 2)?;
+    Ok(Figures {
+        get: timed(rt, alloc, service, gets.as_slice(), 200)?,
+        create: timed(rt, alloc, service, creations.as_slice(), 201)?,
+        remove: timed(rt, alloc, service, removals.as_slice(), 204)?,
+        search: timed(rt, alloc, service, searches.as_slice(), 200)?,
+    })
+}
+
+/// What turns take over so many users.
+fn measure(rt: &impl Clock, alloc: Global, users: usize) -> Result<Figures> {
+    let mut service = service_over_nothing(alloc)?;
+    fill_users(alloc, &mut service, users)?;
+    fill_groups(alloc, &mut service, users)?;
+    let mut best = pass(rt, alloc, &mut service, users)?;
+    for _ in 1..PASSES {
+        best = best.least(pass(rt, alloc, &mut service, users)?);
+    }
+    Ok(best)
+}
+
+/// The body of a user with so many emails.
+fn body_of(alloc: Global, emails: usize) -> Result<String> {
+    let mut body = String::from_str(alloc, "{\"userName\":\"user\",\"emails\":[")?;
+    for place in 0..emails {
+        let comma = if place == 0 { "" } else { "," };
+        write!(body, "{comma}{{\"value\":\"user{place}@example.com\"}}")?;
+    }
+    body.push_str("]}")?;
+    Ok(body)
+}
+
+/// Nanoseconds of the reading of a body with so many emails.
+fn measure_body(rt: &impl Clock, alloc: Global, emails: usize) -> Result<u128> {
+    let body = body_of(alloc, emails)?;
+    fastest(rt, PASSES, 1, || {
+        draft_of(alloc, Kind::User, body.as_str())?;
+        Ok(())
+    })
+}
+
+fn print_line(rt: &impl Print, what: &str, few: u128, many: u128) -> Result<()> {
+    println!(rt; "{what}: {few}, {many}, {:.1} times", ratio(many, few))?;
+    Ok(())
+}
+
+/// Prints what turns take, in nanoseconds.
+pub fn run(rt: &(impl Clock + Print), alloc: Global) -> Result<()> {
+    let [fewer, more] = USERS;
+    println!(rt;
+        "nanoseconds a turn, over {fewer} and over {more} users, and {GROUPS} groups of {MEMBERS}"
+    )?;
+    let few = measure(rt, alloc, fewer)?;
+    let many = measure(rt, alloc, more)?;
+    print_line(rt, "get", few.get, many.get)?;
+    print_line(rt, "create", few.create, many.create)?;
+    print_line(rt, "remove", few.remove, many.remove)?;
+    print_line(rt, "search by userName", few.search, many.search)?;
+    let [shorter, longer] = EMAILS;
+    println!(rt; "nanoseconds a body, of {shorter} and of {longer} emails")?;
+    let few = measure_body(rt, alloc, shorter)?;
+    let many = measure_body(rt, alloc, longer)?;
+    print_line(rt, "read_body", few, many)
+}
