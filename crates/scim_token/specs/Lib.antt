@@ -1,0 +1,3 @@
+pub mod TokenFile
+pub mod Tokens
+pub mod code

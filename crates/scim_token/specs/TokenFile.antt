@@ -1,0 +1,67 @@
+-- Token files: which client has which bearer token, by its SHA-256.
+use Rattle.std.specs.Prelude.{ℕ, ◌+◌, ◌==◌, nat_eq, Bool, true, List, [], ◌∷◌, ◌++◌, length, find, Option, None, Some, option_map, Result, Ok, Err, if◌then◌else◌}
+use Rattle.std.specs.List.{list_any, position_or_len, before_first, after_first}
+use Rattle.std.specs.Cmp.Lexicographic.{pointwise}
+use Rattle.std.specs.Result.{result_ok}
+use Rattle.hex.specs.Hex.{decode_sized}
+use Rattle.scim_policy.specs.Paths.{is_client_name}
+use Rattle.scim_token.specs.declared.faults.LineFault.{LineFault}
+use Rattle.scim_token.specs.declared.faults.LineFault.TheVariants.{BadLine, BadName, BadDigest, Twice, TooMany}
+use Rattle.scim_token.specs.declared.faults.TokenFault.{TokenFault}
+
+-- a client, and the SHA-256 of a token that it has
+pub record Entry : Type 0 where
+  pub client : List ℕ
+  pub digest : List ℕ
+
+-- whether a line says nothing: it is empty, or begins with `#`
+abbrev pub says_nothing : List ℕ → Bool
+says_nothing [] = true
+says_nothing (b ∷ bs) = b == 35
+
+-- the 32 bytes that 64 hex digits of either case say
+abbrev pub digest_in : List ℕ → Option (List ℕ)
+digest_in text = result_ok (decode_sized text 32)
+
+abbrev pub entry_with : List ℕ → Option (List ℕ) → Result Entry LineFault
+entry_with client None = Err BadDigest
+entry_with client (Some digest) = Ok (record { client = client; digest = digest })
+
+-- what a line says: a client before its first space, and a digest behind it
+abbrev pub is_space : ℕ → Bool
+is_space b = b == 32
+
+abbrev pub entry_in : List ℕ → Result Entry LineFault
+entry_in line =
+    if position_or_len is_space line == length line then Err BadLine
+    else if is_client_name (before_first is_space line) then entry_with (before_first is_space line) (digest_in (after_first is_space line))
+    else Err BadName
+
+abbrev pub has_digest : List ℕ → Entry → Bool
+has_digest digest e = pointwise nat_eq digest e.digest
+
+-- the entries with one more: no digest stands twice, and there are at most 10,000
+abbrev pub added : List Entry → Entry → Result (List Entry) LineFault
+added known e = if list_any (has_digest e.digest) known then Err Twice else if length known == 10000 then Err TooMany else Ok (known ++ e ∷ [])
+
+abbrev pub added_if : List Entry → Result Entry LineFault → Result (List Entry) LineFault
+added_if known (Ok e) = added known e
+added_if known (Err fault) = Err fault
+
+-- the entries after one more line
+abbrev pub after_line : List Entry → List ℕ → Result (List Entry) LineFault
+after_line known line = if says_nothing line then Ok known else added_if known (entry_in line)
+
+-- what comes of the lines behind one, if it is none that is faulty; else its number and fault
+abbrev pub if_well : ℕ → Result (List Entry) LineFault → (List Entry → Result (List Entry) TokenFault) → Result (List Entry) TokenFault
+if_well n (Ok known) rest = rest known
+if_well n (Err cause) rest = Err (record { line = n; cause = cause })
+
+-- the entries of lines, behind those of the lines before them, where the first has this number; or the first faulty line
+unfoldable pub entries_from : ℕ → List Entry → List (List ℕ) → Result (List Entry) TokenFault
+entries_from n known [] = Ok known
+entries_from n known (line ∷ lines) = if_well n (after_line known line) (λ next. entries_from (n + 1) next lines)
+
+-- the client that has the token of a digest
+abbrev pub client_with : List Entry → List ℕ → Option (List ℕ)
+client_with entries digest = option_map (λ e. e.client) (find (has_digest digest) entries)

@@ -1,0 +1,7 @@
+-- What the code knows of a line.
+use Rattle.scim_token.specs.declared.lines.TokenLine.{TokenLine}
+use Rattle.scim_token.specs.TokenFile.{Entry}
+
+-- the entry of a line
+abbrev pub entry_of : TokenLine → Entry
+entry_of l = record { client = l.client.now; digest = l.digest.bytes }

@@ -1,0 +1,34 @@
+//! Digests of tokens.
+ghost use Rattle.std.specs.Prelude.{◌≡◌, option_map};
+ghost use Rattle.sha2.specs.Sha256.{sha256};
+ghost use Rattle.scim_token.specs.TokenFile as spec;
+
+use hex::FromHex;
+use sha2::{Digest as Hasher, Sha256};
+
+/// The SHA-256 of a token (FIPS 180-4).
+#[derive(Clone, Copy, Debug, PartialEq, Eq, Hash)]
+pub(crate) struct Digest {
+    bytes: [u8; 32],
+}
+
+impl Digest {
+    /// That of this token.
+    pub(crate) fn of(token: &[u8]) -> Digest
+        ensures { result.bytes ≡ sha256 token.now }
+    {
+        Digest {
+            bytes: Sha256::digest(token),
+        }
+    }
+
+    /// That which 64 hex digits of either case say; None where the text is another.
+    pub(crate) fn read(text: &str) -> Option<Digest>
+        ensures { option_map (λ d. d.bytes) result ≡ spec.digest_in text.now }
+    {
+        match <[u8; 32] as FromHex>::from_hex(text) {
+            Ok(bytes) => Some(Digest { bytes }),
+            Err(_) => None,
+        }
+    }
+}

@@ -1,0 +1,100 @@
+//! The clients' tokens.
+ghost use Rattle.std.specs.Prelude.{◌≡◌, List, [], Ok, Err, OnOk, map};
+ghost use Rattle.std.specs.Option.{option_map, option_copied};
+ghost use Rattle.sha2.specs.Sha256.{sha256};
+ghost use Rattle.std.specs.Str.Lines.{lines};
+ghost use Rattle.scim_text.specs.Failures.{UnlessMemory, IfFault};
+ghost use Rattle.scim_token.specs.TokenFile as spec;
+ghost use Rattle.scim_token.specs.TokenFile.{Entry};
+ghost use Rattle.scim_token.specs.Tokens.{Reads, Knows};
+ghost use Rattle.scim_token.specs.code.Known.{entry_of};
+
+use crate::digests::Digest;
+use crate::faults::{LineFault, TokenFault};
+use crate::lines::{TokenLine, read_line, says_nothing};
+use scim_cell::Text;
+use scim_text::Failed;
+use std::alloc::Global;
+use std::collections::HashMap;
+
+/// The most tokens that a file may name.
+const MOST_TOKENS: usize = 10_000;
+
+/// Which client has which token. A client may have several, a token is that of one client; of a token its SHA-256
+/// alone is kept.
+#[derive(Drop)]
+pub struct Tokens {
+    clients: HashMap<Digest, Text>,
+}
+
+impl Tokens {
+    /// The tokens of a file: a line for each, of the client's name, one space, and the SHA-256 of the token in 64 hex
+    /// digits of either case. Lines that are empty or begin with `#` say nothing.
+    ///
+    /// The first faulty line is told, with the first fault of [`LineFault`] that it has; or NoMemory, where none was
+    /// to be had.
+    pub fn read(alloc: Global, text: &str) -> Result<Tokens, Failed<TokenFault>>
+        ensures { UnlessMemory (Reads (spec.entries_from 1 [] (lines text.now))) result }
+    {
+        let lines = text.lines().collect::<Vec<&str>>(alloc)?;
+        Tokens::of_lines(alloc, lines.as_slice())
+    }
+
+    /// The tokens of the lines of a file.
+    fn of_lines(alloc: Global, lines: &[&str]) -> Result<Tokens, Failed<TokenFault>>
+        ensures { UnlessMemory (Reads (spec.entries_from 1 [] (map (λ l. l.now) lines.now))) result }
+    {
+        let mut tokens = Tokens {
+            clients: HashMap::new(alloc),
+        };
+        for index in 0..lines.len() {
+            match tokens.take_line(alloc, lines[index]) {
+                Ok(()) => {}
+                Err(Failed::Because(cause)) => {
+                    let line = index + 1;
+                    return Err(Failed::Because(TokenFault { line, cause }));
+                }
+                Err(Failed::NoMemory) => return Err(Failed::NoMemory),
+            }
+        }
+        Ok(tokens)
+    }
+
+    /// The client that has the token; None where no client has it. Takes no memory, and keeps nothing of the token.
+    pub fn client_of(&self, token: &[u8]) -> Option<&str>
+        ensures { (entries : List Entry) → Knows entries self.now → option_copied result ≡ spec.client_with entries (sha256 token.now) }
+    {
+        let digest = Digest::of(token);
+        self.clients.get(&digest).map(|client| client.as_str())
+    }
+
+    /// Takes what a line says to what is known.
+    fn take_line(&mut self, alloc: Global, line: &str) -> Result<(), Failed<LineFault>>
+        ensures ok { OnOk result ((known : List Entry) → Knows known self.old → (next : List Entry) × (spec.after_line known line.now ≡ Ok next) × Knows next self.new) }
+        ensures fault { IfFault result (λ fault. (known : List Entry) → Knows known self.old → spec.after_line known line.now ≡ Err fault) }
+    {
+        if says_nothing(line) {
+            return Ok(());
+        }
+        match read_line(line) {
+            Ok(entry) => self.add(alloc, entry),
+            Err(fault) => Err(Failed::Because(fault)),
+        }
+    }
+
+    /// Takes an entry to what is known.
+    fn add(&mut self, alloc: Global, line: TokenLine<'_>) -> Result<(), Failed<LineFault>>
+        ensures ok { OnOk result ((known : List Entry) → Knows known self.old → (next : List Entry) × (spec.added known (entry_of line.entry) ≡ Ok next) × Knows next self.new) }
+        ensures fault { IfFault result (λ fault. (known : List Entry) → Knows known self.old → spec.added known (entry_of line.entry) ≡ Err fault) }
+    {
+        if self.clients.contains_key(&line.digest) {
+            return Err(Failed::Because(LineFault::Twice));
+        }
+        if self.clients.len() == MOST_TOKENS {
+            return Err(Failed::Because(LineFault::TooMany));
+        }
+        let client = Text::copy_of(alloc, line.client)?;
+        self.clients.insert(line.digest, client)?;
+        Ok(())
+    }
+}
