@@ -1,0 +1,4 @@
+pub mod DecodedLemmas
+pub mod PositionLemmas
+pub mod RouteLemmas
+pub mod SlashLemmas

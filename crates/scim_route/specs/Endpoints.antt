@@ -1,0 +1,86 @@
+-- The endpoints of paths (RFC 7644 section 3.2).
+use Rattle.std.specs.Prelude.{ℕ, Bool, List, [], ◌∷◌, length, codes, Option, None, Some, option_map, ◌==◌, if◌then◌else◌, nat_eq}
+use Rattle.std.specs.List.{list_any, position_or_len, before_first, after_first}
+use Rattle.std.specs.Cmp.Lexicographic.{pointwise}
+use Rattle.scim_schema.specs.declared.Kind.{Kind}
+use Rattle.scim_schema.specs.declared.Kind.TheVariants.{User, Group}
+use Rattle.scim_schema.specs.Lookup.{kind_named, schema_named}
+use Rattle.scim_route.specs.declared.endpoints.Page.{Page}
+use Rattle.scim_route.specs.declared.endpoints.Page.TheVariants.{ServiceProviderConfig, ResourceTypes, ResourceType, Schemas, Schema}
+use Rattle.scim_route.specs.Targets.{is_slash}
+
+-- what a path may name: an endpoint that this server hasn't, a page of discovery, the resources of a kind, their search, or one of them by a text
+pub data Place : Type 0 where
+  unsupported : Place
+  page : Page → Place
+  collection : Kind → Place
+  search : Kind → Place
+  resource : Kind → List ℕ → Place
+
+-- whether two texts are one, byte by byte
+abbrev pub is : List ℕ → List ℕ → Bool
+is = pointwise nat_eq
+
+-- the kind whose resources stand at `/{name}`
+abbrev pub kind_below : List ℕ → Option Kind
+kind_below name = if is name (codes "Users") then Some User else if is name (codes "Groups") then Some Group else None
+
+-- what `/{name}` is where it isn't the resources of a kind
+abbrev pub other_at_top : List ℕ → Option Place
+other_at_top name =
+    if is name (codes "") then Some unsupported
+    else if is name (codes ".search") then Some unsupported
+    else if is name (codes "Bulk") then Some unsupported
+    else if is name (codes "Me") then Some unsupported
+    else if is name (codes "ServiceProviderConfig") then Some (page ServiceProviderConfig)
+    else if is name (codes "ResourceTypes") then Some (page ResourceTypes)
+    else if is name (codes "Schemas") then Some (page Schemas)
+    else None
+
+-- the resources of a kind, or else another place
+abbrev pub collection_or : Option Place → Option Kind → Option Place
+collection_or other (Some kind) = Some (collection kind)
+collection_or other None = other
+
+-- what `/{name}` is
+abbrev pub at_top : List ℕ → Option Place
+at_top name = collection_or (other_at_top name) (kind_below name)
+
+-- what `/Users/{text}` and `/Groups/{text}` are
+abbrev pub among : Kind → List ℕ → Place
+among kind text = if is text (codes ".search") then search kind else resource kind text
+
+-- what `/{name}/{text}` is where it isn't below the resources of a kind
+abbrev pub other_below : List ℕ → List ℕ → Option Place
+other_below name text =
+    if is name (codes "Me") then Some unsupported
+    else if is name (codes "ResourceTypes") then option_map (λ kind. page (ResourceType kind)) (kind_named text)
+    else if is name (codes "Schemas") then option_map (λ schema. page (Schema schema)) (schema_named text)
+    else None
+
+-- what stands below the resources of a kind, or else another place
+abbrev pub among_or : Option Place → Option Kind → List ℕ → Option Place
+among_or other (Some kind) text = Some (among kind text)
+among_or other None text = other
+
+-- what `/{name}/{text}` is; a path of an empty text or more segments is none
+abbrev pub below : List ℕ → List ℕ → Option Place
+below name [] = None
+below name (b ∷ text) = if list_any is_slash (b ∷ text) then None else among_or (other_below name (b ∷ text)) (kind_below name) (b ∷ text)
+
+-- what the segments behind the first slash of a path name
+abbrev pub in_segments : List ℕ → Option Place
+in_segments segments =
+    if position_or_len is_slash segments == length segments then at_top segments
+    else below (before_first is_slash segments) (after_first is_slash segments)
+
+-- a text without one slash at its end
+unfoldable pub without_last_slash : List ℕ → List ℕ
+without_last_slash [] = []
+without_last_slash (b ∷ []) = if is_slash b then [] else b ∷ []
+without_last_slash (b ∷ c ∷ rest) = b ∷ without_last_slash (c ∷ rest)
+
+-- what a path names: one slash at its end is dropped, save where it is also its first
+abbrev pub place_of : List ℕ → Option Place
+place_of [] = None
+place_of (b ∷ rest) = if is_slash b then in_segments (without_last_slash rest) else None

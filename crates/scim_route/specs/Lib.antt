@@ -1,0 +1,4 @@
+pub mod Targets
+pub mod Endpoints
+pub mod Routes
+pub mod code

@@ -1,0 +1,9 @@
+//! The endpoints of SCIM: which one a request's method and target name (RFC 7644 section 3.2).
+#![tactic(auto)]
+
+mod endpoints;
+mod routes;
+mod targets;
+
+pub use endpoints::Page;
+pub use routes::{Form, Found, Route, find};

@@ -1,0 +1,108 @@
+//! Targets of requests: their path and query.
+ghost use Rattle.std.specs.Prelude.{◌≡◌, ◌≤◌, length, Ok, Err, Some, None, IfOk};
+ghost use Rattle.std.specs.Option.{option_copied};
+ghost use Rattle.std.specs.Cow.{cow_str_bytes};
+ghost use Rattle.std.specs.List.{position_or_len, before_first};
+ghost use Rattle.scim_text.specs.Failures.{IfFault};
+ghost use Rattle.scim_audit.specs.declared.refusals.Refusal.TheVariants.{NoRoute};
+ghost use Rattle.scim_route.specs.Targets as spec;
+
+use percent_encoding::{DecodeError, percent_decode};
+use scim_audit::Refusal;
+use scim_text::Failed;
+use std::alloc::Global;
+use std::borrow::CowStr;
+
+/// The path and the query of a target, as they stand in it.
+#[derive(Clone, Copy)]
+pub(crate) struct Target<'t> {
+    pub(crate) path: &'t [u8],
+    pub(crate) query: Option<&'t [u8]>,
+}
+
+/// Where an authority ends.
+fn end_of_authority(bytes: &[u8]) -> usize
+    ensures place { result ≡ position_or_len spec.ends_authority bytes.now }
+    ensures within { result ≤ length bytes.now }
+{
+    bytes
+        .iter()
+        .position(|b| *b == b'/' || *b == b'?')
+        .unwrap_or(bytes.len())
+}
+
+/// Where the first `?` stands, or the end where there is none.
+fn end_of_path(bytes: &[u8]) -> usize
+    ensures place { result ≡ position_or_len spec.is_question_mark bytes.now }
+    ensures within { result ≤ length bytes.now }
+{
+    bytes.iter().position(|b| *b == b'?').unwrap_or(bytes.len())
+}
+
+/// What stands behind the authority of a target in absolute form; None in any other form.
+fn behind_authority(target: &[u8]) -> Option<&[u8]>
+    ensures { option_copied result ≡ spec.behind_authority_of target.now }
+{
+    let rest = target.strip_prefix(b"http://")?;
+    Some(&rest[end_of_authority(rest)..])
+}
+
+/// What stands behind the first `?`, where there is one.
+fn behind_question_mark(bytes: &[u8]) -> Option<&[u8]>
+    ensures { option_copied result ≡ spec.behind_question_mark bytes.now }
+{
+    let end = end_of_path(bytes);
+    if end == bytes.len() {
+        None
+    } else {
+        Some(&bytes[end + 1..])
+    }
+}
+
+/// What stands before the first `?`.
+fn before_question_mark(bytes: &[u8]) -> &[u8]
+    ensures { result.now ≡ before_first spec.is_question_mark bytes.now }
+{
+    &bytes[..end_of_path(bytes)]
+}
+
+/// The path of an absolute form: `/` where there is none.
+fn or_root(path: &[u8]) -> &[u8]
+    ensures { result.now ≡ spec.or_root path.now }
+{
+    if path.is_empty() { b"/" } else { path }
+}
+
+/// The path and the query of a target.
+pub(crate) fn read_target(target: &[u8]) -> Target<'_>
+    ensures path { result.path.now ≡ spec.path_of target.now }
+    ensures query { option_copied result.query ≡ spec.query_of target.now }
+{
+    match behind_authority(target) {
+        Some(rest) => Target {
+            path: or_root(before_question_mark(rest)),
+            query: behind_question_mark(rest),
+        },
+        None => Target {
+            path: before_question_mark(target),
+            query: behind_question_mark(target),
+        },
+    }
+}
+
+/// The path that the escapes of a path stand for.
+///
+/// Fails with NoRoute where that is no UTF-8, and with NoMemory where no memory is to be had.
+pub(crate) fn decoded<'t>(
+    alloc: Global,
+    path: &'t [u8],
+) -> Result<CowStr<'t, Global>, Failed<Refusal>>
+    ensures ok { IfOk result (λ text. spec.decoded path.now ≡ Some (cow_str_bytes text)) }
+    ensures fault { IfFault result (λ refusal. (refusal ≡ NoRoute) × (spec.decoded path.now ≡ None)) }
+{
+    match percent_decode(path).decode_utf8(alloc) {
+        Ok(text) => Ok(text),
+        Err(DecodeError::OutOfMemory) => Err(Failed::NoMemory),
+        Err(DecodeError::Utf8(_)) => Err(Failed::Because(Refusal::NoRoute)),
+    }
+}
