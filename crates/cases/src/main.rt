@@ -18,12 +18,14 @@ mod json_calls;
 mod path_calls;
 mod policy_calls;
 mod query_calls;
+mod route_calls;
 mod row_tests;
 mod samples_calls;
 mod schema_calls;
 mod service_calls;
 mod tally;
 mod text_calls;
+mod token_calls;
 mod value_calls;
 mod vectors;
 mod view_calls;
@@ -138,8 +140,14 @@ fn answer(case: &Case<'_>) -> Result<String, CaseFault> {
     later_answer(case, call)
 }
 
-/// What the call gives, if it is one of a body or of the service.
+/// What the call gives, if it is one of a body, of tokens, of routes or of the service.
 fn later_answer(case: &Case<'_>, call: &str) -> Result<String, CaseFault> {
+    if let Some(found) = token_calls::answer(case, call) {
+        return found;
+    }
+    if let Some(found) = route_calls::answer(case, call) {
+        return found;
+    }
     if let Some(found) = body_calls::answer(case, call) {
         return found;
     }
