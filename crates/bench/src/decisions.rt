@@ -2,7 +2,7 @@
 use crate::documents::sample_user;
 use crate::timing::{fastest, ratio};
 use anyhow::{Result, bail};
-use scim_policy::read_policy;
+use scim_policy::{Policy, read_policy};
 use scim_samples::BASE;
 use scim_schema::Op;
 use scim_value::Resource;
@@ -80,6 +80,12 @@ struct Figures {
     view: u128,
 }
 
+/// A policy as [`policy_text`] has it.
+fn policy_of(alloc: Global, rules: usize, client_before: &str) -> Result<Policy> {
+    let text = policy_text(alloc, rules, client_before)?;
+    Ok(read_policy(alloc, text.as_str())?)
+}
+
 fn measure(
     rt: &impl Clock,
     alloc: Global,
@@ -87,16 +93,25 @@ fn measure(
     rules: usize,
     client_before: &str,
 ) -> Result<Figures> {
-    let text = policy_text(alloc, rules, client_before)?;
-    let policy = read_policy(alloc, text.as_str())?;
+    let policy = policy_of(alloc, rules, client_before)?;
     let viewer = Viewer {
         policy: &policy,
         client: CLIENT,
         base: BASE,
     };
-    check_view(alloc, user, &viewer, client_before)?;
+    measure_view(rt, alloc, user, &viewer, client_before)
+}
+
+fn measure_view(
+    rt: &impl Clock,
+    alloc: Global,
+    user: &Resource,
+    viewer: &Viewer<'_>,
+    client_before: &str,
+) -> Result<Figures> {
+    check_view(alloc, user, viewer, client_before)?;
     let decisions = fastest(rt, PASSES, CALLS, || {
-        policy.decisions(alloc, CLIENT, Op::Read, user)?;
+        viewer.policy.decisions(alloc, CLIENT, Op::Read, user)?;
         Ok(())
     })?;
     let view = fastest(rt, PASSES, CALLS, || {
@@ -145,11 +160,15 @@ fn print_line(rt: &impl Print, call: &str, few: u128, many: u128) -> Result<()> 
     Ok(())
 }
 
+fn compare_all(rt: &(impl Clock + Print), alloc: Global, user: &Resource) -> Result<()> {
+    println!(rt; "nanoseconds a call, for a user of 15 cells, where all rules fit")?;
+    compare(rt, alloc, user, CLIENT)?;
+    println!(rt; "where the last rule alone is for the client")?;
+    compare(rt, alloc, user, OTHER_CLIENT)
+}
+
 /// Prints what a call takes where all rules fit, and where the last alone does.
 pub fn run(rt: &(impl Clock + Print), alloc: Global) -> Result<()> {
     let user = sample_user(alloc)?;
-    println!(rt; "nanoseconds a call, for a user of 15 cells, where all rules fit")?;
-    compare(rt, alloc, &user, CLIENT)?;
-    println!(rt; "where the last rule alone is for the client")?;
-    compare(rt, alloc, &user, OTHER_CLIENT)
+    compare_all(rt, alloc, &user)
 }

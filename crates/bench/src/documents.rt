@@ -1,6 +1,7 @@
 //! The JSON of a user of 15 cells, beside what serde_json takes for the same texts, and users files.
+use crate::timing::fastest;
 use crate::values::value_of;
-use anyhow::{Result, bail};
+use anyhow::{Result, bail, ensure};
 use scim_cell::Id;
 use scim_json::{read_documents, read_stored, stored_text, to_json};
 use scim_samples::BASE;
@@ -8,11 +9,13 @@ use scim_value::Resource;
 use serde_json::Value;
 use std::alloc::Global;
 use std::io::Print;
-use std::time::{Clock, Duration, Instant};
+use std::time::Clock;
 use uuid::Uuid;
 
-/// How often each call is made.
-const ROUNDS: usize = 20_000;
+/// Of so many passes of so many calls the fastest counts.
+const PASSES: usize = 5;
+
+const CALLS: usize = 4_000;
 
 /// How many users the files have.
 const USERS: [usize; 2] = [1_000, 10_000];
@@ -29,74 +32,78 @@ pub fn sample_user(alloc: Global) -> Result<Resource> {
     Ok(user)
 }
 
-/// How long all rounds of a call took.
-#[derive(Drop)]
+/// Nanoseconds a call.
+#[derive(Clone, Copy)]
 struct Figures {
-    show: Duration,
-    show_made: Duration,
-    show_value: Duration,
-    store: Duration,
-    read: Duration,
-    read_value: Duration,
+    show: u128,
+    show_made: u128,
+    show_value: u128,
+    store: u128,
+    read: u128,
+    read_value: u128,
+}
+
+/// The user's JSON, which is the same as that of a value.
+fn shown(alloc: Global, user: &Resource) -> Result<String> {
+    let shown = to_json(alloc, user.part())?;
+    check_made(alloc, user, shown.as_str())?;
+    Ok(shown)
+}
+
+fn check_made(alloc: Global, user: &Resource, shown: &str) -> Result<()> {
+    let made = value_of(alloc, user.part())?.to_string(alloc)?;
+    ensure!(made.as_str() == shown, "the two texts differ");
+    Ok(())
+}
+
+fn value_shown(alloc: Global, user: &Resource) -> Result<Value> {
+    let shown = shown(alloc, user)?;
+    Ok(Value::from_str(alloc, shown.as_str())?)
 }
 
 fn measure(rt: &impl Clock, alloc: Global, user: &Resource) -> Result<Figures> {
-    let mut figures = Figures {
-        show: Duration::ZERO,
-        show_made: Duration::ZERO,
-        show_value: Duration::ZERO,
-        store: Duration::ZERO,
-        read: Duration::ZERO,
-        read_value: Duration::ZERO,
-    };
-    let shown = to_json(alloc, user.part())?;
-    let made = value_of(alloc, user.part())?.to_string(alloc)?;
-    if made.as_str() != shown.as_str() {
-        bail!("the two texts differ");
-    }
-    let value = Value::from_str(alloc, shown.as_str())?;
-    for _ in 0..ROUNDS {
-        measure_once(rt, alloc, user, &value, &mut figures)?;
-    }
-    Ok(figures)
+    let value = value_shown(alloc, user)?;
+    measure_calls(rt, alloc, user, &value)
 }
 
-fn measure_once(
+fn measure_calls(
     rt: &impl Clock,
     alloc: Global,
     user: &Resource,
     value: &Value,
-    figures: &mut Figures,
-) -> Result<()> {
-    let start = Instant::now(rt)?;
-    to_json(alloc, user.part())?;
-    figures.show = figures.show.saturating_add(start.elapsed(rt)?);
-
-    let start = Instant::now(rt)?;
-    value_of(alloc, user.part())?.to_string(alloc)?;
-    figures.show_made = figures.show_made.saturating_add(start.elapsed(rt)?);
-
-    let start = Instant::now(rt)?;
-    value.to_string(alloc)?;
-    figures.show_value = figures.show_value.saturating_add(start.elapsed(rt)?);
-
-    let start = Instant::now(rt)?;
-    stored_text(alloc, user)?;
-    figures.store = figures.store.saturating_add(start.elapsed(rt)?);
-
-    let start = Instant::now(rt)?;
-    read_stored(alloc, BASE, STORED)?;
-    figures.read = figures.read.saturating_add(start.elapsed(rt)?);
-
-    let start = Instant::now(rt)?;
-    Value::from_str(alloc, STORED)?;
-    figures.read_value = figures.read_value.saturating_add(start.elapsed(rt)?);
-    Ok(())
-}
-
-/// Nanoseconds a round.
-fn each(duration: &Duration) -> u128 {
-    duration.as_nanos() / ROUNDS as u128
+) -> Result<Figures> {
+    let show = fastest(rt, PASSES, CALLS, || {
+        to_json(alloc, user.part())?;
+        Ok(())
+    })?;
+    let show_made = fastest(rt, PASSES, CALLS, || {
+        value_of(alloc, user.part())?.to_string(alloc)?;
+        Ok(())
+    })?;
+    let show_value = fastest(rt, PASSES, CALLS, || {
+        value.to_string(alloc)?;
+        Ok(())
+    })?;
+    let store = fastest(rt, PASSES, CALLS, || {
+        stored_text(alloc, user)?;
+        Ok(())
+    })?;
+    let read = fastest(rt, PASSES, CALLS, || {
+        read_stored(alloc, BASE, STORED)?;
+        Ok(())
+    })?;
+    let read_value = fastest(rt, PASSES, CALLS, || {
+        Value::from_str(alloc, STORED)?;
+        Ok(())
+    })?;
+    Ok(Figures {
+        show,
+        show_made,
+        show_value,
+        store,
+        read,
+        read_value,
+    })
 }
 
 /// A users file of so many users.
@@ -104,50 +111,66 @@ pub fn users_file(alloc: Global, users: usize) -> Result<String> {
     let mut text = String::new(alloc);
     text.push('[')?;
     for number in 0..users {
-        if number > 0 {
-            text.push(',')?;
-        }
-        let id = Id::of(Uuid::from_u128(number as u128)).text(alloc)?;
-        let id = id.as_str();
-        let user = format!(in alloc;
-            "{{\"emails\":[{{\"value\":\"user{number}@example.com\"}}],\"id\":\"{id}\",\"meta\":{{\"created\":\"2024-01-01T00:00:00Z\",\"lastModified\":\"2024-01-01T00:00:00Z\",\"resourceType\":\"User\"}},\"userName\":\"user{number}\"}}"
-        )?;
-        text.push_str(user.as_str())?;
+        push_user(alloc, number, &mut text)?;
     }
     text.push(']')?;
     Ok(text)
 }
 
+fn push_user(alloc: Global, number: usize, text: &mut String) -> Result<()> {
+    let id = Id::of(Uuid::from_u128(number as u128)).text(alloc)?;
+    let id = id.as_str();
+    let comma = if number == 0 { "" } else { "," };
+    write!(
+        text,
+        "{comma}{{\"emails\":[{{\"value\":\"user{number}@example.com\"}}],\"id\":\"{id}\",\"meta\":{{\"created\":\"2024-01-01T00:00:00Z\",\"lastModified\":\"2024-01-01T00:00:00Z\",\"resourceType\":\"User\"}},\"userName\":\"user{number}\"}}"
+    )?;
+    Ok(())
+}
+
 /// Nanoseconds for each user of a file of so many: of `read_documents`, and of `Value::from_str`.
 fn measure_file(rt: &impl Clock, alloc: Global, users: usize) -> Result<(u128, u128)> {
     let text = users_file(alloc, users)?;
-    let start = Instant::now(rt)?;
-    let resources = read_documents(alloc, BASE, text.as_str())?;
-    let took = start.elapsed(rt)?;
-    let start = Instant::now(rt)?;
-    Value::from_str(alloc, text.as_str())?;
-    let value_took = start.elapsed(rt)?;
-    let users = resources.len().max(1) as u128;
-    Ok((took.as_nanos() / users, value_took.as_nanos() / users))
+    let (took, value_took) = measure_text(rt, alloc, text.as_str())?;
+    let users = users.max(1) as u128;
+    Ok((took / users, value_took / users))
+}
+
+fn measure_text(rt: &impl Clock, alloc: Global, text: &str) -> Result<(u128, u128)> {
+    let took = fastest(rt, 1, 1, || {
+        read_documents(alloc, BASE, text)?;
+        Ok(())
+    })?;
+    let value_took = fastest(rt, 1, 1, || {
+        Value::from_str(alloc, text)?;
+        Ok(())
+    })?;
+    Ok((took, value_took))
+}
+
+/// Prints the figures of a user of 15 cells.
+fn print_figures(rt: &impl Print, figures: Figures) -> Result<()> {
+    println!(rt; "nanoseconds a call, for a user of 15 cells")?;
+    println!(rt;
+        "to_json {}, a Value made and printed {}, Value::to_string alone {}",
+        figures.show, figures.show_made, figures.show_value
+    )?;
+    println!(rt; "stored_text {}", figures.store)?;
+    println!(rt;
+        "read_stored {}, Value::from_str {}",
+        figures.read, figures.read_value
+    )?;
+    Ok(())
+}
+
+fn measure_user(rt: &impl Clock, alloc: Global) -> Result<Figures> {
+    let user = sample_user(alloc)?;
+    measure(rt, alloc, &user)
 }
 
 /// Prints the figures of writing and reading, in nanoseconds a call.
 pub fn run(rt: &(impl Clock + Print), alloc: Global) -> Result<()> {
-    let user = sample_user(alloc)?;
-    let figures = measure(rt, alloc, &user)?;
-    println!(rt; "nanoseconds a call, for a user of 15 cells")?;
-    println!(rt;
-        "to_json {}, a Value made and printed {}, Value::to_string alone {}",
-        each(&figures.show),
-        each(&figures.show_made),
-        each(&figures.show_value)
-    )?;
-    println!(rt; "stored_text {}", each(&figures.store))?;
-    println!(rt;
-        "read_stored {}, Value::from_str {}",
-        each(&figures.read),
-        each(&figures.read_value)
-    )?;
+    print_figures(rt, measure_user(rt, alloc)?)?;
     println!(rt; "nanoseconds for each user of a users file")?;
     for users in USERS {
         let (each, each_value) = measure_file(rt, alloc, users)?;

@@ -15,6 +15,10 @@ use std::time::Clock;
 const SHORT: &str =
     "userName eq \"alice.martinez\" and emails[type eq \"work\" and value co \"example.com\"] or not (title pr)";
 
+/// The same without its last term, which is true of a user.
+const UNTITLED: &str =
+    "userName eq \"user7\" and emails[type eq \"work\" and value co \"example.com\"]";
+
 const BRACKETS: usize = 32;
 
 /// The most bytes that a filter may have.
@@ -76,16 +80,17 @@ fn reading(rt: &impl Clock, alloc: Global, calls: usize, written: &str) -> Resul
     })
 }
 
-/// Nanoseconds of holding a filter on a part, of which it is true.
+/// Nanoseconds of holding a filter on a part, of which it is as said.
 fn holding(
     rt: &impl Clock,
     alloc: Global,
     calls: usize,
     filter: &Filter,
     part: &Part,
+    is_true: bool,
 ) -> Result<u128> {
-    if !holds(alloc, filter, part)? {
-        bail!("a filter does not hold");
+    if holds(alloc, filter, part)? != is_true {
+        bail!("a filter holds, or does not");
     }
     fastest(rt, PASSES, calls, || {
         holds(alloc, filter, part)?;
@@ -134,21 +139,27 @@ fn counting(
     Ok(took / users.len().max(1) as u128)
 }
 
+/// Nanoseconds of holding a filter on a part, of which it is as said.
+fn holding_short(
+    rt: &impl Clock,
+    alloc: Global,
+    written: &str,
+    user: &Part,
+    is_true: bool,
+) -> Result<u128> {
+    let filter = read_filter(alloc, Kind::User, written)?;
+    holding(rt, alloc, CALLS, &filter, user, is_true)
+}
+
 fn short_filters(rt: &(impl Clock + Print), alloc: Global) -> Result<()> {
-    let read = reading(rt, alloc, CALLS, SHORT)?;
-    let filter = read_filter(alloc, Kind::User, SHORT)?;
-    let untitled =
-        "userName eq \"user7\" and emails[type eq \"work\" and value co \"example.com\"]";
-    let untitled = read_filter(alloc, Kind::User, untitled)?;
     let user = user(alloc, 7, "Jensen")?.into_part();
-    if holds(alloc, &filter, &user)? {
-        bail!("the filter is not to hold");
-    }
-    let all = fastest(rt, PASSES, CALLS, || {
-        holds(alloc, &filter, &user)?;
-        Ok(())
-    })?;
-    let held = holding(rt, alloc, CALLS, &untitled, &user)?;
+    short_filters_on(rt, alloc, &user)
+}
+
+fn short_filters_on(rt: &(impl Clock + Print), alloc: Global, user: &Part) -> Result<()> {
+    let read = reading(rt, alloc, CALLS, SHORT)?;
+    let all = holding_short(rt, alloc, SHORT, user, false)?;
+    let held = holding_short(rt, alloc, UNTITLED, user, true)?;
     println!(rt;
         "a filter of {} bytes: read {:.2}, held on a user of 15 cells {:.2}, where each term is true {:.2}",
         SHORT.len(),
@@ -159,36 +170,57 @@ fn short_filters(rt: &(impl Clock + Print), alloc: Global) -> Result<()> {
     Ok(())
 }
 
-fn many_users(rt: &(impl Clock + Print), alloc: Global) -> Result<()> {
+fn push_user(alloc: Global, number: usize, users: &mut Vec<Part>) -> Result<()> {
+    let user = user(alloc, number, "Jensen")?;
+    users.push(user.into_part())?;
+    Ok(())
+}
+
+fn users_of(alloc: Global) -> Result<Vec<Part>> {
     let mut users = Vec::new(alloc);
     for number in 0..USERS {
-        users.push(user(alloc, number, "Jensen")?.into_part())?;
+        push_user(alloc, number, &mut users)?;
     }
+    Ok(users)
+}
+
+fn many_users(rt: &(impl Clock + Print), alloc: Global) -> Result<()> {
+    let users = users_of(alloc)?;
+    filter_many(rt, alloc, users.as_slice())
+}
+
+fn filter_many(rt: &(impl Clock + Print), alloc: Global, users: &[Part]) -> Result<()> {
     for (written, wanted) in [
         ("userName eq \"user9999\"", 1),
         ("emails[type eq \"work\" and value co \"x\"]", USERS),
     ] {
-        let each = filtering(rt, alloc, users.as_slice(), written, wanted)?;
+        let each = filtering(rt, alloc, users, written, wanted)?;
         println!(rt; "for each of {USERS} users, {written}: {:.3}", micros(each))?;
     }
     Ok(())
 }
 
+fn reading_deep(rt: &impl Clock, alloc: Global, brackets: usize) -> Result<u128> {
+    let written = deep_filter(alloc, brackets)?;
+    reading(rt, alloc, CALLS, written.as_str())
+}
+
+fn reading_long(rt: &impl Clock, alloc: Global, calls: usize, bytes: usize) -> Result<u128> {
+    let written = long_filter(alloc, bytes)?;
+    reading(rt, alloc, calls, written.as_str())
+}
+
 fn long_and_deep(rt: &(impl Clock + Print), alloc: Global) -> Result<()> {
-    let deep = deep_filter(alloc, BRACKETS)?;
-    let deep = reading(rt, alloc, CALLS, deep.as_str())?;
-    let long = long_filter(alloc, LONGEST)?;
-    let long = reading(rt, alloc, FEW_CALLS, long.as_str())?;
+    let deep = reading_deep(rt, alloc, BRACKETS)?;
+    let long = reading_long(rt, alloc, FEW_CALLS, LONGEST)?;
     println!(rt;
         "title pr in {BRACKETS} brackets: read {:.2}; a filter of {LONGEST} bytes: read {:.1}",
         micros(deep),
         micros(long)
     )?;
     let [short, long] = LENGTHS;
-    let one = long_filter(alloc, short)?;
-    let one = reading(rt, alloc, CALLS / 10, one.as_str())?;
-    let other = long_filter(alloc, long)?;
-    let other = reading(rt, alloc, FEW_CALLS, other.as_str())?;
+    let one = reading_long(rt, alloc, CALLS / 10, short)?;
+    let other = reading_long(rt, alloc, FEW_CALLS, long)?;
     println!(rt;
         "reading {long} bytes/{short} bytes = {:.1}",
         ratio(other, one)
@@ -205,10 +237,15 @@ fn holding_last(
     behind: &str,
 ) -> Result<u128> {
     let group = group(alloc, members)?;
+    let filter = filter_on_last(alloc, members, before, behind)?;
+    holding(rt, alloc, FEW_CALLS, &filter, &group, true)
+}
+
+/// The filter that names the last of so many members.
+fn filter_on_last(alloc: Global, members: usize, before: &str, behind: &str) -> Result<Filter> {
     let last = id_of(members.saturating_sub(1)).text(alloc)?;
     let written = format!(in alloc; "{before}\"{}\"{behind}", last.as_str())?;
-    let filter = read_filter(alloc, Kind::Group, written.as_str())?;
-    holding(rt, alloc, FEW_CALLS, &filter, &group)
+    Ok(read_filter(alloc, Kind::Group, written.as_str())?)
 }
 
 fn groups(rt: &(impl Clock + Print), alloc: Global) -> Result<()> {

@@ -6,7 +6,6 @@
 
 mod decisions;
 mod documents;
-mod filter_texts;
 mod filters;
 mod once_runs;
 mod pages;

@@ -1,7 +1,7 @@
 //! One GET over a users file, beside what serde_json takes to read the file.
 use crate::documents::users_file;
 use crate::timing::{fastest, ratio};
-use anyhow::{Result, bail};
+use anyhow::{Result, ensure};
 use scim_cell::Id;
 use scim_command::{Setting, once};
 use scim_samples::BASE;
@@ -66,18 +66,37 @@ fn measure(
 /// [`measure`].
 fn measure_users(rt: &impl Clock, alloc: Global, users: usize) -> Result<(u128, u128)> {
     let file = users_file(alloc, users)?;
-    let request = request(alloc, users)?;
     let setting = Setting {
         policy: POLICY,
         users: file.as_str(),
         client: "reader",
         base: BASE,
     };
-    let reply = answer(alloc, &setting, request.as_str())?;
-    if !reply.starts_with(b"HTTP/1.1 200 ") {
-        bail!("the user was not found");
-    }
-    measure(rt, alloc, &setting, request.as_str())
+    measure_setting(rt, alloc, &setting, users)
+}
+
+fn measure_setting(
+    rt: &impl Clock,
+    alloc: Global,
+    setting: &Setting<'_>,
+    users: usize,
+) -> Result<(u128, u128)> {
+    let request = request(alloc, users)?;
+    measure_request(rt, alloc, setting, request.as_str())
+}
+
+fn measure_request(
+    rt: &impl Clock,
+    alloc: Global,
+    setting: &Setting<'_>,
+    request: &str,
+) -> Result<(u128, u128)> {
+    let reply = answer(alloc, setting, request)?;
+    ensure!(
+        reply.starts_with(b"HTTP/1.1 200 "),
+        "the user was not found"
+    );
+    measure(rt, alloc, setting, request)
 }
 
 /// Prints what a run takes, in microseconds.

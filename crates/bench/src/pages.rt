@@ -1,6 +1,6 @@
 //! Pages of what a client sees of many users, their groups among it.
 use crate::decisions::{CLIENT, FEW, MANY, OTHER_CLIENT, policy_text};
-use crate::filters::samples::{id_of, user};
+use crate::filters::samples::{id_of, push_member, user};
 use crate::timing::{fastest, ratio};
 use anyhow::{Result, bail};
 use scim_filter::read_filter;
@@ -45,9 +45,8 @@ fn group(alloc: Global, number: usize, users: usize) -> Result<Resource> {
     let mut cells = format!(in alloc; "displayName=Team {number}")?;
     for place in 0..MEMBERS {
         let first = number.saturating_mul(MEMBERS);
-        let member = id_of(first.saturating_add(place) % users.max(1)).text(alloc)?;
-        let value = format!(in alloc; "; members[{place}].value={}", member.as_str())?;
-        cells.push_str(value.as_str())?;
+        let member = first.saturating_add(place) % users.max(1);
+        push_member(alloc, place, member, &mut cells)?;
     }
     Ok(resource(alloc, Kind::Group, id.as_str(), cells.as_str())?)
 }
@@ -59,15 +58,40 @@ fn named_user(alloc: Global, number: usize) -> Result<Resource> {
     user(alloc, number, family_name.as_str())
 }
 
-fn directory_of(alloc: Global, count: usize) -> Result<Directory> {
+fn push_user(alloc: Global, number: usize, users: &mut Vec<Resource>) -> Result<()> {
+    let user = named_user(alloc, number)?;
+    Ok(users.push(user)?)
+}
+
+fn users_of(alloc: Global, count: usize) -> Result<Vec<Resource>> {
     let mut users = Vec::new(alloc);
     for number in 0..count {
-        users.push(named_user(alloc, number)?)?;
+        push_user(alloc, number, &mut users)?;
     }
+    Ok(users)
+}
+
+fn push_group(
+    alloc: Global,
+    number: usize,
+    users: usize,
+    groups: &mut Vec<Resource>,
+) -> Result<()> {
+    let group = group(alloc, number, users)?;
+    Ok(groups.push(group)?)
+}
+
+fn groups_of(alloc: Global, users: usize) -> Result<Vec<Resource>> {
     let mut groups = Vec::new(alloc);
     for number in 0..GROUPS {
-        groups.push(group(alloc, number, count)?)?;
+        push_group(alloc, number, users, &mut groups)?;
     }
+    Ok(groups)
+}
+
+fn directory_of(alloc: Global, count: usize) -> Result<Directory> {
+    let users = users_of(alloc, count)?;
+    let groups = groups_of(alloc, count)?;
     Ok(Directory { users, groups })
 }
 
@@ -111,8 +135,17 @@ fn measure(
 
 /// Checks that a page by the policy that allows everything shows so many users, each with a group.
 fn check_page(alloc: Global, directory: &Directory, query: &Query) -> Result<()> {
-    let policy = read_policy(alloc, ALL)?;
-    let page = page_of(alloc, directory, &policy, query)?;
+    let page = page_by(alloc, directory, ALL, query)?;
+    check_items(directory, &page)
+}
+
+/// A page by the text of a policy.
+fn page_by(alloc: Global, directory: &Directory, policy: &str, query: &Query) -> Result<Page> {
+    let policy = read_policy(alloc, policy)?;
+    page_of(alloc, directory, &policy, query)
+}
+
+fn check_items(directory: &Directory, page: &Page) -> Result<()> {
     if page.total != directory.users.len() || page.items.len() != COUNT {
         bail!(
             "{} of {} users are found",
@@ -128,6 +161,19 @@ fn check_page(alloc: Global, directory: &Directory, query: &Query) -> Result<()>
     Ok(())
 }
 
+/// Nanoseconds of a page by so many rules.
+fn measure_rules(
+    rt: &impl Clock,
+    alloc: Global,
+    directory: &Directory,
+    rules: usize,
+    query: &Query,
+    client_before: &str,
+) -> Result<u128> {
+    let policy = policy_text(alloc, rules, client_before)?;
+    measure(rt, alloc, directory, policy.as_str(), query)
+}
+
 /// Compares policies of few and of many rules, all but the last for a client.
 fn compare_policies(
     rt: &(impl Clock + Print),
@@ -136,10 +182,8 @@ fn compare_policies(
     query: &Query,
     client_before: &str,
 ) -> Result<()> {
-    let few = policy_text(alloc, FEW, client_before)?;
-    let few = measure(rt, alloc, directory, few.as_str(), query)?;
-    let many = policy_text(alloc, MANY, client_before)?;
-    let many = measure(rt, alloc, directory, many.as_str(), query)?;
+    let few = measure_rules(rt, alloc, directory, FEW, query, client_before)?;
+    let many = measure_rules(rt, alloc, directory, MANY, query, client_before)?;
     println!(rt;
         "{FEW} rules {}, {MANY} rules {}, {MANY}/{FEW} = {:.1}",
         few / 1_000,
@@ -149,23 +193,39 @@ fn compare_policies(
     Ok(())
 }
 
-/// Prints what a page takes, in microseconds.
-pub fn run(rt: &(impl Clock + Print), alloc: Global) -> Result<()> {
-    let query = query_by_name(alloc)?;
+/// Nanoseconds of a page over so many users.
+fn measure_users(
+    rt: &(impl Clock + Print),
+    alloc: Global,
+    users: usize,
+    query: &Query,
+) -> Result<u128> {
+    let directory = directory_of(alloc, users)?;
+    measure_directory(rt, alloc, &directory, query)
+}
+
+/// The same, where the smaller directory is also searched by policies of few and of many rules.
+fn measure_directory(
+    rt: &(impl Clock + Print),
+    alloc: Global,
+    directory: &Directory,
+    query: &Query,
+) -> Result<u128> {
+    check_page(alloc, directory, query)?;
+    let [fewer, _] = USERS;
+    if directory.users.len() == fewer {
+        println!(rt; "policies, over {fewer} users, where all rules fit")?;
+        compare_policies(rt, alloc, directory, query, CLIENT)?;
+        println!(rt; "where the last rule alone is for the client")?;
+        compare_policies(rt, alloc, directory, query, OTHER_CLIENT)?;
+    }
+    measure(rt, alloc, directory, ALL, query)
+}
+
+fn compare_users(rt: &(impl Clock + Print), alloc: Global, query: &Query) -> Result<()> {
     let [fewer, more] = USERS;
-    let small = directory_of(alloc, fewer)?;
-    check_page(alloc, &small, &query)?;
-    println!(rt;
-        "microseconds, for a page of {COUNT} users with their groups, of {GROUPS} groups with {MEMBERS} members, filtered by userName and sorted by familyName"
-    )?;
-    let one = measure(rt, alloc, &small, ALL, &query)?;
-    println!(rt; "policies, over {fewer} users, where all rules fit")?;
-    compare_policies(rt, alloc, &small, &query, CLIENT)?;
-    println!(rt; "where the last rule alone is for the client")?;
-    compare_policies(rt, alloc, &small, &query, OTHER_CLIENT)?;
-    let large = directory_of(alloc, more)?;
-    check_page(alloc, &large, &query)?;
-    let other = measure(rt, alloc, &large, ALL, &query)?;
+    let one = measure_users(rt, alloc, fewer, query)?;
+    let other = measure_users(rt, alloc, more, query)?;
     println!(rt;
         "{fewer} users {}, {more} users {}, {more}/{fewer} = {:.1}",
         one / 1_000,
@@ -173,4 +233,13 @@ pub fn run(rt: &(impl Clock + Print), alloc: Global) -> Result<()> {
         ratio(other, one)
     )?;
     Ok(())
+}
+
+/// Prints what a page takes, in microseconds.
+pub fn run(rt: &(impl Clock + Print), alloc: Global) -> Result<()> {
+    println!(rt;
+        "microseconds, for a page of {COUNT} users with their groups, of {GROUPS} groups with {MEMBERS} members, filtered by userName and sorted by familyName"
+    )?;
+    let query = query_by_name(alloc)?;
+    compare_users(rt, alloc, &query)
 }

@@ -1,5 +1,5 @@
 //! Parts: groups of more and more members, each with four sub-attributes.
-use anyhow::{Result, bail};
+use anyhow::{Result, bail, ensure};
 use scim_cell::{Cell, Id, Row, RowTest};
 use scim_samples::{ALICE, BASE, read_cells};
 use scim_schema::{Attribute, Kind, Leaf, SubAttribute};
@@ -22,13 +22,17 @@ fn group(alloc: Global, members: usize) -> Result<Vec<Cell>> {
         "displayName=Team; id=00000000-0000-4000-8000-0000000000aa",
     )?;
     for position in 0..members {
-        let member = format!(in alloc;
-            "members[{position}].display=Alice; members[{position}].value={ALICE}; members[{position}].type=User; members[{position}].$ref={BASE}/Users/{ALICE}"
-        )?;
-        cells.append(&mut read_cells(alloc, member.as_str())?)?;
+        push_member(alloc, position, &mut cells)?;
     }
     cells.reverse();
     Ok(cells)
+}
+
+fn push_member(alloc: Global, position: usize, cells: &mut Vec<Cell>) -> Result<()> {
+    let member = format!(in alloc;
+        "members[{position}].display=Alice; members[{position}].value={ALICE}; members[{position}].type=User; members[{position}].$ref={BASE}/Users/{ALICE}"
+    )?;
+    Ok(cells.append(&mut read_cells(alloc, member.as_str())?)?)
 }
 
 /// Keeps every field but the `display` of members.
@@ -48,7 +52,7 @@ impl RowTest for AllButDisplay {
 }
 
 /// How long the calls took on parts of one size, all rounds together.
-#[derive(Drop)]
+#[derive(Clone, Copy)]
 struct Figures {
     make: Duration,
     copy: Duration,
@@ -75,28 +79,39 @@ fn measure_once(
     members: usize,
     figures: &mut Figures,
 ) -> Result<()> {
+    let part = made(rt, alloc, members, figures)?;
+    measure_part(rt, alloc, members, &part, figures)
+}
+
+fn made(rt: &impl Clock, alloc: Global, members: usize, figures: &mut Figures) -> Result<Part> {
     let cells = group(alloc, members)?;
     let start = Instant::now(rt)?;
     let Ok(part) = Part::of(alloc, Kind::Group, Id::of(Uuid::nil()), cells) else {
         bail!("a group was refused")
     };
     figures.make = figures.make.saturating_add(start.elapsed(rt)?);
+    Ok(part)
+}
 
+fn measure_part(
+    rt: &impl Clock,
+    alloc: Global,
+    members: usize,
+    part: &Part,
+    figures: &mut Figures,
+) -> Result<()> {
     let start = Instant::now(rt)?;
-    let copy = part.try_copy(alloc)?;
+    part.try_copy(alloc)?;
     figures.copy = figures.copy.saturating_add(start.elapsed(rt)?);
 
     let start = Instant::now(rt)?;
-    let rest = part.restrict(alloc, &AllButDisplay)?;
+    part.restrict(alloc, &AllButDisplay)?;
     figures.restrict = figures.restrict.saturating_add(start.elapsed(rt)?);
 
     let start = Instant::now(rt)?;
-    let found = look_up_members(&copy, members);
+    let found = look_up_members(part, members);
     figures.look_up = figures.look_up.saturating_add(start.elapsed(rt)?);
-
-    if found != members || rest.positions(Attribute::Members) != members {
-        bail!("members are missing");
-    }
+    ensure!(found == members, "members are missing");
     Ok(())
 }
 

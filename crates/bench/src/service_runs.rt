@@ -1,9 +1,9 @@
 //! What turns of a service over a store in memory take, by how many users it has; and what bodies take.
 use crate::filters::samples::id_of;
 use crate::timing::{fastest, ratio};
-use anyhow::{Result, bail};
+use anyhow::{Result, bail, ensure};
 use scim_cell::Text;
-use scim_filter::read_filter;
+use scim_filter::{Filter, read_filter};
 use scim_json::{Draft, UseFor, read_body};
 use scim_policy::read_policy;
 use scim_query::Query;
@@ -17,8 +17,11 @@ use std::alloc::Global;
 use std::io::Print;
 use std::time::{Clock, Instant};
 
+/// How many users a store has that are in groups: those of the smaller store.
+const FIRST_USERS: usize = 1_000;
+
 /// How many users a store has.
-const USERS: [usize; 2] = [1_000, 100_000];
+const USERS: [usize; 2] = [FIRST_USERS, 100_000];
 
 const GROUPS: usize = 1_000;
 
@@ -35,6 +38,9 @@ const TURNS: usize = 100;
 
 /// Of so many passes the fastest counts.
 const PASSES: usize = 5;
+
+/// The same for bodies.
+const BODY_PASSES: usize = 20;
 
 /// How many emails a body has.
 const EMAILS: [usize; 2] = [1_000, 10_000];
@@ -87,24 +93,33 @@ fn user_draft(alloc: Global, number: usize) -> Result<Draft> {
     draft_of(alloc, Kind::User, body.as_str())
 }
 
-/// A group of the users that follow those of the group before it.
-fn group_draft(alloc: Global, number: usize, users: usize) -> Result<Draft> {
+/// A group of the users that follow those of the group before it, among the first users.
+fn group_draft(alloc: Global, number: usize) -> Result<Draft> {
     let mut body = format!(in alloc; "{{\"displayName\":\"Team {number}\",\"members\":[")?;
     for place in 0..MEMBERS {
-        let first = number.saturating_mul(MEMBERS);
-        let member = id_of(first.saturating_add(place) % users.max(1)).text(alloc)?;
-        let comma = if place == 0 { "" } else { "," };
-        write!(body, "{comma}{{\"value\":\"{}\"}}", member.as_str())?;
+        push_member(alloc, number, place, &mut body)?;
     }
     body.push_str("]}")?;
     draft_of(alloc, Kind::Group, body.as_str())
 }
 
+fn push_member(alloc: Global, group: usize, place: usize, body: &mut String) -> Result<()> {
+    let first = group.saturating_mul(MEMBERS);
+    let member = id_of(first.saturating_add(place) % FIRST_USERS).text(alloc)?;
+    let comma = if place == 0 { "" } else { "," };
+    write!(body, "{comma}{{\"value\":\"{}\"}}", member.as_str())?;
+    Ok(())
+}
+
+fn filter_for(alloc: Global, number: usize) -> Result<Filter> {
+    let text = format!(in alloc; "userName eq \"USER{number}\"")?;
+    Ok(read_filter(alloc, Kind::User, text.as_str())?)
+}
+
 /// The search for a user by name.
 fn query_for(alloc: Global, number: usize) -> Result<Query> {
-    let text = format!(in alloc; "userName eq \"USER{number}\"")?;
     Ok(Query {
-        filter: Some(read_filter(alloc, Kind::User, text.as_str())?),
+        filter: Some(filter_for(alloc, number)?),
         sort_by: None,
         descending: false,
         start: 1,
@@ -164,9 +179,14 @@ fn turn_of(alloc: Global, asked: Asked, number: usize) -> Result<Turn> {
 fn turns_of(alloc: Global, asked: Asked, first: usize, count: usize) -> Result<Vec<Turn>> {
     let mut turns = Vec::new(alloc);
     for place in 0..count {
-        turns.push(turn_of(alloc, asked, first.saturating_add(place))?)?;
+        push_turn(alloc, asked, first.saturating_add(place), &mut turns)?;
     }
     Ok(turns)
+}
+
+fn push_turn(alloc: Global, asked: Asked, number: usize, turns: &mut Vec<Turn>) -> Result<()> {
+    let turn = turn_of(alloc, asked, number)?;
+    Ok(turns.push(turn)?)
 }
 
 fn service_over_nothing(alloc: Global) -> Result<Service<MemoryShelf>> {
@@ -176,34 +196,39 @@ fn service_over_nothing(alloc: Global) -> Result<Service<MemoryShelf>> {
     Ok(Service::new(policy, base, shelf))
 }
 
-/// Makes so many users.
-fn fill_users(alloc: Global, service: &mut Service<MemoryShelf>, users: usize) -> Result<()> {
-    for number in 0..users {
-        let turn = turn_of(alloc, Asked::Create, number)?;
-        let reply = service.answer(alloc, &turn);
-        if reply.location().is_none() {
-            bail!("user {number} isn't made");
-        }
-    }
+/// Answers a turn that makes a resource.
+fn make(alloc: Global, service: &mut Service<MemoryShelf>, turn: &Turn) -> Result<()> {
+    let reply = service.answer(alloc, turn);
+    ensure!(reply.location().is_some(), "a resource isn't made");
     Ok(())
 }
 
-fn group_turn(alloc: Global, number: usize, users: usize) -> Result<Turn> {
+/// Makes the user of a number.
+fn make_user(alloc: Global, service: &mut Service<MemoryShelf>, number: usize) -> Result<()> {
+    let turn = turn_of(alloc, Asked::Create, number)?;
+    make(alloc, service, &turn)
+}
+
+fn group_turn(alloc: Global, number: usize) -> Result<Turn> {
     let heading = heading(alloc)?;
-    let draft = group_draft(alloc, number, users)?;
+    let draft = group_draft(alloc, number)?;
     let ask = Ask::Create(draft, Wanted::Default);
     let place = number.saturating_add(FIRST_GROUP);
     Ok(turn_with(heading, Op::Create, Kind::Group, place, ask))
 }
 
-/// Makes the groups, of so many users.
-fn fill_groups(alloc: Global, service: &mut Service<MemoryShelf>, users: usize) -> Result<()> {
+fn make_group(alloc: Global, service: &mut Service<MemoryShelf>, number: usize) -> Result<()> {
+    let turn = group_turn(alloc, number)?;
+    make(alloc, service, &turn)
+}
+
+/// Makes so many users, and the groups.
+fn fill(alloc: Global, service: &mut Service<MemoryShelf>, users: usize) -> Result<()> {
+    for number in 0..users {
+        make_user(alloc, service, number)?;
+    }
     for number in 0..GROUPS {
-        let turn = group_turn(alloc, number, users)?;
-        let reply = service.answer(alloc, &turn);
-        if reply.location().is_none() {
-            bail!("group {number} isn't made");
-        }
+        make_group(alloc, service, number)?;
     }
     Ok(())
 }
@@ -219,40 +244,57 @@ fn timed(
     let start = Instant::now(rt)?;
     let replies = service.run(alloc, turns)?;
     let spent = start.elapsed(rt)?;
-    for reply in &replies {
-        if reply.status().as_u16() != status {
-            bail!("a turn is answered {}", reply.status().as_u16());
-        }
-    }
+    ensure!(
+        replies
+            .iter()
+            .all(|reply| reply.status().as_u16() == status),
+        "a turn is answered otherwise"
+    );
     Ok(spent.as_nanos() / turns.len().max(1) as u128)
 }
 
-fn pass(
+/// Nanoseconds a turn, of so many that ask the same.
+fn figure(
     rt: &impl Clock,
     alloc: Global,
     service: &mut Service<MemoryShelf>,
-    users: usize,
-) -> Result<Figures> {
-    let gets = turns_of(alloc, Asked::Get, users / 2, TURNS)?;
-    let creations = turns_of(alloc, Asked::Create, FIRST_NEW, TURNS)?;
-    let removals = turns_of(alloc, Asked::Remove, FIRST_NEW, TURNS)?;
-    let searches = turns_of(alloc, Asked::Search, users / 2, 2)?;
+    asked: Asked,
+    count: usize,
+) -> Result<u128> {
+    let (first, status) = match asked {
+        Asked::Get | Asked::Search => (FIRST_USERS / 2, 200),
+        Asked::Create => (FIRST_NEW, 201),
+        Asked::Remove => (FIRST_NEW, 204),
+    };
+    let turns = turns_of(alloc, asked, first, count)?;
+    timed(rt, alloc, service, turns.as_slice(), status)
+}
+
+fn pass(rt: &impl Clock, alloc: Global, service: &mut Service<MemoryShelf>) -> Result<Figures> {
     Ok(Figures {
-        get: timed(rt, alloc, service, gets.as_slice(), 200)?,
-        create: timed(rt, alloc, service, creations.as_slice(), 201)?,
-        remove: timed(rt, alloc, service, removals.as_slice(), 204)?,
-        search: timed(rt, alloc, service, searches.as_slice(), 200)?,
+        get: figure(rt, alloc, service, Asked::Get, TURNS)?,
+        create: figure(rt, alloc, service, Asked::Create, TURNS)?,
+        remove: figure(rt, alloc, service, Asked::Remove, TURNS)?,
+        search: figure(rt, alloc, service, Asked::Search, 2)?,
     })
 }
 
 /// What turns take over so many users.
 fn measure(rt: &impl Clock, alloc: Global, users: usize) -> Result<Figures> {
     let mut service = service_over_nothing(alloc)?;
-    fill_users(alloc, &mut service, users)?;
-    fill_groups(alloc, &mut service, users)?;
-    let mut best = pass(rt, alloc, &mut service, users)?;
+    measure_service(rt, alloc, &mut service, users)
+}
+
+fn measure_service(
+    rt: &impl Clock,
+    alloc: Global,
+    service: &mut Service<MemoryShelf>,
+    users: usize,
+) -> Result<Figures> {
+    fill(alloc, service, users)?;
+    let mut best = pass(rt, alloc, service)?;
     for _ in 1..PASSES {
-        best = best.least(pass(rt, alloc, &mut service, users)?);
+        best = best.least(pass(rt, alloc, service)?);
     }
     Ok(best)
 }
@@ -271,7 +313,8 @@ fn body_of(alloc: Global, emails: usize) -> Result<String> {
 /// Nanoseconds of the reading of a body with so many emails.
 fn measure_body(rt: &impl Clock, alloc: Global, emails: usize) -> Result<u128> {
     let body = body_of(alloc, emails)?;
-    fastest(rt, PASSES, 1, || {
+    let [_, most] = EMAILS;
+    fastest(rt, BODY_PASSES, most / emails.max(1), || {
         draft_of(alloc, Kind::User, body.as_str())?;
         Ok(())
     })

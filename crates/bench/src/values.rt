@@ -9,17 +9,42 @@ use std::alloc::Global;
 /// The object of a part, with all its keys. NoMemory where none was to be had.
 pub fn value_of(alloc: Global, part: &Part) -> Result<Value, NoMemory> {
     let mut object = attributes_of(alloc, part, None)?;
-    let mut schemas = Vec::new(alloc);
-    schemas.push(text(alloc, core_schema(part.kind()).urn())?)?;
-    for schema in extensions(part.kind()) {
-        let attributes = attributes_of(alloc, part, Some(*schema))?;
-        if !attributes.is_empty() {
-            schemas.push(text(alloc, schema.urn())?)?;
-            insert(alloc, &mut object, schema.urn(), Value::Object(attributes))?;
-        }
-    }
-    insert(alloc, &mut object, "schemas", Value::Array(schemas))?;
+    add_extensions(alloc, part, &mut object)?;
     Ok(Value::Object(object))
+}
+
+/// Adds the objects of extensions, and `schemas`.
+fn add_extensions(
+    alloc: Global,
+    part: &Part,
+    object: &mut Map<String, Value>,
+) -> Result<(), NoMemory> {
+    let mut schemas = Vec::new(alloc);
+    push_text(alloc, core_schema(part.kind()).urn(), &mut schemas)?;
+    for schema in extensions(part.kind()) {
+        add_extension(alloc, part, *schema, object, &mut schemas)?;
+    }
+    insert(alloc, object, "schemas", Value::Array(schemas))
+}
+
+fn add_extension(
+    alloc: Global,
+    part: &Part,
+    schema: Schema,
+    object: &mut Map<String, Value>,
+    schemas: &mut Vec<Value>,
+) -> Result<(), NoMemory> {
+    let attributes = attributes_of(alloc, part, Some(schema))?;
+    if attributes.is_empty() {
+        return Ok(());
+    }
+    insert(alloc, object, schema.urn(), Value::Object(attributes))?;
+    push_text(alloc, schema.urn(), schemas)
+}
+
+fn push_text(alloc: Global, written: &str, values: &mut Vec<Value>) -> Result<(), NoMemory> {
+    let value = text(alloc, written)?;
+    Ok(values.push(value)?)
 }
 
 /// The members of the attributes of an extension, or of no extension.
@@ -47,17 +72,27 @@ fn add_row(
 ) -> Result<(), NoMemory> {
     if is_multi_valued(attribute) {
         let value = Value::Object(fields_of(alloc, row)?);
-        let name = String::from_str(alloc, attribute.name())?;
-        let array = members
-            .entry(name)?
-            .or_insert(Value::Array(Vec::new(alloc)));
-        if let Value::Array(values) = array {
-            values.push(value)?;
-        }
-        return Ok(());
+        return add_value(alloc, members, attribute, value);
     }
     for field in row.fields() {
         add_field(alloc, members, attribute, field)?;
+    }
+    Ok(())
+}
+
+/// Adds a value to the array of its attribute.
+fn add_value(
+    alloc: Global,
+    members: &mut Map<String, Value>,
+    attribute: Attribute,
+    value: Value,
+) -> Result<(), NoMemory> {
+    let name = String::from_str(alloc, attribute.name())?;
+    let array = members
+        .entry(name)?
+        .or_insert(Value::Array(Vec::new(alloc)));
+    if let Value::Array(values) = array {
+        values.push(value)?;
     }
     Ok(())
 }

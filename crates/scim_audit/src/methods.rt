@@ -3,7 +3,7 @@ ghost use Rattle.std.specs.Prelude.{◌≡◌};
 ghost use Rattle.scim_audit.specs.Methods as spec;
 
 /// The methods that an endpoint has, by what is found there.
-#[derive(Clone, Copy, Debug, PartialEq, Eq, Hash)]
+#[derive(Clone, Copy, Debug, PartialEq, Eq)]
 pub enum Methods {
     /// The resources of a kind, as `/Users`.
     Collection,

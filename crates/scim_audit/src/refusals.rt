@@ -7,7 +7,7 @@ use crate::methods::Methods;
 use http::StatusCode;
 
 /// Why a request isn't answered with what it asks for, in the order in which it is looked for.
-#[derive(Clone, Copy, Debug, PartialEq, Eq, Hash)]
+#[derive(Clone, Copy, Debug, PartialEq, Eq)]
 pub enum Refusal {
     /// What came is no head of a request (RFC 9112 sections 2 and 3), or is too long for one.
     BadHead,

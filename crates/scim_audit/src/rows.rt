@@ -9,7 +9,7 @@ use scim_text::{Moment, NoMemory, print_moment};
 use std::alloc::Global;
 
 /// What was decided on a request.
-#[derive(Clone, Copy, Debug, PartialEq, Eq, Hash)]
+#[derive(Clone, Copy, Debug, PartialEq, Eq)]
 pub enum Decided {
     /// The policy allowed it, and it was carried out.
     Allow,

@@ -19,6 +19,7 @@ use Rattle.scim_json.specs.Drafts.{Draft}
 abbrev pub row_of : Leaf → Atom → Row
 row_of l atom = record { unit = unit_of l; fields = record { leaf = l; atom = atom } ∷ [] }
 
+-- the row of a sub-attribute of `meta`
 abbrev pub meta_row : SubAttribute → Atom → Row
 meta_row b atom = row_of (leaf_at Meta b) atom
 

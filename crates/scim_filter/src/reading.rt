@@ -1,12 +1,12 @@
 //! A reader for each rule of the grammar, over the bytes that are left (RFC 7644 section 3.4.2.2).
-ghost use Rattle.std.specs.Prelude.{◌≡◌, ◌⊎◌, Some, None, ℕ, IsErrOf, MatchResult, ◌<◌, ◌≤◌, true, false, length, IfOk};
+ghost use Rattle.std.specs.Prelude.{◌≡◌, ◌⊎◌, Some, None, Ok, ℕ, IsErrOf, MatchResult, ◌<◌, ◌≤◌, true, false, length, IfOk};
 ghost use Rattle.scim_text.specs.Failures.{IfFault};
 ghost use Rattle.scim_text.specs.declared.memory.Failed.{Failed};
 ghost use Rattle.scim_filter.specs.declared.faults.FilterFault.{FilterFault};
 ghost use Rattle.scim_filter.specs.Brackets.{IsDeeper};
 ghost use Rattle.scim_filter.specs.Grammar.{IsFilter};
 ghost use Rattle.scim_filter.specs.Spelled.{filter_in};
-ghost use Rattle.scim_filter.specs.Tree.{Tree, view, tree_of};
+ghost use Rattle.scim_filter.specs.Tree.{Tree, And, Or, view, tree_of};
 ghost use Rattle.scim_filter.specs.Types.{fits};
 ghost use Rattle.scim_filter.specs.code.Reading.{Gives, operator_of, relation_at, enclosed_at, listed_at, behind_path_at, worded_at, term_at, conjunction_at, disjunction_at, filter_at, all_of};
 
@@ -173,6 +173,22 @@ fn term(
     }
 }
 
+/// That both trees hold.
+fn both(alloc: Global, first: Node, second: Node) -> Result<Node, Failed<ReadError>>
+    ensures { Gives view result (Ok (And (view first) (view second))) }
+{
+    let first = Box::new(alloc, first)?;
+    Ok(Node::And(first, Box::new(alloc, second)?))
+}
+
+/// That one of the trees holds.
+fn either(alloc: Global, first: Node, second: Node) -> Result<Node, Failed<ReadError>>
+    ensures { Gives view result (Ok (Or (view first) (view second))) }
+{
+    let first = Box::new(alloc, first)?;
+    Ok(Node::Or(first, Box::new(alloc, second)?))
+}
+
 /// Terms with `and` between them.
 #[cycle(filter)]
 fn conjunction(
@@ -189,8 +205,7 @@ fn conjunction(
         None => Ok((first, rest)),
         Some(rest) => {
             let (second, rest) = conjunction(alloc, depth, scope, rest)?;
-            let node = Node::And(Box::new(alloc, first)?, Box::new(alloc, second)?);
-            Ok((node, rest))
+            Ok((both(alloc, first, second)?, rest))
         }
     }
 }
@@ -211,8 +226,7 @@ fn disjunction(
         None => Ok((first, rest)),
         Some(rest) => {
             let (second, rest) = disjunction(alloc, depth, scope, rest)?;
-            let node = Node::Or(Box::new(alloc, first)?, Box::new(alloc, second)?);
-            Ok((node, rest))
+            Ok((either(alloc, first, second)?, rest))
         }
     }
 }

@@ -90,9 +90,15 @@ pub enum Node {
 }
 
 /// A filter that was read.
-#[derive(Drop)]
 pub struct Filter {
     node: Node,
+}
+
+/// One call, wherever a filter is dropped, in place of a look at each form that its tree may have.
+impl Drop for Filter {
+    fn drop(self) {
+        let Filter { node: _node } = self;
+    }
 }
 
 impl Filter {

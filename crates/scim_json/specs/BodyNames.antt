@@ -69,7 +69,7 @@ abbrev pub values_clash : Attribute → Data → Bool
 values_clash a d = if is_multi_valued a then list_any (value_clashes a) (listed (as_array d) d) else value_clashes a d
 
 -- whether two keys name the attribute, or, unless it is readOnly, one of its sub-attributes in a value
-abbrev pub attribute_clashes : Kind → Members → Attribute → Bool
+unfoldable pub attribute_clashes : Kind → Members → Attribute → Bool
 attribute_clashes kind ms a = is_twice (attribute_name a) ms || (not (is_read_only kind (simple a)) && is_there_and (values_clash a) (value_named (attribute_name a) ms))
 
 -- whether they do for an attribute of that extension; for None of the core schema

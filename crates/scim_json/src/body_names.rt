@@ -97,6 +97,7 @@ fn values_clash(value: &Value, attribute: Attribute) -> bool
 
 /// Whether two keys name the attribute, or one of its sub-attributes in a value. What is readOnly is
 /// ignored, and isn't looked into.
+#[tactic(auto, unfolding(crate::specs::BodyNames::attribute_clashes))]
 fn attribute_clashes(members: &Map<String, Value>, kind: Kind, attribute: Attribute) -> bool
     ensures { result ≡ spec.attribute_clashes kind (members_view members.now.entries) attribute }
 {

@@ -8,7 +8,7 @@ use std::marker::Model;
 
 /// What a body is read for: to make a resource (RFC 7644 section 3.3), or to replace one (section
 /// 3.5.1).
-#[derive(Clone, Copy, Debug, PartialEq, Eq, Hash)]
+#[derive(Clone, Copy, Debug, PartialEq, Eq)]
 pub enum UseFor {
     Creating,
     Replacing,

@@ -11,7 +11,6 @@ use scim_view::Wanted;
 use std::alloc::Global;
 
 /// What is asked of a list of parts (RFC 7644 section 3.4.2).
-#[derive(Drop)]
 pub struct Query {
     /// Only parts of which it holds are meant; all where there is none.
     pub filter: Option<Filter>,
@@ -25,6 +24,20 @@ pub struct Query {
     pub count: usize,
     /// What of each item is shown. [`search`] doesn't look at it.
     pub wanted: Wanted,
+}
+
+/// One call, wherever a query is dropped, in place of a look at all that it may hold.
+impl Drop for Query {
+    fn drop(self) {
+        let Query {
+            filter: _filter,
+            sort_by: _sort_by,
+            descending: _descending,
+            start: _start,
+            count: _count,
+            wanted: _wanted,
+        } = self;
+    }
 }
 
 /// What a query gives of a list of parts.

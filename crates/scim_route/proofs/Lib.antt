@@ -1,4 +1,5 @@
 pub mod DecodedLemmas
+pub mod ParameterLemmas
 pub mod PositionLemmas
 pub mod RouteLemmas
 pub mod SlashLemmas

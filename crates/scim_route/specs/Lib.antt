@@ -1,4 +1,5 @@
 pub mod Targets
 pub mod Endpoints
 pub mod Routes
+pub mod Parameters
 pub mod code

@@ -95,7 +95,7 @@ pub record Says (form : Form) (kind : Kind) (text : Option (List ℕ)) (query : 
 
 -- what is found is what is named, and a refusal is told
 abbrev pub Finds : Result Named Refusal → Option (List ℕ) → Result Found Refusal → Type 0
-Finds (Ok (a_page p)) query (Ok (FoundPage q)) = q ≡ p
+Finds (Ok (a_page p)) query (Ok (FoundPage q text)) = (q ≡ p) × (option_copied text ≡ query)
 Finds (Ok (a_route form kind text)) query (Ok (FoundRoute route)) = Says form kind text query route
 Finds (Err refusal) query (Err told) = told ≡ refusal
 Finds _ _ _ = ⊥

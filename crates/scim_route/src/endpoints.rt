@@ -6,7 +6,7 @@ ghost use Rattle.scim_route.specs.code.Places.{place_at};
 use scim_schema::{Kind, Schema};
 
 /// A page of what the server tells of itself (RFC 7644 section 4).
-#[derive(Clone, Copy, Debug, PartialEq, Eq, Hash)]
+#[derive(Clone, Copy, Debug, PartialEq, Eq)]
 pub enum Page {
     /// `/ServiceProviderConfig`
     ServiceProviderConfig,

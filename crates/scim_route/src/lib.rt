@@ -1,9 +1,12 @@
-//! The endpoints of SCIM: which one a request's method and target name (RFC 7644 section 3.2).
+//! The endpoints of SCIM: which one a request's method and target name (RFC 7644 section 3.2), and what its query
+//! string gives (RFC 7644 section 3.4.2).
 #![tactic(auto)]
 
 mod endpoints;
+mod parameters;
 mod routes;
 mod targets;
 
 pub use endpoints::Page;
+pub use parameters::Parameters;
 pub use routes::{Form, Found, Route, find};

@@ -16,7 +16,7 @@ use scim_text::Failed;
 use std::alloc::Global;
 
 /// What is asked of the resources of a kind.
-#[derive(Clone, Copy, Debug, PartialEq, Eq, Hash)]
+#[derive(Clone, Copy, Debug, PartialEq, Eq)]
 pub enum Form {
     /// One resource (RFC 7644 section 3.4.1).
     Get,
@@ -66,8 +66,9 @@ pub struct Route<'t> {
 /// What a request names.
 #[derive(Clone, Copy, Debug, PartialEq, Eq)]
 pub enum Found<'t> {
-    /// What the server tells of itself (RFC 7644 section 4).
-    Discovery(Page),
+    /// What the server tells of itself (RFC 7644 section 4), and what stands behind the first `?` of the target; None
+    /// where there is no `?`.
+    Discovery(Page, Option<&'t [u8]>),
     /// Resources of a kind, or one of them.
     Resource(Route<'t>),
 }
@@ -133,7 +134,7 @@ fn found_at<'t>(
         Endpoint::Unsupported => Err(Refusal::NotSupported),
         Endpoint::Discovery(page) => {
             asked(Methods::Discovery, method)?;
-            Ok(Found::Discovery(page))
+            Ok(Found::Discovery(page, query))
         }
         Endpoint::Collection(kind) => {
             let form = asked(Methods::Collection, method)?;

@@ -26,14 +26,14 @@ pub use table::{attributes, has_leaf, leaves, sub_attributes, unique_leaves};
 pub use units::unit_of;
 
 /// A kind of resource, called its resource type in RFC 7643 section 6.
-#[derive(Clone, Copy, Debug, PartialEq, Eq, Hash)]
+#[derive(Clone, Copy, Debug, PartialEq, Eq)]
 pub enum Kind {
     User,
     Group,
 }
 
 /// What a client may be allowed to do with a resource.
-#[derive(Clone, Copy, Debug, PartialEq, Eq, Hash)]
+#[derive(Clone, Copy, Debug, PartialEq, Eq)]
 pub enum Op {
     Read,
     Create,
@@ -120,7 +120,7 @@ pub struct Leaf {
 
 /// What is given and written as one: a simple attribute, a sub-attribute of a single complex
 /// attribute, or a whole multi-valued attribute.
-#[derive(Clone, Copy, Debug, PartialEq, Eq, Hash)]
+#[derive(Clone, Copy, Debug, PartialEq, Eq)]
 pub struct Unit {
     pub attribute: Attribute,
     /// None at a simple attribute and at a whole multi-valued one.

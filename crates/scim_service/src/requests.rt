@@ -22,7 +22,6 @@ pub enum Ask {
 }
 
 /// A request of a client.
-#[derive(Drop)]
 pub struct Request {
     /// The name of the client.
     pub client: Text,
@@ -34,6 +33,19 @@ pub struct Request {
     pub id: Option<Id>,
     /// What it asks; or what is wrong with how it asks.
     pub ask: Result<Ask, Refusal>,
+}
+
+/// One call, wherever a request is dropped, in place of a look at all that it may ask.
+impl Drop for Request {
+    fn drop(self) {
+        let Request {
+            client: _client,
+            op: _op,
+            kind: _kind,
+            id: _id,
+            ask: _ask,
+        } = self;
+    }
 }
 
 /// A request at its turn: with its moment, and the id for the resource that it may create.

@@ -1,11 +1,7 @@
 //! Changes of a store.
-ghost use Rattle.std.specs.Prelude.{◌≡◌, IfOk};
-
 use scim_cell::Id;
 use scim_schema::Kind;
-use scim_text::NoMemory;
 use scim_value::Resource;
-use std::alloc::Global;
 
 /// What one request changes of the resources.
 #[derive(Debug, Drop)]
@@ -16,19 +12,4 @@ pub enum Change {
     Keep(Resource),
     /// The resource of the kind with the id goes.
     Remove(Kind, Id),
-}
-
-impl Change {
-    /// A copy.
-    ///
-    /// The only error is [`NoMemory`].
-    pub fn try_copy(&self, alloc: Global) -> Result<Change, NoMemory>
-        ensures { IfOk result (λ change. change ≡ self.now) }
-    {
-        Ok(match self {
-            Change::Nothing => Change::Nothing,
-            Change::Keep(resource) => Change::Keep(resource.try_copy(alloc)?),
-            Change::Remove(kind, id) => Change::Remove(*kind, *id),
-        })
-    }
 }

@@ -6,7 +6,7 @@ use thiserror::Error;
 
 /// No memory was to be had. It is the one error that a caller can do nothing about but give up, and
 /// each function that can return it leaves its arguments as they were.
-#[derive(Clone, Copy, Debug, PartialEq, Eq, Hash, Error)]
+#[derive(Clone, Copy, Debug, PartialEq, Eq, Error)]
 #[error("out of memory")]
 pub struct NoMemory;
 

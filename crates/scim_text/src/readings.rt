@@ -14,7 +14,7 @@ use thiserror::Error;
 
 /// What the text of a moment stands for. Readings are in the order of the instants: by their second, and
 /// within a second the whole second comes first.
-#[derive(Clone, Copy, Debug, PartialEq, Eq, PartialOrd, Ord, Hash)]
+#[derive(Clone, Copy, Debug, PartialEq, Eq, PartialOrd, Ord)]
 pub struct Reading {
     /// The whole seconds since 1970-01-01T00:00:00Z, which are negative before it.
     pub second: i64,
@@ -24,7 +24,7 @@ pub struct Reading {
 
 /// The text is not of the form in which moments are written, or names a day or a time that there is not.
 /// [`read_moment`] says what the form is.
-#[derive(Clone, Copy, Debug, PartialEq, Eq, Hash, Error)]
+#[derive(Clone, Copy, Debug, PartialEq, Eq, Error)]
 #[error("not a date and time of the form YYYY-MM-DDThh:mm:ssZ")]
 pub struct BadMoment;
 

@@ -23,20 +23,23 @@ says_nothing (b ∷ bs) = b == 35
 abbrev pub digest_in : List ℕ → Option (List ℕ)
 digest_in text = result_ok (decode_sized text 32)
 
+-- the entry of a client, where there is a digest
 abbrev pub entry_with : List ℕ → Option (List ℕ) → Result Entry LineFault
 entry_with client None = Err BadDigest
 entry_with client (Some digest) = Ok (record { client = client; digest = digest })
 
--- what a line says: a client before its first space, and a digest behind it
+-- whether a byte is a space
 abbrev pub is_space : ℕ → Bool
 is_space b = b == 32
 
+-- what a line says: a client before its first space, and a digest behind it
 abbrev pub entry_in : List ℕ → Result Entry LineFault
 entry_in line =
     if position_or_len is_space line == length line then Err BadLine
     else if is_client_name (before_first is_space line) then entry_with (before_first is_space line) (digest_in (after_first is_space line))
     else Err BadName
 
+-- whether an entry has the digest
 abbrev pub has_digest : List ℕ → Entry → Bool
 has_digest digest e = pointwise nat_eq digest e.digest
 
@@ -44,6 +47,7 @@ has_digest digest e = pointwise nat_eq digest e.digest
 abbrev pub added : List Entry → Entry → Result (List Entry) LineFault
 added known e = if list_any (has_digest e.digest) known then Err Twice else if length known == 10000 then Err TooMany else Ok (known ++ e ∷ [])
 
+-- the same, where a line says an entry
 abbrev pub added_if : List Entry → Result Entry LineFault → Result (List Entry) LineFault
 added_if known (Ok e) = added known e
 added_if known (Err fault) = Err fault

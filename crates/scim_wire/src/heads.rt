@@ -13,12 +13,12 @@ pub struct Head {
 
 /// What came is no head: no request line and headers, more than 64 headers or 66 line feeds, or 16,384
 /// bytes without an end.
-#[derive(Clone, Copy, Debug, PartialEq, Eq, Hash, Error)]
+#[derive(Clone, Copy, Debug, PartialEq, Eq, Error)]
 #[error("not the head of a request")]
 pub struct BadHead;
 
 /// Why no head was read from a stream.
-#[derive(Clone, Copy, Debug, PartialEq, Eq, Hash, Error)]
+#[derive(Clone, Copy, Debug, PartialEq, Eq, Error)]
 pub enum HeadFault {
     /// What came is no head, as [`BadHead`] says.
     #[error("not the head of a request")]

@@ -6,7 +6,7 @@
 mod files;
 
 use anyhow::Result;
-use clap::ArgMatches;
+use clap::{ArgMatches, Error};
 use scim_command::{CommandFault, OnceFault, OnceOptions, command, once};
 use std::env;
 use std::io::ErrorKind;
@@ -21,22 +21,35 @@ fn main(rt: HostRuntime) -> ExitCode {
 
 /// Carries out the command line. An error is one of printing, or want of memory.
 fn run(rt: &HostRuntime) -> Result<ExitCode> {
-    let alloc = rt.alloc();
-    let words: Vec<String> = match env::args(rt) {
-        Ok(words) => words.collect(alloc)?,
-        Err(error) if error.kind() == ErrorKind::InvalidData => return tell(
-            rt,
-            &CommandFault::NotText,
-        ),
-        Err(error) => return Err(error.into()),
-    };
-    let matches = match command(alloc)?.try_get_matches_from(words.as_slice()) {
-        Ok(matches) => matches,
-        Err(error) => {
-            error.print(rt)?;
-            return Ok(ExitCode::from(error.exit_code() as u8));
-        }
-    };
+    match words(rt)? {
+        Some(words) => run_words(rt, words.as_slice()),
+        None => tell(rt, &CommandFault::NotText),
+    }
+}
+
+/// The words of the command line; None where one is no text.
+fn words(rt: &HostRuntime) -> Result<Option<Vec<String>>> {
+    match env::args(rt) {
+        Ok(words) => Ok(Some(words.collect(rt.alloc())?)),
+        Err(error) if error.kind() == ErrorKind::InvalidData => Ok(None),
+        Err(error) => Err(error.into()),
+    }
+}
+
+fn run_words(rt: &HostRuntime, words: &[String]) -> Result<ExitCode> {
+    match command(rt.alloc())?.try_get_matches_from(words) {
+        Ok(matches) => run_matches(rt, &matches),
+        Err(error) => show(rt, &error),
+    }
+}
+
+/// Prints what clap tells: what is wrong with the words, or the help or the version that they ask for.
+fn show(rt: &HostRuntime, error: &Error) -> Result<ExitCode> {
+    error.print(rt)?;
+    Ok(ExitCode::from(error.exit_code() as u8))
+}
+
+fn run_matches(rt: &HostRuntime, matches: &ArgMatches<'_>) -> Result<ExitCode> {
     let done = match matches.subcommand() {
         Some(("once", matches)) => run_once(rt, matches),
         _ => Err(CommandFault::BadOption),

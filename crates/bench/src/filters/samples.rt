@@ -25,10 +25,20 @@ pub fn user(alloc: Global, number: usize, family_name: &str) -> Result<Resource>
 pub fn group(alloc: Global, members: usize) -> Result<Part> {
     let mut cells = format!(in alloc; "displayName=Team; members[0..{members}].type=User")?;
     for position in 0..members {
-        let id = id_of(position).text(alloc)?;
-        let member = format!(in alloc; "; members[{position}].value={}", id.as_str())?;
-        cells.push_str(member.as_str())?;
+        push_member(alloc, position, position, &mut cells)?;
     }
     let id = id_of(0).text(alloc)?;
     Ok(part(alloc, Kind::Group, id.as_str(), cells.as_str())?)
+}
+
+/// Adds the cell of the member at a position whose value is the id of a number.
+pub fn push_member(
+    alloc: Global,
+    position: usize,
+    number: usize,
+    cells: &mut String,
+) -> Result<()> {
+    let id = id_of(number).text(alloc)?;
+    write!(cells, "; members[{position}].value={}", id.as_str())?;
+    Ok(())
 }

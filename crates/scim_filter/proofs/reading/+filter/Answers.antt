@@ -11,8 +11,8 @@ conjunction-returns-in_err-second-in-Some-clause-gives t c = rw (conjunction-ste
 pub conjunction-returns-in-None-clause-gives : goal.conjunction-returns-in-None-clause-gives
 conjunction-returns-in-None-clause-gives t c = rw (conjunction-step c.args.depth c.args.scope c.args.bytes.now) (search rules)
 
-pub conjunction-returns-in_ok-new-in-Some-2-clause-gives : goal.conjunction-returns-in_ok-new-in-Some-2-clause-gives
-conjunction-returns-in_ok-new-in-Some-2-clause-gives t c = rw (conjunction-step c.args.depth c.args.scope c.args.bytes.now) (search rules)
+pub conjunction-returns-in_ok-both-in-Some-clause-gives : goal.conjunction-returns-in_ok-both-in-Some-clause-gives
+conjunction-returns-in_ok-both-in-Some-clause-gives t c = rw (conjunction-step c.args.depth c.args.scope c.args.bytes.now) (search rules)
 
 pub disjunction-returns-in_err-first-clause-gives : goal.disjunction-returns-in_err-first-clause-gives
 disjunction-returns-in_err-first-clause-gives t c = rw (disjunction-step c.args.depth c.args.scope c.args.bytes.now) (search rules)
@@ -23,8 +23,8 @@ disjunction-returns-in_err-second-in-Some-clause-gives t c = rw (disjunction-ste
 pub disjunction-returns-in-None-clause-gives : goal.disjunction-returns-in-None-clause-gives
 disjunction-returns-in-None-clause-gives t c = rw (disjunction-step c.args.depth c.args.scope c.args.bytes.now) (search rules)
 
-pub disjunction-returns-in_ok-new-in-Some-2-clause-gives : goal.disjunction-returns-in_ok-new-in-Some-2-clause-gives
-disjunction-returns-in_ok-new-in-Some-2-clause-gives t c = rw (disjunction-step c.args.depth c.args.scope c.args.bytes.now) (search rules)
+pub disjunction-returns-in_ok-either-in-Some-clause-gives : goal.disjunction-returns-in_ok-either-in-Some-clause-gives
+disjunction-returns-in_ok-either-in-Some-clause-gives t c = rw (disjunction-step c.args.depth c.args.scope c.args.bytes.now) (search rules)
 
 pub filter-returns-then-depth-eq0-clause-gives : goal.filter-returns-then-depth-eq0-clause-gives
 filter-returns-then-depth-eq0-clause-gives t c = let h : c.args.depth ≡ 0 = omega arith in filter-none c.args.depth c.args.scope c.args.bytes.now h

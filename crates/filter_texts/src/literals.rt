@@ -1,6 +1,6 @@
 //! Random literals of filters.
-use crate::filter_texts::checks::MOMENTS;
-use crate::filter_texts::dice::Dice;
+use crate::checks::MOMENTS;
+use crate::dice::Dice;
 use scim_filter::{Literal, StringLiteral};
 use scim_schema::AttributeType;
 use scim_text::NoMemory;

@@ -1,7 +1,7 @@
 //! Random trees of filters.
-use crate::filter_texts::checks::{compared_type, operators};
-use crate::filter_texts::dice::Dice;
-use crate::filter_texts::literals::{any_literal, literal_of};
+use crate::checks::{compared_type, operators};
+use crate::dice::Dice;
+use crate::literals::{any_literal, literal_of};
 use scim_cell::Text;
 use scim_filter::{Meant, Node, Operator, Path};
 use scim_schema::{
@@ -138,7 +138,7 @@ fn inner_path(alloc: Global, dice: &mut Dice, outer: Meant) -> Result<Path, NoMe
 }
 
 /// An operator and a literal, each mostly such as what the path names is compared by.
-fn comparison(alloc: Global, dice: &mut Dice, path: Path) -> Result<Node, NoMemory> {
+fn comparison(alloc: Global, dice: &mut Dice, path: Path) -> Result<Box<Node>, NoMemory> {
     let known = compared_type(path.meant);
     let among = match known {
         Some(of) if !dice.one_in(16) => operators(of),
@@ -149,19 +149,19 @@ fn comparison(alloc: Global, dice: &mut Dice, path: Path) -> Result<Node, NoMemo
         _ => any_literal(alloc, dice)?,
     };
     let operator = dice.pick(among).unwrap_or(Operator::Eq);
-    Ok(Node::Compare(path, operator, literal))
+    Ok(Box::new(alloc, Node::Compare(path, operator, literal))?)
 }
 
-fn plain_term(alloc: Global, dice: &mut Dice, path: Path) -> Result<Node, NoMemory> {
+fn plain_term(alloc: Global, dice: &mut Dice, path: Path) -> Result<Box<Node>, NoMemory> {
     if dice.one_in(4) {
-        Ok(Node::Present(path))
+        Ok(Box::new(alloc, Node::Present(path))?)
     } else {
         comparison(alloc, dice, path)
     }
 }
 
 /// Takes any of the nodes out.
-fn take_any(dice: &mut Dice, nodes: &mut Vec<Node>) -> Option<Node> {
+fn take_any(dice: &mut Dice, nodes: &mut Vec<Box<Node>>) -> Option<Box<Node>> {
     let index = dice.below(nodes.len());
     if index < nodes.len() {
         Some(nodes.swap_remove(index))
@@ -170,54 +170,86 @@ fn take_any(dice: &mut Dice, nodes: &mut Vec<Node>) -> Option<Node> {
     }
 }
 
+/// A tree of two.
+fn pair(alloc: Global, dice: &mut Dice, a: Box<Node>, b: Box<Node>) -> Result<Box<Node>, NoMemory> {
+    match dice.below(5) {
+        0 | 1 => Ok(Box::new(alloc, Node::And(a, b))?),
+        2 | 3 => Ok(Box::new(alloc, Node::Or(a, b))?),
+        _ => not(alloc, Box::new(alloc, Node::And(a, b))?),
+    }
+}
+
+fn not(alloc: Global, node: Box<Node>) -> Result<Box<Node>, NoMemory> {
+    Ok(Box::new(alloc, Node::Not(node))?)
+}
+
 /// One tree of all the nodes.
-fn joined(alloc: Global, dice: &mut Dice, mut nodes: Vec<Node>) -> Result<Option<Node>, NoMemory> {
+fn joined(
+    alloc: Global,
+    dice: &mut Dice,
+    mut nodes: Vec<Box<Node>>,
+) -> Result<Option<Box<Node>>, NoMemory> {
     for _ in 1..nodes.len() {
-        let (Some(a), Some(b)) = (take_any(dice, &mut nodes), take_any(dice, &mut nodes)) else {
-            break;
-        };
-        let (a, b) = (Box::new(alloc, a)?, Box::new(alloc, b)?);
-        let node = match dice.below(5) {
-            0 | 1 => Node::And(a, b),
-            2 | 3 => Node::Or(a, b),
-            _ => Node::Not(Box::new(alloc, Node::And(a, b))?),
-        };
-        nodes.push(node)?;
+        join_two(alloc, dice, &mut nodes)?;
     }
     Ok(nodes.pop())
 }
 
+/// Puts one tree in the place of any two.
+fn join_two(alloc: Global, dice: &mut Dice, nodes: &mut Vec<Box<Node>>) -> Result<(), NoMemory> {
+    if let (Some(a), Some(b)) = (take_any(dice, nodes), take_any(dice, nodes)) {
+        let node = pair(alloc, dice, a, b)?;
+        nodes.push(node)?;
+    }
+    Ok(())
+}
+
 /// A value path behind this path.
-fn values(alloc: Global, dice: &mut Dice, path: Path) -> Result<Node, NoMemory> {
+fn values(alloc: Global, dice: &mut Dice, path: Path) -> Result<Box<Node>, NoMemory> {
     let inner = inner_terms(alloc, dice, path.meant)?;
-    Ok(Node::Values(path, Box::new(alloc, inner)?))
+    Ok(Box::new(alloc, Node::Values(path, inner))?)
 }
 
 /// One to three terms on the values of what a path means.
-fn inner_terms(alloc: Global, dice: &mut Dice, outer: Meant) -> Result<Node, NoMemory> {
+fn inner_terms(alloc: Global, dice: &mut Dice, outer: Meant) -> Result<Box<Node>, NoMemory> {
+    let others = inner_others(alloc, dice, outer)?;
     let first = inner_term(alloc, dice, outer)?;
-    match inner_others(alloc, dice, outer)? {
+    match others {
         None => Ok(first),
-        Some(others) => Ok(Node::Or(Box::new(alloc, first)?, Box::new(alloc, others)?)),
+        Some(others) => Ok(Box::new(alloc, Node::Or(first, others))?),
     }
 }
 
 /// Up to two such terms; None where there are none.
-fn inner_others(alloc: Global, dice: &mut Dice, outer: Meant) -> Result<Option<Node>, NoMemory> {
+fn inner_others(
+    alloc: Global,
+    dice: &mut Dice,
+    outer: Meant,
+) -> Result<Option<Box<Node>>, NoMemory> {
     let mut terms = Vec::new(alloc);
     for _ in 0..dice.below(3) {
-        terms.push(inner_term(alloc, dice, outer)?)?;
+        push_inner_term(alloc, dice, outer, &mut terms)?;
     }
     joined(alloc, dice, terms)
 }
 
-fn inner_term(alloc: Global, dice: &mut Dice, outer: Meant) -> Result<Node, NoMemory> {
+fn push_inner_term(
+    alloc: Global,
+    dice: &mut Dice,
+    outer: Meant,
+    terms: &mut Vec<Box<Node>>,
+) -> Result<(), NoMemory> {
+    let term = inner_term(alloc, dice, outer)?;
+    Ok(terms.push(term)?)
+}
+
+fn inner_term(alloc: Global, dice: &mut Dice, outer: Meant) -> Result<Box<Node>, NoMemory> {
     let path = inner_path(alloc, dice, outer)?;
     plain_term(alloc, dice, path)
 }
 
-/// A term on resources of a kind: a value path, `pr` or a comparison, with `not` before it at times.
-pub fn random_term(alloc: Global, dice: &mut Dice, kind: Kind) -> Result<Node, NoMemory> {
+/// A term on resources of a kind: a value path, `pr` or a comparison.
+fn term_without_not(alloc: Global, dice: &mut Dice, kind: Kind) -> Result<Box<Node>, NoMemory> {
     let path = random_path(alloc, dice, kind)?;
     let takes_values = match path.meant {
         Meant::Nothing => true,
@@ -225,25 +257,50 @@ pub fn random_term(alloc: Global, dice: &mut Dice, kind: Kind) -> Result<Node, N
         Meant::SubAttribute(_, _) => false,
     };
     let sides = if takes_values { 2 } else { 64 };
-    let term = if dice.one_in(sides) {
-        values(alloc, dice, path)?
+    if dice.one_in(sides) {
+        values(alloc, dice, path)
     } else {
-        plain_term(alloc, dice, path)?
-    };
+        plain_term(alloc, dice, path)
+    }
+}
+
+/// A term, with `not` before it at times.
+pub fn random_term(alloc: Global, dice: &mut Dice, kind: Kind) -> Result<Box<Node>, NoMemory> {
+    let term = term_without_not(alloc, dice, kind)?;
     if dice.one_in(8) {
-        return Ok(Node::Not(Box::new(alloc, term)?));
+        return not(alloc, term);
     }
     Ok(term)
 }
 
-/// A tree of up to six terms.
-pub fn random_tree(alloc: Global, dice: &mut Dice, kind: Kind) -> Result<Node, NoMemory> {
-    let last = random_term(alloc, dice, kind)?;
+/// So many terms.
+fn random_terms(
+    alloc: Global,
+    dice: &mut Dice,
+    kind: Kind,
+    count: usize,
+) -> Result<Vec<Box<Node>>, NoMemory> {
     let mut terms = Vec::new(alloc);
-    for _ in 0..dice.below(6) {
-        terms.push(random_term(alloc, dice, kind)?)?;
+    for _ in 0..count {
+        push_term(alloc, dice, kind, &mut terms)?;
     }
-    terms.push(last)?;
+    Ok(terms)
+}
+
+fn push_term(
+    alloc: Global,
+    dice: &mut Dice,
+    kind: Kind,
+    terms: &mut Vec<Box<Node>>,
+) -> Result<(), NoMemory> {
+    let term = random_term(alloc, dice, kind)?;
+    Ok(terms.push(term)?)
+}
+
+/// A tree of up to six terms.
+pub fn random_tree(alloc: Global, dice: &mut Dice, kind: Kind) -> Result<Box<Node>, NoMemory> {
+    let count = dice.below(6).saturating_add(1);
+    let terms = random_terms(alloc, dice, kind, count)?;
     match joined(alloc, dice, terms)? {
         Some(tree) => Ok(tree),
         None => random_term(alloc, dice, kind),

@@ -1,7 +1,7 @@
 //! Random texts, of which many are no filters.
-use crate::filter_texts::dice::Dice;
-use crate::filter_texts::printing::playful_text;
-use crate::filter_texts::trees::{random_term, random_tree};
+use crate::dice::Dice;
+use crate::printing::playful_text;
+use crate::trees::{random_term, random_tree};
 use scim_filter::Node;
 use scim_schema::Kind;
 use scim_text::NoMemory;
@@ -69,7 +69,7 @@ const TOKENS: [&str; 40] = [
 pub struct Sample {
     pub kind: Kind,
     pub text: String,
-    pub tree: Option<Node>,
+    pub tree: Option<Box<Node>>,
 }
 
 /// The sorts of texts.
@@ -92,17 +92,32 @@ pub fn random_sample(alloc: Global, dice: &mut Dice, sort: Sort) -> Result<Sampl
     } else {
         Kind::User
     };
-    let (text, tree) = match sort {
-        Sort::Printed => {
-            let tree = random_tree(alloc, dice, kind)?;
-            (playful_text(alloc, &tree, dice)?, Some(tree))
-        }
-        Sort::Mutated => (mutated(alloc, dice, kind)?, None),
-        Sort::Tokens => (of_tokens(alloc, dice)?, None),
-        Sort::Large if dice.one_in(32) => (long(alloc, dice, kind)?, None),
-        Sort::Large => (deep(alloc, dice, kind)?, None),
-    };
-    Ok(Sample { kind, text, tree })
+    match sort {
+        Sort::Printed => printed(alloc, dice, kind),
+        Sort::Mutated => Ok(without_tree(kind, mutated(alloc, dice, kind)?)),
+        Sort::Tokens => Ok(without_tree(kind, of_tokens(alloc, dice)?)),
+        Sort::Large if dice.one_in(32) => Ok(without_tree(kind, long(alloc, dice, kind)?)),
+        Sort::Large => Ok(without_tree(kind, deep(alloc, dice, kind)?)),
+    }
+}
+
+fn printed(alloc: Global, dice: &mut Dice, kind: Kind) -> Result<Sample, NoMemory> {
+    let tree = random_tree(alloc, dice, kind)?;
+    let text = playful_text(alloc, &tree, dice)?;
+    Ok(Sample {
+        kind,
+        text,
+        tree: Some(tree),
+    })
+}
+
+/// A text of which it isn't known what tree it spells.
+fn without_tree(kind: Kind, text: String) -> Sample {
+    Sample {
+        kind,
+        text,
+        tree: None,
+    }
 }
 
 /// A printed tree with one to three characters replaced, put in or taken out, or cut off.

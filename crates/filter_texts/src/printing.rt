@@ -1,5 +1,5 @@
 //! Trees of filters as texts.
-use crate::filter_texts::dice::Dice;
+use crate::dice::Dice;
 use scim_filter::{Literal, Node, Operator, Path};
 use scim_text::NoMemory;
 use std::alloc::Global;
@@ -186,13 +186,63 @@ impl Printer {
         Ok(())
     }
 
-    /// A tree, in brackets where it needs them.
-    fn node(&mut self, node: &Node, needs_brackets: bool) -> Result<(), NoMemory> {
-        let has_brackets = needs_brackets || self.plays(6);
+    /// The bracket before a tree, where it has one.
+    fn open(&mut self, has_brackets: bool) -> Result<(), NoMemory> {
         if has_brackets {
             self.push("(")?;
             self.spaces(0)?;
         }
+        Ok(())
+    }
+
+    /// The bracket behind a tree, where it has one.
+    fn close(&mut self, has_brackets: bool) -> Result<(), NoMemory> {
+        if has_brackets {
+            self.spaces(0)?;
+            self.push(")")?;
+        }
+        Ok(())
+    }
+
+    fn not(&mut self) -> Result<(), NoMemory> {
+        self.keyword("not")?;
+        self.spaces(0)
+    }
+
+    fn present(&mut self, path: &Path) -> Result<(), NoMemory> {
+        self.path(path)?;
+        self.spaces(1)?;
+        self.keyword("pr")
+    }
+
+    fn compare(
+        &mut self,
+        path: &Path,
+        operator: Operator,
+        literal: &Literal,
+    ) -> Result<(), NoMemory> {
+        self.path(path)?;
+        self.join(name_of(operator))?;
+        self.literal(literal)
+    }
+
+    /// What stands before the filter of a value path.
+    fn open_values(&mut self, path: &Path) -> Result<(), NoMemory> {
+        self.path(path)?;
+        self.push("[")?;
+        self.spaces(0)
+    }
+
+    /// What stands behind it.
+    fn close_values(&mut self) -> Result<(), NoMemory> {
+        self.spaces(0)?;
+        self.push("]")
+    }
+
+    /// A tree, in brackets where it needs them.
+    fn node(&mut self, node: &Node, needs_brackets: bool) -> Result<(), NoMemory> {
+        let has_brackets = needs_brackets || self.plays(6);
+        self.open(has_brackets)?;
         match node {
             Node::Or(a, b) => {
                 self.node(a, is_or(a))?;
@@ -205,33 +255,17 @@ impl Printer {
                 self.node(b, is_or(b))?;
             }
             Node::Not(a) => {
-                self.keyword("not")?;
-                self.spaces(0)?;
+                self.not()?;
                 self.node(a, true)?;
             }
-            Node::Present(path) => {
-                self.path(path)?;
-                self.spaces(1)?;
-                self.keyword("pr")?;
-            }
-            Node::Compare(path, operator, literal) => {
-                self.path(path)?;
-                self.join(name_of(*operator))?;
-                self.literal(literal)?;
-            }
+            Node::Present(path) => self.present(path)?,
+            Node::Compare(path, operator, literal) => self.compare(path, *operator, literal)?,
             Node::Values(path, inner) => {
-                self.path(path)?;
-                self.push("[")?;
-                self.spaces(0)?;
+                self.open_values(path)?;
                 self.node(inner, false)?;
-                self.spaces(0)?;
-                self.push("]")?;
+                self.close_values()?;
             }
         }
-        if has_brackets {
-            self.spaces(0)?;
-            self.push(")")?;
-        }
-        Ok(())
+        self.close(has_brackets)
     }
 }

@@ -1,4 +1,6 @@
 //! Texts, most of them near to filters, and whether what the reader answers of each has its cause.
+#![tactic(auto)]
+
 mod checks;
 mod dice;
 mod literals;
@@ -6,11 +8,11 @@ mod printing;
 mod texts;
 mod trees;
 
-use crate::filter_texts::checks::{has_right_types, is_same_tree, most_open, paths_in};
-use crate::filter_texts::dice::Dice;
-use crate::filter_texts::printing::plain_text;
-use crate::filter_texts::texts::{Sample, Sort, random_sample};
-use anyhow::{Result, bail, ensure};
+use crate::checks::{has_right_types, is_same_tree, most_open, paths_in};
+use crate::dice::Dice;
+use crate::printing::plain_text;
+use crate::texts::{Sample, Sort, random_sample};
+use anyhow::{Error, Result, bail, ensure};
 use scim_filter::{Filter, FilterFault, Node, mentioned_names, read_filter, read_tokens};
 use scim_schema::Kind;
 use scim_text::Failed;
@@ -35,7 +37,7 @@ const SORTS: [(&str, Sort); 4] = [
 const SEED: u64 = 0x5c1f_5c1f_2026_0001;
 
 /// How many texts had each outcome.
-#[derive(Drop)]
+#[derive(Clone, Copy)]
 struct Counts {
     read: usize,
     syntax: usize,
@@ -68,7 +70,7 @@ impl Counts {
 }
 
 /// Checks the tree that was read of a text against the text, and against the tree where it is known.
-fn check_tree(alloc: Global, sample: &Sample, tree: &Node) -> Result<()> {
+fn check_tree(alloc: Global, sample: &Sample, tree: &Node) -> Result<Option<FilterFault>> {
     let text = sample.text.as_str();
     ensure!(text.len() <= LONGEST, "a long text was read");
     ensure!(most_open(text) <= DEEPEST, "a deep text was read");
@@ -77,13 +79,19 @@ fn check_tree(alloc: Global, sample: &Sample, tree: &Node) -> Result<()> {
         ensure!(has_right_types(known), "a value of a wrong type was read");
     }
     ensure!(read_tokens(alloc, text).is_ok(), "a filter has no tokens");
-    check_again(alloc, sample.kind, tree)
+    check_again(alloc, sample.kind, tree)?;
+    Ok(None)
 }
 
 /// Checks that a tree is read again of its own text.
 fn check_again(alloc: Global, kind: Kind, tree: &Node) -> Result<()> {
-    let again = plain_text(alloc, tree)?;
-    match read_filter(alloc, kind, again.as_str()) {
+    let text = plain_text(alloc, tree)?;
+    check_text(alloc, kind, tree, text.as_str())
+}
+
+/// Checks that a tree is read of the text.
+fn check_text(alloc: Global, kind: Kind, tree: &Node, text: &str) -> Result<()> {
+    match read_filter(alloc, kind, text) {
         Ok(filter) => check_filter(alloc, &filter, tree),
         Err(_) => bail!("what was read is not read again"),
     }
@@ -101,7 +109,7 @@ fn check_filter(alloc: Global, filter: &Filter, tree: &Node) -> Result<()> {
 }
 
 /// Checks that a fault has its cause in the text.
-fn check_fault(sample: &Sample, fault: FilterFault) -> Result<()> {
+fn check_fault(sample: &Sample, fault: FilterFault) -> Result<Option<FilterFault>> {
     let text = sample.text.as_str();
     match fault {
         FilterFault::Syntax(at) => {
@@ -116,22 +124,46 @@ fn check_fault(sample: &Sample, fault: FilterFault) -> Result<()> {
         FilterFault::TooDeep => ensure!(most_open(text) > DEEPEST, "no text is too deep"),
         FilterFault::TooLong => ensure!(text.len() > LONGEST, "no text is too long"),
     }
-    Ok(())
+    Ok(Some(fault))
 }
 
 /// The fault of a text, if it has one, when it is checked.
 fn check(alloc: Global, sample: &Sample) -> Result<Option<FilterFault>> {
     match read_filter(alloc, sample.kind, sample.text.as_str()) {
-        Ok(filter) => {
-            check_tree(alloc, sample, filter.tree())?;
-            Ok(None)
-        }
-        Err(Failed::Because(fault)) => {
-            check_fault(sample, fault)?;
-            Ok(Some(fault))
-        }
+        Ok(filter) => check_tree(alloc, sample, filter.tree()),
+        Err(Failed::Because(fault)) => check_fault(sample, fault),
         Err(Failed::NoMemory) => bail!("out of memory"),
     }
+}
+
+/// Prints a text whose outcome has no cause, and fails.
+fn fail(rt: &impl Print, number: usize, text: &str, cause: &Error) -> Result<Option<FilterFault>> {
+    println!(rt; "{text}")?;
+    bail!("text {number}: {cause}")
+}
+
+/// The fault of a text, if it has one. Fails where the outcome has no cause, and prints the text.
+fn check_or_print(
+    rt: &impl Print,
+    alloc: Global,
+    number: usize,
+    sample: &Sample,
+) -> Result<Option<FilterFault>> {
+    match check(alloc, sample) {
+        Ok(fault) => Ok(fault),
+        Err(cause) => fail(rt, number, sample.text.as_str(), &cause),
+    }
+}
+
+/// Makes and checks the text of a number.
+fn check_next(
+    rt: &impl Print,
+    alloc: Global,
+    dice: &mut Dice,
+    number: usize,
+) -> Result<Option<FilterFault>> {
+    let sample = random_sample(alloc, dice, SORTS[number % SORTS.len()].1)?;
+    check_or_print(rt, alloc, number, &sample)
 }
 
 /// Makes and checks all texts, of the sorts in turns, and counts the outcomes of each sort. Fails at the
@@ -140,15 +172,8 @@ fn check_all(rt: &impl Print, alloc: Global) -> Result<[Counts; 4]> {
     let mut dice = Dice::new(SEED);
     let mut counts = [Counts::new(), Counts::new(), Counts::new(), Counts::new()];
     for number in 0..TEXTS {
-        let turn = number % SORTS.len();
-        let sample = random_sample(alloc, &mut dice, SORTS[turn].1)?;
-        match check(alloc, &sample) {
-            Ok(fault) => counts[turn].add(fault),
-            Err(cause) => {
-                println!(rt; "{}", sample.text)?;
-                bail!("text {number}: {cause}");
-            }
-        }
+        let fault = check_next(rt, alloc, &mut dice, number)?;
+        counts[number % SORTS.len()].add(fault);
     }
     Ok(counts)
 }

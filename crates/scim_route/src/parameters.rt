@@ -1,0 +1,99 @@
+//! The parameters of query strings (RFC 7644 section 3.4.2).
+ghost use Rattle.std.specs.Prelude.{◌≡◌, IfOk, OnOk, []};
+ghost use Rattle.std.specs.Option.{option_copied};
+ghost use Rattle.scim_route.specs.Parameters as spec;
+ghost use Rattle.scim_route.specs.code.Taken.{taken, with_pair};
+
+use form_urlencoded::{decode, raw_pairs};
+use scim_cell::Text;
+use scim_text::{NoMemory, same_name};
+use std::alloc::Global;
+
+/// What a query string gives: of each parameter that a request may have the first; None where it isn't there
+/// (RFC 7644 sections 3.4.2 and 3.9).
+#[derive(Drop)]
+pub struct Parameters {
+    /// `attributes`
+    pub attributes: Option<Text>,
+    /// `excludedAttributes`
+    pub excluded_attributes: Option<Text>,
+    /// `filter`
+    pub filter: Option<Text>,
+    /// `sortBy`
+    pub sort_by: Option<Text>,
+    /// `sortOrder`
+    pub sort_order: Option<Text>,
+    /// `startIndex`
+    pub start_index: Option<Text>,
+    /// `count`
+    pub count: Option<Text>,
+}
+
+/// The text that a name or a value of a form stands for.
+fn decoded_text(alloc: Global, bytes: &[u8]) -> Result<Text, NoMemory>
+    ensures { IfOk result (λ text. text ≡ spec.decoded_text bytes.now) }
+{
+    Ok(Text::new(decode(alloc, bytes)?.into_owned(alloc)?))
+}
+
+/// Takes the value of a pair where its name is this parameter's and none was taken before.
+fn take(
+    alloc: Global,
+    held: &mut Option<Text>,
+    parameter: &str,
+    name: &Text,
+    value: &[u8],
+) -> Result<(), NoMemory>
+    ensures { OnOk result (held.new ≡ taken parameter.now (name.now, spec.decoded_text value.now) held.old) }
+{
+    if held.is_none() && same_name(name.as_str(), parameter) {
+        *held = Some(decoded_text(alloc, value)?);
+    }
+    Ok(())
+}
+
+impl Parameters {
+    /// No parameter.
+    fn none() -> Parameters
+        ensures { result ≡ spec.parameters_in [] }
+    {
+        Parameters {
+            attributes: None,
+            excluded_attributes: None,
+            filter: None,
+            sort_by: None,
+            sort_order: None,
+            start_index: None,
+            count: None,
+        }
+    }
+
+    /// Takes the value of a pair, as it stands in the query string, for the parameter that it names.
+    fn take_pair(&mut self, alloc: Global, name: &[u8], value: &[u8]) -> Result<(), NoMemory>
+        ensures { OnOk result (self.new ≡ with_pair (spec.decoded_pair (name.now, value.now)) self.old) }
+    {
+        let name = decoded_text(alloc, name)?;
+        take(alloc, &mut self.attributes, "attributes", &name, value)?;
+        let excluded = &mut self.excluded_attributes;
+        take(alloc, excluded, "excludedAttributes", &name, value)?;
+        take(alloc, &mut self.filter, "filter", &name, value)?;
+        take(alloc, &mut self.sort_by, "sortBy", &name, value)?;
+        take(alloc, &mut self.sort_order, "sortOrder", &name, value)?;
+        take(alloc, &mut self.start_index, "startIndex", &name, value)?;
+        take(alloc, &mut self.count, "count", &name, value)
+    }
+
+    /// The parameters of a query string, of which there may be none. Names are read in any ASCII case, the first of a
+    /// name counts, and other names are ignored. Bytes that are no UTF-8 become U+FFFD.
+    ///
+    /// Fails where no memory is to be had.
+    pub fn read(alloc: Global, query: Option<&[u8]>) -> Result<Parameters, NoMemory>
+        ensures { IfOk result (λ parameters. parameters ≡ spec.parameters_of (option_copied query.entry)) }
+    {
+        let mut parameters = Parameters::none();
+        for (name, value) in raw_pairs(query.unwrap_or(&[])) {
+            parameters.take_pair(alloc, name, value)?;
+        }
+        Ok(parameters)
+    }
+}
