@@ -1,0 +1,5 @@
+use Rattle.scim_chunks.proofs.StepLemmas.{data_more}
+use Rattle.scim_chunks.proofs.chunked.ChunkedPart.take_in_data.Goals as goal
+
+pub returns : goal.returns
+returns c bytes in_data = rw (c.in_ok-push.ensures.items) (data_more bytes c.args.self.body.items c.args.left c.args.byte c.requires in_data)

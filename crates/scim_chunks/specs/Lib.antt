@@ -1,0 +1,4 @@
+pub mod Chunked
+pub mod Fronts
+pub mod Parts
+pub mod code
