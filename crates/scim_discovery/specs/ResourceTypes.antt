@@ -1,0 +1,32 @@
+-- Resource types (RFC 7643 section 6).
+use Rattle.std.specs.Prelude.{false, List, [], ◌∷◌, codes, map, Option, None, Some}
+use Rattle.serde_json.specs.Data.{Data, boolean, string, array, object, no_items, item, Members, no_members, member}
+use Rattle.serde_json.specs.View.{items_of}
+use Rattle.scim_schema.specs.declared.Kind.{Kind}
+use Rattle.scim_schema.specs.declared.schemas.Schema.{Schema}
+use Rattle.scim_schema.specs.Names.{kind_name, endpoint}
+use Rattle.scim_schema.specs.Schemas.{urn, core_schema, extensions}
+use Rattle.scim_discovery.specs.Members.{with_member}
+
+-- an extension, which a resource may have and needn't
+abbrev pub extension_data : Schema → Data
+extension_data s = object (member (codes "required") (boolean false) (member (codes "schema") (string (urn s)) no_members))
+
+-- the extensions; nothing where there is none
+abbrev pub extensions_data : List Schema → Option Data
+extensions_data [] = None
+extensions_data (s ∷ ss) = Some (array (items_of (map extension_data (s ∷ ss))))
+
+-- a resource type: where its resources are found, and by which schemas they are described
+abbrev pub members_for : Kind → Option Data → Members
+members_for kind extended =
+    member (codes "endpoint") (string (endpoint kind))
+    (member (codes "id") (string (kind_name kind))
+    (member (codes "name") (string (kind_name kind))
+    (member (codes "schema") (string (urn (core_schema kind)))
+    (with_member (codes "schemaExtensions") extended
+    (member (codes "schemas") (array (item (string (codes "urn:ietf:params:scim:schemas:core:2.0:ResourceType")) no_items)) no_members)))))
+
+-- the resource type that a kind is
+unfoldable pub resource_type_data : Kind → Data
+resource_type_data kind = object (members_for kind (extensions_data (extensions kind)))

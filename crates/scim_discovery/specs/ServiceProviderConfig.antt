@@ -1,0 +1,44 @@
+-- What this server can do (RFC 7643 section 5).
+use Rattle.std.specs.Prelude.{Bool, true, false, codes}
+use Rattle.serde_json.specs.Data.{Data, boolean, number, unsigned, string, array, object, no_items, item, no_members, member}
+
+-- clients show who they are by bearer tokens (RFC 6750)
+abbrev pub bearer_tokens : Data
+bearer_tokens = object
+    (member (codes "description") (string (codes "Bearer token"))
+    (member (codes "name") (string (codes "OAuth Bearer Token"))
+    (member (codes "type") (string (codes "oauthbearertoken")) no_members)))
+
+abbrev pub authentication_schemes : Data
+authentication_schemes = array (item bearer_tokens no_items)
+
+-- the URN that says what kind of page it is
+abbrev pub config_schemas : Data
+config_schemas = array (item (string (codes "urn:ietf:params:scim:schemas:core:2.0:ServiceProviderConfig")) no_items)
+
+-- whether something is supported
+abbrev pub supported : Bool → Data
+supported b = object (member (codes "supported") (boolean b) no_members)
+
+-- many operations at once aren't (RFC 7644 section 3.7)
+abbrev pub bulk : Data
+bulk = object
+    (member (codes "maxOperations") (number (unsigned 0))
+    (member (codes "maxPayloadSize") (number (unsigned 0))
+    (member (codes "supported") (boolean false) no_members)))
+
+-- filters are, and at most 200 resources are shown at once (RFC 7644 section 3.4.2)
+abbrev pub filter : Data
+filter = object (member (codes "maxResults") (number (unsigned 200)) (member (codes "supported") (boolean true) no_members))
+
+-- what this server can do
+unfoldable pub service_provider_config : Data
+service_provider_config = object
+    (member (codes "authenticationSchemes") authentication_schemes
+    (member (codes "bulk") bulk
+    (member (codes "changePassword") (supported false)
+    (member (codes "etag") (supported false)
+    (member (codes "filter") filter
+    (member (codes "patch") (supported true)
+    (member (codes "schemas") config_schemas
+    (member (codes "sort") (supported true) no_members))))))))

@@ -1,0 +1,132 @@
+//! Attributes and sub-attributes as schemas tell of them (RFC 7643 section 7).
+ghost use Rattle.std.specs.Prelude.{◌≡◌, IfOk, map, None};
+ghost use Rattle.serde_json.specs.Data.{array};
+ghost use Rattle.serde_json.specs.View.{view, items_of, items_view, members_view};
+ghost use Rattle.scim_schema.specs.Table.{sub_attributes};
+ghost use Rattle.scim_discovery.specs.Attributes as spec;
+
+use crate::members::{put_text, put_truth};
+use scim_schema::{
+    Attribute, AttributeType, Characteristics, Kind, Mutability, Returned, SubAttribute,
+    Uniqueness, attribute_characteristics, sub_attribute_characteristics, sub_attributes,
+};
+use scim_text::NoMemory;
+use serde_json::{Map, Value, put};
+use std::alloc::Global;
+
+fn type_name(attribute_type: AttributeType) -> &'static str
+    ensures { result.now ≡ spec.type_name attribute_type }
+{
+    match attribute_type {
+        AttributeType::String => "string",
+        AttributeType::Boolean => "boolean",
+        AttributeType::DateTime => "dateTime",
+        AttributeType::Reference => "reference",
+        AttributeType::Binary => "binary",
+        AttributeType::Complex => "complex",
+    }
+}
+
+fn mutability_name(mutability: Mutability) -> &'static str
+    ensures { result.now ≡ spec.mutability_name mutability }
+{
+    match mutability {
+        Mutability::ReadOnly => "readOnly",
+        Mutability::ReadWrite => "readWrite",
+        Mutability::Immutable => "immutable",
+        Mutability::WriteOnly => "writeOnly",
+    }
+}
+
+fn returned_name(returned: Returned) -> &'static str
+    ensures { result.now ≡ spec.returned_name returned }
+{
+    match returned {
+        Returned::Always => "always",
+        Returned::Never => "never",
+        Returned::Default => "default",
+        Returned::Request => "request",
+    }
+}
+
+fn uniqueness_name(uniqueness: Uniqueness) -> &'static str
+    ensures { result.now ≡ spec.uniqueness_name uniqueness }
+{
+    match uniqueness {
+        Uniqueness::NotUnique => "none",
+        Uniqueness::Server => "server",
+    }
+}
+
+/// The members that tell a name and its characteristics.
+fn members_for(
+    alloc: Global,
+    name: &str,
+    characteristics: Characteristics,
+) -> Result<Map<String, Value>, NoMemory>
+    ensures { IfOk result (λ map. members_view map.entries ≡ spec.members_for name.now characteristics None) }
+{
+    let Characteristics {
+        attribute_type,
+        multi_valued,
+        required,
+        case_exact,
+        mutability,
+        returned,
+        uniqueness,
+    } = characteristics;
+    let mut map = Map::new(alloc);
+    put_truth(&mut map, alloc, "caseExact", case_exact)?;
+    put_truth(&mut map, alloc, "multiValued", multi_valued)?;
+    put_text(&mut map, alloc, "mutability", mutability_name(mutability))?;
+    put_text(&mut map, alloc, "name", name)?;
+    put_truth(&mut map, alloc, "required", required)?;
+    put_text(&mut map, alloc, "returned", returned_name(returned))?;
+    put_text(&mut map, alloc, "type", type_name(attribute_type))?;
+    put_text(&mut map, alloc, "uniqueness", uniqueness_name(uniqueness))?;
+    Ok(map)
+}
+
+fn sub_attribute_value(
+    alloc: Global,
+    attribute: Attribute,
+    sub_attribute: SubAttribute,
+) -> Result<Value, NoMemory>
+    ensures { IfOk result (λ v. view v ≡ spec.sub_attribute_data attribute sub_attribute) }
+{
+    let characteristics = sub_attribute_characteristics(attribute, sub_attribute);
+    let map = members_for(alloc, sub_attribute.name(), characteristics)?;
+    Ok(Value::Object(map))
+}
+
+/// The sub-attributes of a complex attribute, in the order of the table.
+fn sub_attribute_values(alloc: Global, attribute: Attribute) -> Result<Vec<Value>, NoMemory>
+    ensures { IfOk result (λ values. map view values.items
+        ≡ map (spec.sub_attribute_data attribute) (sub_attributes attribute)) }
+{
+    let mut values = Vec::new(alloc);
+    for sub_attribute in sub_attributes(attribute) {
+        values.push(sub_attribute_value(alloc, attribute, *sub_attribute)?)?;
+    }
+    Ok(values)
+}
+
+/// An attribute of the kind: its name, its characteristics, and its sub-attributes where it is complex.
+pub(crate) fn attribute_value(
+    alloc: Global,
+    kind: Kind,
+    attribute: Attribute,
+) -> Result<Value, NoMemory>
+    ensures { IfOk result (λ v. view v ≡ spec.attribute_data kind attribute) }
+{
+    let characteristics = attribute_characteristics(kind, attribute);
+    let mut map = members_for(alloc, attribute.name(), characteristics)?;
+    match characteristics.attribute_type {
+        AttributeType::Complex => {
+            let values = sub_attribute_values(alloc, attribute)?;
+            put(&mut map, alloc, "subAttributes", Value::Array(values))?;
+            Ok(Value::Object(map))
+        }
+        _ => Ok(Value::Object(map)),
+    }
+}

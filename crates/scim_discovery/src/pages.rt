@@ -1,0 +1,73 @@
+//! The replies of discovery (RFC 7644 section 4).
+ghost use Rattle.std.specs.Prelude.{◌≡◌, IfOk};
+ghost use Rattle.std.specs.Option.{option_copied};
+ghost use Rattle.serde_json.specs.View.{view};
+ghost use Rattle.serde_json.specs.Written.{compact_text};
+ghost use Rattle.scim_text.specs.Failures.{UnlessMemory};
+ghost use Rattle.scim_discovery.specs.Pages as spec;
+ghost use Rattle.scim_discovery.specs.Pages.{Replies};
+
+use crate::lists::list_value;
+use crate::resource_types::{resource_type_value, resource_type_values};
+use crate::schemas::{schema_value, schema_values};
+use crate::service_provider_config::service_provider_config_value;
+use scim_audit::Refusal;
+use scim_cell::Text;
+use scim_route::{Page, Parameters};
+use scim_text::{Failed, NoMemory};
+use serde_json::Value;
+use std::alloc::Global;
+
+/// Whether a text is more than spaces.
+fn is_given(text: &str) -> bool
+    ensures { result ≡ spec.is_given text.now }
+{
+    text.as_bytes().iter().any(|byte| *byte != b' ')
+}
+
+/// Whether a query string gives a filter.
+fn has_filter(alloc: Global, query: Option<&[u8]>) -> Result<bool, NoMemory>
+    ensures { IfOk result (λ b. b ≡ spec.has_filter (option_copied query.entry)) }
+{
+    let parameters = Parameters::read(alloc, query)?;
+    Ok(match &parameters.filter {
+        Some(filter) => is_given(filter.as_str()),
+        None => false,
+    })
+}
+
+/// The JSON of a page.
+fn page_value(alloc: Global, page: Page) -> Result<Value, NoMemory>
+    ensures { IfOk result (λ v. view v ≡ spec.page_data page) }
+{
+    match page {
+        Page::ServiceProviderConfig => service_provider_config_value(alloc),
+        Page::ResourceTypes => list_value(alloc, resource_type_values(alloc)?),
+        Page::ResourceType(kind) => resource_type_value(alloc, kind),
+        Page::Schemas => list_value(alloc, schema_values(alloc)?),
+        Page::Schema(schema) => schema_value(alloc, schema),
+    }
+}
+
+/// The text of a page.
+#[tactic(auto, using(crate::proofs::FloatLemmas::page_has_no_float))]
+fn page_text(alloc: Global, page: Page) -> Result<Text, NoMemory>
+    ensures { IfOk result (λ text. text ≡ compact_text (spec.page_data page)) }
+{
+    let value = page_value(alloc, page)?;
+    Ok(Text::new(value.to_string(alloc)?))
+}
+
+/// The body of the reply to a request for a page, whose status is 200, where the query string is this one; None where
+/// the target has none (RFC 7644 section 4). It is JSON without spaces, and the keys of each object stand in byte order.
+///
+/// Fails with Denied where the query string gives a filter, by the first parameter of that name that it has, in any ASCII
+/// case; one that is empty, or spaces alone, gives none. Fails with NoMemory where no memory is to be had.
+pub fn page_reply(alloc: Global, page: Page, query: Option<&[u8]>) -> Result<Text, Failed<Refusal>>
+    ensures { UnlessMemory (Replies page (option_copied query.entry)) result }
+{
+    if has_filter(alloc, query)? {
+        return Err(Failed::Because(Refusal::Denied));
+    }
+    Ok(page_text(alloc, page)?)
+}
