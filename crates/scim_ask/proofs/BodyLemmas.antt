@@ -1,0 +1,40 @@
+-- Bodies that are in UTF-8, and others.
+use Rattle.std.proofs.Common.{◌≡◌, refl, ap, ℕ, List, Bool, true, false}
+use Rattle.std.specs.Prelude.{Some, None, Ok, Err}
+use Rattle.std.specs.Str.{IsUtf8, is_utf8}
+use Rattle.std.proofs.lemmas.Bool.{false_from_ne_true}
+use Rattle.std.proofs.lemmas.Str.{IsUtf8-from_is_utf8, is_utf8-from_IsUtf8}
+use Rattle.serde_json.specs.Data.{Data}
+use Rattle.serde_json.specs.Read.{read}
+use Rattle.scim_schema.specs.declared.Kind.{Kind}
+use Rattle.scim_audit.specs.declared.refusals.Refusal.TheVariants.{Syntax}
+use Rattle.scim_ask.specs.SearchBodies.{value_in}
+use Rattle.scim_ask.specs.Asks.{draft_in, draft_asked}
+
+not_utf8 : (body : List ℕ) → (IsUtf8 body → ⊥) → is_utf8 body ≡ false
+not_utf8 body broken = false_from_ne_true (is_utf8 body) (λ t. broken (IsUtf8-from_is_utf8 body t))
+
+-- a body in UTF-8 has the value of its text
+pub value_read : (body : List ℕ) (d : Data) → IsUtf8 body → read body ≡ Some d → value_in body ≡ Ok d
+unfolding value_in
+value_read body d utf8 given = let passes = is_utf8-from_IsUtf8 body utf8 in rw (passes, given) refl
+
+by_test : {P : Type 0} (b : Bool) → (b ≡ true → P) → (b ≡ false → P) → P
+by_test true t f = t refl
+by_test false t f = f refl
+
+-- a text without one has none, nor has a body that is no text
+pub no_value : (body : List ℕ) → (IsUtf8 body → read body ≡ None) → value_in body ≡ Err Syntax
+unfolding value_in
+no_value body none =
+    by_test (is_utf8 body) (λ t. let n : read body ≡ None = none (IsUtf8-from_is_utf8 body t) in rw (t, n) refl) (λ f. rw f refl)
+
+-- a body in UTF-8 gives the draft of its text
+pub draft_of_text : (kind : Kind) (body text : List ℕ) → text ≡ body → IsUtf8 body → draft_in kind text ≡ draft_asked kind body
+unfolding draft_asked
+draft_of_text kind body text same utf8 = let passes = is_utf8-from_IsUtf8 body utf8 in rw passes (ap (draft_in kind) same)
+
+-- and another is refused
+pub no_draft : (kind : Kind) (body : List ℕ) → (IsUtf8 body → ⊥) → draft_asked kind body ≡ Err Syntax
+unfolding draft_asked
+no_draft kind body broken = let fails = not_utf8 body broken in rw fails refl

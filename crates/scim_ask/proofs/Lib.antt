@@ -1,0 +1,5 @@
+pub mod AskLemmas
+pub mod BodyLemmas
+pub mod IntegerLemmas
+pub mod NameLemmas
+pub mod WantedLemmas

@@ -1,0 +1,69 @@
+-- What a routed request asks (RFC 7644 sections 3.3, 3.4 and 3.6).
+use Rattle.std.specs.Prelude.{◌≡◌, ℕ, List, Option, option_copied, Result, Ok, Err, ⊤, if◌then◌else◌}
+use Rattle.std.specs.Str.{is_utf8}
+use Rattle.serde_json.specs.Read.{read}
+use Rattle.scim_schema.specs.declared.Kind.{Kind}
+use Rattle.scim_audit.specs.declared.refusals.Refusal.{Refusal}
+use Rattle.scim_audit.specs.declared.refusals.Refusal.TheVariants.{NotSupported, Syntax, MessageValue}
+use Rattle.scim_json.specs.declared.drafts.UseFor.TheVariants.{Creating}
+use Rattle.scim_json.specs.Drafts.{Draft}
+use Rattle.scim_json.specs.Bodies.{Body, malformed, wrong, drafted, body_of}
+use Rattle.scim_route.specs.declared.routes.Form.{Form}
+use Rattle.scim_route.specs.declared.routes.Form.TheVariants as form
+use Rattle.scim_route.specs.declared.routes.Route.{Route}
+use Rattle.scim_route.specs.Parameters.{parameters_of}
+use Rattle.scim_service.specs.declared.requests.Ask.{Ask}
+use Rattle.scim_service.specs.declared.requests.Ask.TheVariants.{Get, Search, Create, Remove}
+use Rattle.scim_ask.specs.Refused.{◌>>=◌, Tells}
+use Rattle.scim_ask.specs.AttributeLists.{Lists, one_of, Wants}
+use Rattle.scim_ask.specs.Searches.{Sought, sought, sought_of, IsQuery}
+use Rattle.scim_ask.specs.QueryStrings.{lists_of, search_of}
+use Rattle.scim_ask.specs.SearchBodies.{search_of_body}
+
+-- what a request may ask: to show a resource, to search, to make one of a draft, or to remove one
+pub data Asked : Type 0 where
+  showing : Lists → Asked
+  searching : Sought → Asked
+  creating : Draft → Lists → Asked
+  removing : Asked
+
+-- the attribute lists of a query string
+abbrev pub lists_asked : Option (List ℕ) → Result Lists Refusal
+lists_asked query = one_of (lists_of (parameters_of query))
+
+-- the draft of a body, as a refusal of the request or not
+abbrev pub as_draft : Body → Result Draft Refusal
+as_draft malformed = Err Syntax
+as_draft wrong = Err MessageValue
+as_draft (drafted d) = Ok d
+
+-- the draft that a text gives of a resource to make (RFC 7644 section 3.3)
+unfoldable pub draft_in : Kind → List ℕ → Result Draft Refusal
+draft_in kind text = as_draft (body_of kind Creating (read text))
+
+-- the same of a body, which is in UTF-8
+unfoldable pub draft_asked : Kind → List ℕ → Result Draft Refusal
+draft_asked kind body = if is_utf8 body then draft_in kind body else Err Syntax
+
+-- what each form asks. The query string gives the attribute lists alone, but for a list of resources, which it gives
+-- the whole search for; the body counts where a resource is made or a search is posted, and there the search is the body's alone
+abbrev pub asked : Form → Kind → Option (List ℕ) → List ℕ → Result Asked Refusal
+asked form.Get kind query body = lists_asked query >>= λ lists. Ok (showing lists)
+asked form.ListGet kind query body = sought kind (search_of kind (parameters_of query)) >>= λ s. Ok (searching s)
+asked form.SearchPost kind query body = sought_of kind (search_of_body kind body) >>= λ s. Ok (searching s)
+asked form.Create kind query body = draft_asked kind body >>= λ draft. lists_asked query >>= λ lists. Ok (creating draft lists)
+asked form.Remove kind query body = lists_asked query >>= λ lists. Ok removing
+asked form.Replace kind query body = Err NotSupported
+asked form.Patch kind query body = Err NotSupported
+
+-- an ask is what is asked
+abbrev pub IsAsk : Kind → Asked → Ask → Type 0
+IsAsk kind (showing lists) (Get wanted) = Wants kind lists wanted
+IsAsk kind (searching s) (Search query) = IsQuery kind s query
+IsAsk kind (creating draft lists) (Create d wanted) = (d ≡ draft) × Wants kind lists wanted
+IsAsk kind removing Remove = ⊤
+IsAsk kind _ _ = ⊥
+
+-- what is to be answered for a route and a body
+abbrev pub Asks : Route → List ℕ → Result Ask Refusal → Type 0
+Asks route body result = Tells (IsAsk route.kind) (asked route.form route.kind (option_copied route.query) body) result
