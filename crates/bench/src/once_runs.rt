@@ -1,7 +1,6 @@
 //! One GET over a users file, beside what serde_json takes to read the file.
-use crate::documents::users_file;
-use crate::timing::{fastest, ratio};
 use anyhow::{Result, ensure};
+use bench_values::{fastest, ratio, users_file};
 use scim_cell::Id;
 use scim_command::{Setting, once};
 use scim_samples::BASE;
@@ -66,12 +65,7 @@ fn measure(
 /// [`measure`].
 fn measure_users(rt: &impl Clock, alloc: Global, users: usize) -> Result<(u128, u128)> {
     let file = users_file(alloc, users)?;
-    let setting = Setting {
-        policy: POLICY,
-        users: file.as_str(),
-        client: "reader",
-        base: BASE,
-    };
+    let setting = Setting::new(POLICY, file.as_str(), "reader", BASE);
     measure_setting(rt, alloc, &setting, users)
 }
 

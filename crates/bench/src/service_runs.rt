@@ -1,7 +1,6 @@
 //! What turns of a service over a store in memory take, by how many users it has; and what bodies take.
-use crate::filters::samples::id_of;
-use crate::timing::{fastest, ratio};
 use anyhow::{Result, bail, ensure};
+use bench_values::{fastest, id_of, ratio};
 use scim_cell::Text;
 use scim_filter::{Filter, read_filter};
 use scim_json::{Draft, UseFor, read_body};

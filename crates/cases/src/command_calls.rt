@@ -1,10 +1,9 @@
 //! The calls of `scim_command`.
-use crate::arguments::said;
-use crate::case::Case;
-use crate::faults::CaseFault;
+use case_values::{Case, CaseFault, said};
 use clap::ArgMatches;
 use scim_command::{CommandFault, OnceFault, OnceOptions, Setting, command, once};
 use scim_samples::{BASE, POLICY, USERS};
+use scim_text::print_moment;
 use serde_json::Value;
 use std::alloc::Global;
 
@@ -20,12 +19,12 @@ pub fn answer(case: &Case<'_>, call: &str) -> Option<Result<String, CaseFault>> 
 
 /// What is written behind `before`, and the line of the fault where there is one.
 fn once_call(case: &Case<'_>) -> Result<String, CaseFault> {
-    let setting = Setting {
-        policy: case.text_or("policy", POLICY),
-        users: case.text_or("users", USERS),
-        client: case.text_or("client", "hr"),
-        base: case.text_or("base", BASE),
-    };
+    let setting = Setting::new(
+        case.text_or("policy", POLICY),
+        case.text_or("users", USERS),
+        case.text_or("client", "hr"),
+        case.text_or("base", BASE),
+    );
     once_text(case, &setting)
 }
 
@@ -74,13 +73,24 @@ fn matches_text(alloc: Global, matches: &ArgMatches<'_>) -> Result<String, CaseF
     let Some(("once", matches)) = matches.subcommand() else {
         return said(alloc, "no command");
     };
-    match OnceOptions::of(matches) {
-        Ok(options) => Ok(format!(in alloc;
-            "policy {}, users {}, client {}, base {}",
-            options.policy, options.users, options.client, options.base
-        )?),
+    match OnceOptions::of(alloc, matches) {
+        Ok(options) => options_text(alloc, &options),
         Err(fault) => line_and_status(alloc, &fault),
     }
+}
+
+fn options_text(alloc: Global, options: &OnceOptions<'_>) -> Result<String, CaseFault> {
+    let at = print_moment(alloc, options.at)?;
+    let first = options.first.text(alloc)?;
+    Ok(format!(in alloc;
+        "policy {}, users {}, client {}, base {}, at {}, first {}",
+        options.policy,
+        options.users,
+        options.client,
+        options.base,
+        at.as_str(),
+        first.as_str()
+    )?)
 }
 
 /// The line that tells a fault, and the exit status.

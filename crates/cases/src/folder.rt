@@ -4,7 +4,7 @@ use std::alloc::Global;
 use std::fs;
 use std::rt::Files;
 
-/// The names of the files of cases, in order: those that end in `.jsonl`.
+/// The names of the files of cases, in order: those that end in `.jsonl` or `.json`.
 pub fn case_files<R: Files + AllocGlobal + Clone + Drop>(
     rt: &R,
     alloc: Global,
@@ -13,8 +13,9 @@ pub fn case_files<R: Files + AllocGlobal + Clone + Drop>(
     let mut names = Vec::new(alloc);
     for entry in fs::read_dir(rt, folder)? {
         let entry = entry?;
-        if entry.file_name().ends_with(".jsonl") {
-            names.push(String::from_str(alloc, entry.file_name())?)?;
+        let name = entry.file_name();
+        if name.ends_with(".jsonl") || name.ends_with(".json") {
+            names.push(String::from_str(alloc, name)?)?;
         }
     }
     names.sort_unstable();

@@ -1,39 +1,27 @@
 //! `cases`: examples as data. Each line of a folder's `.jsonl` files names a call, its arguments and what must
-//! come; the program makes the call, prints each difference, and last how many cases came as they are written.
+//! come, and each item of its `.json` files holds whole requests with their replies. The program makes the calls, prints
+//! each difference, and last how many cases came as they are written.
 //!
 //! The exit status is 0 where all came so, 1 where one did not, and 2 where there is no case or a file can't be
 //! read.
 #![tactic(auto)]
 
-mod arguments;
-mod audit_calls;
-mod body_calls;
-mod case;
-mod cell_calls;
 mod command_calls;
+mod exchange_calls;
 mod faults;
-mod filter_calls;
 mod folder;
-mod json_calls;
-mod path_calls;
-mod policy_calls;
-mod query_calls;
+mod outcomes;
 mod route_calls;
-mod row_tests;
-mod samples_calls;
-mod schema_calls;
 mod service_calls;
 mod tally;
-mod text_calls;
 mod token_calls;
-mod value_calls;
 mod vectors;
-mod view_calls;
 mod wire_calls;
 
-use crate::case::Case;
-use crate::faults::{CaseFault, FolderFault};
+use crate::faults::FolderFault;
 use crate::tally::Tally;
+use case_values::{Case, CaseFault};
+use serde_json::Value;
 use std::alloc::Global;
 use std::env;
 use std::io::Print;
@@ -72,8 +60,43 @@ fn folder_named(rt: &HostRuntime) -> Result<String, FolderFault> {
     folder.ok_or(FolderFault::NoFolder)
 }
 
-/// Goes through the lines of a file; empty ones and those that begin with `#` are no cases.
+/// Goes through the cases of a file: the items of a JSON list, where its name ends in `.json`, else its lines.
 fn go_through(
+    rt: &impl Print,
+    alloc: Global,
+    file: &str,
+    text: &str,
+    tally: &mut Tally,
+) -> Result<(), FolderFault> {
+    if file.ends_with(".json") {
+        go_through_list(rt, alloc, file, text, tally)
+    } else {
+        go_through_lines(rt, alloc, file, text, tally)
+    }
+}
+
+/// Goes through the items of a JSON list, which are counted from 1 as lines are. A text that is no JSON list is a case
+/// that doesn't come as it is written.
+fn go_through_list(
+    rt: &impl Print,
+    alloc: Global,
+    file: &str,
+    text: &str,
+    tally: &mut Tally,
+) -> Result<(), FolderFault> {
+    let Ok(Value::Array(values)) = Value::from_str(alloc, text) else {
+        let outcome = outcomes::no_json(alloc, "a JSON list", file)?;
+        return tally.take(rt, file, 0, &outcome);
+    };
+    for (index, value) in values.iter().enumerate() {
+        let outcome = outcomes::outcome_of(alloc, value)?;
+        tally.take(rt, file, index, &outcome)?;
+    }
+    Ok(())
+}
+
+/// Goes through the lines of a file; empty ones and those that begin with `#` are no cases.
+fn go_through_lines(
     rt: &impl Print,
     alloc: Global,
     file: &str,
@@ -82,7 +105,7 @@ fn go_through(
 ) -> Result<(), FolderFault> {
     for (index, line) in text.lines().enumerate() {
         if !line.is_empty() && !line.starts_with('#') {
-            let outcome = case::make(alloc, line)?;
+            let outcome = outcomes::make(alloc, line)?;
             tally.take(rt, file, index, &outcome)?;
         }
     }
@@ -92,66 +115,39 @@ fn go_through(
 /// What the call of a case gives, as text.
 fn answer(case: &Case<'_>) -> Result<String, CaseFault> {
     let call = case.call()?;
+    if call == "steps" {
+        return exchange_calls::answered(case);
+    }
+    if let Some(found) = case_values::answer(case, call) {
+        return found;
+    }
+    if let Some(found) = case_filters::answer(case, call) {
+        return found;
+    }
+    if let Some(found) = case_policies::answer(case, call) {
+        return found;
+    }
+    service_answer(case, call)
+}
+
+/// What the call gives, if it is one of the crates of messages and of the service, or asks what is said of a file.
+fn service_answer(case: &Case<'_>, call: &str) -> Result<String, CaseFault> {
     if let Some(found) = vectors::answer(case, call) {
         return found;
     }
-    if let Some(found) = samples_calls::answer(case, call) {
-        return found;
-    }
-    if let Some(found) = text_calls::answer(case, call) {
-        return found;
-    }
-    if let Some(found) = schema_calls::answer(case, call) {
-        return found;
-    }
-    if let Some(found) = command_calls::answer(case, call) {
-        return found;
-    }
-    if let Some(found) = cell_calls::answer(case, call) {
-        return found;
-    }
-    if let Some(found) = value_calls::answer(case, call) {
-        return found;
-    }
-    if let Some(found) = json_calls::answer(case, call) {
-        return found;
-    }
-    if let Some(found) = wire_calls::answer(case, call) {
-        return found;
-    }
-    if let Some(found) = filter_calls::answer(case, call) {
-        return found;
-    }
-    if let Some(found) = path_calls::answer(case, call) {
-        return found;
-    }
-    if let Some(found) = query_calls::answer(case, call) {
-        return found;
-    }
-    if let Some(found) = policy_calls::answer(case, call) {
-        return found;
-    }
-    if let Some(found) = view_calls::answer(case, call) {
-        return found;
-    }
-    if let Some(found) = audit_calls::answer(case, call) {
-        return found;
-    }
-    later_answer(case, call)
-}
-
-/// What the call gives, if it is one of a body, of tokens, of routes or of the service.
-fn later_answer(case: &Case<'_>, call: &str) -> Result<String, CaseFault> {
     if let Some(found) = token_calls::answer(case, call) {
         return found;
     }
     if let Some(found) = route_calls::answer(case, call) {
         return found;
     }
-    if let Some(found) = body_calls::answer(case, call) {
+    if let Some(found) = wire_calls::answer(case, call) {
         return found;
     }
     if let Some(found) = service_calls::answer(case, call) {
+        return found;
+    }
+    if let Some(found) = command_calls::answer(case, call) {
         return found;
     }
     Err(CaseFault::NoSuchCall)

@@ -1,6 +1,5 @@
 //! The calls of `scim_route`.
-use crate::case::Case;
-use crate::faults::CaseFault;
+use case_values::{Case, CaseFault};
 use scim_cell::{Id, Text};
 use scim_route::{Found, Page, Parameters, Route, find};
 use scim_text::{Failed, NoMemory};

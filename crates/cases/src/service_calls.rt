@@ -1,9 +1,7 @@
 //! The calls of `scim_service`, over a shelf in memory.
-use crate::case::Case;
-use crate::faults::CaseFault;
-use crate::policy_calls::policy;
-use crate::query_calls::query_of;
-use crate::view_calls::wanted;
+use case_filters::{body_kind, use_for};
+use case_policies::{policy, query_of, wanted};
+use case_values::{Case, CaseFault, text_or_json};
 use scim_audit::{AuditRow, Refusal, print_row};
 use scim_cell::{Id, Text};
 use scim_json::{BodyFault, read_body, read_documents};
@@ -43,15 +41,17 @@ fn run_call(case: &Case<'_>) -> Result<String, CaseFault> {
     told_of_run(case, &mut service)
 }
 
-fn service_by(case: &Case<'_>, policy: Policy) -> Result<Service<MemoryShelf>, CaseFault> {
-    let base = Text::copy_of(case.alloc, BASE)?;
+/// A service by this policy over the argument `users`, below the argument `base`.
+pub fn service_by(case: &Case<'_>, policy: Policy) -> Result<Service<MemoryShelf>, CaseFault> {
+    let base = Text::copy_of(case.alloc, case.text_or("base", BASE))?;
     let shelf = shelf_of(case)?;
     Ok(Service::new(policy, base, shelf))
 }
 
-/// A shelf of the argument `users`, the text of a users file; of the sample users and groups where it isn't given.
+/// A shelf of the argument `users`, a users file; of the sample users and groups where it isn't given.
 fn shelf_of(case: &Case<'_>) -> Result<MemoryShelf, CaseFault> {
-    match read_documents(case.alloc, BASE, case.text_or("users", USERS)) {
+    let users = text_or_json(case, "users", USERS)?;
+    match read_documents(case.alloc, case.text_or("base", BASE), users.as_str()) {
         Ok(resources) => Ok(MemoryShelf::new(case.alloc, resources)?),
         Err(_) => Err(CaseFault::Missing("users")),
     }
@@ -66,7 +66,7 @@ fn told_of_turns(case: &Case<'_>, service: &mut Service<MemoryShelf>) -> Result<
         };
         push_answer(&turn, service, &mut text)?;
     }
-    push_rows(case.alloc, service.shelf().audit(), &mut text)?;
+    push_rows(case.alloc, service.shelf().audit(), 0, &mut text)?;
     Ok(text)
 }
 
@@ -97,7 +97,7 @@ fn told_of_replies(
     for reply in replies {
         push_reply(reply, &mut text)?;
     }
-    push_rows(alloc, rows, &mut text)?;
+    push_rows(alloc, rows, 0, &mut text)?;
     Ok(text)
 }
 
@@ -122,9 +122,14 @@ fn push_reply(reply: &Reply, text: &mut String) -> Result<(), CaseFault> {
     Ok(())
 }
 
-/// Adds the lines of the audit.
-fn push_rows(alloc: Global, rows: &[AuditRow], text: &mut String) -> Result<(), CaseFault> {
-    for (index, row) in rows.iter().enumerate() {
+/// Adds the lines of the audit behind the first `known`.
+pub fn push_rows(
+    alloc: Global,
+    rows: &[AuditRow],
+    known: usize,
+    text: &mut String,
+) -> Result<(), CaseFault> {
+    for (index, row) in rows.iter().enumerate().skip(known) {
         let line = print_row(alloc, index as u64 + 1, row)?;
         text.push_str(line.as_str())?;
         text.push(';')?;
@@ -180,8 +185,8 @@ fn create_of(case: &Case<'_>) -> Result<Result<Ask, Refusal>, CaseFault> {
     let wanted = wanted(case)?;
     match read_body(
         case.alloc,
-        case.body_kind(),
-        case.use_for(),
+        body_kind(case),
+        use_for(case),
         case.text("body")?,
     ) {
         Ok(draft) => Ok(Ok(Ask::Create(draft, wanted))),

@@ -1,6 +1,6 @@
 //! How many cases there were, and how many came as they are written.
-use crate::case::Outcome;
 use crate::faults::FolderFault;
+use crate::outcomes::Outcome;
 use std::io::Print;
 use std::process::ExitCode;
 

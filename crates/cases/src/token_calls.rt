@@ -1,7 +1,5 @@
 //! The calls of `scim_token`.
-use crate::arguments::said;
-use crate::case::Case;
-use crate::faults::CaseFault;
+use case_values::{Case, CaseFault, said};
 use scim_text::{Failed, NoMemory};
 use scim_token::Tokens;
 use std::alloc::Global;

@@ -1,8 +1,6 @@
 //! Lines that hold a file's text and what is said of it, in place of a call.
-use crate::arguments::said;
-use crate::case::Case;
-use crate::faults::CaseFault;
-use crate::policy_calls::count_text;
+use case_policies::count_text;
+use case_values::{Case, CaseFault, said};
 use scim_json::{DamagedItem, read_documents};
 use scim_policy::read_policy;
 use scim_samples::BASE;

@@ -1,2 +1,2 @@
 pub mod AnswerLemmas
-pub mod IdLemmas
+pub mod InputLemmas

@@ -1,5 +1,4 @@
-pub mod Requests
-pub mod Replies
+pub mod Inputs
 pub mod Once
 pub mod Faults
 pub mod code

@@ -1,28 +1,48 @@
 -- What `once` writes for what it reads.
-use Rattle.std.specs.Prelude.{◌≡◌, ◌⊎◌, ℕ, List, Ok, IsOk}
+use Rattle.std.specs.Prelude.{◌≡◌, ◌⊎◌, ⊤, ℕ, true, false, List, Some, Result, Ok, Err, IsOk}
+use Rattle.scim_audit.specs.declared.refusals.Refusal.{Refusal}
+use Rattle.scim_audit.specs.declared.refusals.Refusal.TheVariants.{Store as NoStore}
 use Rattle.scim_cell.specs.Content.{Content}
 use Rattle.scim_json.specs.Documents.{IsDocumentsText}
 use Rattle.scim_policy.specs.Rules.{Rule}
 use Rattle.scim_policy.specs.File.{policy_of}
-use Rattle.scim_view.specs.View.{Viewer}
-use Rattle.scim_shelf.specs.Stores.{Store as ShelfStore, IsNewStore}
-use Rattle.scim_wire.specs.declared.heads.Head.{Head}
-use Rattle.scim_wire.specs.Streams.{OpensWith, OpensBadly}
-use Rattle.scim_audit.specs.declared.refusals.Refusal.TheVariants.{BadHead, Store}
+use Rattle.scim_shelf.specs.Stores.{Store, IsNewStore}
+use Rattle.scim_wire.specs.declared.messages.Message.{Message}
+use Rattle.scim_exchange.specs.declared.answers.Answer.{Answer}
+use Rattle.scim_exchange.specs.declared.exchanges.Arrival.{Arrival}
+use Rattle.scim_exchange.specs.Replies.{refusal_text, answer_text}
+use Rattle.scim_exchange.specs.Exchanges.{Exchanged}
 use Rattle.scim_command.specs.declared.run_once.Setting.{Setting}
-use Rattle.scim_command.specs.Replies.{refusal_text, IsReplyTo}
+use Rattle.scim_command.specs.Inputs.{OpensWith}
 
 -- the text is a users file of resources below the base, of which this is a new store
-pub record IsStoreOf (base text : List ℕ) (store : ShelfStore) : Type 0 where
+pub record IsStoreOf (base text : List ℕ) (store : Store) : Type 0 where
   pub resources : List Content
   pub documents : IsDocumentsText base text resources
   pub is_new : IsNewStore resources store
 
--- the text is the answer to an input, over a store: the reply to the head that it opens with, or the refusal of what is no head; or that of want of memory
-abbrev pub IsAnswer : Viewer → ShelfStore → List ℕ → List ℕ → Type 0
-IsAnswer v store input text =
-    ((head : Head) × OpensWith input head × IsReplyTo v store head text)
-    ⊎ ((OpensBadly input × (text ≡ refusal_text BadHead)) ⊎ (text ≡ refusal_text Store))
+-- the message is the client's, whatever token it has, and comes at the moment that is given, with the id for what it creates
+abbrev pub arrival_of : Setting → Arrival
+arrival_of s = record { client = Some s.client; moment = s.at; fresh = s.first }
+
+-- the text is that of the answer to a message that arrives so, by the policy, over a store of resources below the base; a
+-- turn may fail for whatever cause
+abbrev pub IsReplyTo : List Rule → List ℕ → Arrival → Store → Message → List ℕ → Type 0
+IsReplyTo policy base arrival store message text =
+    (answer : Answer) × (next : Store)
+    × Exchanged policy base (λ _. ⊤) arrival message store answer next
+    × (text ≡ answer_text answer message.close)
+
+-- the text is the reply to what an input asks first: to a message, or a refusal in its place, after which nothing is read
+abbrev pub IsReplyToFirst : List Rule → List ℕ → Arrival → Store → Result Message Refusal → List ℕ → Type 0
+IsReplyToFirst policy base arrival store (Ok message) text = IsReplyTo policy base arrival store message text
+IsReplyToFirst policy base arrival store (Err refusal) text = text ≡ refusal_text refusal true
+
+-- the text is the answer to an input: the reply to what it asks first, or the refusal of want of memory
+abbrev pub IsAnswer : List Rule → List ℕ → Arrival → Store → List ℕ → List ℕ → Type 0
+IsAnswer policy base arrival store input text =
+    ((first : Result Message Refusal) × OpensWith input first × IsReplyToFirst policy base arrival store first text)
+    ⊎ (text ≡ refusal_text NoStore false)
 
 -- both files are sound: a policy file, and a users file of resources below the base
 pub record AreSound (s : Setting) : Type 0 where
@@ -30,10 +50,10 @@ pub record AreSound (s : Setting) : Type 0 where
   pub resources : List Content
   pub users : IsDocumentsText s.base.now s.users.now resources
 
--- the text is the answer to an input by the two files, for the client
+-- the text is the answer to an input by the two files
 pub record Answers (s : Setting) (input text : List ℕ) : Type 0 where
   pub policy : List Rule
-  pub store : ShelfStore
+  pub store : Store
   pub allows : policy_of s.policy.now ≡ Ok policy
   pub holds : IsStoreOf s.base.now s.users.now store
-  pub answer : IsAnswer (record { policy = policy; client = s.client.now; base = s.base.now }) store input text
+  pub answer : IsAnswer policy s.base.now (arrival_of s) store input text

@@ -5,9 +5,8 @@
 mod answers;
 mod command_faults;
 mod faults;
+mod inputs;
 mod options;
-mod replies;
-mod requests;
 mod run_once;
 
 pub use command_faults::CommandFault;

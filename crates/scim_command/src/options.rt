@@ -1,11 +1,20 @@
 //! The command line.
 use crate::command_faults::CommandFault;
+use crate::faults::OnceFault;
 use clap::{Arg, ArgMatches, Command};
+use scim_cell::Id;
 use scim_policy::is_client_name;
+use scim_text::{Moment, read_printed_moment};
 use std::alloc::{AllocError, Global};
 
 /// That below which resources stand where nothing else is said.
 const DEFAULT_BASE: &str = "http://127.0.0.1:8080";
+
+/// When the request comes where nothing else is said.
+const DEFAULT_MOMENT: &str = "1970-01-01T00:00:00Z";
+
+/// The id for what the request creates where nothing else is said.
+const DEFAULT_ID: &str = "00000000-0000-0000-0000-000000000000";
 
 /// The version of the program.
 const VERSION: &str = "0.1.0";
@@ -21,6 +30,10 @@ pub struct OnceOptions<'a> {
     pub client: &'a str,
     /// That below which resources stand.
     pub base: &'a str,
+    /// When the request comes.
+    pub at: Moment,
+    /// The id for the resource that the request may create.
+    pub first: Id,
 }
 
 /// The command line that is understood. AllocError where no memory was to be had.
@@ -45,7 +58,27 @@ fn once_command<'a>(alloc: Global) -> Result<Command<'a>, AllocError> {
         .arg(required(alloc, "policy", "FILE", policy))?
         .arg(required(alloc, "users", "FILE", users))?
         .arg(required(alloc, "client", "NAME", client))?
-        .arg(base(alloc))
+        .arg(with_default(
+            alloc,
+            "base",
+            "URL",
+            DEFAULT_BASE,
+            "That below which the resources stand",
+        ))?
+        .arg(with_default(
+            alloc,
+            "at",
+            "MOMENT",
+            DEFAULT_MOMENT,
+            "When the request comes",
+        ))?
+        .arg(with_default(
+            alloc,
+            "first",
+            "UUID",
+            DEFAULT_ID,
+            "The id of the resource that the request creates",
+        ))
 }
 
 /// An option that has to be given.
@@ -57,31 +90,48 @@ fn required<'a>(alloc: Global, name: &'a str, value_name: &'a str, help: &'a str
         .required(true)
 }
 
-fn base<'a>(alloc: Global) -> Arg<'a> {
-    Arg::new(alloc, "base")
-        .long("base")
-        .value_name("URL")
-        .help("That below which the resources stand")
-        .default_value(DEFAULT_BASE)
+/// An option that has a value where it isn't given.
+fn with_default<'a>(
+    alloc: Global,
+    name: &'a str,
+    value_name: &'a str,
+    value: &'a str,
+    help: &'a str,
+) -> Arg<'a> {
+    Arg::new(alloc, name)
+        .long(name)
+        .value_name(value_name)
+        .help(help)
+        .default_value(value)
 }
 
 impl<'a> OnceOptions<'a> {
-    /// The options of `once`; BadOption where the client's name can be none.
-    pub fn of(matches: &ArgMatches<'a>) -> Result<OnceOptions<'a>, CommandFault> {
-        let options = OnceOptions {
+    /// The options of `once`; BadOption where the client's name can be none, or where the moment or the id isn't in the
+    /// form in which the server prints it.
+    pub fn of(alloc: Global, matches: &ArgMatches<'a>) -> Result<OnceOptions<'a>, CommandFault> {
+        let client = text_of(matches, "client")?;
+        if !is_client_name(client) {
+            return Err(CommandFault::BadOption);
+        }
+        Ok(OnceOptions {
             policy: text_of(matches, "policy")?,
             users: text_of(matches, "users")?,
-            client: text_of(matches, "client")?,
+            client,
             base: text_of(matches, "base")?,
-        };
-        if is_client_name(options.client) {
-            Ok(options)
-        } else {
-            Err(CommandFault::BadOption)
-        }
+            at: moment_of(alloc, text_of(matches, "at")?)?,
+            first: Id::read(text_of(matches, "first")?).ok_or(CommandFault::BadOption)?,
+        })
     }
 }
 
 fn text_of<'a>(matches: &ArgMatches<'a>, name: &str) -> Result<&'a str, CommandFault> {
     matches.get_str(name).ok_or(CommandFault::BadOption)
+}
+
+fn moment_of(alloc: Global, text: &str) -> Result<Moment, CommandFault> {
+    match read_printed_moment(alloc, text) {
+        Ok(Some(moment)) => Ok(moment),
+        Ok(None) => Err(CommandFault::BadOption),
+        Err(_) => Err(CommandFault::Once(OnceFault::NoMemory)),
+    }
 }

@@ -1,30 +1,34 @@
 //! `once`: one request, answered over a users file in memory.
-ghost use Rattle.std.specs.Prelude.{◌≡◌, ◌≢◌, ℕ, List, Err, IsOk, IfOk, IfErr, IfSome, OnOk, OnErr};
+ghost use Rattle.std.specs.Prelude.{◌≡◌, ◌≢◌, ℕ, false, List, Err, IsOk, IfOk, IfErr, IfSome, OnOk, OnErr};
 ghost use Rattle.std.specs.Io.KnownBytes.{Appends};
 ghost use Rattle.scim_json.specs.Documents.{IsDamagedAt};
 ghost use Rattle.scim_policy.specs.File.{policy_of};
 ghost use Rattle.scim_policy.specs.declared.faults.Cause.{Cause};
 ghost use Rattle.scim_shelf.specs.Stores.{Store, IsStore};
-ghost use Rattle.scim_wire.specs.Streams.{IsUnended, AppendsFront};
+ghost use Rattle.scim_wire.specs.Streams.{AppendsFront};
 ghost use Rattle.scim_command.specs.declared.faults.OnceFault.{OnceFault};
 ghost use Rattle.scim_audit.specs.declared.refusals.Refusal.{Refusal};
-ghost use Rattle.scim_command.specs.Replies.{refusal_text};
+ghost use Rattle.uuid.specs.Parts.{zero_bytes};
+ghost use Rattle.scim_exchange.specs.Replies as replies;
+ghost use Rattle.scim_command.specs.Inputs.{IsUnended};
 ghost use Rattle.scim_command.specs.code.Exits.{IsOfFiles, IsOfUsers, IsOfInput, text_or_store};
 ghost use Rattle.scim_command.specs.Once.{Answers, AreSound, IsStoreOf, IsAnswer};
 
-use crate::answers::answer;
+use crate::answers::{refusal_text, reply_text};
 use crate::faults::OnceFault;
-use crate::replies::refusal_text;
+use crate::inputs::{InputFault, read_first};
 use scim_audit::Refusal;
-use scim_cell::Text;
+use scim_cell::{Id, Text};
+use scim_exchange::Arrival;
 use scim_json::read_documents;
 use scim_policy::read_policy;
 use scim_service::Service;
 use scim_shelf::{MemoryShelf, Shelf};
-use scim_text::{Failed, NoMemory};
-use scim_wire::{Head, HeadFault, read_head, write_text};
+use scim_text::{Failed, Moment, NoMemory};
+use scim_wire::write_text;
 use std::alloc::Global;
 use std::io::{Read, Write};
+use uuid::Uuid;
 
 /// What a request is answered by.
 #[derive(Clone, Copy, Debug)]
@@ -37,18 +41,44 @@ pub struct Setting<'a> {
     pub client: &'a str,
     /// That below which resources stand, as `http://127.0.0.1:8080`.
     pub base: &'a str,
+    /// When the message comes.
+    pub at: Moment,
+    /// The id of the resource that it creates, if it creates one.
+    pub first: Id,
 }
 
-/// Reads the head of one request and writes its reply, and nothing else.
+impl<'a> Setting<'a> {
+    /// The message comes at the first moment, and the id for what it creates is the nil one.
+    pub fn new(policy: &'a str, users: &'a str, client: &'a str, base: &'a str) -> Setting<'a>
+        ensures texts { (result.policy.now ≡ policy.now) × (result.users.now ≡ users.now) × (result.client.now ≡ client.now) × (result.base.now ≡ base.now) }
+        ensures at { result.at ≡ 0 }
+        ensures first { result.first ≡ zero_bytes }
+    {
+        Setting {
+            policy,
+            users,
+            client,
+            base,
+            at: first_moment(),
+            first: Id::of(Uuid::nil()),
+        }
+    }
+}
+
+fn first_moment() -> Moment
+    ensures { result ≡ 0 }
+{
+    Moment::new(0).unwrap()
+}
+
+/// Reads one message and writes its reply, and nothing else.
 ///
-/// The reply to a GET of `/Users/{id}` or `/Groups/{id}` shows the cells of the resource that the policy
-/// lets the client read, or says 404 where there is no such resource or the client doesn't see it: it
-/// can't tell which (RFC 7644 sections 3.4.1 and 3.12). The `groups` of a user are the groups of the file,
-/// in order of id, that the client sees to have it as a member (RFC 7643 section 4.1.2). What is no head
-/// is answered 400, any other head 404, and want of memory 500. The body of the request isn't read.
+/// The message is the client's, whatever token it has: it asks for a page of discovery, or for what
+/// [`scim_exchange::answer`] says, which the policy decides on. What comes in place of a message is refused, and the
+/// connection said to be closed; want of memory is answered 500. No 100 (Continue) is written.
 ///
 /// Policy, where the policy file is faulty; else Users, where the users file is damaged; else
-/// InputEnded, where the head doesn't end, and InputFailed, where a read fails. These write nothing.
+/// InputEnded, where the message doesn't end, and InputFailed, where a read fails. These write nothing.
 /// Output, where a write fails: then a front of the reply has been written, perhaps none or all of it, and
 /// nothing else. NoMemory where none was to be had for the files; it writes nothing.
 pub fn once<R: Read, W: Write>(
@@ -77,8 +107,13 @@ pub fn once<R: Read, W: Write>(
     ensures silent { IfErr result (λ f. f ≢ OnceFault.Output → writer.new ≡ writer.old) }
 {
     let mut service = service_over(alloc, setting)?;
-    let store = refusal_text(alloc, Refusal::Store)?;
-    let reply = reply_to(alloc, setting.client, &mut service, reader)?;
+    let store = refusal_text(alloc, Refusal::Store, false)?;
+    let arrival = Arrival {
+        client: Some(setting.client),
+        moment: setting.at,
+        fresh: setting.first,
+    };
+    let reply = reply_to(alloc, &mut service, &arrival, reader)?;
     write_reply(reply, store.as_str(), writer)
 }
 
@@ -104,28 +139,28 @@ fn service_over(alloc: Global, setting: &Setting<'_>) -> Result<Service<MemorySh
     Ok(Service::new(policy, base, shelf))
 }
 
-/// The reply to the request whose head the reader opens with; NoMemory in it stands for the reply that
+/// The reply to the message that the reader opens with; NoMemory in it stands for the reply that
 /// says so.
 ///
-/// InputEnded, where the head doesn't end; InputFailed, where a read fails.
+/// InputEnded, where the message doesn't end; InputFailed, where a read fails.
 fn reply_to<R: Read>(
     alloc: Global,
-    client: &str,
     service: &mut Service<MemoryShelf>,
+    arrival: &Arrival<'_>,
     reader: &mut R,
 ) -> Result<Result<String, NoMemory>, OnceFault>
     ensures answer { (store : Store) → ⟦<MemoryShelf as Shelf>⟧.stands service.old.shelf store → IsStore service.old.base store
         → IfOk result (λ reply. IfSome (R.remaining reader.old) (λ input.
-        IsAnswer (record { policy = service.old.policy; client = client.now; base = service.old.base }) store input (text_or_store reply))) }
+        IsAnswer service.old.policy service.old.base arrival.now store input (text_or_store reply))) }
     ensures ended { result ≡ Err OnceFault.InputEnded → IfSome (R.remaining reader.old) IsUnended }
     ensures fault { IfErr result IsOfInput }
 {
-    match read_head(alloc, reader) {
-        Ok(head) => Ok(answer(alloc, client, service, &head)),
+    match read_first(alloc, reader) {
+        Ok(Ok(message)) => Ok(reply_text(alloc, service, arrival, &message)),
+        Ok(Err(refusal)) => Ok(refusal_text(alloc, refusal, true)),
         Err(Failed::NoMemory) => Ok(Err(NoMemory)),
-        Err(Failed::Because(HeadFault::BadHead)) => Ok(refusal_text(alloc, Refusal::BadHead)),
-        Err(Failed::Because(HeadFault::Ended)) => Err(OnceFault::InputEnded),
-        Err(Failed::Because(HeadFault::ReadFailed)) => Err(OnceFault::InputFailed),
+        Err(Failed::Because(InputFault::Ended)) => Err(OnceFault::InputEnded),
+        Err(Failed::Because(InputFault::ReadFailed)) => Err(OnceFault::InputFailed),
     }
 }
 
@@ -137,9 +172,9 @@ fn write_reply<W: Write>(
     store: &str,
     writer: &mut W,
 ) -> Result<(), OnceFault>
-    ensures whole { store.now ≡ refusal_text Refusal.Store
+    ensures whole { store.now ≡ replies.refusal_text Refusal.Store false
         → OnOk result (Appends (W.contents writer.old) (W.contents writer.new) (text_or_store reply)) }
-    ensures front { store.now ≡ refusal_text Refusal.Store
+    ensures front { store.now ≡ replies.refusal_text Refusal.Store false
         → OnErr result (AppendsFront (W.contents writer.old) (W.contents writer.new) (text_or_store reply)) }
     ensures fault { IfErr result (λ f. f ≡ OnceFault.Output) }
 {

@@ -16,12 +16,7 @@ const REPLY: &str =
 
 /// What comes of a request over a users file without users.
 fn answer<R: Read>(alloc: Global, reader: &mut R, writer: &mut Stutter) -> Result<(), OnceFault> {
-    let setting = Setting {
-        policy: POLICY,
-        users: "[]",
-        client: "hr",
-        base: BASE,
-    };
+    let setting = Setting::new(POLICY, "[]", "hr", BASE);
     once(alloc, &setting, reader, writer)
 }
 

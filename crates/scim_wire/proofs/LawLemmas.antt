@@ -3,11 +3,8 @@ use Rattle.std.proofs.Common.{◌≡◌, ℕ, ◌≤◌, ◌+◌, ◌⊎◌, Lis
 use Rattle.std.proofs.lemmas.List.{append-nil, append_assoc, length-append, nil_from_length}
 use Rattle.std.proofs.lemmas.List.Sums.{count_by-le-length, sum_by-append}
 use Rattle.httparse.specs.Grammar.{LineEnd, crlf, lf, print_end, print_blank}
-use Rattle.httparse.proofs.GrammarLemmas.{request_unique}
-use Rattle.scim_wire.specs.declared.heads.Head.{Head}
 use Rattle.scim_wire.specs.Parts.{EndsHead, IsEmptyLine, IsHeadPart, IsHeadText, IsOverlong, feeds}
-use Rattle.scim_wire.specs.Heads.{ReadsAs, SaysNothing, head_of}
-use Rattle.scim_wire.specs.Streams.{Opens, IsOpening, OpensWith, OpensBadly, IsUnended}
+use Rattle.scim_wire.specs.Streams.{OpensThen, IsOpening}
 use Rattle.scim_wire.proofs.PartLemmas.{front_push}
 
 -- of two fronts of one list, one is a front of the other
@@ -73,14 +70,14 @@ begun_push part byte text split is_part whole front back e line = by_front (fron
     by_front (inl same) = whole (rw (same ∙ sym split) at line)
     by_front (inr (mid, s)) = is_part.begun front mid s line
 
-text_begun : (text after : List ℕ) → IsHeadText text → IsBegun (text ++ after)
+pub text_begun : (text after : List ℕ) → IsHeadText text → IsBegun (text ++ after)
 text_begun text after is = begun_more text after
     (begun_push is.part is.last text is.split is.is_part (λ line. line_no_end text line is.ends)) (ends_len text is.ends)
 
 over_len : (text : List ℕ) → IsOverlong text → 3 ≤ length text
 over_len text is = elim is.over [ inl many ↦ omega (arith, count_by-le-length (λ b. b == 10) text) | inr full ↦ omega (arith, full.0) ]
 
-overlong_begun : (text after : List ℕ) → IsOverlong text → IsBegun (text ++ after)
+pub overlong_begun : (text after : List ℕ) → IsOverlong text → IsBegun (text ++ after)
 overlong_begun text after is = begun_more text after
     (begun_push is.part is.last text is.split is.is_part (λ line. omega (arith, line_len text line, over_len text is))) (omega (arith, over_len text is))
 
@@ -100,33 +97,17 @@ head_cut t u (c ∷ m) is ends e =
     let found = within_part is.part is.last t c m (sym is.split ∙ e) in
     absurd (is.is_part.unended t found.0 found.1 ends)
 
-texts_unique : (t a u b : List ℕ) → IsHeadText t → IsHeadText u → t ++ a ≡ u ++ b → t ≡ u
+pub texts_unique : (t a u b : List ℕ) → IsHeadText t → IsHeadText u → t ++ a ≡ u ++ b → t ≡ u
 texts_unique t a u b is_t is_u e = by_front (two_fronts t a u b e)
   where
     by_front : ((m : List ℕ) × (u ≡ t ++ m) × (a ≡ m ++ b)) ⊎ ((m : List ℕ) × (t ≡ u ++ m) × (b ≡ m ++ a)) → t ≡ u
     by_front (inl (m, s, _)) = head_cut t u m is_u is_t.ends s
     by_front (inr (m, s, _)) = sym (head_cut u t m is_t is_u.ends s)
 
--- a head's text says one thing
-reads_unique : (text : List ℕ) (a b : Head) → ReadsAs text a → ReadsAs text b → a ≡ b
-reads_unique text a b (h, is, e) (k, at, f) = e ∙ ap head_of (request_unique text h k [] [] is.0 at.0).0 ∙ sym f
-
--- what opens with heads opens with one text of a head
-one_text : (P Q : List ℕ → Type 0) (s : List ℕ) (x : Opens P s) (y : Opens Q s) → IsHeadText x.text → IsHeadText y.text → x.text ≡ y.text
-one_text P Q s x y is_x is_y =
-    texts_unique x.text x.after y.text y.after is_x is_y
-    (blank_unique x.blank y.blank _ _ (text_begun x.text x.after is_x) (text_begun y.text y.after is_y) (sym x.split ∙ y.split))
-
-pub one_head : (input : List ℕ) (a b : Head) → OpensWith input a → OpensWith input b → a ≡ b
-one_head input a b x y =
-    let same : x.text ≡ y.text = one_text _ _ input x y x.is_text.0 y.is_text.0 in
-    let reads : ReadsAs y.text a = rw same at x.is_text.1 in
-    reads_unique y.text a b reads y.is_text.1
-
-text_not_unended : (P : List ℕ → Type 0) (s part : List ℕ) (x : Opens P s) → IsHeadText x.text → IsOpening s part → ⊥
-text_not_unended P s part x is y =
-    let e : x.text ++ x.after ≡ part = blank_unique x.blank y.blank _ _ (text_begun x.text x.after is) y.is_part.begun (sym x.split ∙ y.split) in
-    y.is_part.unended x.text x.after (sym e) is.ends
+pub text_not_unended : (P : List ℕ → Type 0) (s a part : List ℕ) (x : OpensThen P s a) → IsHeadText x.text → IsOpening s part → ⊥
+text_not_unended P s a part x is y =
+    let e : x.text ++ a ≡ part = blank_unique x.blank y.blank _ _ (text_begun x.text a is) y.is_part.begun (sym x.split ∙ y.split) in
+    y.is_part.unended x.text a (sym e) is.ends
 
 -- a front of a part passes no limit
 short_front : (part front back : List ℕ) → IsHeadPart part → part ≡ front ++ back → IsOverlong front → ⊥
@@ -134,16 +115,30 @@ short_front part front back is_part e is =
     let few : feeds part ≡ feeds front + feeds back = ap feeds e ∙ sum_by-append (λ b. cond (b == 10) 1 0) front back in
     elim is.over [ inl many ↦ omega (arith, few, is_part.few) | inr full ↦ omega (arith, full.0, ap length e, length-append front back, is_part.short) ]
 
-overlong_not_unended : (P : List ℕ → Type 0) (s part : List ℕ) (x : Opens P s) → IsOverlong x.text → IsOpening s part → ⊥
-overlong_not_unended P s part x is y =
-    let e : x.text ++ x.after ≡ part = blank_unique x.blank y.blank _ _ (overlong_begun x.text x.after is) y.is_part.begun (sym x.split ∙ y.split) in
-    short_front part x.text x.after y.is_part (sym e) is
+pub overlong_not_unended : (P : List ℕ → Type 0) (s a part : List ℕ) (x : OpensThen P s a) → IsOverlong x.text → IsOpening s part → ⊥
+overlong_not_unended P s a part x is y =
+    let e : x.text ++ a ≡ part = blank_unique x.blank y.blank _ _ (overlong_begun x.text a is) y.is_part.begun (sym x.split ∙ y.split) in
+    short_front part x.text a y.is_part (sym e) is
 
-not_both : (text : List ℕ) → IsHeadText text → IsOverlong text → ⊥
+pub not_both : (text : List ℕ) → IsHeadText text → IsOverlong text → ⊥
 not_both text is over = elim over.over [ inl many ↦ omega (arith, is.few) | inr full ↦ full.1 is.ends ]
 
+-- what is too long for a head goes on to nothing that is so first
+overlong_cut : (t u m : List ℕ) → IsOverlong t → IsOverlong u → u ≡ t ++ m → t ≡ u
+overlong_cut t u [] over is e = sym (e ∙ append-nil t)
+overlong_cut t u (c ∷ m) over is e =
+    let found = within_part is.part is.last t c m (sym is.split ∙ e) in
+    absurd (short_front is.part t found.0 is.is_part found.1 over)
+
+pub overlongs_unique : (t a u b : List ℕ) → IsOverlong t → IsOverlong u → t ++ a ≡ u ++ b → t ≡ u
+overlongs_unique t a u b is_t is_u e = by_front (two_fronts t a u b e)
+  where
+    by_front : ((m : List ℕ) × (u ≡ t ++ m) × (a ≡ m ++ b)) ⊎ ((m : List ℕ) × (t ≡ u ++ m) × (b ≡ m ++ a)) → t ≡ u
+    by_front (inl (m, s, _)) = overlong_cut t u m is_t is_u s
+    by_front (inr (m, s, _)) = sym (overlong_cut u t m is_u is_t s)
+
 -- of a head's text and what is too long for one, neither is a front of the other
-text_not_overlong : (t a u b : List ℕ) → IsHeadText t → IsOverlong u → t ++ a ≡ u ++ b → ⊥
+pub text_not_overlong : (t a u b : List ℕ) → IsHeadText t → IsOverlong u → t ++ a ≡ u ++ b → ⊥
 text_not_overlong t a u b is over e = by_front (two_fronts t a u b e)
   where
     same : (m : List ℕ) → t ≡ u ++ m → ⊥
@@ -161,25 +156,3 @@ text_not_overlong t a u b is over e = by_front (two_fronts t a u b e)
     by_front : ((m : List ℕ) × (u ≡ t ++ m) × (a ≡ m ++ b)) ⊎ ((m : List ℕ) × (t ≡ u ++ m) × (b ≡ m ++ a)) → ⊥
     by_front (inl (m, s, _)) = longer m s
     by_front (inr (m, s, _)) = same m s
-
-pub head_not_bad : (input : List ℕ) (a : Head) → OpensWith input a → OpensBadly input → ⊥
-head_not_bad input a x y = by_text y.is_text
-  where
-    by_text : (IsHeadText y.text × SaysNothing y.text) ⊎ IsOverlong y.text → ⊥
-    by_text (inl (whole, nothing)) =
-        let same : x.text ≡ y.text = one_text _ _ input x y x.is_text.0 whole in
-        let reads : ReadsAs y.text a = rw same at x.is_text.1 in
-        nothing reads.0 reads.1
-    by_text (inr over) =
-        text_not_overlong x.text x.after y.text y.after x.is_text.0 over
-        (blank_unique x.blank y.blank _ _ (text_begun x.text x.after x.is_text.0) (overlong_begun y.text y.after over) (sym x.split ∙ y.split))
-
-pub head_not_unended : (input : List ℕ) (a : Head) → OpensWith input a → IsUnended input → ⊥
-head_not_unended input a x y = text_not_unended _ input y.0 x x.is_text.0 y.1
-
-pub bad_not_unended : (input : List ℕ) → OpensBadly input → IsUnended input → ⊥
-bad_not_unended input x y = by_text x.is_text
-  where
-    by_text : (IsHeadText x.text × SaysNothing x.text) ⊎ IsOverlong x.text → ⊥
-    by_text (inl (whole, _)) = text_not_unended _ input y.0 x whole y.1
-    by_text (inr over) = overlong_not_unended _ input y.0 x over y.1

@@ -1,5 +1,9 @@
+pub mod BodyLemmas
 pub mod LawLemmas
+pub mod MessageLemmas
 pub mod PartLemmas
 pub mod StepLemmas
+pub mod WireLemmas
 pub mod WritingLemmas
 pub mod ReplyLemmas
+pub mod Facts

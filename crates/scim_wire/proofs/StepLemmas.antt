@@ -1,38 +1,30 @@
 -- What is kept of a stream, one byte further.
-use Rattle.std.proofs.Common.{◌≡◌, ℕ, ◌<◌, ◌≤◌, ◌+◌, ◌⊎◌, List, [], ◌∷◌, ◌++◌, length, refl, sym, ap, ◌∙◌, inl, inr, Option, Some, None, IfSome, Err, Bool, true, false, cond, eqb, subst, take, drop, get_or}
+use Rattle.std.proofs.Common.{◌≡◌, ℕ, ◌<◌, ◌≤◌, ◌+◌, ◌⊎◌, List, [], ◌∷◌, ◌++◌, length, refl, sym, ap, ◌∙◌, Bool, true, false, cond, eqb}
 use mir.Val.{bool_byte}
-use Rattle.std.proofs.lemmas.List.{append-nil, append_assoc, take_more, take-append-drop}
+use Rattle.std.proofs.lemmas.List.{append-nil, append_assoc}
 use Rattle.std.proofs.lemmas.List.Concat.{flat_map-append}
-use Rattle.std.specs.Io.KnownBytes.{Consumes}
 use Rattle.httparse.specs.Grammar.{LineEnd, print_end, print_blank}
-use Rattle.scim_text.specs.declared.memory.Failed.{Failed}
-use Rattle.scim_text.specs.declared.memory.Failed.TheVariants.{Because, NoMemory}
-use Rattle.scim_text.specs.Failures.{UnlessMemory}
-use Rattle.scim_wire.specs.declared.heads.BadHead.{BadHead}
-use Rattle.scim_wire.specs.Parts.{EndsHead, IsHeadText, IsEmptyLine, feeds}
-use Rattle.scim_wire.specs.Heads.{GivesHead}
-use Rattle.scim_wire.specs.Streams.{Opens, IsOpening, OpensBadly}
-use Rattle.scim_wire.specs.code.Steps.{Leads}
+use Rattle.scim_wire.specs.Parts.{EndsHead, IsHeadText, IsEmptyLine, IsOverlong, feeds}
+use Rattle.scim_wire.specs.Streams.{OpensThen, IsOpening}
 use Rattle.scim_wire.proofs.PartLemmas.{part_start, part_push, feeds_push}
 
 -- what opens bytes opens them whatever follows
-pub opens_more : (IsText : List ℕ → Type 0) (bytes more : List ℕ) → Opens IsText bytes → Opens IsText (bytes ++ more)
-opens_more IsText bytes more opens = record {
+pub then_more : (IsText : List ℕ → Type 0) (bytes after more : List ℕ) → OpensThen IsText bytes after → OpensThen IsText (bytes ++ more) (after ++ more)
+then_more IsText bytes after more opens = record {
   blank = opens.blank;
   text = opens.text;
-  after = opens.after ++ more;
   split = rw opens.split (simp append_assoc);
   is_text = opens.is_text;
 }
 
--- empty lines, and then a text
-pub opens_text : (IsText : List ℕ → Type 0) (blank : List LineEnd) (text : List ℕ) → IsText text → Opens IsText (print_blank blank ++ text)
-opens_text IsText blank text is = record {
-  blank = blank;
-  text = text;
-  after = [];
-  split = ap (λ x. print_blank blank ++ x) (sym (append-nil text));
-  is_text = is;
+-- a text of one kind is one of another
+pub then_map : (IsText IsOther : List ℕ → Type 0) → ((text : List ℕ) → IsText text → IsOther text) → (bytes after : List ℕ)
+    → OpensThen IsText bytes after → OpensThen IsOther bytes after
+then_map IsText IsOther each bytes after opens = record {
+  blank = opens.blank;
+  text = opens.text;
+  split = opens.split;
+  is_text = each opens.text opens.is_text;
 }
 
 -- empty lines alone
@@ -67,37 +59,29 @@ opening_empty bytes old new byte opening is (end, line) = (
   push_split bytes old new byte opening is ∙ ap (λ x. print_blank opening.blank ++ x) line ∙ sym (blank_push opening.blank end),
 )
 
--- one byte more: a limit is passed
-pub opening_overlong : (bytes old new : List ℕ) (byte : ℕ) → IsOpening bytes old → new ≡ old ++ byte ∷ []
-    → (66 < feeds new) ⊎ ((length new ≡ 16384) × ¬ (EndsHead new)) → OpensBadly (bytes ++ byte ∷ [])
-opening_overlong bytes old new byte opening is over = record {
+-- one byte more, and it is a text
+opening_text : (bytes old new : List ℕ) (byte : ℕ) (IsText : List ℕ → Type 0) → IsOpening bytes old → new ≡ old ++ byte ∷ []
+    → IsText new → OpensThen IsText (bytes ++ byte ∷ []) []
+opening_text bytes old new byte IsText opening is is_text = record {
   blank = opening.blank;
   text = new;
-  after = [];
   split = push_split bytes old new byte opening is ∙ ap (λ x. print_blank opening.blank ++ x) (sym (append-nil new));
-  is_text = inr (record { part = old; last = byte; split = is; is_part = opening.is_part; over = over });
+  is_text = is_text;
 }
 
--- one byte more and the head ends: what holds of a whole head's text holds of the bytes
-pub at_head : (bytes old new : List ℕ) (byte : ℕ) (P : List ℕ → Type 0) → IsOpening bytes old → new ≡ old ++ byte ∷ []
-    → EndsHead new → feeds new ≤ 66
-    → ((blank : List LineEnd) → IsHeadText new → P (print_blank blank ++ new)) → P (bytes ++ byte ∷ [])
-at_head bytes old new byte P opening is ends few each =
-    subst P (sym (push_split bytes old new byte opening is))
-    (each opening.blank (record { part = old; last = byte; split = is; is_part = opening.is_part; ends = ends; few = few }))
+-- one byte more: a limit is passed
+pub opening_overlong : (bytes old new : List ℕ) (byte : ℕ) → IsOpening bytes old → new ≡ old ++ byte ∷ []
+    → (66 < feeds new) ⊎ ((length new ≡ 16384) × ¬ (EndsHead new)) → OpensThen IsOverlong (bytes ++ byte ∷ []) []
+opening_overlong bytes old new byte opening is over =
+    opening_text bytes old new byte IsOverlong opening is
+    (record { part = old; last = byte; split = is; is_part = opening.is_part; over = over })
 
--- bytes and a piece up to a place in it, one byte further
-pub piece_push : (bytes piece : List ℕ) (i d : ℕ) → i < length piece
-    → (bytes ++ take i piece) ++ get_or piece i d ∷ [] ≡ bytes ++ take (i + 1) piece
-piece_push bytes piece i d low =
-    append_assoc bytes (take i piece) (get_or piece i d ∷ []) ∙ ap (λ x. bytes ++ x) (sym (take_more piece i d low))
-
--- what holds once a byte of a piece has come, and stays, holds after the whole piece
-pub piece_rest : (P : List ℕ → Type 0) → ((xs more : List ℕ) → P xs → P (xs ++ more)) → (bytes piece : List ℕ) (i d : ℕ)
-    → i < length piece → P ((bytes ++ take i piece) ++ get_or piece i d ∷ []) → P (bytes ++ piece)
-piece_rest P stays bytes piece i d low holds =
-    subst P (append_assoc bytes (take (i + 1) piece) (drop (i + 1) piece) ∙ ap (λ x. bytes ++ x) (take-append-drop (i + 1) piece))
-    (stays _ (drop (i + 1) piece) (subst P (piece_push bytes piece i d low) holds))
+-- one byte more: the head ends
+pub opening_ended : (bytes old new : List ℕ) (byte : ℕ) → IsOpening bytes old → new ≡ old ++ byte ∷ []
+    → EndsHead new → feeds new ≤ 66 → OpensThen (λ text. IsHeadText text × (text ≡ new)) (bytes ++ byte ∷ []) []
+opening_ended bytes old new byte opening is ends few =
+    opening_text bytes old new byte (λ text. IsHeadText text × (text ≡ new)) opening is
+    (record { part = old; last = byte; split = is; is_part = opening.is_part; ends = ends; few = few }, refl)
 
 bool_byte_is : (b : Bool) → bool_byte b ≡ cond b 1 0
 bool_byte_is true = refl
@@ -110,21 +94,3 @@ feeds_is old new byte n k is count one =
     let e : k ≡ cond (eqb byte 10) 1 0 = one ∙ bool_byte_is (eqb byte 10) in
     let f : feeds new ≡ feeds old + cond (eqb byte 10) 1 0 = ap feeds is ∙ feeds_push old byte in
     cc
-
--- a fault that a head's text gives is one that its bytes lead to
-pub fault_leads : (blank : List LineEnd) (text : List ℕ) (fault : Failed BadHead) → IsHeadText text → UnlessMemory (GivesHead text) (Err fault)
-    → UnlessMemory (Leads (print_blank blank ++ text)) (Err fault)
-fault_leads blank text (Because bad) whole gives = opens_text _ blank text (inl (whole, gives))
-fault_leads blank text NoMemory whole gives = tt
-
--- a fault stays one, whatever follows
-pub fault_more : (bytes more : List ℕ) (fault : Failed BadHead) → UnlessMemory (Leads bytes) (Err fault) → UnlessMemory (Leads (bytes ++ more)) (Err fault)
-fault_more bytes more (Because bad) leads = opens_more _ bytes more leads
-fault_more bytes more NoMemory leads = tt
-
--- what bytes open with, the stream opens with that gave them
-pub input_opens : (IsText : List ℕ → Type 0) (old new : Option (List ℕ)) (bytes : List ℕ) → Consumes old new bytes → Opens IsText bytes
-    → IfSome old (Opens IsText)
-input_opens IsText None new bytes consumes opens = tt
-input_opens IsText (Some input) None bytes consumes opens = absurd consumes
-input_opens IsText (Some input) (Some rest) bytes consumes opens = subst (Opens IsText) (sym consumes) (opens_more IsText bytes rest opens)

@@ -1,5 +1,13 @@
+pub mod Bodies
+pub mod Framings
+pub mod Headers
 pub mod Heads
+pub mod MessageHeads
+pub mod Messages
+pub mod Options
 pub mod Parts
 pub mod Replies
 pub mod Streams
+pub mod Tokens
+pub mod Wires
 pub mod code

@@ -1,26 +1,15 @@
 -- What a stream opens with, and what is written to one.
-use Rattle.std.specs.Prelude.{◌≡◌, ℕ, ◌⊎◌, List, ◌++◌, Option}
+use Rattle.std.specs.Prelude.{◌≡◌, ℕ, List, ◌++◌, Option}
 use Rattle.std.specs.Io.KnownBytes.{Appends}
 use Rattle.httparse.specs.Grammar.{LineEnd, print_blank}
-use Rattle.scim_wire.specs.declared.heads.Head.{Head}
-use Rattle.scim_wire.specs.Heads.{ReadsAs, SaysNothing}
-use Rattle.scim_wire.specs.Parts.{IsHeadPart, IsHeadText, IsOverlong}
+use Rattle.scim_wire.specs.Parts.{IsHeadPart}
 
--- empty lines, then a text of this kind, and then anything
-pub record Opens (IsText : List ℕ → Type 0) (input : List ℕ) : Type 0 where
+-- empty lines, then a text of this kind, and then these bytes
+pub record OpensThen (IsText : List ℕ → Type 0) (input after : List ℕ) : Type 0 where
   pub blank : List LineEnd
   pub text : List ℕ
-  pub after : List ℕ
   pub split : input ≡ print_blank blank ++ (text ++ after)
   pub is_text : IsText text
-
--- the whole text of a head that says this
-abbrev pub OpensWith : List ℕ → Head → Type 0
-OpensWith input head = Opens (λ text. IsHeadText text × ReadsAs text head) input
-
--- the whole text of a head that says nothing, or what is too long for a head
-abbrev pub OpensBadly : List ℕ → Type 0
-OpensBadly input = Opens (λ text. (IsHeadText text × SaysNothing text) ⊎ IsOverlong text) input
 
 -- empty lines, and then this part of a head
 pub record IsOpening (input part : List ℕ) : Type 0 where

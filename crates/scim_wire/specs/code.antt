@@ -1,2 +1,3 @@
--- What the reader has taken of a stream.
+-- What is kept of a stream, and what its bytes lead to.
 pub mod Steps
+pub mod Wires

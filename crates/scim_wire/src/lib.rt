@@ -1,20 +1,28 @@
-//! What SCIM says over HTTP/1.1: the head of a request is read from a stream (RFC 9112 sections 2 and 3),
-//! and a reply is printed.
+//! What SCIM says over HTTP/1.1 (RFC 9112): requests are read from a stream, and replies are printed.
 #![tactic(auto)]
 
 mod ends;
-mod heads;
+mod framings;
+mod head_steps;
+mod headers;
 mod laws;
+mod message_heads;
+mod message_texts;
+mod messages;
 mod octets;
+mod options;
 mod parts;
 mod replies;
-mod steps;
+mod state_steps;
+mod states;
 mod texts;
+mod tokens;
+mod wires;
 mod writing;
 
-pub use heads::{BadHead, Head, HeadFault};
-pub use laws::heads_are_read_in_one_way;
+pub use laws::streams_are_read_in_one_way;
+pub use messages::{Item, Message};
 pub use octets::Octets;
 pub use replies::{Reply, print_reply};
-pub use steps::read_head;
+pub use wires::Wire;
 pub use writing::write_text;

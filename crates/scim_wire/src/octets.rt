@@ -28,6 +28,13 @@ impl Octets {
         Ok(Octets { bytes })
     }
 
+    /// These bytes, which aren't copied.
+    pub fn of(bytes: Vec<u8>) -> Octets
+        ensures { result ≡ bytes.items }
+    {
+        Octets { bytes }
+    }
+
     /// The bytes.
     pub fn as_slice(&self) -> &[u8]
         ensures { result.now ≡ self.now }

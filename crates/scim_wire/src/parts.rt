@@ -1,8 +1,6 @@
 //! What is kept of a head while its bytes come.
 ghost use Rattle.std.specs.Prelude.{◌≤◌};
 
-use crate::heads::Head;
-
 /// A head that has not ended, with the count of its line feeds.
 #[derive(Drop)]
 pub struct HeadPart {
@@ -11,11 +9,13 @@ pub struct HeadPart {
     pub ghost few: { feeds ≤ 66 },
 }
 
-/// What bytes lead to.
+/// What one more byte of a head leads to.
 #[derive(Drop)]
-pub enum Step {
+pub enum HeadStep {
     /// More has to come.
     More(HeadPart),
-    /// The head has ended.
-    Whole(Head),
+    /// The head has ended, and this is its text.
+    Ended(Vec<u8>),
+    /// It is too long for a head.
+    Overlong,
 }

@@ -1,5 +1,5 @@
 //! The files that a command is given.
-use scim_command::{CommandFault, OnceFault, Setting};
+use scim_command::{CommandFault, OnceFault, OnceOptions, Setting};
 use scim_policy::{Cause, read_policy};
 use std::alloc::Global;
 use std::fs;
@@ -13,13 +13,15 @@ pub(crate) struct Texts {
 }
 
 impl Texts {
-    /// What `once` answers by, for a client and a base.
-    pub(crate) fn setting<'a>(&'a self, client: &'a str, base: &'a str) -> Setting<'a> {
+    /// What `once` answers by, with these options.
+    pub(crate) fn setting<'a>(&'a self, options: &OnceOptions<'a>) -> Setting<'a> {
         Setting {
             policy: self.policy.as_str(),
             users: self.users.as_str(),
-            client,
-            base,
+            client: options.client,
+            base: options.base,
+            at: options.at,
+            first: options.first,
         }
     }
 }

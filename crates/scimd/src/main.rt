@@ -71,9 +71,9 @@ fn tell(rt: &HostRuntime, fault: &CommandFault) -> Result<ExitCode> {
 /// `once`: answers one request from standard input.
 fn run_once(rt: &HostRuntime, matches: &ArgMatches<'_>) -> Result<(), CommandFault> {
     let alloc = rt.alloc();
-    let options = OnceOptions::of(matches)?;
+    let options = OnceOptions::of(alloc, matches)?;
     let texts = files::read_texts(rt, alloc, options.policy, options.users)?;
-    let setting = texts.setting(options.client, options.base);
+    let setting = texts.setting(&options);
     once(alloc, &setting, &mut rt.stdin(), &mut rt.stdout())?;
     Ok(())
 }

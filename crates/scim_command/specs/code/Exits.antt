@@ -1,11 +1,11 @@
 -- How functions end: the faults that they may answer, and the text that is written.
-use Rattle.std.specs.Prelude.{ℕ, List, Result, Ok, Err, String, string_bytes}
+use Rattle.std.specs.Prelude.{ℕ, false, List, Result, Ok, Err, String, string_bytes}
 use Rattle.std.specs.declared.alloc.Global.{Global}
 use Rattle.scim_text.specs.declared.memory.NoMemory.{NoMemory}
 use Rattle.scim_command.specs.declared.faults.OnceFault.{OnceFault}
 use Rattle.scim_command.specs.declared.faults.OnceFault.TheVariants.{Policy, Users, InputEnded, InputFailed, NoMemory as WantOfMemory}
 use Rattle.scim_audit.specs.declared.refusals.Refusal.TheVariants.{Store}
-use Rattle.scim_command.specs.Replies.{refusal_text}
+use Rattle.scim_exchange.specs.Replies.{refusal_text}
 
 -- a fault of the users file, or want of memory
 abbrev pub IsOfUsers : OnceFault → Type 0
@@ -22,7 +22,7 @@ IsOfInput _ = ⊥
 -- the text of a reply, or that of want of memory
 abbrev pub text_or_store : Result (String Global) NoMemory → List ℕ
 text_or_store (Ok t) = string_bytes t
-text_or_store (Err e) = refusal_text Store
+text_or_store (Err e) = refusal_text Store false
 
 -- a fault of a file, or want of memory
 abbrev pub IsOfFiles : OnceFault → Type 0

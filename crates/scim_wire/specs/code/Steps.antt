@@ -1,18 +1,17 @@
 -- What bytes of a stream lead to.
-use Rattle.std.specs.Prelude.{◌≡◌, ℕ, List, Result, Ok, Err}
-use Rattle.scim_wire.specs.declared.heads.BadHead.{BadHead}
+use Rattle.std.specs.Prelude.{◌≡◌, ℕ, List, []}
 use Rattle.scim_wire.specs.declared.parts.HeadPart.{HeadPart}
-use Rattle.scim_wire.specs.declared.parts.Step.{Step}
-use Rattle.scim_wire.specs.declared.parts.Step.TheVariants.{More, Whole}
-use Rattle.scim_wire.specs.Parts.{feeds}
-use Rattle.scim_wire.specs.Streams.{IsOpening, OpensWith, OpensBadly}
+use Rattle.scim_wire.specs.declared.parts.HeadStep.{HeadStep}
+use Rattle.scim_wire.specs.declared.parts.HeadStep.TheVariants as step
+use Rattle.scim_wire.specs.Parts.{IsHeadText, IsOverlong, feeds}
+use Rattle.scim_wire.specs.Streams.{IsOpening, OpensThen}
 
--- what is kept after these bytes
-abbrev pub StandsAt : HeadPart → List ℕ → Type 0
-StandsAt part bytes = IsOpening bytes part.bytes.items × (part.feeds ≡ feeds part.bytes.items)
+-- what is kept of a head after these bytes
+abbrev pub HoldsHead : HeadPart → List ℕ → Type 0
+HoldsHead part bytes = IsOpening bytes part.bytes.items × (part.feeds ≡ feeds part.bytes.items)
 
--- what is to be made of these bytes
-abbrev pub Leads : List ℕ → Result Step BadHead → Type 0
-Leads bytes (Ok (More part)) = StandsAt part bytes
-Leads bytes (Ok (Whole head)) = OpensWith bytes head
-Leads bytes (Err bad) = OpensBadly bytes
+-- what the last of these bytes leads to
+abbrev pub StepsTo : List ℕ → HeadStep → Type 0
+StepsTo bytes (step.More part) = HoldsHead part bytes
+StepsTo bytes (step.Ended ended) = OpensThen (λ text. IsHeadText text × (text ≡ ended.items)) bytes []
+StepsTo bytes step.Overlong = OpensThen IsOverlong bytes []

@@ -1,0 +1,192 @@
+//! Messages: how the reading of a body grows with its length and with the pieces in which it comes, and what a GET takes
+//! beside what the service takes for it.
+use anyhow::{Result, bail, ensure};
+use bench_values::{fastest, ratio};
+use scim_ask::ask;
+use scim_cell::{Id, Text};
+use scim_exchange::{Answer, Arrival, answer};
+use scim_json::read_documents;
+use scim_policy::read_policy;
+use scim_route::{Found, find};
+use scim_samples::{ALICE, BASE, POLICY, USERS};
+use scim_service::Service;
+use scim_shelf::MemoryShelf;
+use scim_text::Moment;
+use scim_wire::{Item, Message, Wire};
+use std::alloc::Global;
+use std::io::Print;
+use std::time::{Clock, Instant};
+use uuid::Uuid;
+
+/// The bytes of a short body and of a long one.
+const SHORT: usize = 102_400;
+
+const LONG: usize = 1_048_576;
+
+/// The bytes of a large piece.
+const PIECE: usize = 65_536;
+
+/// Of so many passes the fastest counts.
+const PASSES: usize = 5;
+
+/// So many GETs are one pass.
+const GETS: usize = 10_000;
+
+/// The bytes of a chunk.
+const CHUNK: usize = 1_000;
+
+/// Adds so many bytes of a body, at most those of a chunk, as a chunk or plain.
+fn push_data(alloc: Global, count: usize, chunked: bool, bytes: &mut Vec<u8>) -> Result<()> {
+    let line = [b'a'; CHUNK];
+    let data = &line[..count.min(CHUNK)];
+    if !chunked {
+        return Ok(bytes.extend_from_slice(data)?);
+    }
+    let size = format!(in alloc; "{:x}\r\n", data.len())?;
+    bytes.extend_from_slice(size.as_bytes())?;
+    bytes.extend_from_slice(data)?;
+    Ok(bytes.extend_from_slice(b"\r\n")?)
+}
+
+/// The head of a message with a body of so many bytes.
+fn head_of(alloc: Global, body: usize, chunked: bool) -> Result<Vec<u8>> {
+    let head = if chunked {
+        String::from_str(
+            alloc,
+            "POST /Users HTTP/1.1\r\nTransfer-Encoding: chunked\r\n\r\n",
+        )?
+    } else {
+        format!(in alloc; "POST /Users HTTP/1.1\r\nContent-Length: {body}\r\n\r\n")?
+    };
+    Ok(head.into_bytes())
+}
+
+/// A message with a body of so many bytes, by its length or in chunks.
+fn message_bytes(alloc: Global, body: usize, chunked: bool) -> Result<Vec<u8>> {
+    let mut bytes = head_of(alloc, body, chunked)?;
+    for _ in 0..body / CHUNK {
+        push_data(alloc, CHUNK, chunked, &mut bytes)?;
+    }
+    push_data(alloc, body % CHUNK, chunked, &mut bytes)?;
+    if chunked {
+        bytes.extend_from_slice(b"0\r\n\r\n")?;
+    }
+    Ok(bytes)
+}
+
+/// Reads a stream of one message in pieces of so many bytes.
+fn read_in_pieces(alloc: Global, bytes: &[u8], size: usize) -> Result<()> {
+    let mut wire = Wire::new(alloc);
+    let mut items: usize = 0;
+    for piece in bytes.chunks(size.max(1)) {
+        items = items.saturating_add(wire.feed(alloc, piece)?.len());
+    }
+    ensure!(items == 1, "a message isn't read");
+    Ok(())
+}
+
+/// Nanoseconds for the message of a body.
+fn measure_reading(
+    rt: &impl Clock,
+    alloc: Global,
+    body: usize,
+    size: usize,
+    chunked: bool,
+) -> Result<u128> {
+    let bytes = message_bytes(alloc, body, chunked)?;
+    fastest(rt, PASSES, 1, || {
+        read_in_pieces(alloc, bytes.as_slice(), size)
+    })
+}
+
+/// A GET of Alice.
+fn get_of_alice(alloc: Global) -> Result<Message> {
+    let text = format!(in alloc; "GET /Users/{ALICE} HTTP/1.1\r\nHost: 127.0.0.1:8080\r\n\r\n")?;
+    for item in Wire::new(alloc).feed(alloc, text.as_bytes())? {
+        if let Item::Whole(message) = item {
+            return Ok(message);
+        }
+    }
+    bail!("a message isn't read")
+}
+
+/// The service over the sample users.
+fn sample_service(alloc: Global) -> Result<Service<MemoryShelf>> {
+    let Ok(resources) = read_documents(alloc, BASE, USERS) else {
+        bail!("the sample users can't be read");
+    };
+    let shelf = MemoryShelf::new(alloc, resources)?;
+    let base = Text::copy_of(alloc, BASE)?;
+    Ok(Service::new(read_policy(alloc, POLICY)?, base, shelf))
+}
+
+/// Finds what a GET names, reads what it asks, and prints its answer.
+fn go_round_service(alloc: Global, message: &Message, answer: &Answer) -> Result<()> {
+    let Ok(Found::Resource(route)) = find(
+        alloc,
+        message.method.as_slice(),
+        message.target.as_slice(),
+    ) else {
+        bail!("a GET names no resource");
+    };
+    ensure!(ask(alloc, &route, &[]).is_ok(), "a GET asks nothing");
+    ensure!(!answer.text(alloc, false)?.is_empty(), "an answer is empty");
+    Ok(())
+}
+
+/// Nanoseconds a GET, answered and printed.
+fn measure_answers(
+    rt: &impl Clock,
+    alloc: Global,
+    service: &mut Service<MemoryShelf>,
+    arrival: &Arrival<'_>,
+    message: &Message,
+) -> Result<u128> {
+    let start = Instant::now(rt)?;
+    for _ in 0..GETS {
+        let answer = answer(alloc, service, arrival, message);
+        ensure!(!answer.text(alloc, false)?.is_empty(), "an answer is empty");
+    }
+    Ok(start.elapsed(rt)?.as_nanos() / GETS as u128)
+}
+
+/// Prints what a GET takes, and what of it isn't the service's.
+fn print_gets(rt: &(impl Clock + Print), alloc: Global) -> Result<()> {
+    let message = get_of_alice(alloc)?;
+    let mut service = sample_service(alloc)?;
+    let arrival = Arrival {
+        client: Some("hr"),
+        moment: Moment::new(0).unwrap(),
+        fresh: Id::of(Uuid::nil()),
+    };
+    let told = answer(alloc, &mut service, &arrival, &message);
+    let beside = fastest(rt, PASSES, GETS, || {
+        go_round_service(alloc, &message, &told)
+    })?;
+    let whole = measure_answers(rt, alloc, &mut service, &arrival, &message)?;
+    println!(rt;
+        "a GET: {whole}, of which {beside} beside the service, {:.2} times what it takes",
+        ratio(beside, whole.saturating_sub(beside))
+    )?;
+    Ok(())
+}
+
+/// Prints what messages take, in nanoseconds.
+pub fn run(rt: &(impl Clock + Print), alloc: Global) -> Result<()> {
+    for chunked in [false, true] {
+        let short = measure_reading(rt, alloc, SHORT, PIECE, chunked)?;
+        let long = measure_reading(rt, alloc, LONG, PIECE, chunked)?;
+        let bytes = measure_reading(rt, alloc, LONG, 1, chunked)?;
+        let how = if chunked {
+            "in chunks"
+        } else {
+            "by its length"
+        };
+        println!(rt;
+            "a body {how}, of {SHORT} and of {LONG} bytes in pieces of {PIECE}: {short}, {long}, {:.1} times; byte by byte {bytes}, {:.1} times",
+            ratio(long, short),
+            ratio(bytes, long)
+        )?;
+    }
+    print_gets(rt, alloc)
+}

@@ -1,0 +1,14 @@
+//! Figures of values: JSON, parts and filters; what all figures share, how calls are timed, and what is measured.
+#![tactic(auto)]
+
+mod documents;
+mod filters;
+mod parts;
+mod timing;
+mod values;
+
+pub use documents::{run as run_documents, sample_user, users_file};
+pub use filters::run as run_filters;
+pub use filters::samples::{id_of, push_member, user};
+pub use parts::run as run_parts;
+pub use timing::{fastest, ratio};

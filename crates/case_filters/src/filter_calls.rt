@@ -1,0 +1,315 @@
+//! The calls of `scim_filter`.
+use case_values::{Case, CaseFault, said, truth};
+use scim_cell::Text;
+use scim_filter::{
+    Filter, FilterFault, Literal, Meant, Named, Node, Operator, Token, WrittenPath, attribute_path,
+    holds, holds_at, knows_names, lone_word, mentioned_names, read_filter, read_tokens,
+    written_path,
+};
+use scim_samples::leaf_text;
+use scim_schema::{Attribute, Leaf};
+use scim_text::Failed;
+use std::alloc::Global;
+use std::str;
+
+/// What a call of `scim_filter` gives; None where it isn't one.
+pub fn answer(case: &Case<'_>, call: &str) -> Option<Result<String, CaseFault>> {
+    match call {
+        "read_filter" | "holds" | "holds_at" | "knows_names" | "string_literal" => {
+            Some(filter_call(case, call))
+        }
+        "names" => Some(names_call(case)),
+        "tokens" => Some(tokens_call(case)),
+        "attribute_path" => Some(attribute_path_call(case)),
+        "lone_word" => Some(lone_word_call(case)),
+        "written_path" => Some(written_path_call(case)),
+        _ => None,
+    }
+}
+
+/// The argument of this name, with so many spaces behind it as the argument `spaces` says.
+pub fn spaced_text(case: &Case<'_>, name: &'static str) -> Result<String, CaseFault> {
+    let mut text = said(case.alloc, case.text(name)?)?;
+    for _ in 0..case.number("spaces").unwrap_or(0) {
+        text.push(' ')?;
+    }
+    Ok(text)
+}
+
+/// The filter of the argument `filter`.
+pub fn filter_of(case: &Case<'_>) -> Result<Result<Filter, Failed<FilterFault>>, CaseFault> {
+    let text = spaced_text(case, "filter")?;
+    Ok(read_filter(case.alloc, case.kind(), text.as_str()))
+}
+
+/// A fault by its name, `Syntax` with its byte.
+fn fault_text(alloc: Global, fault: Failed<FilterFault>) -> Result<String, CaseFault> {
+    match fault {
+        Failed::Because(FilterFault::Syntax(at)) => Ok(format!(in alloc; "Syntax {at}")?),
+        Failed::Because(FilterFault::WrongType) => said(alloc, "WrongType"),
+        Failed::Because(FilterFault::TooDeep) => said(alloc, "TooDeep"),
+        Failed::Because(FilterFault::TooLong) => said(alloc, "TooLong"),
+        Failed::NoMemory => Err(CaseFault::NoMemory),
+    }
+}
+
+/// What a path names, as `emails.value`; `nothing` of what the kind lacks.
+fn meant_text(alloc: Global, meant: Meant) -> Result<String, CaseFault> {
+    match meant {
+        Meant::Nothing => said(alloc, "nothing"),
+        Meant::Attribute(attribute) => said(alloc, attribute.name()),
+        Meant::SubAttribute(attribute, sub_attribute) => {
+            Ok(leaf_text(alloc, Leaf::of(attribute, sub_attribute))?)
+        }
+    }
+}
+
+fn push_meant(alloc: Global, meant: Meant, text: &mut String) -> Result<(), CaseFault> {
+    let name = meant_text(alloc, meant)?;
+    text.push_str(name.as_str())?;
+    Ok(())
+}
+
+fn literal_text(alloc: Global, literal: &Literal) -> Result<String, CaseFault> {
+    match literal {
+        Literal::Text(string) => Ok(format!(in alloc; "\"{}\"", string.as_str())?),
+        Literal::Number(number) => Ok(format!(in alloc; "{number}")?),
+        Literal::Truth(truth) => Ok(format!(in alloc; "{truth}")?),
+        Literal::Null => said(alloc, "null"),
+    }
+}
+
+/// What a node is written with in front.
+fn opening(node: &Node) -> &'static str {
+    match node {
+        Node::Or(_, _) => "(or ",
+        Node::And(_, _) => "(and ",
+        Node::Not(_) => "(not ",
+        Node::Present(_) => "(pr ",
+        Node::Compare(_, _, _) => "(",
+        Node::Values(_, _) => "(of ",
+    }
+}
+
+/// Writes a tree with its operators in front, as `(and (pr title) (Eq emails.value "a"))`, by what its paths
+/// name; a value path as `(of emails (pr emails.type))`.
+pub fn push_tree(alloc: Global, node: &Node, text: &mut String) -> Result<(), CaseFault> {
+    text.push_str(opening(node))?;
+    match node {
+        Node::Or(a, b) | Node::And(a, b) => {
+            push_tree(alloc, a, text)?;
+            text.push(' ')?;
+            push_tree(alloc, b, text)?;
+        }
+        Node::Not(a) => push_tree(alloc, a, text)?,
+        Node::Present(path) => push_meant(alloc, path.meant, text)?,
+        Node::Compare(path, operator, literal) => {
+            push_comparison(alloc, path.meant, *operator, literal, text)?;
+        }
+        Node::Values(path, inner) => {
+            push_meant(alloc, path.meant, text)?;
+            text.push(' ')?;
+            push_tree(alloc, inner, text)?;
+        }
+    }
+    text.push(')')?;
+    Ok(())
+}
+
+fn push_comparison(
+    alloc: Global,
+    meant: Meant,
+    operator: Operator,
+    literal: &Literal,
+    text: &mut String,
+) -> Result<(), CaseFault> {
+    write!(text, "{operator:?} ")?;
+    push_meant(alloc, meant, text)?;
+    text.push(' ')?;
+    let value = literal_text(alloc, literal)?;
+    text.push_str(value.as_str())?;
+    Ok(())
+}
+
+/// What the filter gives, or its fault.
+fn filter_call(case: &Case<'_>, call: &str) -> Result<String, CaseFault> {
+    match filter_of(case)? {
+        Ok(filter) => told_of_filter(case, call, &filter),
+        Err(fault) => fault_text(case.alloc, fault),
+    }
+}
+
+fn told_of_filter(case: &Case<'_>, call: &str, filter: &Filter) -> Result<String, CaseFault> {
+    match call {
+        "read_filter" => tree_text(case.alloc, filter.tree()),
+        "holds" => holds_text(case, filter),
+        "holds_at" => holds_at_text(case, filter),
+        "knows_names" => truth(case.alloc, knows_names(filter.tree())),
+        _ => string_text(case.alloc, filter.tree()),
+    }
+}
+
+fn tree_text(alloc: Global, node: &Node) -> Result<String, CaseFault> {
+    let mut text = String::new(alloc);
+    push_tree(alloc, node, &mut text)?;
+    Ok(text)
+}
+
+fn holds_text(case: &Case<'_>, filter: &Filter) -> Result<String, CaseFault> {
+    let part = case.part()?;
+    let found = holds(case.alloc, filter, &part)?;
+    truth(case.alloc, found)
+}
+
+/// Whether the filter holds at the position `position`.
+fn holds_at_text(case: &Case<'_>, filter: &Filter) -> Result<String, CaseFault> {
+    let position = usize::try_from(case.number("position")?).unwrap_or(0);
+    let part = case.part()?;
+    let found = holds_at(case.alloc, filter, &part, position)?;
+    truth(case.alloc, found)
+}
+
+fn attribute_text(attribute: Option<Attribute>) -> &'static str {
+    match attribute {
+        Some(attribute) => attribute.name(),
+        None => "none",
+    }
+}
+
+/// The names in the order of the text, each as it is written and with its attribute.
+fn names_call(case: &Case<'_>) -> Result<String, CaseFault> {
+    match filter_of(case)? {
+        Ok(filter) => listed_names(case.alloc, &filter),
+        Err(_) => said(case.alloc, "no filter"),
+    }
+}
+
+/// The names in a filter, each with its attribute.
+fn listed_names(alloc: Global, filter: &Filter) -> Result<String, CaseFault> {
+    let names = mentioned_names(alloc, filter)?;
+    names_text(alloc, names.as_slice())
+}
+
+fn names_text(alloc: Global, names: &[Named]) -> Result<String, CaseFault> {
+    let mut text = String::new(alloc);
+    for name in names {
+        push_name(name, &mut text)?;
+    }
+    Ok(text)
+}
+
+fn push_name(name: &Named, text: &mut String) -> Result<(), CaseFault> {
+    if !text.is_empty() {
+        text.push_str(", ")?;
+    }
+    text.push_str(name.text.as_str())?;
+    text.push(' ')?;
+    text.push_str(attribute_text(name.attribute))?;
+    Ok(())
+}
+
+/// Of a comparison with a string the text, its folding, and the second of the moment that it spells.
+fn string_text(alloc: Global, node: &Node) -> Result<String, CaseFault> {
+    let Node::Compare(_, _, Literal::Text(string)) = node else {
+        return said(alloc, "no string");
+    };
+    let (text, folded) = (string.as_str(), string.folded());
+    match string.moment() {
+        Some(reading) => Ok(format!(in alloc; "{text}|{folded}|{}", reading.second)?),
+        None => Ok(format!(in alloc; "{text}|{folded}|none")?),
+    }
+}
+
+/// Each token with where it begins and ends, as `0-5 title|6-8 pr`.
+fn tokens_call(case: &Case<'_>) -> Result<String, CaseFault> {
+    let source = spaced_text(case, "text")?;
+    match read_tokens(case.alloc, source.as_str()) {
+        Ok(tokens) => tokens_text(case.alloc, tokens.as_slice()),
+        Err(fault) => fault_text(case.alloc, fault),
+    }
+}
+
+fn tokens_text(alloc: Global, tokens: &[Token<'_>]) -> Result<String, CaseFault> {
+    let mut text = String::new(alloc);
+    for token in tokens {
+        push_token(token, &mut text)?;
+    }
+    Ok(text)
+}
+
+fn push_token(token: &Token<'_>, text: &mut String) -> Result<(), CaseFault> {
+    if !text.is_empty() {
+        text.push('|')?;
+    }
+    write!(text, "{}-{} ", token.start, token.end)?;
+    text.push_str(token.slice)?;
+    Ok(())
+}
+
+/// What the path names; the attribute whose sub-attributes may stand between brackets, the attribute that is
+/// named, and the leaf that is compared.
+fn attribute_path_call(case: &Case<'_>) -> Result<String, CaseFault> {
+    match attribute_path(case.kind(), case.text("text")?) {
+        Some(meant) => told_of_meant(case.alloc, meant),
+        None => said(case.alloc, "none"),
+    }
+}
+
+fn told_of_meant(alloc: Global, meant: Meant) -> Result<String, CaseFault> {
+    let inside = attribute_text(meant.attribute());
+    let own = attribute_text(meant.mentioned_attribute());
+    let named = meant_text(alloc, meant)?;
+    let leaf = compared_text(alloc, meant)?;
+    Ok(format!(in alloc; "{named}, {inside}, {own}, {leaf}")?)
+}
+
+fn compared_text(alloc: Global, meant: Meant) -> Result<String, CaseFault> {
+    match meant.compared_leaf() {
+        Some(leaf) => Ok(leaf_text(alloc, leaf)?),
+        None => said(alloc, "none"),
+    }
+}
+
+fn lone_word_call(case: &Case<'_>) -> Result<String, CaseFault> {
+    let word = lone_word(case.text("text")?).and_then(|word| str::from_utf8(word).ok());
+    said(case.alloc, word.unwrap_or("none"))
+}
+
+/// What the path names, or the tree of the value path and the name behind it; `wrong types` before it where
+/// the filter compares values of wrong types.
+fn written_path_call(case: &Case<'_>) -> Result<String, CaseFault> {
+    let source = spaced_text(case, "text")?;
+    match written_path(case.alloc, case.kind(), source.as_str())? {
+        Some(path) => written_text(case.alloc, &path),
+        None => said(case.alloc, "none"),
+    }
+}
+
+fn written_text(alloc: Global, path: &WrittenPath) -> Result<String, CaseFault> {
+    match path {
+        WrittenPath::Plain(path) => meant_text(alloc, path.meant),
+        WrittenPath::Filtered(filter, sub_name) => {
+            let mut text = String::new(alloc);
+            push_filter(alloc, filter, sub_name.as_ref(), &mut text)?;
+            Ok(text)
+        }
+    }
+}
+
+/// Writes the tree of a filter, behind a word where its values are of wrong types, and the name behind it.
+fn push_filter(
+    alloc: Global,
+    filter: &Filter,
+    sub_name: Option<&Text>,
+    text: &mut String,
+) -> Result<(), CaseFault> {
+    if !filter.has_right_types() {
+        text.push_str("wrong types ")?;
+    }
+    push_tree(alloc, filter.tree(), text)?;
+    if let Some(name) = sub_name {
+        text.push('.')?;
+        text.push_str(name.as_str())?;
+    }
+    Ok(())
+}

@@ -1,0 +1,25 @@
+//! The calls of the crates of filters, paths and JSON.
+#![tactic(auto)]
+
+mod body_calls;
+mod filter_calls;
+mod json_calls;
+mod path_calls;
+
+pub use body_calls::{body_kind, use_for};
+use case_values::{Case, CaseFault};
+pub use filter_calls::{filter_of, spaced_text};
+
+/// What a call gives, if it is one of this crate.
+pub fn answer(case: &Case<'_>, call: &str) -> Option<Result<String, CaseFault>> {
+    if let Some(found) = json_calls::answer(case, call) {
+        return Some(found);
+    }
+    if let Some(found) = body_calls::answer(case, call) {
+        return Some(found);
+    }
+    if let Some(found) = filter_calls::answer(case, call) {
+        return Some(found);
+    }
+    path_calls::answer(case, call)
+}

@@ -1,0 +1,66 @@
+//! The calls of `scim_path`.
+use crate::filter_calls::{push_tree, spaced_text};
+use case_values::{Case, CaseFault, said};
+use scim_path::{Path, PathFault, ValuePath, extension_named, read_path};
+use scim_samples::leaf_text;
+use scim_schema::Leaf;
+use scim_text::Failed;
+use std::alloc::Global;
+
+/// What a call of `scim_path` gives; None where it isn't one.
+pub fn answer(case: &Case<'_>, call: &str) -> Option<Result<String, CaseFault>> {
+    match call {
+        "read_path" => Some(read_path_call(case)),
+        "extension_named" => Some(extension_named_call(case)),
+        _ => None,
+    }
+}
+
+/// What the path names: `emails.value`, the URN of an extension, or the tree of a value path and the
+/// sub-attribute behind it.
+fn read_path_call(case: &Case<'_>) -> Result<String, CaseFault> {
+    let text = spaced_text(case, "text")?;
+    path_read(case, text.as_str())
+}
+
+fn path_read(case: &Case<'_>, text: &str) -> Result<String, CaseFault> {
+    match read_path(case.alloc, case.kind(), text) {
+        Ok(path) => path_text(case.alloc, &path),
+        Err(Failed::Because(PathFault::Syntax)) => said(case.alloc, "Syntax"),
+        Err(Failed::Because(PathFault::Unknown)) => said(case.alloc, "Unknown"),
+        Err(Failed::NoMemory) => Err(CaseFault::NoMemory),
+    }
+}
+
+fn path_text(alloc: Global, path: &Path) -> Result<String, CaseFault> {
+    match path {
+        Path::Extension(schema) => said(alloc, schema.urn()),
+        Path::Attribute(attribute) => said(alloc, attribute.name()),
+        Path::SubAttribute(attribute, sub_attribute) => {
+            Ok(leaf_text(alloc, Leaf::of(*attribute, *sub_attribute))?)
+        }
+        Path::Values(values) => {
+            let mut text = said(alloc, values.attribute.name())?;
+            push_values(alloc, values, &mut text)?;
+            Ok(text)
+        }
+    }
+}
+
+fn push_values(alloc: Global, values: &ValuePath, text: &mut String) -> Result<(), CaseFault> {
+    text.push_str(": ")?;
+    push_tree(alloc, values.filter.tree(), text)?;
+    if let Some(sub_attribute) = values.sub_attribute {
+        text.push('.')?;
+        text.push_str(sub_attribute.name())?;
+    }
+    Ok(())
+}
+
+fn extension_named_call(case: &Case<'_>) -> Result<String, CaseFault> {
+    let text = spaced_text(case, "text")?;
+    match extension_named(case.kind(), text.as_str()) {
+        Some(schema) => said(case.alloc, schema.urn()),
+        None => said(case.alloc, "none"),
+    }
+}

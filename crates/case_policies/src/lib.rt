@@ -1,0 +1,22 @@
+//! The calls of the crates of policies, views and searches.
+#![tactic(auto)]
+
+mod policy_calls;
+mod query_calls;
+mod view_calls;
+
+use case_values::{Case, CaseFault};
+pub use policy_calls::{count_text, policy};
+pub use query_calls::query_of;
+pub use view_calls::wanted;
+
+/// What a call gives, if it is one of this crate.
+pub fn answer(case: &Case<'_>, call: &str) -> Option<Result<String, CaseFault>> {
+    if let Some(found) = policy_calls::answer(case, call) {
+        return Some(found);
+    }
+    if let Some(found) = view_calls::answer(case, call) {
+        return Some(found);
+    }
+    query_calls::answer(case, call)
+}

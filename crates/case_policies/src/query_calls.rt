@@ -1,0 +1,220 @@
+//! The calls of `scim_query`.
+use crate::policy_calls::policy;
+use crate::view_calls::{viewer, wanted};
+use case_filters::{filter_of, spaced_text};
+use case_values::{Case, CaseFault, said};
+use scim_filter::Filter;
+use scim_json::to_json;
+use scim_policy::Policy;
+use scim_query::{Page, Pager, Query, read_sort_by, search, search_view};
+use scim_samples::{atom_text, leaf_text, part, read_leaf, resource, sample_groups, sample_users};
+use scim_schema::{Kind, Leaf};
+use scim_value::{Part, Resource};
+use scim_view::Viewer;
+use std::alloc::Global;
+
+/// What a call of `scim_query` gives; None where it isn't one.
+pub fn answer(case: &Case<'_>, call: &str) -> Option<Result<String, CaseFault>> {
+    match call {
+        "search" | "pager" | "search_view" => Some(query_call(case, call)),
+        "read_sort_by" => Some(read_sort_by_call(case)),
+        _ => None,
+    }
+}
+
+/// The leaf that is sorted by.
+fn read_sort_by_call(case: &Case<'_>) -> Result<String, CaseFault> {
+    let text = spaced_text(case, "text")?;
+    match read_sort_by(case.kind(), text.as_str()) {
+        Some(leaf) => Ok(leaf_text(case.alloc, leaf)?),
+        None => said(case.alloc, "none"),
+    }
+}
+
+/// The filter of the argument `filter`, if it is given.
+fn wanted_filter(case: &Case<'_>) -> Result<Option<Filter>, CaseFault> {
+    if case.text("filter").is_err() {
+        return Ok(None);
+    }
+    match filter_of(case)? {
+        Ok(filter) => Ok(Some(filter)),
+        Err(_) => Err(CaseFault::Missing("filter")),
+    }
+}
+
+/// The argument `sortBy` as it is read, if it is given.
+fn sort_leaf(case: &Case<'_>) -> Option<Leaf> {
+    read_sort_by(case.kind(), case.text("sortBy").ok()?)
+}
+
+/// The argument of this name as a position or a count.
+fn count_of(case: &Case<'_>, name: &'static str, other: usize) -> usize {
+    match case.number(name) {
+        Ok(number) => usize::try_from(number).unwrap_or(0),
+        Err(_) => other,
+    }
+}
+
+/// The query of a case, by default all by id.
+pub fn query_of(case: &Case<'_>) -> Result<Query, CaseFault> {
+    let wanted = wanted(case)?;
+    Ok(Query {
+        filter: wanted_filter(case)?,
+        sort_by: sort_leaf(case),
+        descending: case.is_true("descending"),
+        start: count_of(case, "startIndex", 1),
+        count: count_of(case, "count", 100),
+        wanted,
+    })
+}
+
+/// The parts of the list `parts`, each by the last two digits of its id and its cells.
+fn parts_of(case: &Case<'_>) -> Result<Vec<Part>, CaseFault> {
+    let mut parts = Vec::new(case.alloc);
+    for value in case.list("parts") {
+        parts.push(part_of(case, value.as_str().unwrap_or(""))?)?;
+    }
+    Ok(parts)
+}
+
+fn part_of(case: &Case<'_>, text: &str) -> Result<Part, CaseFault> {
+    let (digits, cells) = text.split_once(' ').unwrap_or((text, ""));
+    let id = format!(in case.alloc; "00000000-0000-4000-8000-0000000000{digits}")?;
+    Ok(part(case.alloc, case.kind(), id.as_str(), cells)?)
+}
+
+fn query_call(case: &Case<'_>, call: &str) -> Result<String, CaseFault> {
+    let query = query_of(case)?;
+    told_of_query(case, call, &query)
+}
+
+fn told_of_query(case: &Case<'_>, call: &str, query: &Query) -> Result<String, CaseFault> {
+    match call {
+        "search" => found_page(case, query),
+        "pager" => paged(case, query),
+        _ => seen_page(case, query),
+    }
+}
+
+/// The page of the parts of the list `parts` that a query asks for.
+fn found_page(case: &Case<'_>, query: &Query) -> Result<String, CaseFault> {
+    let parts = parts_of(case)?;
+    let page = search(case.alloc, parts.as_slice(), query)?;
+    page_text(case, &page)
+}
+
+/// The parts of the list `parts`, where it is given, else those of the resources that `users` or the kind names.
+fn pushed_parts(case: &Case<'_>) -> Result<Vec<Part>, CaseFault> {
+    if !case.list("parts").is_empty() {
+        return parts_of(case);
+    }
+    let resources = resources_of(case)?;
+    Ok(
+        resources
+            .into_iter()
+            .map(Resource::into_part)
+            .collect(case.alloc)?,
+    )
+}
+
+/// The page of the parts that are pushed one by one, and the most that were held between two of them.
+fn paged(case: &Case<'_>, query: &Query) -> Result<String, CaseFault> {
+    let parts = pushed_parts(case)?;
+    let mut pager = Pager::new(case.alloc, query);
+    let most = push_all(&mut pager, parts)?;
+    let page = pager.end()?;
+    told_page(case, &page, most)
+}
+
+/// Pushes the parts, and tells the most that were held between two of them.
+fn push_all(pager: &mut Pager<'_>, parts: Vec<Part>) -> Result<usize, CaseFault> {
+    let mut most = 0;
+    for part in parts {
+        pager.push(part)?;
+        most = pager.held().max(most);
+    }
+    Ok(most)
+}
+
+fn told_page(case: &Case<'_>, page: &Page, most: usize) -> Result<String, CaseFault> {
+    let text = page_text(case, page)?;
+    Ok(format!(in case.alloc; "{text}, held {most}")?)
+}
+
+/// So many users, whose names are `user0`, `user1` and so on, by their ids.
+fn numbered_users(alloc: Global, number: i64) -> Result<Vec<Resource>, CaseFault> {
+    let mut users = Vec::new(alloc);
+    for index in 0..number {
+        users.push(numbered_user(alloc, index)?)?;
+    }
+    Ok(users)
+}
+
+fn numbered_user(alloc: Global, index: i64) -> Result<Resource, CaseFault> {
+    let id = format!(in alloc; "00000000-0000-4000-8000-000000000{index:03}")?;
+    let cells = format!(in alloc; "userName=user{index}")?;
+    Ok(resource(alloc, Kind::User, id.as_str(), cells.as_str())?)
+}
+
+/// So many users as the argument `users` says, or the samples of the kind.
+fn resources_of(case: &Case<'_>) -> Result<Vec<Resource>, CaseFault> {
+    if let Ok(number) = case.number("users") {
+        return numbered_users(case.alloc, number);
+    }
+    match case.kind() {
+        Kind::User => Ok(sample_users(case.alloc)?),
+        Kind::Group => Ok(sample_groups(case.alloc)?),
+    }
+}
+
+/// The page of what the client sees by the policy.
+fn seen_page(case: &Case<'_>, query: &Query) -> Result<String, CaseFault> {
+    let page = page_of_view(case, query)?;
+    page_text(case, &page)
+}
+
+/// The page that a query asks for of what the client sees by the policy.
+fn page_of_view(case: &Case<'_>, query: &Query) -> Result<Page, CaseFault> {
+    let policy = policy(case)?;
+    page_by(case, &policy, query)
+}
+
+fn page_by(case: &Case<'_>, policy: &Policy, query: &Query) -> Result<Page, CaseFault> {
+    let viewer = viewer(case, policy)?;
+    let groups = sample_groups(case.alloc)?;
+    page_among(case, &viewer, groups.as_slice(), query)
+}
+
+fn page_among(
+    case: &Case<'_>,
+    viewer: &Viewer<'_>,
+    groups: &[Resource],
+    query: &Query,
+) -> Result<Page, CaseFault> {
+    let resources = resources_of(case)?;
+    Ok(search_view(case.alloc, viewer, groups, resources.as_slice(), query)?)
+}
+
+/// A page as its total, its start and its items: of each its JSON, or where the argument `tell` names a leaf
+/// what stands there.
+fn page_text(case: &Case<'_>, page: &Page) -> Result<String, CaseFault> {
+    let mut text = format!(in case.alloc; "{} from {}:", page.total, page.start)?;
+    for item in &page.items {
+        push_item(case, item, &mut text)?;
+    }
+    Ok(text)
+}
+
+fn push_item(case: &Case<'_>, item: &Part, text: &mut String) -> Result<(), CaseFault> {
+    text.push(' ')?;
+    let told = item_text(case, item)?;
+    text.push_str(told.as_str())?;
+    Ok(())
+}
+
+fn item_text(case: &Case<'_>, item: &Part) -> Result<String, CaseFault> {
+    match case.text("tell") {
+        Ok(path) => Ok(atom_text(case.alloc, item.get(read_leaf(path)?, 0))?),
+        Err(_) => Ok(to_json(case.alloc, item)?),
+    }
+}

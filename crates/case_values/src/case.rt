@@ -1,0 +1,75 @@
+//! One case: a call and its arguments.
+use crate::faults::CaseFault;
+use serde_json::Value;
+use std::alloc::Global;
+
+/// A case: a JSON object with the name of a call, its arguments, what it gives, and where it isn't plain a
+/// sentence that says why.
+#[derive(Clone, Copy)]
+pub struct Case<'a> {
+    pub alloc: Global,
+    pub value: &'a Value,
+}
+
+impl Case<'_> {
+    /// The name of the call. A case that has `steps` in place of a call holds whole requests; one that has `said`, the
+    /// text of a policy file or of a users file.
+    pub fn call(&self) -> Result<&str, CaseFault> {
+        if self.value.get("steps").is_some() {
+            return Ok("steps");
+        }
+        if self.value.get("said").is_none() {
+            return self.text("call");
+        }
+        if self
+            .value
+            .get("users")
+            .or(self.value.get("users_hex"))
+            .is_some()
+        {
+            Ok("users_file")
+        } else {
+            Ok("policy_file")
+        }
+    }
+
+    /// The text of an argument.
+    pub fn text(&self, name: &'static str) -> Result<&str, CaseFault> {
+        self.value
+            .get(name)
+            .and_then(Value::as_str)
+            .ok_or(CaseFault::Missing(name))
+    }
+
+    /// The text of an argument; another where it isn't given.
+    pub fn text_or<'b>(&'b self, name: &'static str, other: &'b str) -> &'b str {
+        self.value
+            .get(name)
+            .and_then(Value::as_str)
+            .unwrap_or(other)
+    }
+
+    /// The number of an argument.
+    pub fn number(&self, name: &'static str) -> Result<i64, CaseFault> {
+        self.value
+            .get(name)
+            .and_then(Value::as_i64)
+            .ok_or(CaseFault::Missing(name))
+    }
+
+    /// Whether an argument is given as true.
+    pub fn is_true(&self, name: &'static str) -> bool {
+        self.value
+            .get(name)
+            .and_then(Value::as_bool)
+            .unwrap_or(false)
+    }
+
+    /// The values of an argument that is a list; none where it isn't given.
+    pub fn list(&self, name: &'static str) -> &[Value] {
+        match self.value.get(name).and_then(Value::as_array) {
+            Some(values) => values.as_slice(),
+            None => &[],
+        }
+    }
+}

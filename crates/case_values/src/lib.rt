@@ -1,0 +1,38 @@
+//! Cases as calls with arguments, and the calls of the crates of texts, tables, values and audit rows. The calls of other
+//! crates stand above, since what a function is proved over is what its crate stands on.
+#![tactic(auto)]
+
+mod arguments;
+mod audit_calls;
+mod case;
+mod cell_calls;
+mod faults;
+mod row_tests;
+mod samples_calls;
+mod schema_calls;
+mod text_calls;
+mod value_calls;
+
+pub use arguments::{kind_of, said, text_or_json, truth};
+pub use case::Case;
+pub use faults::CaseFault;
+
+/// What a call gives, if it is one of this crate.
+pub fn answer(case: &Case<'_>, call: &str) -> Option<Result<String, CaseFault>> {
+    if let Some(found) = samples_calls::answer(case, call) {
+        return Some(found);
+    }
+    if let Some(found) = text_calls::answer(case, call) {
+        return Some(found);
+    }
+    if let Some(found) = schema_calls::answer(case, call) {
+        return Some(found);
+    }
+    if let Some(found) = cell_calls::answer(case, call) {
+        return Some(found);
+    }
+    if let Some(found) = audit_calls::answer(case, call) {
+        return Some(found);
+    }
+    value_calls::answer(case, call)
+}

@@ -1,0 +1,62 @@
+//! The first message of an input.
+ghost use Rattle.std.specs.Prelude.{◌≡◌, Err, IfOk, IfSome, IfNone, All};
+ghost use Rattle.scim_text.specs.declared.memory.Failed.{Failed};
+ghost use Rattle.scim_command.specs.declared.inputs.InputFault.{InputFault};
+ghost use Rattle.scim_command.specs.Inputs.{IsContinue, IsFirstOf, OpensWith, IsUnended};
+
+use scim_audit::Refusal;
+use scim_text::Failed;
+use scim_wire::{Item, Message, Wire};
+use std::alloc::Global;
+use std::io::Read;
+
+/// Why nothing was read that could be answered.
+#[derive(Clone, Copy, Debug, PartialEq, Eq)]
+pub(crate) enum InputFault {
+    /// The input ended before.
+    Ended,
+    /// A read failed.
+    ReadFailed,
+}
+
+/// The first of the items that is answered: a message, or a refusal. Nothing is said to a client that waits to send its
+/// body.
+fn first_of(items: Vec<Item>) -> Option<Result<Message, Refusal>>
+    ensures first { IfSome result (IsFirstOf items.items) }
+    ensures none { IfNone result (All IsContinue items.items) }
+{
+    for item in items {
+        match item {
+            Item::Continue => {}
+            Item::Whole(message) => return Some(Ok(message)),
+            Item::Refused(refusal) => return Some(Err(refusal)),
+        }
+    }
+    None
+}
+
+/// The first message that the reader gives, or the refusal in its place. The stream is read in blocks, so bytes that follow
+/// the message may be taken from it and dropped.
+pub(crate) fn read_first<R: Read>(
+    alloc: Global,
+    reader: &mut R,
+) -> Result<Result<Message, Refusal>, Failed<InputFault>>
+    ensures first { IfOk result (λ first. IfSome (R.remaining reader.old) (λ input. OpensWith input first)) }
+    ensures ended { result ≡ Err (Failed.Because InputFault.Ended) → IfSome (R.remaining reader.old) IsUnended }
+{
+    let mut wire = Wire::new(alloc);
+    let mut block = [0; 8192];
+    for _ in 0..u64::MAX {
+        let Ok(count) = reader.read(&mut block) else {
+            return Err(Failed::Because(InputFault::ReadFailed));
+        };
+        if count == 0 {
+            return Err(Failed::Because(InputFault::Ended));
+        }
+        let items = wire.feed(alloc, &block[..count])?;
+        if let Some(first) = first_of(items) {
+            return Ok(first);
+        }
+    }
+    Err(Failed::Because(InputFault::ReadFailed))
+}

@@ -1,0 +1,77 @@
+-- What one message comes to: its answer, and the store after it (RFC 7644 section 3).
+use Rattle.std.specs.Prelude.{◌≡◌, ◌⊎◌, ℕ, List, Option, None, Some, Result, Ok, Err}
+use Rattle.std.specs.Option.{option_copied}
+use Rattle.scim_text.specs.declared.memory.Failed.{Failed}
+use Rattle.scim_audit.specs.declared.refusals.Refusal.{Refusal}
+use Rattle.scim_audit.specs.declared.refusals.Refusal.TheVariants.{NoToken, Store as NoStore}
+use Rattle.scim_policy.specs.Rules.{Rule}
+use Rattle.scim_shelf.specs.declared.faults.ShelfFault.{ShelfFault}
+use Rattle.scim_shelf.specs.Stores.{Store}
+use Rattle.scim_wire.specs.declared.messages.Message.{Message}
+use Rattle.scim_route.specs.declared.endpoints.Page.{Page}
+use Rattle.scim_route.specs.declared.routes.Route.{Route}
+use Rattle.scim_route.specs.declared.routes.Found.{Found}
+use Rattle.scim_route.specs.declared.routes.Found.TheVariants.{Discovery, Resource}
+use Rattle.scim_route.specs.Targets.{query_of}
+use Rattle.scim_route.specs.Routes.{named, Finds}
+use Rattle.scim_discovery.specs.Pages.{Replies}
+use Rattle.scim_ask.specs.Asks.{Asks}
+use Rattle.scim_service.specs.declared.requests.Turn.{Turn}
+use Rattle.scim_service.specs.declared.replies.Reply.{Reply}
+use Rattle.scim_service.specs.Answers.{Answered}
+use Rattle.scim_exchange.specs.declared.exchanges.Arrival.{Arrival}
+use Rattle.scim_exchange.specs.declared.answers.Answer.{Answer}
+use Rattle.scim_exchange.specs.declared.answers.Answer.TheVariants.{Refused, Page as APage, Served}
+
+-- the turn that a client's message asks for at its arrival, by its route and its body
+pub record IsTurnOf (client : List ℕ) (arrival : Arrival) (route : Route) (body : List ℕ) (turn : Turn) : Type 0 where
+  pub client_is : turn.request.client ≡ client
+  pub op_is : turn.request.op ≡ route.op
+  pub kind_is : turn.request.kind ≡ route.kind
+  pub id_is : turn.request.id ≡ route.id
+  pub asks : Asks route body turn.request.ask
+  pub moment_is : turn.moment ≡ arrival.moment
+  pub fresh_is : turn.fresh ≡ arrival.fresh
+
+-- a message is answered so, and nothing is done or noted
+abbrev pub IsTold : Answer → Store → Answer → Store → Type 0
+IsTold told store answer next = (answer ≡ told) × (next ≡ store)
+
+-- a page of discovery, or the refusal of one
+abbrev pub page_or : Result (List ℕ) Refusal → Answer
+page_or (Ok text) = APage text
+page_or (Err refusal) = Refused refusal
+
+-- the answer is what a page of discovery is told, or refused, to a query
+abbrev pub IsPageOr : Page → Option (List ℕ) → Answer → Type 0
+IsPageOr page query answer = (told : Result (List ℕ) Refusal) × Replies page query told × (answer ≡ page_or told)
+
+-- the turn that the message asks for is answered to its client
+abbrev pub IsServed : List ℕ → List Rule → List ℕ → (Failed ShelfFault → Type 0) → Arrival → Route → Message → Store → Answer → Store → Type 0
+IsServed client policy base Cause arrival route message store answer next =
+    (turn : Turn) × (reply : Reply)
+    × IsTurnOf client arrival route message.body turn
+    × Answered policy base Cause turn store reply next
+    × (answer ≡ Served reply)
+
+-- it is refused where no client has the token
+abbrev pub IsServedTo : Option (List ℕ) → List Rule → List ℕ → (Failed ShelfFault → Type 0) → Arrival → Route → Message → Store → Answer → Store → Type 0
+IsServedTo None policy base Cause arrival route message store answer next = IsTold (Refused NoToken) store answer next
+IsServedTo (Some client) policy base Cause arrival route message store answer next = IsServed client policy base Cause arrival route message store answer next
+
+-- what comes of what the message names: a refusal, a page of discovery, whoever asks for it, or a turn of the service
+abbrev pub ComesOf : Result Found Refusal → List Rule → List ℕ → (Failed ShelfFault → Type 0) → Arrival → Message → Store → Answer → Store → Type 0
+ComesOf (Err refusal) policy base Cause arrival message store answer next = IsTold (Refused refusal) store answer next
+ComesOf (Ok (Discovery page query)) policy base Cause arrival message store answer next =
+    IsPageOr page (option_copied query) answer × (next ≡ store)
+ComesOf (Ok (Resource route)) policy base Cause arrival message store answer next =
+    IsServedTo (option_copied arrival.client) policy base Cause arrival route message store answer next
+
+-- what a message comes to by the policy, over a store of resources below the base, and the store after it: what comes of
+-- that which its method and target name; or, where memory was wanting, the refusal that says so
+abbrev pub Exchanged : List Rule → List ℕ → (Failed ShelfFault → Type 0) → Arrival → Message → Store → Answer → Store → Type 0
+Exchanged policy base Cause arrival message store answer next =
+    ((found : Result Found Refusal)
+    × Finds (named message.method message.target) (query_of message.target) found
+    × ComesOf found policy base Cause arrival message store answer next)
+    ⊎ IsTold (Refused NoStore) store answer next

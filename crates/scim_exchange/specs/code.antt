@@ -1,0 +1,2 @@
+-- How the functions of exchanges answer.
+pub mod Faults

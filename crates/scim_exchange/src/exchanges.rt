@@ -1,0 +1,156 @@
+//! The order in which a message is looked through.
+ghost use Rattle.std.specs.Prelude.{◌≡◌, ◌≤◌, ◌⊎◌, IfOk};
+ghost use Rattle.std.specs.Option.{option_copied};
+ghost use Rattle.scim_audit.specs.declared.refusals.Refusal.{Refusal};
+ghost use Rattle.scim_text.specs.Failures.{UnlessMemory};
+ghost use Rattle.scim_route.specs.Targets.{query_of};
+ghost use Rattle.scim_route.specs.Routes.{named, Finds};
+ghost use Rattle.scim_ask.specs.Asks.{Asks};
+ghost use Rattle.scim_shelf.specs.Stores.{Store, IsStore};
+ghost use Rattle.scim_service.specs.Answers.{IsCause};
+ghost use Rattle.scim_exchange.specs.Exchanges.{IsTurnOf, IsPageOr, IsServedTo, IsTold, Exchanged};
+ghost use Rattle.scim_exchange.specs.code.Faults as spec;
+ghost use Rattle.scim_exchange.specs.declared.answers.Answer.{Answer};
+
+use crate::answers::Answer;
+use scim_ask::ask;
+use scim_audit::Refusal;
+use scim_cell::{Id, Text};
+use scim_discovery::page_reply;
+use scim_route::{Found, Page, Route, find};
+use scim_service::{Ask, Request, Service, Turn};
+use scim_shelf::Shelf;
+use scim_text::{Failed, Moment, NoMemory};
+use scim_wire::Message;
+use std::alloc::Global;
+
+/// Who sent a message, when it came, and the id for the resource that it may create.
+#[derive(Clone, Copy, Debug)]
+pub struct Arrival<'a> {
+    /// The name of the client that has the token of the message; None where no client has it, or there is none.
+    pub client: Option<&'a str>,
+    /// When the message came.
+    pub moment: Moment,
+    /// The id of the resource that it makes, if it makes one.
+    pub fresh: Id,
+}
+
+/// What a route asks for, or the refusal; NoMemory where none was to be had.
+fn asked(alloc: Global, route: &Route<'_>, body: &[u8]) -> Result<Result<Ask, Refusal>, NoMemory>
+    ensures { IfOk result (Asks route.now body.now) }
+{
+    match ask(alloc, route, body) {
+        Ok(ask) => Ok(Ok(ask)),
+        Err(Failed::Because(refusal)) => Ok(Err(refusal)),
+        Err(Failed::NoMemory) => Err(NoMemory),
+    }
+}
+
+/// The turn that the client's message asks for.
+fn turn_of(
+    alloc: Global,
+    client: &str,
+    arrival: &Arrival<'_>,
+    route: &Route<'_>,
+    body: &[u8],
+) -> Result<Turn, NoMemory>
+    ensures { IfOk result (IsTurnOf client.now arrival.now route.now body.now) }
+{
+    let client = Text::copy_of(alloc, client)?;
+    let ask = asked(alloc, route, body)?;
+    Ok(Turn {
+        request: Request {
+            client,
+            op: route.op,
+            kind: route.kind,
+            id: route.id,
+            ask,
+        },
+        moment: arrival.moment,
+        fresh: arrival.fresh,
+    })
+}
+
+/// The refusal that a fault is told as.
+fn refusal_for(fault: Failed<Refusal>) -> Refusal
+    ensures { result ≡ spec.refusal_for fault }
+{
+    match fault {
+        Failed::Because(refusal) => refusal,
+        Failed::NoMemory => Refusal::Store,
+    }
+}
+
+/// What a message names.
+///
+/// Fails with the refusal where it names nothing that there is, and with `NoMemory`.
+fn found_in(alloc: Global, message: &Message) -> Result<Found<'_>, Failed<Refusal>>
+    ensures { UnlessMemory (Finds (named message.now.method message.now.target) (query_of message.now.target)) result }
+{
+    find(alloc, message.method.as_slice(), message.target.as_slice())
+}
+
+/// A page of discovery, or the refusal of one; or that of want of memory.
+fn page_answer(alloc: Global, page: Page, query: Option<&[u8]>) -> Answer
+    ensures { IsPageOr page (option_copied query.entry) result ⊎ (result ≡ Answer.Refused Refusal.Store) }
+{
+    match page_reply(alloc, page, query) {
+        Ok(text) => Answer::Page(text),
+        Err(Failed::Because(refusal)) => Answer::Refused(refusal),
+        Err(Failed::NoMemory) => Answer::Refused(Refusal::Store),
+    }
+}
+
+/// What is answered to what a message asks of resources.
+fn served<S: Shelf>(
+    alloc: Global,
+    service: &mut Service<S>,
+    arrival: &Arrival<'_>,
+    route: &Route<'_>,
+    message: &Message,
+) -> Answer
+    ensures policy { service.new.policy ≡ service.old.policy }
+    ensures base { service.new.base ≡ service.old.base }
+    ensures served { (store : Store) → S.stands service.old.shelf store → S.is_honest service.new.shelf → IsStore service.old.base store
+        → (next : Store) × S.stands service.new.shelf next × IsStore service.old.base next
+        × (IsServedTo (option_copied arrival.now.client) service.old.policy service.old.base
+        (IsCause (S.failures service.old.shelf) (S.failures service.new.shelf) store) arrival.now route.now message.now store result next
+        ⊎ IsTold (Answer.Refused Refusal.Store) store result next) }
+    ensures honest { S.is_honest service.new.shelf → S.is_honest service.old.shelf }
+    ensures grown { S.failures service.old.shelf ≤ S.failures service.new.shelf }
+{
+    let Some(client) = arrival.client else {
+        return Answer::Refused(Refusal::NoToken);
+    };
+    match turn_of(alloc, client, arrival, route, message.body.as_slice()) {
+        Ok(turn) => Answer::Served(service.answer(alloc, &turn)),
+        Err(NoMemory) => Answer::Refused(Refusal::Store),
+    }
+}
+
+/// Answers one message by a service. It is looked through in this order: its endpoint and its method; then, where it
+/// asks for a page of discovery, no token is asked for and nothing is noted; then the client's token; then what it asks,
+/// its body and its query string; and last the service answers it.
+///
+/// Where memory is wanting the answer is [`Refusal::Store`], and nothing is done or noted.
+pub fn answer<S: Shelf>(
+    alloc: Global,
+    service: &mut Service<S>,
+    arrival: &Arrival<'_>,
+    message: &Message,
+) -> Answer
+    ensures policy { service.new.policy ≡ service.old.policy }
+    ensures base { service.new.base ≡ service.old.base }
+    ensures exchanged { (store : Store) → S.stands service.old.shelf store → S.is_honest service.new.shelf → IsStore service.old.base store
+        → (next : Store) × S.stands service.new.shelf next × IsStore service.old.base next
+        × Exchanged service.old.policy service.old.base (IsCause (S.failures service.old.shelf) (S.failures service.new.shelf) store)
+        arrival.now message.now store result next }
+    ensures honest { S.is_honest service.new.shelf → S.is_honest service.old.shelf }
+    ensures grown { S.failures service.old.shelf ≤ S.failures service.new.shelf }
+{
+    match found_in(alloc, message) {
+        Ok(Found::Discovery(page, query)) => page_answer(alloc, page, query),
+        Ok(Found::Resource(route)) => served(alloc, service, arrival, &route, message),
+        Err(fault) => Answer::Refused(refusal_for(fault)),
+    }
+}

@@ -1,0 +1,10 @@
+//! What one message of a client is answered, and in which order it is looked through (RFC 7644 section 3): its endpoint,
+//! then the client's token, then what it asks, and last the policy and the store.
+#![tactic(auto)]
+
+mod answers;
+mod exchanges;
+mod replies;
+
+pub use answers::Answer;
+pub use exchanges::{Arrival, answer};

@@ -1,0 +1,36 @@
+-- The body of a message, by its framing (RFC 9112 section 6).
+use Rattle.std.specs.Prelude.{◌≡◌, ℕ, ◌<◌, Bool, true, List, ◌++◌, length, nat_lt}
+use Rattle.scim_audit.specs.declared.refusals.Refusal.{Refusal}
+use Rattle.scim_audit.specs.declared.refusals.Refusal.TheVariants as refusals
+use Rattle.scim_chunks.specs.Chunked.{IsChunked, IsChunkedPart, IsBadChunked}
+use Rattle.scim_chunks.specs.declared.faults.BadChunks.{BadChunks}
+use Rattle.scim_chunks.specs.declared.faults.BadChunks.TheVariants.{TooLarge, Malformed}
+use Rattle.scim_wire.specs.declared.framings.Framing.{Framing}
+use Rattle.scim_wire.specs.declared.framings.Framing.TheVariants.{Sized, Chunked}
+
+-- a body is to come: one that has bytes, or chunks
+abbrev pub has_body : Framing → Bool
+has_body (Sized n) = nat_lt 0 n
+has_body Chunked = true
+
+-- the bytes after a head are the whole of this body
+abbrev pub IsBody : Framing → List ℕ → List ℕ → Type 0
+IsBody (Sized n) bytes body = (bytes ≡ body) × (length body ≡ n)
+IsBody Chunked bytes body = IsChunked bytes body
+
+-- the bytes after a head are the beginning of a body, of which some is still to come
+abbrev pub IsBodyPart : Framing → List ℕ → Type 0
+IsBodyPart (Sized n) bytes = length bytes < n
+IsBodyPart Chunked bytes = IsChunkedPart bytes
+
+-- what a chunked body is refused as
+abbrev pub refusal_of : BadChunks → Refusal
+refusal_of TooLarge = refusals.TooLarge
+refusal_of Malformed = refusals.BadFraming
+
+-- the bytes after a head are refused so, whatever follows
+abbrev pub IsBadBody : Framing → List ℕ → Refusal → Type 0
+IsBadBody (Sized n) bytes refusal = ⊥
+IsBadBody Chunked bytes refusal =
+    (front : List ℕ) × (back : List ℕ) × (fault : BadChunks)
+    × (bytes ≡ front ++ back) × IsBadChunked front fault × (refusal ≡ refusal_of fault)
