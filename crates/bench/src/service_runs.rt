@@ -78,8 +78,8 @@ impl Figures {
 }
 
 /// The draft of a body.
-fn draft_of(alloc: Global, kind: Kind, body: &str) -> Result<Draft> {
-    match read_body(alloc, kind, UseFor::Creating, body) {
+pub(crate) fn draft_of(alloc: Global, kind: Kind, use_for: UseFor, body: &str) -> Result<Draft> {
+    match read_body(alloc, kind, use_for, body) {
         Ok(draft) => Ok(draft),
         Err(_) => bail!("a body is refused"),
     }
@@ -89,7 +89,7 @@ fn user_draft(alloc: Global, number: usize) -> Result<Draft> {
     let body = format!(in alloc;
         "{{\"userName\":\"user{number}\",\"name\":{{\"familyName\":\"Jensen\"}},\"emails\":[{{\"value\":\"user{number}@example.com\"}}]}}"
     )?;
-    draft_of(alloc, Kind::User, body.as_str())
+    draft_of(alloc, Kind::User, UseFor::Creating, body.as_str())
 }
 
 /// A group of the users that follow those of the group before it, among the first users.
@@ -99,7 +99,7 @@ fn group_draft(alloc: Global, number: usize) -> Result<Draft> {
         push_member(alloc, number, place, &mut body)?;
     }
     body.push_str("]}")?;
-    draft_of(alloc, Kind::Group, body.as_str())
+    draft_of(alloc, Kind::Group, UseFor::Creating, body.as_str())
 }
 
 fn push_member(alloc: Global, group: usize, place: usize, body: &mut String) -> Result<()> {
@@ -145,7 +145,7 @@ fn op_of(asked: Asked) -> Op {
 }
 
 /// Who asks, and when.
-fn heading(alloc: Global) -> Result<(Text, Moment)> {
+pub(crate) fn heading(alloc: Global) -> Result<(Text, Moment)> {
     let Some(moment) = Moment::new(1_717_243_200) else {
         bail!("there is no such moment");
     };
@@ -153,7 +153,13 @@ fn heading(alloc: Global) -> Result<(Text, Moment)> {
 }
 
 /// A turn for the resource of a number.
-fn turn_with(heading: (Text, Moment), op: Op, kind: Kind, number: usize, ask: Ask) -> Turn {
+pub(crate) fn turn_with(
+    heading: (Text, Moment),
+    op: Op,
+    kind: Kind,
+    number: usize,
+    ask: Ask,
+) -> Turn {
     let (client, moment) = heading;
     let id = id_of(number);
     Turn {
@@ -188,15 +194,16 @@ fn push_turn(alloc: Global, asked: Asked, number: usize, turns: &mut Vec<Turn>) 
     Ok(turns.push(turn)?)
 }
 
-fn service_over_nothing(alloc: Global) -> Result<Service<MemoryShelf>> {
+/// A service by a policy file over a store without resources.
+pub(crate) fn service_over_nothing(alloc: Global, policy: &str) -> Result<Service<MemoryShelf>> {
     let base = Text::copy_of(alloc, BASE)?;
     let shelf = MemoryShelf::new(alloc, Vec::new(alloc))?;
-    let policy = read_policy(alloc, POLICY)?;
+    let policy = read_policy(alloc, policy)?;
     Ok(Service::new(policy, base, shelf))
 }
 
 /// Answers a turn that makes a resource.
-fn make(alloc: Global, service: &mut Service<MemoryShelf>, turn: &Turn) -> Result<()> {
+pub(crate) fn make(alloc: Global, service: &mut Service<MemoryShelf>, turn: &Turn) -> Result<()> {
     let reply = service.answer(alloc, turn);
     ensure!(reply.location().is_some(), "a resource isn't made");
     Ok(())
@@ -233,7 +240,7 @@ fn fill(alloc: Global, service: &mut Service<MemoryShelf>, users: usize) -> Resu
 }
 
 /// Nanoseconds a turn, where each is answered with the status.
-fn timed(
+pub(crate) fn timed(
     rt: &impl Clock,
     alloc: Global,
     service: &mut Service<MemoryShelf>,
@@ -280,7 +287,7 @@ fn pass(rt: &impl Clock, alloc: Global, service: &mut Service<MemoryShelf>) -> R
 
 /// What turns take over so many users.
 fn measure(rt: &impl Clock, alloc: Global, users: usize) -> Result<Figures> {
-    let mut service = service_over_nothing(alloc)?;
+    let mut service = service_over_nothing(alloc, POLICY)?;
     measure_service(rt, alloc, &mut service, users)
 }
 
@@ -314,12 +321,12 @@ fn measure_body(rt: &impl Clock, alloc: Global, emails: usize) -> Result<u128> {
     let body = body_of(alloc, emails)?;
     let [_, most] = EMAILS;
     fastest(rt, BODY_PASSES, most / emails.max(1), || {
-        draft_of(alloc, Kind::User, body.as_str())?;
+        draft_of(alloc, Kind::User, UseFor::Creating, body.as_str())?;
         Ok(())
     })
 }
 
-fn print_line(rt: &impl Print, what: &str, few: u128, many: u128) -> Result<()> {
+pub(crate) fn print_line(rt: &impl Print, what: &str, few: u128, many: u128) -> Result<()> {
     println!(rt; "{what}: {few}, {many}, {:.1} times", ratio(many, few))?;
     Ok(())
 }

@@ -1,6 +1,7 @@
 //! The calls of the crates of policies, views and searches.
 #![tactic(auto)]
 
+mod access_calls;
 mod policy_calls;
 mod query_calls;
 mod view_calls;
@@ -13,6 +14,9 @@ pub use view_calls::wanted;
 /// What a call gives, if it is one of this crate.
 pub fn answer(case: &Case<'_>, call: &str) -> Option<Result<String, CaseFault>> {
     if let Some(found) = policy_calls::answer(case, call) {
+        return Some(found);
+    }
+    if let Some(found) = access_calls::answer(case, call) {
         return Some(found);
     }
     if let Some(found) = view_calls::answer(case, call) {

@@ -165,7 +165,7 @@ fn told_of_decision(
     }
 }
 
-fn decision_text(alloc: Global, decision: Decision) -> Result<String, CaseFault> {
+pub fn decision_text(alloc: Global, decision: Decision) -> Result<String, CaseFault> {
     let effect = if decision.allow { "allow" } else { "deny" };
     Ok(format!(in alloc; "rule {}: {effect}", decision.rule)?)
 }

@@ -4,10 +4,9 @@ use crate::case::Case;
 use crate::faults::CaseFault;
 use scim_samples::{leaf_text, read_leaf};
 use scim_schema::{
-    Attribute, AttributeType, Characteristics, Kind, Leaf, Mutability, Returned, Schema,
-    Uniqueness, attribute_characteristics, attribute_named, attribute_named_in, attributes,
-    characteristics_of, core_schema, extension_of, extensions, has_leaf, is_multi_valued, leaves,
-    schema_of, sub_attribute_named, sub_attributes, unit_of,
+    Attribute, Characteristics, Kind, Leaf, Schema, attribute_characteristics, attribute_named,
+    attribute_named_in, attributes, characteristics_of, core_schema, extension_of, extensions,
+    has_leaf, is_multi_valued, leaves, schema_of, sub_attribute_named, sub_attributes, unit_of,
 };
 use std::alloc::Global;
 
@@ -28,40 +27,11 @@ pub fn answer(case: &Case<'_>, call: &str) -> Option<Result<String, CaseFault>> 
     }
 }
 
-fn type_word(attribute_type: AttributeType) -> &'static str {
-    match attribute_type {
-        AttributeType::String => "string",
-        AttributeType::Boolean => "boolean",
-        AttributeType::DateTime => "dateTime",
-        AttributeType::Reference => "reference",
-        AttributeType::Binary => "binary",
-        AttributeType::Complex => "complex",
-    }
-}
-
 fn schema_word(schema: Schema) -> &'static str {
     match schema {
         Schema::User => "User",
         Schema::Group => "Group",
         Schema::EnterpriseUser => "EnterpriseUser",
-    }
-}
-
-fn mutability_word(mutability: Mutability) -> &'static str {
-    match mutability {
-        Mutability::ReadOnly => "readOnly",
-        Mutability::ReadWrite => "readWrite",
-        Mutability::Immutable => "immutable",
-        Mutability::WriteOnly => "writeOnly",
-    }
-}
-
-fn returned_word(returned: Returned) -> &'static str {
-    match returned {
-        Returned::Always => "always",
-        Returned::Never => "never",
-        Returned::Default => "default",
-        Returned::Request => "request",
     }
 }
 
@@ -79,15 +49,12 @@ fn characteristics_text(
     } else {
         "caseInexact"
     };
-    let uniqueness = match of.uniqueness {
-        Uniqueness::NotUnique => "none",
-        Uniqueness::Server => "server",
-    };
     Ok(format!(in alloc;
-        "{} {plurality} {need} {case} {} {} {uniqueness}",
-        type_word(of.attribute_type),
-        mutability_word(of.mutability),
-        returned_word(of.returned)
+        "{} {plurality} {need} {case} {} {} {}",
+        of.attribute_type.name(),
+        of.mutability.name(),
+        of.returned.name(),
+        of.uniqueness.name()
     )?)
 }
 

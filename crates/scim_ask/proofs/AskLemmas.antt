@@ -3,19 +3,20 @@ use Rattle.std.proofs.Common.{◌≡◌, ap, ◌∙◌, ℕ, List}
 use Rattle.std.specs.Prelude.{Option, Result, Ok}
 use Rattle.scim_schema.specs.declared.Kind.{Kind}
 use Rattle.scim_audit.specs.declared.refusals.Refusal.{Refusal}
+use Rattle.scim_json.specs.declared.drafts.UseFor.TheVariants.{Creating, Replacing}
 use Rattle.scim_json.specs.Drafts.{Draft}
 use Rattle.scim_view.specs.declared.projection.Wanted.{Wanted}
 use Rattle.scim_query.specs.declared.queries.Query.{Query}
 use Rattle.scim_route.specs.declared.routes.Form.{Form}
 use Rattle.scim_route.specs.declared.routes.Form.TheVariants as form
 use Rattle.scim_route.specs.Parameters.{parameters_of}
-use Rattle.scim_service.specs.declared.requests.Ask.TheVariants.{Get, Search, Create}
+use Rattle.scim_service.specs.declared.requests.Ask.TheVariants.{Get, Search, Create, Replace}
 use Rattle.scim_ask.specs.Refused.{◌>>=◌}
 use Rattle.scim_ask.specs.AttributeLists.{Lists, Wants}
 use Rattle.scim_ask.specs.Searches.{Sought, sought, sought_of, IsQuery}
 use Rattle.scim_ask.specs.QueryStrings.{search_of}
 use Rattle.scim_ask.specs.SearchBodies.{search_of_body}
-use Rattle.scim_ask.specs.Asks.{Asked, showing, searching, creating, lists_asked, draft_asked, asked, IsAsk}
+use Rattle.scim_ask.specs.Asks.{Asked, showing, searching, creating, replacing, lists_asked, draft_asked, asked, IsAsk}
 
 -- lists that are wanted are what is asked to be shown
 pub shows : (f : Form) (kind : Kind) (query : Option (List ℕ)) (body : List ℕ) (w : Wanted) → f ≡ form.Get
@@ -46,11 +47,22 @@ searches f kind query body q is r = (
 
 -- a draft and what is wanted are what is asked to be made
 pub makes : (kind : Kind) (query : Option (List ℕ)) (body : List ℕ) (d : Draft) (w : Wanted)
-    → ((draft : Draft) × (draft_asked kind body ≡ Ok draft) × (d ≡ draft)) → ((lists : Lists) × (lists_asked query ≡ Ok lists) × Wants kind lists w)
+    → ((draft : Draft) × (draft_asked Creating kind body ≡ Ok draft) × (d ≡ draft)) → ((lists : Lists) × (lists_asked query ≡ Ok lists) × Wants kind lists w)
     → (x : Asked) × (asked form.Create kind query body ≡ Ok x) × IsAsk kind x (Create d w)
 makes kind query body d w a b = (
   creating a.0 b.0,
   ap (λ (draft : Result Draft Refusal). draft >>= λ one. lists_asked query >>= λ ls. Ok (creating one ls)) a.1
       ∙ ap (λ (found : Result Lists Refusal). found >>= λ ls. Ok (creating a.0 ls)) b.1,
+  (a.2, b.2),
+)
+
+-- and so they are what is asked to be put in the place of a resource
+pub replaces : (kind : Kind) (query : Option (List ℕ)) (body : List ℕ) (d : Draft) (w : Wanted)
+    → ((draft : Draft) × (draft_asked Replacing kind body ≡ Ok draft) × (d ≡ draft)) → ((lists : Lists) × (lists_asked query ≡ Ok lists) × Wants kind lists w)
+    → (x : Asked) × (asked form.Replace kind query body ≡ Ok x) × IsAsk kind x (Replace d w)
+replaces kind query body d w a b = (
+  replacing a.0 b.0,
+  ap (λ (draft : Result Draft Refusal). draft >>= λ one. lists_asked query >>= λ ls. Ok (replacing one ls)) a.1
+      ∙ ap (λ (found : Result Lists Refusal). found >>= λ ls. Ok (replacing a.0 ls)) b.1,
   (a.2, b.2),
 )

@@ -9,6 +9,7 @@ use Rattle.serde_json.specs.Read.{read}
 use Rattle.scim_schema.specs.declared.Kind.{Kind}
 use Rattle.scim_audit.specs.declared.refusals.Refusal.TheVariants.{Syntax}
 use Rattle.scim_ask.specs.SearchBodies.{value_in}
+use Rattle.scim_json.specs.declared.drafts.UseFor.{UseFor}
 use Rattle.scim_ask.specs.Asks.{draft_in, draft_asked}
 
 not_utf8 : (body : List ℕ) → (IsUtf8 body → ⊥) → is_utf8 body ≡ false
@@ -30,11 +31,11 @@ no_value body none =
     by_test (is_utf8 body) (λ t. let n : read body ≡ None = none (IsUtf8-from_is_utf8 body t) in rw (t, n) refl) (λ f. rw f refl)
 
 -- a body in UTF-8 gives the draft of its text
-pub draft_of_text : (kind : Kind) (body text : List ℕ) → text ≡ body → IsUtf8 body → draft_in kind text ≡ draft_asked kind body
+pub draft_of_text : (use_for : UseFor) (kind : Kind) (body text : List ℕ) → text ≡ body → IsUtf8 body → draft_in use_for kind text ≡ draft_asked use_for kind body
 unfolding draft_asked
-draft_of_text kind body text same utf8 = let passes = is_utf8-from_IsUtf8 body utf8 in rw passes (ap (draft_in kind) same)
+draft_of_text use_for kind body text same utf8 = let passes = is_utf8-from_IsUtf8 body utf8 in rw passes (ap (draft_in use_for kind) same)
 
 -- and another is refused
-pub no_draft : (kind : Kind) (body : List ℕ) → (IsUtf8 body → ⊥) → draft_asked kind body ≡ Err Syntax
+pub no_draft : (use_for : UseFor) (kind : Kind) (body : List ℕ) → (IsUtf8 body → ⊥) → draft_asked use_for kind body ≡ Err Syntax
 unfolding draft_asked
-no_draft kind body broken = let fails = not_utf8 body broken in rw fails refl
+no_draft use_for kind body broken = let fails = not_utf8 body broken in rw fails refl

@@ -1,11 +1,12 @@
--- What a routed request asks (RFC 7644 sections 3.3, 3.4 and 3.6).
+-- What a routed request asks (RFC 7644 sections 3.3 to 3.6).
 use Rattle.std.specs.Prelude.{◌≡◌, ℕ, List, Option, option_copied, Result, Ok, Err, ⊤, if◌then◌else◌}
 use Rattle.std.specs.Str.{is_utf8}
 use Rattle.serde_json.specs.Read.{read}
 use Rattle.scim_schema.specs.declared.Kind.{Kind}
 use Rattle.scim_audit.specs.declared.refusals.Refusal.{Refusal}
 use Rattle.scim_audit.specs.declared.refusals.Refusal.TheVariants.{NotSupported, Syntax, MessageValue}
-use Rattle.scim_json.specs.declared.drafts.UseFor.TheVariants.{Creating}
+use Rattle.scim_json.specs.declared.drafts.UseFor.{UseFor}
+use Rattle.scim_json.specs.declared.drafts.UseFor.TheVariants.{Creating, Replacing}
 use Rattle.scim_json.specs.Drafts.{Draft}
 use Rattle.scim_json.specs.Bodies.{Body, malformed, wrong, drafted, body_of}
 use Rattle.scim_route.specs.declared.routes.Form.{Form}
@@ -13,18 +14,19 @@ use Rattle.scim_route.specs.declared.routes.Form.TheVariants as form
 use Rattle.scim_route.specs.declared.routes.Route.{Route}
 use Rattle.scim_route.specs.Parameters.{parameters_of}
 use Rattle.scim_service.specs.declared.requests.Ask.{Ask}
-use Rattle.scim_service.specs.declared.requests.Ask.TheVariants.{Get, Search, Create, Remove}
+use Rattle.scim_service.specs.declared.requests.Ask.TheVariants.{Get, Search, Create, Replace, Remove}
 use Rattle.scim_ask.specs.Refused.{◌>>=◌, Tells}
 use Rattle.scim_ask.specs.AttributeLists.{Lists, one_of, Wants}
 use Rattle.scim_ask.specs.Searches.{Sought, sought, sought_of, IsQuery}
 use Rattle.scim_ask.specs.QueryStrings.{lists_of, search_of}
 use Rattle.scim_ask.specs.SearchBodies.{search_of_body}
 
--- what a request may ask: to show a resource, to search, to make one of a draft, or to remove one
+-- what a request may ask: to show a resource, to search, to make one of a draft, to replace one by a draft, or to remove one
 pub data Asked : Type 0 where
   showing : Lists → Asked
   searching : Sought → Asked
   creating : Draft → Lists → Asked
+  replacing : Draft → Lists → Asked
   removing : Asked
 
 -- the attribute lists of a query string
@@ -37,23 +39,23 @@ as_draft malformed = Err Syntax
 as_draft wrong = Err MessageValue
 as_draft (drafted d) = Ok d
 
--- the draft that a text gives of a resource to make (RFC 7644 section 3.3)
-unfoldable pub draft_in : Kind → List ℕ → Result Draft Refusal
-draft_in kind text = as_draft (body_of kind Creating (read text))
+-- the draft that a text gives of a resource to make (RFC 7644 section 3.3), or to replace one by (section 3.5.1)
+unfoldable pub draft_in : UseFor → Kind → List ℕ → Result Draft Refusal
+draft_in use_for kind text = as_draft (body_of kind use_for (read text))
 
 -- the same of a body, which is in UTF-8
-unfoldable pub draft_asked : Kind → List ℕ → Result Draft Refusal
-draft_asked kind body = if is_utf8 body then draft_in kind body else Err Syntax
+unfoldable pub draft_asked : UseFor → Kind → List ℕ → Result Draft Refusal
+draft_asked use_for kind body = if is_utf8 body then draft_in use_for kind body else Err Syntax
 
 -- what each form asks. The query string gives the attribute lists alone, but for a list of resources, which it gives
--- the whole search for; the body counts where a resource is made or a search is posted, and there the search is the body's alone
+-- the whole search for; the body counts where a resource is made or replaced, or a search is posted, and there the search is the body's alone
 abbrev pub asked : Form → Kind → Option (List ℕ) → List ℕ → Result Asked Refusal
 asked form.Get kind query body = lists_asked query >>= λ lists. Ok (showing lists)
 asked form.ListGet kind query body = sought kind (search_of kind (parameters_of query)) >>= λ s. Ok (searching s)
 asked form.SearchPost kind query body = sought_of kind (search_of_body kind body) >>= λ s. Ok (searching s)
-asked form.Create kind query body = draft_asked kind body >>= λ draft. lists_asked query >>= λ lists. Ok (creating draft lists)
+asked form.Create kind query body = draft_asked Creating kind body >>= λ draft. lists_asked query >>= λ lists. Ok (creating draft lists)
 asked form.Remove kind query body = lists_asked query >>= λ lists. Ok removing
-asked form.Replace kind query body = Err NotSupported
+asked form.Replace kind query body = draft_asked Replacing kind body >>= λ draft. lists_asked query >>= λ lists. Ok (replacing draft lists)
 asked form.Patch kind query body = Err NotSupported
 
 -- an ask is what is asked
@@ -61,6 +63,7 @@ abbrev pub IsAsk : Kind → Asked → Ask → Type 0
 IsAsk kind (showing lists) (Get wanted) = Wants kind lists wanted
 IsAsk kind (searching s) (Search query) = IsQuery kind s query
 IsAsk kind (creating draft lists) (Create d wanted) = (d ≡ draft) × Wants kind lists wanted
+IsAsk kind (replacing draft lists) (Replace d wanted) = (d ≡ draft) × Wants kind lists wanted
 IsAsk kind removing Remove = ⊤
 IsAsk kind _ _ = ⊥
 

@@ -1,4 +1,4 @@
-//! What a routed request asks (RFC 7644 sections 3.3, 3.4 and 3.6).
+//! What a routed request asks (RFC 7644 sections 3.3 to 3.6).
 ghost use Rattle.std.specs.Prelude.{◌≡◌};
 ghost use Rattle.std.specs.Option.{option_copied};
 ghost use Rattle.scim_text.specs.Failures.{UnlessMemory};
@@ -59,14 +59,19 @@ fn listed(alloc: Global, kind: Kind, query: Option<&[u8]>) -> Result<Query, Fail
     search_by(alloc, kind, &parameters)
 }
 
-/// The draft that a text gives of a resource to make.
+/// The draft that a text gives, read for that use.
 ///
 /// Syntax and MessageValue as `read_body` says. NoMemory where none was to be had.
 #[tactic(auto, unfolding(crate::specs::Asks::draft_in))]
-fn draft_in(alloc: Global, kind: Kind, text: &str) -> Result<Draft, Failed<Refusal>>
-    ensures { UnlessMemory (Tells (λ due d. d ≡ due) (spec.draft_in kind text.now)) result }
+fn draft_in(
+    alloc: Global,
+    use_for: UseFor,
+    kind: Kind,
+    text: &str,
+) -> Result<Draft, Failed<Refusal>>
+    ensures { UnlessMemory (Tells (λ due d. d ≡ due) (spec.draft_in use_for kind text.now)) result }
 {
-    match read_body(alloc, kind, UseFor::Creating, text) {
+    match read_body(alloc, kind, use_for, text) {
         Ok(draft) => Ok(draft),
         Err(Failed::NoMemory) => Err(Failed::NoMemory),
         Err(Failed::Because(BodyFault::Syntax)) => Err(Failed::Because(Refusal::Syntax)),
@@ -75,11 +80,16 @@ fn draft_in(alloc: Global, kind: Kind, text: &str) -> Result<Draft, Failed<Refus
 }
 
 /// The same by a body; Syntax also where it is no UTF-8.
-fn draft_of(alloc: Global, kind: Kind, body: &[u8]) -> Result<Draft, Failed<Refusal>>
-    ensures { UnlessMemory (Tells (λ due d. d ≡ due) (spec.draft_asked kind body.now)) result }
+fn draft_of(
+    alloc: Global,
+    use_for: UseFor,
+    kind: Kind,
+    body: &[u8],
+) -> Result<Draft, Failed<Refusal>>
+    ensures { UnlessMemory (Tells (λ due d. d ≡ due) (spec.draft_asked use_for kind body.now)) result }
 {
     match str::from_utf8(body) {
-        Ok(text) => draft_in(alloc, kind, text),
+        Ok(text) => draft_in(alloc, use_for, kind, text),
         Err(_) => Err(Failed::Because(Refusal::Syntax)),
     }
 }
@@ -95,22 +105,37 @@ fn creation(
 ) -> Result<Ask, Failed<Refusal>>
     ensures { UnlessMemory (Tells (IsAsk kind) (spec.asked Form.Create kind (option_copied query.entry) body.now)) result }
 {
-    let draft = draft_of(alloc, kind, body)?;
+    let draft = draft_of(alloc, UseFor::Creating, kind, body)?;
     Ok(Ask::Create(draft, wanted_by_query(alloc, kind, query)?))
+}
+
+/// To replace a resource.
+///
+/// Errors: as `draft_of`, and then as `wanted_by_query`.
+fn replacement(
+    alloc: Global,
+    kind: Kind,
+    query: Option<&[u8]>,
+    body: &[u8],
+) -> Result<Ask, Failed<Refusal>>
+    ensures { UnlessMemory (Tells (IsAsk kind) (spec.asked Form.Replace kind (option_copied query.entry) body.now)) result }
+{
+    let draft = draft_of(alloc, UseFor::Replacing, kind, body)?;
+    Ok(Ask::Replace(draft, wanted_by_query(alloc, kind, query)?))
 }
 
 /// What a routed request asks of the resources of a kind, by the query string of the route and its body.
 ///
-/// Of the query string, requests for one resource and those that make one read the attribute lists alone (RFC 7644
+/// Of the query string, requests for one resource and those that make or replace one read the attribute lists alone (RFC 7644
 /// section 3.9); a list of resources reads it all (section 3.4.2); a search that is posted reads its body alone
-/// (section 3.4.3). Bodies of other requests than those that make a resource or post a search aren't looked at.
+/// (section 3.4.3). Bodies of other requests than those that make or replace a resource or post a search aren't looked at.
 ///
 /// Parameters and keys are read in any ASCII case. An attribute list that names nothing is a list all the same, and
 /// shows what is always shown; without a text it counts as not given, and in a query string blank parts of it do. A
 /// blank filter counts as not given, and a sortBy that names nothing too. A startIndex below 1 is 1, as where none is
 /// given; a count below 0 is 0, above 200 it is 200, and 100 where none is given.
 ///
-/// Fails with the first that holds of these: NotSupported where a resource is to be replaced or changed; Syntax where
+/// Fails with the first that holds of these: NotSupported where a resource is to be changed; Syntax where
 /// a body that is read isn't a JSON object in UTF-8, or has a key in two spellings; Filter where the filter is none;
 /// MessageValue where another value isn't of its type, or none of its parameter, or both attribute lists are given, or
 /// the body gives no draft of a resource. And with NoMemory where no memory is to be had.
@@ -128,6 +153,7 @@ pub fn ask(alloc: Global, route: &Route<'_>, body: &[u8]) -> Result<Ask, Failed<
             wanted_by_query(alloc, kind, query)?;
             Ok(Ask::Remove)
         }
-        Form::Replace | Form::Patch => Err(Failed::Because(Refusal::NotSupported)),
+        Form::Replace => replacement(alloc, kind, query, body),
+        Form::Patch => Err(Failed::Because(Refusal::NotSupported)),
     }
 }

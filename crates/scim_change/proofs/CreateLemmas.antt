@@ -1,8 +1,7 @@
 -- What a draft makes is a resource.
-use Rattle.std.proofs.Common.{◌≡◌, ◌≢◌, ◌≤◌, ℕ, zero, refl, sym, ◌∙◌, ap, subst, Bool, true, false, arith, inl, inr, List, [], ◌∷◌, ◌++◌, length}
+use Rattle.std.proofs.Common.{◌≡◌, ◌≢◌, ◌≤◌, ℕ, refl, sym, ◌∙◌, ap, subst, true, false, arith, inl, inr, List, [], ◌∷◌, ◌++◌, length}
 use Rattle.std.specs.Prelude.{Option, None, Some, IsSome, All}
 use Rattle.std.specs.List.{list_any, count_by}
-use Rattle.std.specs.FinMap.{get}
 use Rattle.std.proofs.lemmas.Bool.{cases_Bool}
 use Rattle.std.proofs.lemmas.List.Elements.{All-nil, All-cons, All-append, All-weaker}
 use denote.Enum.Bare.{sameb, same_true, true_same}
@@ -20,6 +19,7 @@ use Rattle.scim_schema.specs.Characteristics.{attribute_characteristics, charact
 use Rattle.scim_schema.specs.Names.{kind_name}
 use Rattle.scim_schema.specs.Table.{attributes}
 use Rattle.scim_schema.specs.Units.{simple, leaf_at, whole, unit_of}
+use Rattle.scim_schema.specs.Mutability.{is_read_only, is_write_only}
 use Rattle.scim_text.specs.Moments.{last_moment}
 use Rattle.scim_cell.specs.declared.atoms.Atom.{Atom}
 use Rattle.scim_cell.specs.declared.atoms.Atom.TheVariants.{Text, Moment, Truth}
@@ -27,20 +27,18 @@ use Rattle.scim_cell.specs.declared.rows.Field.{Field}
 use Rattle.scim_cell.specs.Content.{Content, HasType}
 use Rattle.scim_cell.specs.Ids.{IsId, id_text}
 use Rattle.scim_cell.proofs.Facts.{IsIdText-id_text}
-use Rattle.scim_cell.specs.Place.{place_at}
-use Rattle.scim_cell.specs.Rows.{Row, rows, content, values, atom_in, atom_at, cell_at, is_primary, AreSound}
-use Rattle.scim_value.specs.Resource.{first_at, location, IsShort, IsFilled, IsNamedAs, MembersHaveValues, HasAtMostOnePrimary, HasFewValues, MayBeKept, IsResource, HasBase}
+use Rattle.scim_cell.specs.Rows.{Row, content, values, atom_in, atom_at, cell_at, is_primary, AreSound}
+use Rattle.scim_value.specs.Resource.{first_at, location, IsFilled, IsNamedAs, MembersHaveValues, HasAtMostOnePrimary, HasFewValues, MayBeKept, IsResource, HasBase}
 use Rattle.scim_value.proofs.Facts.{get_cell, part_content, rows_content}
-use Rattle.scim_json.specs.BodyNames.{is_read_only}
-use Rattle.scim_json.specs.Drafts.{Draft, MayBeGiven, IsDraft, is_empty, is_write_only, lacks_required}
+use Rattle.scim_json.specs.Drafts.{Draft, MayBeGiven, IsDraft, is_empty, lacks_required}
 use Rattle.scim_json.specs.declared.drafts.UseFor.TheVariants.{Creating}
 use Rattle.scim_change.specs.Create.{row_of, meta_row, id_row, meta_rows, created_rows}
 use Rattle.scim_change.proofs.RowLemmas.{four, created_sound}
-use Rattle.scim_change.proofs.ValueLemmas.{values_kept, values_meta, values_id, values_whole}
+use Rattle.scim_change.proofs.ValueLemmas.{values_meta, values_id, values_whole}
 use Rattle.scim_change.proofs.NameLemmas.{IsSimple, IsGivenAtom, found_in, required_there, user_name, display_name}
 
 -- a `userName` that a client may give is filled
-filled : (atom : Atom) → is_empty atom ≡ false → HasType (characteristics_of User (simple UserName)).attribute_type atom → IsFilled (Some atom)
+pub filled : (atom : Atom) → is_empty atom ≡ false → HasType (characteristics_of User (simple UserName)).attribute_type atom → IsFilled (Some atom)
 filled (Text []) e type = cc
 filled (Text (c ∷ t)) e type = λ same. cc
 filled (Truth b) e type = absurd type
@@ -59,14 +57,14 @@ not_groups kind l free e =
     let same : l ≡ record { attribute = Groups; sub_attribute = l.sub_attribute } = λ i. record { attribute = e i; sub_attribute = l.sub_attribute } in
     let fixed : is_read_only kind l ≡ true = ap (is_read_only kind) same ∙ fixed_groups kind l.sub_attribute in cc
 
-kept_field : (kind : Kind) (f : Field) → MayBeGiven kind f → MayBeKept kind f
+pub kept_field : (kind : Kind) (f : Field) → MayBeGiven kind f → MayBeKept kind f
 kept_field kind f given = record {
   own = not_groups kind f.leaf given.writable;
   shown = λ e. (let s : is_write_only kind f.leaf ≡ true = true_same the_mutability _ WriteOnly e in let n = given.kept in cc);
   short = λ n. given.short;
 }
 
-one_kept : (kind : Kind) (l : Leaf) (atom : Atom) → MayBeKept kind (record { leaf = l; atom = atom }) → All (MayBeKept kind) (row_of l atom).fields
+pub one_kept : (kind : Kind) (l : Leaf) (atom : Atom) → MayBeKept kind (record { leaf = l; atom = atom }) → All (MayBeKept kind) (row_of l atom).fields
 one_kept kind l atom h = All-cons (MayBeKept kind) (record { leaf = l; atom = atom }) [] h (All-nil (MayBeKept kind))
 
 id_kept : (kind : Kind) (id : List ℕ) → MayBeKept kind (record { leaf = simple Id; atom = Text (id_text id) })
@@ -81,7 +79,7 @@ created_kept : (kind : Kind) (m : ℕ) → MayBeKept kind (record { leaf = leaf_
 created_kept User m = record { own = λ e. cc; shown = λ e. cc; short = λ n. tt }
 created_kept Group m = record { own = λ e. cc; shown = λ e. cc; short = λ n. tt }
 
-last_modified_kept : (kind : Kind) (m : ℕ) → MayBeKept kind (record { leaf = leaf_at Meta LastModified; atom = Moment m })
+pub last_modified_kept : (kind : Kind) (m : ℕ) → MayBeKept kind (record { leaf = leaf_at Meta LastModified; atom = Moment m })
 last_modified_kept User m = record { own = λ e. cc; shown = λ e. cc; short = λ n. tt }
 last_modified_kept Group m = record { own = λ e. cc; shown = λ e. cc; short = λ n. tt }
 

@@ -1,8 +1,8 @@
 -- The rows of a new resource are sound: `id`, what a draft gives, and `meta` stand in the order of units.
-use Rattle.std.proofs.Common.{◌≡◌, ◌≢◌, ◌<◌, ◌≤◌, ℕ, zero, suc, refl, sym, ◌∙◌, ap, subst, Bool, true, false, arith, inl, inr, List, [], ◌∷◌, ◌++◌, get_or}
+use Rattle.std.proofs.Common.{◌≡◌, ◌≢◌, ◌≤◌, ℕ, suc, refl, sym, ◌∙◌, ap, true, false, arith, inl, inr, List, [], ◌∷◌, ◌++◌, get_or}
 use Rattle.std.specs.Prelude.{Option, None, Some, All, AllPairs, Contains, if◌then◌else◌}
 use Rattle.std.specs.List.{list_any}
-use Rattle.std.specs.Ordering.{nat_cmp, ordering_then, is_lt, is_eq, is_gt}
+use Rattle.std.specs.Ordering.{nat_cmp, ordering_then, is_lt, is_gt}
 use Rattle.std.specs.declared.cmp.Ordering.{Ordering}
 use Rattle.std.specs.declared.cmp.Ordering.TheVariants.{Less, Equal, Greater}
 use Rattle.std.proofs.lemmas.Bool.{cases_Bool}
@@ -22,6 +22,7 @@ use Rattle.scim_schema.specs.Table.{leaves, HasLeaf}
 use Rattle.scim_schema.specs.Characteristics.{characteristics_of, is_multi_valued}
 use Rattle.scim_schema.specs.Units.{simple, leaf_at, unit_of, whole, is_same_leaf}
 use Rattle.scim_schema.proofs.Facts.{leaf_one}
+use Rattle.scim_schema.specs.Mutability.{is_read_only}
 use Rattle.scim_text.specs.Moments.{last_moment}
 use Rattle.scim_cell.specs.declared.atoms.Atom.{Atom}
 use Rattle.scim_cell.specs.declared.atoms.Atom.TheVariants.{Text, Moment}
@@ -32,7 +33,6 @@ use Rattle.scim_cell.specs.Place.{attribute_number, sub_attribute_number, unit_c
 use Rattle.scim_cell.specs.Rows.{Row, has_fields, IsSoundField, IsSoundRow, Precedes, AreSound}
 use Rattle.scim_value.specs.Resource.{location}
 use Rattle.scim_value.proofs.Facts.{across, pairs_append, precedes_less, unit_same}
-use Rattle.scim_json.specs.BodyNames.{is_read_only}
 use Rattle.scim_json.specs.Drafts.{Draft, MayBeGiven, IsDraft}
 use Rattle.scim_change.specs.Create.{row_of, meta_row, id_row, meta_rows, created_rows}
 
@@ -59,7 +59,7 @@ has_created : (kind : Kind) → HasLeaf kind (leaf_at Meta Created)
 has_created User = contains_leaf (leaves User) (leaf_at Meta Created) refl
 has_created Group = contains_leaf (leaves Group) (leaf_at Meta Created) refl
 
-has_last_modified : (kind : Kind) → HasLeaf kind (leaf_at Meta LastModified)
+pub has_last_modified : (kind : Kind) → HasLeaf kind (leaf_at Meta LastModified)
 has_last_modified User = contains_leaf (leaves User) (leaf_at Meta LastModified) refl
 has_last_modified Group = contains_leaf (leaves Group) (leaf_at Meta LastModified) refl
 
@@ -163,7 +163,7 @@ id_first u n = (
 
 module _ (kind : Kind) where
   -- a row of one field
-  one_field : (l : Leaf) (atom : Atom) → HasLeaf kind l → HasType (characteristics_of kind l).attribute_type atom → IsSoundRow kind (row_of l atom)
+  pub one_field : (l : Leaf) (atom : Atom) → HasLeaf kind l → HasType (characteristics_of kind l).attribute_type atom → IsSoundRow kind (row_of l atom)
   one_field l atom has type = record {
     own = All-cons (IsSoundField kind (unit_of l)) (record { leaf = l; atom = atom }) [] (refl, has, type) (All-nil (IsSoundField kind (unit_of l)));
     in_order = λ i j e x y. absurd (omega (arith, x, y));

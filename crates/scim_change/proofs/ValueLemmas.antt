@@ -1,35 +1,29 @@
 -- The values of a unit in a new resource: its own of `id` and of `meta`, and else those of the draft.
-use Rattle.std.proofs.Common.{◌≡◌, ◌≢◌, ℕ, zero, suc, refl, sym, ◌∙◌, ap, subst, Bool, true, false, arith, List, [], ◌∷◌, ◌++◌, filter}
-use Rattle.std.specs.Prelude.{Option, None, Some, All}
-use Rattle.std.specs.List.{list_any}
-use Rattle.std.specs.Ordering.{nat_cmp, ordering_then, is_eq}
-use Rattle.std.specs.declared.cmp.Ordering.{Ordering}
-use Rattle.std.specs.declared.cmp.Ordering.TheVariants.{Less, Equal, Greater}
-use Rattle.std.specs.Cmp.{tied_itself}
-use Rattle.std.proofs.lemmas.Bool.{cases_Bool}
+use Rattle.std.proofs.Common.{◌≡◌, ◌≢◌, ℕ, refl, ◌∙◌, ap, Bool, true, false, List, [], ◌∷◌, ◌++◌}
+use Rattle.std.specs.Prelude.{None, Some, All}
+use Rattle.std.specs.Ordering.{is_eq}
 use Rattle.std.proofs.lemmas.List.Elements.{All-head, All-tail, filter-append}
 use Rattle.scim_schema.specs.declared.Attribute.{Attribute}
 use Rattle.scim_schema.specs.declared.Attribute.TheVariants.{Id, Meta}
 use Rattle.scim_schema.specs.declared.SubAttribute.{SubAttribute}
 use Rattle.scim_schema.specs.declared.SubAttribute.TheVariants.{ResourceType, Created, LastModified, Location}
 use Rattle.scim_schema.specs.declared.Unit.{Unit as AttributeUnit}
-use Rattle.scim_schema.specs.declared.Leaf.{Leaf}
-use Rattle.scim_schema.specs.Units.{whole, unit_of, leaf_at, simple}
+use Rattle.scim_schema.specs.Units.{whole, unit_of, leaf_at}
 use Rattle.scim_cell.specs.declared.atoms.Atom.TheVariants.{Text, Moment}
 use Rattle.scim_value.specs.Resource.{location}
 use Rattle.scim_schema.specs.Names.{kind_name}
-use Rattle.scim_cell.specs.Place.{attribute_number, sub_attribute_number, unit_cmp}
-use Rattle.scim_cell.specs.Rows.{Row, values, atom_at, cell_at}
+use Rattle.scim_cell.specs.Place.{unit_cmp}
+use Rattle.scim_cell.specs.Rows.{Row, values}
 use Rattle.scim_value.proofs.Facts.{unit_same}
 use Rattle.scim_json.specs.Drafts.{Draft, IsDraft}
-use Rattle.scim_change.specs.Create.{row_of, meta_row, id_row, meta_rows, created_rows}
-use Rattle.scim_change.proofs.RowLemmas.{IsOther, others, four}
+use Rattle.scim_change.specs.Create.{meta_row, id_row, meta_rows, created_rows}
+use Rattle.scim_change.proofs.RowLemmas.{others, four}
 
 -- whether a row is of a unit
 abbrev pub is_own : AttributeUnit → Row → Bool
 is_own u r = is_eq (unit_cmp r.unit u)
 
-untrue : (b : Bool) → (b ≡ true → ⊥) → b ≡ false
+pub untrue : (b : Bool) → (b ≡ true → ⊥) → b ≡ false
 untrue true n = absurd (n refl)
 untrue false n = refl
 

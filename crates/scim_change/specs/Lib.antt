@@ -1,1 +1,3 @@
 pub mod Create
+pub mod Laws
+pub mod Replace

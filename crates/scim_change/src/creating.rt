@@ -46,7 +46,11 @@ fn row_of(alloc: Global, leaf: Leaf, atom: Atom) -> Result<Row, NoMemory>
 }
 
 /// A moment at a sub-attribute of `meta`. NoMemory where none was to be had.
-fn moment_row(alloc: Global, sub_attribute: SubAttribute, moment: Moment) -> Result<Row, NoMemory>
+pub(crate) fn moment_row(
+    alloc: Global,
+    sub_attribute: SubAttribute,
+    moment: Moment,
+) -> Result<Row, NoMemory>
     ensures row { IfOk result (λ r. r ≡ spec.meta_row sub_attribute (Atom.Moment moment)) }
     ensures bound { moment ≤ last_moment }
 {

@@ -1,6 +1,11 @@
-//! What requests make of resources: a draft becomes a new resource (RFC 7644 section 3.3).
+//! What requests make of resources: a draft becomes a new resource (RFC 7644 section 3.3), or replaces one
+//! (section 3.5.1).
 #![tactic(auto)]
 
 mod creating;
+mod laws;
+mod replacing;
 
 pub use creating::create;
+pub use laws::replacing_rests_on_its_units;
+pub use replacing::{Changed, MissingRequired, replace};

@@ -7,43 +7,12 @@ use Rattle.scim_schema.specs.declared.Attribute.{Attribute}
 use Rattle.scim_schema.specs.declared.SubAttribute.{SubAttribute}
 use Rattle.scim_schema.specs.declared.characteristics.Characteristics.{Characteristics}
 use Rattle.scim_schema.specs.declared.characteristics.AttributeType.{AttributeType}
-use Rattle.scim_schema.specs.declared.characteristics.AttributeType.TheVariants.{String, Boolean, DateTime, Reference, Binary, Complex}
-use Rattle.scim_schema.specs.declared.characteristics.Mutability.{Mutability}
-use Rattle.scim_schema.specs.declared.characteristics.Mutability.TheVariants.{ReadOnly, ReadWrite, Immutable, WriteOnly}
-use Rattle.scim_schema.specs.declared.characteristics.Returned.{Returned}
-use Rattle.scim_schema.specs.declared.characteristics.Returned.TheVariants.{Always, Never, Default, Request}
-use Rattle.scim_schema.specs.declared.characteristics.Uniqueness.{Uniqueness}
-use Rattle.scim_schema.specs.declared.characteristics.Uniqueness.TheVariants.{NotUnique, Server}
+use Rattle.scim_schema.specs.declared.characteristics.AttributeType.TheVariants.{Complex}
 use Rattle.scim_schema.specs.Names.{attribute_name, sub_attribute_name}
+use Rattle.scim_schema.specs.CharacteristicNames.{type_name, mutability_name, returned_name, uniqueness_name}
 use Rattle.scim_schema.specs.Table.{sub_attributes}
 use Rattle.scim_schema.specs.Characteristics.{attribute_characteristics, sub_attribute_characteristics}
 use Rattle.scim_discovery.specs.Members.{with_member}
-
--- the name of a type (RFC 7643 section 2.3)
-abbrev pub type_name : AttributeType → List ℕ
-type_name String = codes "string"
-type_name Boolean = codes "boolean"
-type_name DateTime = codes "dateTime"
-type_name Reference = codes "reference"
-type_name Binary = codes "binary"
-type_name Complex = codes "complex"
-
--- the names of the other characteristics (RFC 7643 section 7)
-abbrev pub mutability_name : Mutability → List ℕ
-mutability_name ReadOnly = codes "readOnly"
-mutability_name ReadWrite = codes "readWrite"
-mutability_name Immutable = codes "immutable"
-mutability_name WriteOnly = codes "writeOnly"
-
-abbrev pub returned_name : Returned → List ℕ
-returned_name Always = codes "always"
-returned_name Never = codes "never"
-returned_name Default = codes "default"
-returned_name Request = codes "request"
-
-abbrev pub uniqueness_name : Uniqueness → List ℕ
-uniqueness_name NotUnique = codes "none"
-uniqueness_name Server = codes "server"
 
 -- what is told of a name: its characteristics, and its sub-attributes if there is a value for them
 abbrev pub members_for : List ℕ → Characteristics → Option Data → Members

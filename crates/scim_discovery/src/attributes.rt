@@ -7,56 +7,12 @@ ghost use Rattle.scim_discovery.specs.Attributes as spec;
 
 use crate::members::{put_text, put_truth};
 use scim_schema::{
-    Attribute, AttributeType, Characteristics, Kind, Mutability, Returned, SubAttribute,
-    Uniqueness, attribute_characteristics, sub_attribute_characteristics, sub_attributes,
+    Attribute, AttributeType, Characteristics, Kind, SubAttribute, attribute_characteristics,
+    sub_attribute_characteristics, sub_attributes,
 };
 use scim_text::NoMemory;
 use serde_json::{Map, Value, put};
 use std::alloc::Global;
-
-fn type_name(attribute_type: AttributeType) -> &'static str
-    ensures { result.now ≡ spec.type_name attribute_type }
-{
-    match attribute_type {
-        AttributeType::String => "string",
-        AttributeType::Boolean => "boolean",
-        AttributeType::DateTime => "dateTime",
-        AttributeType::Reference => "reference",
-        AttributeType::Binary => "binary",
-        AttributeType::Complex => "complex",
-    }
-}
-
-fn mutability_name(mutability: Mutability) -> &'static str
-    ensures { result.now ≡ spec.mutability_name mutability }
-{
-    match mutability {
-        Mutability::ReadOnly => "readOnly",
-        Mutability::ReadWrite => "readWrite",
-        Mutability::Immutable => "immutable",
-        Mutability::WriteOnly => "writeOnly",
-    }
-}
-
-fn returned_name(returned: Returned) -> &'static str
-    ensures { result.now ≡ spec.returned_name returned }
-{
-    match returned {
-        Returned::Always => "always",
-        Returned::Never => "never",
-        Returned::Default => "default",
-        Returned::Request => "request",
-    }
-}
-
-fn uniqueness_name(uniqueness: Uniqueness) -> &'static str
-    ensures { result.now ≡ spec.uniqueness_name uniqueness }
-{
-    match uniqueness {
-        Uniqueness::NotUnique => "none",
-        Uniqueness::Server => "server",
-    }
-}
 
 /// The members that tell a name and its characteristics.
 fn members_for(
@@ -78,12 +34,12 @@ fn members_for(
     let mut map = Map::new(alloc);
     put_truth(&mut map, alloc, "caseExact", case_exact)?;
     put_truth(&mut map, alloc, "multiValued", multi_valued)?;
-    put_text(&mut map, alloc, "mutability", mutability_name(mutability))?;
+    put_text(&mut map, alloc, "mutability", mutability.name())?;
     put_text(&mut map, alloc, "name", name)?;
     put_truth(&mut map, alloc, "required", required)?;
-    put_text(&mut map, alloc, "returned", returned_name(returned))?;
-    put_text(&mut map, alloc, "type", type_name(attribute_type))?;
-    put_text(&mut map, alloc, "uniqueness", uniqueness_name(uniqueness))?;
+    put_text(&mut map, alloc, "returned", returned.name())?;
+    put_text(&mut map, alloc, "type", attribute_type.name())?;
+    put_text(&mut map, alloc, "uniqueness", uniqueness.name())?;
     Ok(map)
 }
 

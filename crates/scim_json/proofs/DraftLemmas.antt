@@ -20,6 +20,7 @@ use Rattle.scim_schema.specs.Units.{simple, whole}
 use Rattle.scim_schema.specs.declared.json_keys.JsonShape.{JsonShape}
 use Rattle.scim_schema.specs.declared.json_keys.JsonShape.TheVariants.{Simple, Complex, MultiValued}
 use Rattle.scim_schema.specs.JsonKeys.{shape_of}
+use Rattle.scim_schema.specs.Mutability.{is_read_only}
 use Rattle.scim_cell.specs.declared.atoms.Atom.{Atom}
 use Rattle.scim_cell.specs.declared.rows.Field.{Field}
 use Rattle.scim_cell.specs.Place.{attribute_number, unit_cmp}
@@ -28,7 +29,6 @@ use Rattle.scim_value.specs.Resource.{MembersHaveValues}
 use Rattle.scim_value.proofs.Facts.{unit_same}
 use Rattle.scim_json.specs.declared.drafts.UseFor.{UseFor}
 use Rattle.scim_json.specs.declared.drafts.UseFor.TheVariants.{Creating}
-use Rattle.scim_json.specs.BodyNames.{is_read_only}
 use Rattle.scim_json.specs.BodyValues.{collected, given_named, given_atom, fields_of, values_of}
 use Rattle.scim_json.specs.Drafts.{Draft, IsDraft, MayBeGiven, is_empty, lacks_required}
 use Rattle.scim_json.specs.Bodies.{Given, field_given, named_given, simple_given, complex_given, whole_given, shaped_given, attribute_given, schema_members, given_of, all_given, draft_of}

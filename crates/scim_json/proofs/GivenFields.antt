@@ -19,13 +19,13 @@ use Rattle.scim_schema.specs.Names.{sub_attribute_name}
 use Rattle.scim_schema.specs.Table.{attributes, HasLeaf}
 use Rattle.scim_schema.specs.Characteristics.{characteristics_of}
 use Rattle.scim_schema.specs.Units.{simple, leaf_at}
+use Rattle.scim_schema.specs.Mutability.{is_read_only}
 use Rattle.scim_cell.specs.declared.atoms.Atom.{Atom}
 use Rattle.scim_cell.specs.declared.atoms.Atom.TheVariants.{Text, Truth}
 use Rattle.scim_cell.specs.declared.rows.Field.{Field}
 use Rattle.scim_cell.specs.Content.{HasType}
 use Rattle.scim_cell.specs.Place.{sub_attribute_number, sub_attributes_by_place}
 use Rattle.scim_value.specs.Resource.{IsShort}
-use Rattle.scim_json.specs.BodyNames.{is_read_only}
 use Rattle.scim_json.specs.BodyValues.{truth_of, short, given_atom, if_given, given_named, field_with, field_in, fields_in, has_value, fields_with, fields_of}
 use Rattle.scim_json.specs.Drafts.{MayBeGiven}
 use Rattle.scim_json.proofs.CollectedLemmas.{mapped, unless, where_given, one_pair, collected_all, collected_pairs}

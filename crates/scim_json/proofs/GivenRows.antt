@@ -25,6 +25,7 @@ use Rattle.scim_schema.specs.contracts.Attribute.{the_type as the_attribute}
 use Rattle.scim_schema.specs.Table.{attributes, HasLeaf}
 use Rattle.scim_schema.specs.Characteristics.{characteristics_of, is_multi_valued}
 use Rattle.scim_schema.specs.Units.{simple, leaf_at, unit_of, whole}
+use Rattle.scim_schema.specs.Mutability.{is_read_only, is_write_only}
 use Rattle.scim_cell.specs.declared.atoms.Atom.{Atom}
 use Rattle.scim_cell.specs.declared.rows.Field.{Field}
 use Rattle.scim_cell.specs.Content.{HasType}
@@ -32,9 +33,9 @@ use Rattle.scim_cell.specs.Place.{attribute_number, sub_attribute_number, unit_c
 use Rattle.scim_cell.specs.Rows.{Row, has_fields, values, atom_in, is_primary, IsSoundField, IsSoundRow, Precedes}
 use Rattle.scim_value.specs.Resource.{IsShort}
 use Rattle.scim_value.proofs.Facts.{precedes_less, unit_same}
-use Rattle.scim_json.specs.BodyNames.{is_read_only, listed}
+use Rattle.scim_json.specs.BodyNames.{listed}
 use Rattle.scim_json.specs.BodyValues.{collected, is_absent, fields_of, value_with, value_of, member_value, is_members, is_same_value, with_value, with_values, is_nameless, are_refused, checked, values_of}
-use Rattle.scim_json.specs.Drafts.{MayBeGiven, is_write_only, is_empty}
+use Rattle.scim_json.specs.Drafts.{MayBeGiven, is_empty}
 use Rattle.scim_json.specs.Bodies.{Given, field_given, whole_given}
 use Rattle.scim_json.proofs.CollectedLemmas.{mapped, chained, not_refused, unless, none_passes, kept_map, one_pair, pairs_map, collected_all}
 use Rattle.scim_json.proofs.LeafTables.{many_unit}

@@ -24,9 +24,8 @@ use Rattle.scim_schema.specs.Units.{simple, leaf_at, unit_of, whole}
 use Rattle.scim_schema.specs.declared.json_keys.JsonShape.TheVariants.{Simple, Complex}
 use Rattle.scim_schema.specs.JsonKeys.{shape_of}
 use Rattle.scim_schema.proofs.Facts.{sub_attribute_one}
+use Rattle.scim_schema.specs.Mutability.{is_read_only, is_write_only}
 use Rattle.scim_cell.specs.Place.{attribute_number, sub_attribute_number, sub_attributes_by_place}
-use Rattle.scim_json.specs.BodyNames.{is_read_only}
-use Rattle.scim_json.specs.Drafts.{is_write_only}
 use Rattle.scim_json.proofs.CollectedLemmas.{is_rising, all_passes}
 use Rattle.scim_json.proofs.ShapeLemmas.{fits}
 

@@ -18,6 +18,7 @@ use Rattle.scim_schema.specs.Table.{attributes}
 use Rattle.scim_schema.specs.Characteristics.{characteristics_of}
 use Rattle.scim_schema.specs.Units.{simple, unit_of, whole}
 use Rattle.scim_schema.specs.JsonKeys.{shape_of}
+use Rattle.scim_schema.specs.Mutability.{is_read_only, is_write_only}
 use Rattle.scim_cell.specs.declared.atoms.Atom.{Atom}
 use Rattle.scim_cell.specs.declared.rows.Field.{Field}
 use Rattle.scim_cell.specs.Rows.{Row}
@@ -25,9 +26,9 @@ use Rattle.scim_json.specs.declared.drafts.UseFor.{UseFor}
 use Rattle.scim_json.specs.declared.drafts.UseFor.TheVariants.{Creating, Replacing}
 use Rattle.scim_json.specs.declared.bodies.BodyFault.{BodyFault}
 use Rattle.scim_json.specs.declared.bodies.BodyFault.TheVariants.{Syntax, Value}
-use Rattle.scim_json.specs.BodyNames.{is_read_only, body_clashes}
+use Rattle.scim_json.specs.BodyNames.{body_clashes}
 use Rattle.scim_json.specs.BodyValues.{collected, if_given, given_named, given_atom, fields_of, values_of}
-use Rattle.scim_json.specs.Drafts.{Draft, is_write_only, is_empty, lacks_required}
+use Rattle.scim_json.specs.Drafts.{Draft, is_empty, lacks_required}
 
 -- a unit that a body gives, with the values that are kept for it
 pub record Given : Type 0 where

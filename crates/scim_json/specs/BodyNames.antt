@@ -9,14 +9,13 @@ use Rattle.scim_schema.specs.declared.Kind.{Kind}
 use Rattle.scim_schema.specs.declared.Attribute.{Attribute}
 use Rattle.scim_schema.specs.declared.schemas.Schema.{Schema}
 use Rattle.scim_schema.specs.contracts.schemas.Schema.{the_type as the_schema}
-use Rattle.scim_schema.specs.declared.characteristics.Mutability.TheVariants.{ReadOnly}
-use Rattle.scim_schema.specs.contracts.characteristics.Mutability.{the_type as the_mutability}
 use Rattle.scim_schema.specs.Names.{attribute_name, sub_attribute_name}
 use Rattle.scim_schema.specs.Schemas.{urn, extensions, extension_of}
 use Rattle.scim_schema.specs.Table.{attributes, sub_attributes}
-use Rattle.scim_schema.specs.Characteristics.{characteristics_of, is_multi_valued}
+use Rattle.scim_schema.specs.Characteristics.{is_multi_valued}
 use Rattle.scim_schema.specs.Units.{simple}
 use Rattle.scim_schema.specs.declared.Leaf.{Leaf}
+use Rattle.scim_schema.specs.Mutability.{is_read_only}
 use Rattle.scim_text.specs.Names.{is_same_name}
 
 -- the values of the members whose key is the name, in order
@@ -51,10 +50,6 @@ items_list (item d ds) = d ∷ items_list ds
 abbrev pub listed : Option Items → Data → List Data
 listed None d = d ∷ []
 listed (Some ds) d = items_list ds
-
--- whether a client may not write what is at a leaf, or a whole attribute (RFC 7643 section 2.2)
-abbrev pub is_read_only : Kind → Leaf → Bool
-is_read_only kind l = sameb the_mutability (characteristics_of kind l).mutability ReadOnly
 
 -- whether two keys of an object name one sub-attribute of the attribute
 abbrev pub sub_attributes_clash : Attribute → Members → Bool

@@ -19,6 +19,7 @@ use Rattle.scim_schema.specs.Names.{sub_attribute_name}
 use Rattle.scim_schema.specs.Table.{sub_attributes}
 use Rattle.scim_schema.specs.Characteristics.{characteristics_of}
 use Rattle.scim_schema.specs.Units.{leaf_at, whole}
+use Rattle.scim_schema.specs.Mutability.{is_read_only}
 use Rattle.scim_text.specs.Names.{is_same_name}
 use Rattle.scim_cell.specs.declared.atoms.Atom.{Atom}
 use Rattle.scim_cell.specs.declared.atoms.Atom.TheVariants.{Text, Truth, Moment}
@@ -28,7 +29,7 @@ use Rattle.scim_cell.specs.Equality.{is_same_row}
 use Rattle.scim_cell.specs.Place.{sub_attributes_by_place}
 use Rattle.scim_cell.specs.Rows.{Row, atom_in, is_primary}
 use Rattle.scim_json.specs.Found.{atom_of}
-use Rattle.scim_json.specs.BodyNames.{value_named, is_read_only, listed}
+use Rattle.scim_json.specs.BodyNames.{value_named, listed}
 
 -- ---- one value
 

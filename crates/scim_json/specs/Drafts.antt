@@ -7,12 +7,11 @@ use Rattle.scim_schema.specs.declared.Attribute.{Attribute}
 use Rattle.scim_schema.specs.declared.Attribute.TheVariants.{UserName}
 use Rattle.scim_schema.specs.declared.Leaf.{Leaf}
 use Rattle.scim_schema.specs.declared.Unit.{Unit as AttributeUnit}
-use Rattle.scim_schema.specs.declared.characteristics.Mutability.TheVariants.{WriteOnly}
 use Rattle.scim_schema.specs.contracts.Attribute.{the_type as the_attribute}
-use Rattle.scim_schema.specs.contracts.characteristics.Mutability.{the_type as the_mutability}
 use Rattle.scim_schema.specs.Table.{attributes}
-use Rattle.scim_schema.specs.Characteristics.{attribute_characteristics, characteristics_of}
-use Rattle.scim_schema.specs.Units.{simple}
+use Rattle.scim_schema.specs.Characteristics.{attribute_characteristics}
+use Rattle.scim_schema.specs.Units.{simple, is_same_unit}
+use Rattle.scim_schema.specs.Mutability.{is_read_only, is_write_only}
 use Rattle.scim_cell.specs.declared.atoms.Atom.{Atom}
 use Rattle.scim_cell.specs.declared.atoms.Atom.TheVariants.{Text}
 use Rattle.scim_cell.specs.declared.rows.Field.{Field}
@@ -20,7 +19,6 @@ use Rattle.scim_cell.specs.Rows.{Row, AreSound}
 use Rattle.scim_value.specs.Resource.{IsShort, MembersHaveValues, HasAtMostOnePrimary, HasFewValues}
 use Rattle.scim_json.specs.declared.drafts.UseFor.{UseFor}
 use Rattle.scim_json.specs.declared.drafts.UseFor.TheVariants.{Creating}
-use Rattle.scim_json.specs.BodyNames.{is_read_only}
 
 -- a kind, what the body was read for, the units that it gives a value for, and the rows of the values that are kept; both in order of unit
 pub record Draft : Type 0 where
@@ -29,9 +27,9 @@ pub record Draft : Type 0 where
   pub given : List AttributeUnit
   pub rows : List Row
 
--- whether nothing is kept of a leaf (RFC 7643 section 2.2, writeOnly)
-abbrev pub is_write_only : Kind → Leaf → Bool
-is_write_only kind l = sameb the_mutability (characteristics_of kind l).mutability WriteOnly
+-- whether the body has a value for a unit
+abbrev pub gives : Draft → AttributeUnit → Bool
+gives d u = list_any (is_same_unit u) d.given
 
 -- whether a text is empty
 abbrev pub is_empty : Atom → Bool

@@ -1,10 +1,8 @@
 //! Bodies of requests that make or replace a resource (RFC 7644 sections 3.3 and 3.5.1): first the form
 //! of a whole body, then its values.
 ghost use Rattle.std.specs.Prelude.{◌≡◌, ◌++◌, IfOk, OnOk, Some, None, option_map, map};
-ghost use Rattle.std.specs.List.{flat_map, list_any};
-ghost use denote.Enum.Bare.{sameb};
+ghost use Rattle.std.specs.List.{flat_map};
 ghost use Rattle.serde_json.specs.Read.{read};
-ghost use Rattle.scim_schema.specs.contracts.Attribute.{the_type as the_attribute};
 ghost use Rattle.serde_json.specs.View.{view, members_view};
 ghost use Rattle.scim_text.specs.Failures.{UnlessMemory, OnFault};
 ghost use Rattle.scim_json.specs.BodyValues.{collected, values_of};
@@ -13,15 +11,16 @@ ghost use Rattle.scim_json.specs.Bodies.{GivesDraft};
 ghost use Rattle.scim_json.specs.Drafts as drafts;
 ghost use Rattle.scim_json.specs.code.Given.{AreOfBody, with_given, unit_given, units_given, members_or_none};
 
-use crate::body_names::{body_clashes, is_read_only};
+use crate::body_names::body_clashes;
 use crate::body_values::{WrongValue, given_named, read_atom, read_fields, read_values};
 use crate::drafts::{Draft, UseFor};
 use crate::faults::Damaged;
 use crate::reading::parse;
+use crate::required::lacks_required;
 use scim_cell::{Atom, Field, Row};
 use scim_schema::{
-    Attribute, JsonShape, Kind, Leaf, Mutability, Schema, Unit, attribute_characteristics,
-    attributes, characteristics_of, extension_of, shape_of, unit_of,
+    Attribute, JsonShape, Kind, Leaf, Schema, Unit, attributes, characteristics_of, extension_of,
+    is_read_only, is_write_only, shape_of, unit_of,
 };
 use scim_text::{Failed, NoMemory};
 use serde_json::{Map, Value};
@@ -258,7 +257,7 @@ fn field_given(alloc: Global, kind: Kind, field: Field) -> Result<UnitGiven, NoM
 {
     let unit = unit_of(field.leaf);
     let mut values = Vec::new(alloc);
-    if characteristics_of(kind, field.leaf).mutability == Mutability::WriteOnly {
+    if is_write_only(kind, field.leaf) {
         return Ok(UnitGiven { unit, values });
     }
     let mut fields = Vec::new(alloc);
@@ -361,33 +360,4 @@ fn parts_of(alloc: Global, given: Vec<UnitGiven>) -> Result<(Vec<Unit>, Vec<Row>
         rows.append(&mut values)?;
     }
     Ok((units, rows))
-}
-
-/// Whether rows are without an attribute that the kind requires.
-#[tactic(auto, unfolding(crate::specs::Drafts::lacks_required))]
-fn lacks_required(kind: Kind, rows: &[Row]) -> bool
-    ensures { result ≡ drafts.lacks_required kind rows.now }
-{
-    attributes(kind)
-        .iter()
-        .any(|attribute| is_missing(kind, rows, *attribute))
-}
-
-/// Whether the kind requires the attribute, and none of the rows is of it.
-fn is_missing(kind: Kind, rows: &[Row], attribute: Attribute) -> bool
-    ensures { result ≡ drafts.is_missing kind rows.now attribute }
-{
-    attribute_characteristics(kind, attribute).required && !has_attribute(rows, attribute)
-}
-
-/// Whether one of the rows is of the attribute.
-fn has_attribute(rows: &[Row], attribute: Attribute) -> bool
-    ensures { result ≡ list_any (λ r. sameb the_attribute r.unit.attribute attribute) rows.now }
-{
-    for row in rows {
-        if row.unit().attribute == attribute {
-            return true;
-        }
-    }
-    false
 }

@@ -6,8 +6,8 @@ ghost use Rattle.serde_json.specs.View.{view, items_view, members_view};
 ghost use Rattle.scim_json.specs.BodyNames as spec;
 
 use scim_schema::{
-    Attribute, Kind, Leaf, Mutability, Schema, attributes, characteristics_of, extension_of,
-    extensions, is_multi_valued, sub_attributes,
+    Attribute, Kind, Leaf, Schema, attributes, extension_of, extensions, is_multi_valued,
+    is_read_only, sub_attributes,
 };
 use scim_text::same_name;
 use serde_json::{Map, Value};
@@ -38,14 +38,6 @@ fn is_twice(members: &Map<String, Value>, name: &str) -> bool
         }
     }
     false
-}
-
-/// Whether a client may not write a simple attribute, a sub-attribute or, as a leaf without one, a whole
-/// attribute (RFC 7643 section 2.2).
-pub(crate) fn is_read_only(kind: Kind, leaf: Leaf) -> bool
-    ensures { result ≡ spec.is_read_only kind leaf }
-{
-    characteristics_of(kind, leaf).mutability == Mutability::ReadOnly
 }
 
 /// Whether two keys name one sub-attribute of the attribute.

@@ -8,12 +8,13 @@ ghost use Rattle.scim_cell.specs.Rows.{is_primary};
 ghost use Rattle.scim_json.specs.BodyValues as spec;
 ghost use Rattle.scim_json.specs.code.Given.{after};
 
-use crate::body_names::{is_read_only, value_named};
+use crate::body_names::value_named;
 use crate::reading::atom_of;
 use crate::same_values::distinct;
 use scim_cell::{Atom, Field, Row, sub_attributes_by_place};
 use scim_schema::{
-    Attribute, AttributeType, Kind, Leaf, SubAttribute, Unit, characteristics_of, sub_attributes,
+    Attribute, AttributeType, Kind, Leaf, SubAttribute, Unit, characteristics_of, is_read_only,
+    sub_attributes,
 };
 use scim_text::{Failed, same_name};
 use serde_json::{Map, Value};

@@ -1,9 +1,12 @@
 //! Drafts: what the bodies of requests give of resources.
 ghost use Rattle.std.specs.Prelude.{◌≡◌};
+ghost use Rattle.scim_cell.specs.Rows.{values};
+ghost use Rattle.scim_json.specs.Drafts as spec;
 ghost use Rattle.scim_json.specs.Drafts.{IsDraft};
 
 use scim_cell::Row;
 use scim_schema::{Kind, Unit};
+use scim_value::values_among;
 use std::marker::Model;
 
 /// What a body is read for: to make a resource (RFC 7644 section 3.3), or to replace one (section
@@ -79,6 +82,26 @@ impl Draft {
         ensures { result.now ≡ self.now.given }
     {
         self.given.as_slice()
+    }
+
+    /// Whether the body has a value for the unit.
+    pub fn gives(&self, unit: Unit) -> bool
+        ensures { result ≡ spec.gives self.now unit }
+    {
+        for own in self.given() {
+            if unit == *own {
+                return true;
+            }
+        }
+        false
+    }
+
+    /// The values of a unit that are kept, by position; none of what isn't kept, as a password.
+    pub fn values(&self, unit: Unit) -> &[Row]
+        ensures values { result.now ≡ values unit self.now.rows }
+        ensures valid { IsDraft self.now }
+    {
+        values_among(self.rows(), unit)
     }
 
     /// The rows of the values, in order of unit.

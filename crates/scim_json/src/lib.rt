@@ -2,6 +2,7 @@
 //! 3 and 8, RFC 7644 section 3).
 #![tactic(auto)]
 
+mod agreement;
 mod bodies;
 mod body_names;
 mod body_values;
@@ -11,6 +12,7 @@ mod faults;
 mod laws;
 mod lists;
 mod reading;
+mod required;
 mod same_values;
 mod writing;
 
@@ -23,4 +25,5 @@ pub use laws::{
 };
 pub use lists::to_list_json;
 pub use reading::read_stored;
+pub use required::lacks_required;
 pub use writing::{stored_text, to_json};

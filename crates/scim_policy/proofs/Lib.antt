@@ -1,5 +1,8 @@
+pub mod AccessLemmas
+pub mod ControlLemmas
 pub mod FileLemmas
 pub mod ListLemmas
 pub mod RuleLemmas
 pub mod ShapeLemmas
 pub mod TableLemmas
+pub mod Facts

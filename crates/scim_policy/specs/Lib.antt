@@ -1,4 +1,6 @@
 pub mod code
+pub mod Access
+pub mod Control
 pub mod Decide
 pub mod File
 pub mod Lists

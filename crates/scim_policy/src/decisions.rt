@@ -1,5 +1,5 @@
 //! What a policy decides.
-ghost use Rattle.std.specs.Prelude.{◌≡◌, ◌<◌, ◌≤◌, ℕ, length, None, Some, Option, IfOk, OnOk};
+ghost use Rattle.std.specs.Prelude.{◌≡◌, ◌<◌, ◌≤◌, ℕ, length, None, Some, Option, is_some, IfOk, OnOk};
 ghost use Rattle.scim_schema.specs.declared.Leaf.{Leaf};
 ghost use Rattle.scim_schema.specs.declared.SubAttribute.{SubAttribute};
 ghost use Rattle.scim_policy.specs.Decide as spec;
@@ -9,6 +9,7 @@ ghost use Rattle.scim_policy.specs.Table as table;
 ghost use Rattle.scim_policy.specs.code.Walk as walk;
 ghost use Rattle.scim_policy.specs.declared.rules.PolicyPath.{PolicyPath};
 
+use crate::fits::is_op;
 use crate::rules::{Decision, Policy, PolicyPath, Rule};
 use scim_schema::{Attribute, Kind, Leaf, Op, SubAttribute};
 use scim_text::NoMemory;
@@ -83,7 +84,7 @@ impl Decisions {
 
     /// Nothing is decided yet.
     #[tactic(auto, unfolding(crate::specs::Table::decided))]
-    fn none(alloc: Global) -> Decisions
+    pub(crate) fn none(alloc: Global) -> Decisions
         ensures { (l : Leaf) → table.decided result l ≡ None }
     {
         Decisions {
@@ -129,6 +130,31 @@ impl Decisions {
                     return Ok(());
                 }
             }
+        }
+        Ok(())
+    }
+
+    /// Whether each leaf is decided, since there is a decision on the rest.
+    pub(crate) fn has_rest(&self) -> bool
+        ensures { result ≡ is_some self.now.rest }
+    {
+        self.rest.is_some()
+    }
+
+    /// Decides by the rule, where it is for the operation, what it covers on resources of the kind and isn't
+    /// decided yet. NoMemory where none was to be had.
+    pub(crate) fn add_rule_for(
+        &mut self,
+        alloc: Global,
+        rule: &Rule,
+        op: Op,
+        kind: Kind,
+        number: u32,
+    ) -> Result<(), NoMemory>
+        ensures { OnOk result (walk.Adds (walk.by_op op kind number rule.now) self.old self.new) }
+    {
+        if is_op(rule.ops(), op) {
+            self.add_rule(alloc, rule, kind, number)?;
         }
         Ok(())
     }

@@ -5,6 +5,7 @@ ghost use denote.Enum.Bare.{sameb};
 ghost use Rattle.scim_schema.specs.contracts.Kind.{the_type as the_kind};
 ghost use Rattle.scim_schema.specs.contracts.Op.{the_type as the_op};
 ghost use Rattle.scim_policy.specs.Decide as spec;
+ghost use Rattle.scim_policy.specs.code.Walk as walk;
 
 use crate::rules::{ClientName, PolicyPath, Rule, Target};
 use scim_filter::holds;
@@ -16,7 +17,6 @@ use std::alloc::Global;
 impl Rule {
     /// Whether it speaks of the client, the operation and the resource. NoMemory where none was to be
     /// had.
-    #[tactic(auto, unfolding(crate::specs::Decide::speaks_of))]
     pub(crate) fn speaks_of(
         &self,
         alloc: Global,
@@ -26,9 +26,21 @@ impl Rule {
     ) -> Result<bool, NoMemory>
         ensures { IfOk result (λ b. b ≡ spec.speaks_of client.now op resource.now self.now) }
     {
+        Ok(is_op(self.ops(), op) && self.is_for(alloc, client, resource)?)
+    }
+
+    /// Whether it is for the client and the resource, whatever the operation. NoMemory where none was to be
+    /// had.
+    pub(crate) fn is_for(
+        &self,
+        alloc: Global,
+        client: &str,
+        resource: &Resource,
+    ) -> Result<bool, NoMemory>
+        ensures { IfOk result (λ b. b ≡ walk.is_for client.now resource.now self.now) }
+    {
         Ok(
             is_named(self.clients(), client)
-                && is_op(self.ops(), op)
                 && is_kind(self.kinds(), resource.kind())
                 && self.is_target_met(alloc, resource)?,
         )

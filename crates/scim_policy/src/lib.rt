@@ -5,17 +5,21 @@
 //! rules that fit the first decides, and where none fits the answer is no.
 #![tactic(auto)]
 
+mod access;
 mod decisions;
 mod faults;
 mod fits;
+mod laws;
 mod misfits;
 mod paths;
 mod reading;
 mod rules;
 mod targets;
 
+pub use access::Rights;
 pub use decisions::Decisions;
 pub use faults::{Cause, PolicyFault};
+pub use laws::decisions_rest_on_control;
 pub use misfits::Misfit;
 pub use paths::is_client_name;
 pub use reading::read_policy;

@@ -1,6 +1,8 @@
+pub mod CharacteristicNames
 pub mod Characteristics
 pub mod JsonKeys
 pub mod Lookup
+pub mod Mutability
 pub mod Names
 pub mod Schemas
 pub mod Table

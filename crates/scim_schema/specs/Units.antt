@@ -1,7 +1,9 @@
 -- Leaves and units: what a cell holds one atom of, and what is given and written as one.
-use Rattle.std.specs.Prelude.{Bool, None, Some, ◌&&◌, if◌then◌else◌}
+use Rattle.std.specs.Prelude.{Bool, None, Some, ◌&&◌, List, [], ◌∷◌, map, if◌then◌else◌}
+use Rattle.std.specs.List.{flat_map}
 use Rattle.std.specs.Option.{option_eq}
 use denote.Enum.Bare.{sameb}
+use Rattle.scim_schema.specs.declared.Kind.{Kind}
 use Rattle.scim_schema.specs.declared.Attribute.{Attribute}
 use Rattle.scim_schema.specs.declared.SubAttribute.{SubAttribute}
 use Rattle.scim_schema.specs.declared.Leaf.{Leaf}
@@ -9,6 +11,7 @@ use Rattle.scim_schema.specs.declared.Unit.{Unit as AttributeUnit}
 use Rattle.scim_schema.specs.contracts.Attribute.{the_type as the_attribute}
 use Rattle.scim_schema.specs.contracts.SubAttribute.{the_type as the_sub_attribute}
 use Rattle.scim_schema.specs.Characteristics.{is_multi_valued}
+use Rattle.scim_schema.specs.Table.{attributes, sub_attributes, leaves_with}
 
 -- the leaf that a simple attribute is
 abbrev pub simple : Attribute → Leaf
@@ -35,3 +38,11 @@ is_same_leaf l m = is_same_attribute l.attribute m.attribute && option_eq (sameb
 
 abbrev pub is_same_unit : AttributeUnit → AttributeUnit → Bool
 is_same_unit u v = is_same_attribute u.attribute v.attribute && option_eq (sameb the_sub_attribute) u.sub_attribute v.sub_attribute
+
+-- the units of an attribute: a multi-valued one is one unit, and of any other each leaf
+abbrev pub units_of : Attribute → List AttributeUnit
+units_of a = if is_multi_valued a then whole a ∷ [] else map unit_of (leaves_with a (sub_attributes a))
+
+-- the units of a kind, in order
+unfoldable pub units : Kind → List AttributeUnit
+units kind = flat_map units_of (attributes kind)

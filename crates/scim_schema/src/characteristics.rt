@@ -1,8 +1,9 @@
 //! What each attribute and sub-attribute is: its characteristics (RFC 7643 sections 2.2 and 7).
 ghost use Rattle.std.specs.Prelude.{◌≡◌};
 ghost use Rattle.scim_schema.specs.Characteristics as spec;
+ghost use Rattle.scim_schema.specs.Mutability as written;
 
-use crate::{Attribute, Kind, Leaf, SubAttribute};
+use crate::{Attribute, Kind, Leaf, SubAttribute, Unit};
 
 /// The type of an attribute's values (RFC 7643 section 2.3).
 #[derive(Clone, Copy, Debug, PartialEq, Eq)]
@@ -253,4 +254,33 @@ pub fn is_case_exact(leaf: Leaf) -> bool
     ensures { result ≡ spec.is_case_exact leaf }
 {
     characteristics_of(Kind::User, leaf).case_exact
+}
+
+/// Whether no client may write what is at the leaf, or at a whole attribute (RFC 7643 section 2.2).
+pub fn is_read_only(kind: Kind, leaf: Leaf) -> bool
+    ensures { result ≡ written.is_read_only kind leaf }
+{
+    characteristics_of(kind, leaf).mutability == Mutability::ReadOnly
+}
+
+/// Whether what is written at the leaf is never shown and isn't kept (RFC 7643 section 2.2).
+pub fn is_write_only(kind: Kind, leaf: Leaf) -> bool
+    ensures { result ≡ written.is_write_only kind leaf }
+{
+    characteristics_of(kind, leaf).mutability == Mutability::WriteOnly
+}
+
+/// Who may change a unit, and when (RFC 7643 section 2.2): what the table says of the attribute or
+/// sub-attribute that it is.
+pub fn mutability_of(kind: Kind, unit: Unit) -> Mutability
+    ensures { result ≡ written.mutability_of kind unit }
+{
+    characteristics_of(
+        kind,
+        Leaf {
+            attribute: unit.attribute,
+            sub_attribute: unit.sub_attribute,
+        },
+    )
+    .mutability
 }

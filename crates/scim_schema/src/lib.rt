@@ -4,26 +4,28 @@
 //! Nothing here takes memory or can fail.
 #![tactic(auto)]
 
+mod characteristic_names;
 mod characteristics;
 mod json_keys;
 mod lookup;
 mod names;
+mod places;
 mod schemas;
 mod table;
-mod units;
 
 pub use characteristics::{
     AttributeType, Characteristics, Mutability, Returned, Uniqueness, attribute_characteristics,
-    characteristics_of, is_case_exact, is_multi_valued, sub_attribute_characteristics,
+    characteristics_of, is_case_exact, is_multi_valued, is_read_only, is_write_only, mutability_of,
+    sub_attribute_characteristics,
 };
 pub use json_keys::{
     JsonForm, JsonKey, JsonShape, extension_keys, keys, keys_ascend, keys_have_all_attributes,
     ordered_sub_attributes, shape_of,
 };
 pub use lookup::{attribute_named, attribute_named_in, sub_attribute_named};
+pub use places::unit_of;
 pub use schemas::{Schema, core_schema, extension_of, extensions, schema_of};
-pub use table::{attributes, has_leaf, leaves, sub_attributes, unique_leaves};
-pub use units::unit_of;
+pub use table::{attributes, has_leaf, leaves, sub_attributes, unique_leaves, units};
 
 /// A kind of resource, called its resource type in RFC 7643 section 6.
 #[derive(Clone, Copy, Debug, PartialEq, Eq)]

@@ -2,8 +2,9 @@
 ghost use Rattle.std.specs.Prelude.{◌≡◌, ◌↔◌, IsTrue};
 ghost use Rattle.scim_schema.specs.Table as table;
 ghost use Rattle.scim_schema.specs.UniqueLeaves as unique;
+ghost use Rattle.scim_schema.specs.Units as of_units;
 
-use crate::{Attribute, Kind, Leaf, SubAttribute};
+use crate::{Attribute, Kind, Leaf, SubAttribute, Unit};
 
 // A line of the tables below: a simple attribute, or an attribute with one of its sub-attributes.
 macro_rules! leaf {
@@ -15,6 +16,21 @@ macro_rules! leaf {
     };
     ($attribute:ident, $sub_attribute:ident) => {
         Leaf {
+            attribute: Attribute::$attribute,
+            sub_attribute: Some(SubAttribute::$sub_attribute),
+        }
+    };
+}
+
+macro_rules! unit {
+    ($attribute:ident) => {
+        Unit {
+            attribute: Attribute::$attribute,
+            sub_attribute: None,
+        }
+    };
+    ($attribute:ident, $sub_attribute:ident) => {
+        Unit {
             attribute: Attribute::$attribute,
             sub_attribute: Some(SubAttribute::$sub_attribute),
         }
@@ -150,6 +166,60 @@ static GROUP_LEAVES: [Leaf; 11] = [
     leaf!(Meta, Location),
 ];
 
+static USER_UNITS: [Unit; 40] = [
+    unit!(Id),
+    unit!(ExternalId),
+    unit!(UserName),
+    unit!(Name, Formatted),
+    unit!(Name, FamilyName),
+    unit!(Name, GivenName),
+    unit!(Name, MiddleName),
+    unit!(Name, HonorificPrefix),
+    unit!(Name, HonorificSuffix),
+    unit!(DisplayName),
+    unit!(NickName),
+    unit!(ProfileUrl),
+    unit!(Title),
+    unit!(UserType),
+    unit!(PreferredLanguage),
+    unit!(Locale),
+    unit!(Timezone),
+    unit!(Active),
+    unit!(Password),
+    unit!(Emails),
+    unit!(PhoneNumbers),
+    unit!(Ims),
+    unit!(Photos),
+    unit!(Addresses),
+    unit!(Groups),
+    unit!(Entitlements),
+    unit!(Roles),
+    unit!(X509Certificates),
+    unit!(EmployeeNumber),
+    unit!(CostCenter),
+    unit!(Organization),
+    unit!(Division),
+    unit!(Department),
+    unit!(Manager, Value),
+    unit!(Manager, Reference),
+    unit!(Manager, DisplayName),
+    unit!(Meta, ResourceType),
+    unit!(Meta, Created),
+    unit!(Meta, LastModified),
+    unit!(Meta, Location),
+];
+
+static GROUP_UNITS: [Unit; 8] = [
+    unit!(Id),
+    unit!(ExternalId),
+    unit!(DisplayName),
+    unit!(Members),
+    unit!(Meta, ResourceType),
+    unit!(Meta, Created),
+    unit!(Meta, LastModified),
+    unit!(Meta, Location),
+];
+
 /// The attributes of a kind, in the order of the table.
 pub fn attributes(kind: Kind) -> &'static [Attribute]
     ensures { result.now ≡ table.attributes kind }
@@ -167,6 +237,17 @@ pub fn leaves(kind: Kind) -> &'static [Leaf]
     match kind {
         Kind::User => &USER_LEAVES,
         Kind::Group => &GROUP_LEAVES,
+    }
+}
+
+/// The units of a kind, in the order of the table.
+#[tactic(auto, unfolding(crate::specs::Units::units))]
+pub fn units(kind: Kind) -> &'static [Unit]
+    ensures { result.now ≡ of_units.units kind }
+{
+    match kind {
+        Kind::User => &USER_UNITS,
+        Kind::Group => &GROUP_UNITS,
     }
 }
 

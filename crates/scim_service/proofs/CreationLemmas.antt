@@ -1,5 +1,5 @@
 -- Names and ids in use, and what a client is shown of what is made.
-use Rattle.std.proofs.Common.{◌≡◌, refl, sym, ◌∙◌, ap, ◌≤◌, ℕ, Bool, true, false, ◌&&◌, ◌||◌, List, [], ◌∷◌, ◌++◌, filter, is_some, ◌-◌, length, length-drop, get_or, drop, take, take_all, inl, inr, arith}
+use Rattle.std.proofs.Common.{◌≡◌, refl, sym, ◌∙◌, ap, subst, ◌≤◌, ℕ, Bool, true, false, ◌&&◌, ◌||◌, List, [], ◌∷◌, ◌++◌, filter, is_some, ◌-◌, length, length-drop, get_or, drop, take, take_all, inl, inr, arith}
 use Rattle.std.specs.Prelude.{find, not, Option, None, Some}
 use Rattle.std.specs.List.{list_any}
 use Rattle.std.proofs.lemmas.Bool.{cases_Bool}
@@ -23,11 +23,13 @@ use Rattle.scim_view.specs.declared.projection.Wanted.{Wanted}
 use Rattle.scim_view.specs.View.{Viewer, read_decision}
 use Rattle.scim_view.specs.Groups.{with_groups}
 use Rattle.scim_view.specs.Shown.{shown}
-use Rattle.scim_shelf.specs.Stores.{Store, IsStore, is_at, has_name, is_taken, is_used, below, above, keep, without}
-use Rattle.scim_shelf.proofs.Facts.{found_any, used_by_kind, without_unused}
+use Rattle.scim_shelf.specs.Stores.{Store, IsStore, AreKeyed, AreOf, is_at, has_name, is_taken, is_used, below, above, keep, without}
+use Rattle.scim_shelf.proofs.Facts.{found_any, groups_without, is_other, named_beside, used_by_kind}
+use Rattle.scim_service.specs.code.Others.{beside, is_another}
 use Rattle.scim_service.specs.declared.requests.Turn.{Turn}
 use Rattle.scim_service.specs.declared.plans.Plan.{Plan}
-use Rattle.scim_service.specs.Step.{resource_text, created_text, create_decision, is_decided, first_denied, new_resource, made_with, made_if_free, is_for, creating}
+use Rattle.scim_audit.specs.declared.refusals.Refusal.TheVariants.{Taken, IdInUse}
+use Rattle.scim_service.specs.Step.{refused, resource_text, kept_text, create_decision, is_decided, first_denied, new_resource, made_with, made_if_free, is_for, creating}
 use Rattle.scim_service.proofs.StoreViews.{none_of_group}
 
 -- what isn't denied is so
@@ -46,17 +48,28 @@ pub first_and_rest : {X : Type 0} (xs : List X) (x : X) → 1 ≤ length xs → 
 first_and_rest [] x long e = absurd (omega (arith, long))
 first_and_rest (y ∷ ys) x long e = ap (λ z. z ∷ ys) (sym e)
 
--- a name that somebody has is taken
-pub taken_first : (n : Name) (ns : List Name) (cs : List Content) (owner : Option Content) → owner ≡ find (has_name n) cs → is_some owner ≡ true
-    → true ≡ list_any (λ m. list_any (has_name m) cs) (n ∷ ns)
-taken_first n ns cs owner e h =
-    let t : list_any (has_name n) cs ≡ true = sym (found_any (has_name n) cs) ∙ ap is_some (sym e) ∙ h in rw t refl
+-- whether another has a name, by the one who is found to have it
+pub owner_other : (own : Option (List ℕ)) (n : Name) (cs : List Content) (owner : Option Content) → AreKeyed cs → owner ≡ find (has_name n) cs
+    → is_another own owner ≡ list_any (has_name n) (beside own cs)
+owner_other None n cs owner keyed is = somebody owner ∙ ap is_some is ∙ found_any (has_name n) cs
+  where
+    somebody : (o : Option Content) → is_another None o ≡ is_some o
+    somebody None = refl
+    somebody (Some c) = refl
+owner_other (Some id) n cs owner keyed is = somebody owner ∙ named_beside n id cs owner keyed is
+  where
+    somebody : (o : Option Content) → is_another (Some id) o ≡ is_other id o
+    somebody None = refl
+    somebody (Some c) = refl
 
--- of a name that nobody has, the others decide
-pub taken_later : (n : Name) (ns : List Name) (cs : List Content) (owner : Option Content) (b : Bool) → owner ≡ find (has_name n) cs → is_some owner ≡ false
+-- a name that one has is taken
+pub taken_first : (n : Name) (ns : List Name) (cs : List Content) → list_any (has_name n) cs ≡ true → true ≡ list_any (λ m. list_any (has_name m) cs) (n ∷ ns)
+taken_first n ns cs t = rw t refl
+
+-- of a name that none has, the others decide
+pub taken_later : (n : Name) (ns : List Name) (cs : List Content) (b : Bool) → list_any (has_name n) cs ≡ false
     → b ≡ list_any (λ m. list_any (has_name m) cs) ns → b ≡ list_any (λ m. list_any (has_name m) cs) (n ∷ ns)
-taken_later n ns cs owner b e h rest =
-    let f : list_any (has_name n) cs ≡ false = sym (found_any (has_name n) cs) ∙ ap is_some (sym e) ∙ h in rw f rest
+taken_later n ns cs b f rest = rw f rest
 
 -- ---- ids
 
@@ -86,18 +99,19 @@ by_kind : {G : Type 0} (k : Kind) → (k ≡ User → G) → (k ≡ Group → G)
 by_kind User user group = user refl
 by_kind Group user group = group refl
 
--- a new resource has the groups that it had before it was kept
-pub new_groups : (v : Viewer) (base : List ℕ) (store : Store) (c : Content) → IsStore base store → is_used store.resources c.id ≡ false
+-- a resource has the groups that it has before it is kept: it is new, or takes the place of one of its kind
+pub kept_groups : (v : Viewer) (base : List ℕ) (store : Store) (c : Content) → IsStore base store → AreOf c.kind c.id store.resources
     → with_groups v (of_kind Group store.resources) c ≡ with_groups v (of_kind Group (keep c store.resources)) c
-new_groups v base store c is fresh = by_kind c.kind
+kept_groups v base store c is own = by_kind c.kind
     (λ user. (let other : is_of Group c ≡ false = ap (λ k. sameb the_kind k Group) user in
-    ap (λ gs. with_groups v gs c) (sym (groups_beside_user c store.resources other ∙ ap (of_kind Group) (without_unused c.id store.resources is.keyed fresh)))))
+    let users : AreOf User c.id store.resources = subst (λ (k : Kind). AreOf k c.id store.resources) user own in
+    ap (λ gs. with_groups v gs c) (sym (groups_beside_user c store.resources other ∙ groups_without c.id store.resources is.keyed users))))
     (λ group. none_of_group v (of_kind Group store.resources) (of_kind Group (keep c store.resources)) c group)
 
--- what is told of a new resource that is seen, and of one that isn't
+-- what is told of a resource that is kept and seen, and of one that isn't
 pub text_seen : (v : Viewer) (cs : List Content) (wanted : Wanted) (c : Content) (groups : List Content) (text : List ℕ) (d : Decision)
     → text ≡ resource_text v groups wanted c → with_groups v groups c ≡ with_groups v (of_kind Group (keep c cs)) c
-    → d ≡ read_decision v c (simple Id) → d.allow ≡ true → Some text ≡ created_text v cs wanted c
+    → d ≡ read_decision v c (simple Id) → d.allow ≡ true → Some text ≡ kept_text v cs wanted c
 unfolding resource_text
 text_seen v cs wanted c groups text d text_is groups_are decides allows =
     let seen : (read_decision v c (simple Id)).allow ≡ true = ap (λ (e : Decision). e.allow) (sym decides) ∙ allows in
@@ -105,7 +119,7 @@ text_seen v cs wanted c groups text d text_is groups_are decides allows =
     rw seen (ap (λ (t : List ℕ). Some t) told)
 
 pub text_unseen : (v : Viewer) (cs : List Content) (wanted : Wanted) (c : Content) (d : Decision)
-    → d ≡ read_decision v c (simple Id) → d.allow ≡ false → None ≡ created_text v cs wanted c
+    → d ≡ read_decision v c (simple Id) → d.allow ≡ false → None ≡ kept_text v cs wanted c
 text_unseen v cs wanted c d decides denies =
     let unseen : (read_decision v c (simple Id)).allow ≡ false = ap (λ (e : Decision). e.allow) (sym decides) ∙ denies in rw unseen refl
 
@@ -118,9 +132,9 @@ find_agree p q same (l ∷ ls) = elim (cases_Bool (p l)) [
   | inr f ↦ (let u : q l ≡ false = sym (same l) ∙ f in rw (f, u) (find_agree p q same ls))
 ]
 
-none_found : (o : Option Leaf) → ((l : Leaf) → o ≡ Some l → ⊥) → o ≡ None
+pub none_found : {X : Type 0} (o : Option X) → ((x : X) → o ≡ Some x → ⊥) → o ≡ None
 none_found None never = refl
-none_found (Some l) never = absurd (never l refl)
+none_found (Some x) never = absurd (never x refl)
 
 -- where these decisions deny nothing, the policy denies nothing
 pub none_denied : (v : Viewer) (d : Draft) (c : Content) (decides : Leaf → Decision) (o : Option Leaf) → ((l : Leaf) → decides l ≡ create_decision v c l)
@@ -129,9 +143,16 @@ none_denied v d c decides o same is never =
     sym (find_agree (λ l. is_decided d l && not (decides l).allow) (λ l. is_decided d l && not (create_decision v c l).allow) (λ l. ap (λ (e : Decision). is_decided d l && not e.allow) (same l)) (leaves d.kind))
     ∙ sym is ∙ none_found o never
 
+-- one with a name or an id that is another's is refused
+pub taken_refused : (v : Viewer) (turn : Turn) (cs : List Content) (wanted : Wanted) (c : Content) → is_taken cs c ≡ true → refused turn Taken ≡ made_if_free v turn cs wanted c
+taken_refused v turn cs wanted c taken = rw taken refl
+
+pub used_refused : (v : Viewer) (turn : Turn) (cs : List Content) (wanted : Wanted) (c : Content) → is_taken cs c ≡ false → is_used cs c.id ≡ true → refused turn IdInUse ≡ made_if_free v turn cs wanted c
+used_refused v turn cs wanted c free used = rw (free, used) refl
+
 -- a resource with names and an id of its own is kept
 pub made_is : (v : Viewer) (turn : Turn) (cs : List Content) (wanted : Wanted) (c : Content) (rule : ℕ) (text : Option (List ℕ)) (plan : Plan)
-    → is_taken cs c ≡ false → is_used cs c.id ≡ false → rule ≡ (create_decision v c (simple Id)).rule → text ≡ created_text v cs wanted c
+    → is_taken cs c ≡ false → is_used cs c.id ≡ false → rule ≡ (create_decision v c (simple Id)).rule → text ≡ kept_text v cs wanted c
     → plan ≡ made_with v turn c rule text → plan ≡ made_if_free v turn cs wanted c
 made_is v turn cs wanted c rule text plan free fresh rule_is text_is plan_is =
     rw (free, fresh) (plan_is ∙ (λ i. made_with v turn c (rule_is i) (text_is i)))

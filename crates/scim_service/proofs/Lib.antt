@@ -3,4 +3,5 @@ pub mod VisitLemmas
 pub mod PlanLemmas
 pub mod CreationLemmas
 pub mod StepLemmas
+pub mod ReplaceLemmas
 pub mod RunLemmas

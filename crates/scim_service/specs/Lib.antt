@@ -2,3 +2,4 @@ pub mod Replies
 pub mod Step
 pub mod Visits
 pub mod Answers
+pub mod code

@@ -1,44 +1,55 @@
 -- One request: what it is answered, what it changes, and what the audit says of it (RFC 7644 section 3).
-use Rattle.std.specs.Prelude.{ℕ, Bool, not, ◌&&◌, ◌||◌, List, find, Option, None, Some, option_and_then, Result, Ok, Err, if◌then◌else◌}
+use Rattle.std.specs.Prelude.{ℕ, Bool, not, ◌&&◌, ◌||◌, List, [], ◌∷◌, filter, find, Option, None, Some, is_none, option_and_then, Result, Ok, Err, if◌then◌else◌}
 use Rattle.std.specs.List.{list_any}
 use denote.Enum.Bare.{sameb}
 use Rattle.serde_json.specs.Written.{compact_text}
+use Rattle.scim_schema.specs.declared.Kind.{Kind}
 use Rattle.scim_schema.specs.declared.Kind.TheVariants.{Group}
+use Rattle.scim_schema.specs.declared.Op.{Op}
 use Rattle.scim_schema.specs.declared.Op.TheVariants.{Create, Delete}
+use Rattle.scim_schema.specs.declared.Unit.{Unit as AttributeUnit}
 use Rattle.scim_schema.specs.declared.Leaf.{Leaf}
 use Rattle.scim_schema.specs.declared.Attribute.TheVariants.{Id}
 use Rattle.scim_schema.specs.contracts.Kind.{the_type as the_kind}
 use Rattle.scim_schema.specs.Table.{leaves}
-use Rattle.scim_schema.specs.Units.{simple, unit_of, is_same_leaf, is_same_unit}
+use Rattle.scim_schema.specs.Mutability.{is_fixed}
+use Rattle.scim_schema.specs.Units.{simple, unit_of, units, is_same_leaf, is_same_unit}
 use Rattle.scim_cell.specs.Content.{Content}
 use Rattle.scim_cell.specs.Kinds.{of_kind}
+use Rattle.scim_cell.specs.Rows.{rows}
 use Rattle.scim_audit.specs.declared.refusals.Refusal.{Refusal}
-use Rattle.scim_audit.specs.declared.refusals.Refusal.TheVariants.{MessageValue, NotFound, Denied, Taken, IdInUse}
+use Rattle.scim_audit.specs.declared.refusals.Refusal.TheVariants.{MessageValue, NotFound, Denied, ResultValue, Taken, Widens, IdInUse}
 use Rattle.scim_audit.specs.declared.rows.Decided.{Decided}
 use Rattle.scim_audit.specs.declared.rows.Decided.TheVariants as decided
 use Rattle.scim_audit.specs.declared.rows.AuditRow.{AuditRow}
 use Rattle.scim_value.specs.Resource.{location}
 use Rattle.scim_json.specs.declared.drafts.UseFor.TheVariants.{Creating}
 use Rattle.scim_json.specs.contracts.drafts.UseFor.{the_type as the_use_for}
-use Rattle.scim_json.specs.Drafts.{Draft}
+use Rattle.scim_json.specs.Agreement.{agrees}
+use Rattle.scim_json.specs.Drafts.{Draft, gives}
 use Rattle.scim_json.specs.PartData.{part_data}
 use Rattle.scim_json.specs.ListData.{list_data}
 use Rattle.scim_change.specs.Create.{created}
+use Rattle.scim_change.specs.Replace.{changes, replaced}
 use Rattle.scim_policy.specs.Rules.{Rule}
 use Rattle.scim_policy.specs.declared.rules.Decision.{Decision}
+use Rattle.scim_policy.specs.Access.{Access, access, forbidding, widening}
 use Rattle.scim_policy.specs.Decide.{decide}
+use Rattle.scim_policy.specs.Table.{or_else}
 use Rattle.scim_view.specs.declared.projection.Wanted.{Wanted}
-use Rattle.scim_view.specs.View.{Viewer, read_decision}
+use Rattle.scim_view.specs.View.{Viewer, read_decision, visible}
 use Rattle.scim_view.specs.Groups.{with_groups, views}
 use Rattle.scim_view.specs.Shown.{shown}
 use Rattle.scim_query.specs.declared.queries.Query.{Query}
 use Rattle.scim_query.specs.Pages.{first_position}
 use Rattle.scim_query.specs.Arranged.{total_of, shown_items}
+use Rattle.scim_shelf.specs.declared.changes.Change.{Change}
 use Rattle.scim_shelf.specs.declared.changes.Change.TheVariants.{Nothing, Keep, Remove as TakeOut}
-use Rattle.scim_shelf.specs.Stores.{Store, is_at, is_taken, is_used, keep, after}
+use Rattle.scim_shelf.specs.Stores.{Store, is_at, is_taken, is_used, keep, without, after}
 use Rattle.scim_service.specs.declared.requests.Ask.{Ask}
-use Rattle.scim_service.specs.declared.requests.Ask.TheVariants.{Get, Search, Create as MakeOne, Remove}
+use Rattle.scim_service.specs.declared.requests.Ask.TheVariants.{Get, Search, Create as MakeOne, Replace, Remove}
 use Rattle.scim_service.specs.declared.requests.Turn.{Turn}
+use Rattle.scim_service.specs.declared.replies.Reply.{Reply}
 use Rattle.scim_service.specs.declared.replies.Reply.TheVariants.{Shown, Created, Done, Refused}
 use Rattle.scim_service.specs.declared.plans.Plan.{Plan}
 
@@ -129,9 +140,9 @@ is_decided d l = is_same_leaf l (simple Id) || list_any (is_same_unit (unit_of l
 abbrev pub first_denied : Viewer → Draft → Content → Option Leaf
 first_denied v d c = find (λ l. is_decided d l && not (create_decision v c l).allow) (leaves d.kind)
 
--- what the client is shown of the resource that was made, among the others; nothing, where it doesn't see it
-abbrev pub created_text : Viewer → List Content → Wanted → Content → Option (List ℕ)
-created_text v cs wanted c = if (read_decision v c (simple Id)).allow then Some (resource_text v (of_kind Group (keep c cs)) wanted c) else None
+-- what the client is shown of a resource that is kept, among the others; nothing, where it doesn't see it then
+abbrev pub kept_text : Viewer → List Content → Wanted → Content → Option (List ℕ)
+kept_text v cs wanted c = if (read_decision v c (simple Id)).allow then Some (resource_text v (of_kind Group (keep c cs)) wanted c) else None
 
 -- the resource is kept, with what the client is shown of it, as the rule allows
 abbrev pub made_with : Viewer → Turn → Content → ℕ → Option (List ℕ) → Plan
@@ -142,7 +153,7 @@ made_with v turn c rule text = record {
 }
 
 abbrev pub made : Viewer → Turn → List Content → Wanted → Content → Plan
-made v turn cs wanted c = made_with v turn c (create_decision v c (simple Id)).rule (created_text v cs wanted c)
+made v turn cs wanted c = made_with v turn c (create_decision v c (simple Id)).rule (kept_text v cs wanted c)
 
 -- it needs a name and an id that no resource has, be it seen or not (RFC 7644 section 3.3)
 abbrev pub made_if_free : Viewer → Turn → List Content → Wanted → Content → Plan
@@ -162,6 +173,80 @@ unfoldable pub creating : Viewer → Turn → List Content → Draft → Wanted 
 creating v turn cs d wanted =
     if is_for turn d then made_if_allowed v turn cs wanted (new_resource v turn d) (first_denied v d (new_resource v turn d)) else refused turn MessageValue
 
+-- ---- what is replaced (RFC 7644 section 3.5.1)
+
+-- what the policy lets the client do with a resource that is there
+abbrev pub access_to : Viewer → Content → Access
+access_to v c = access v.policy v.client c
+
+-- why a body may not give what it gives of a unit, where this is seen of the resource: the unit may not be written, and what is given isn't what is seen there
+abbrev pub unit_denied : Access → Draft → Content → AttributeUnit → Option (Leaf × Decision)
+unit_denied a d seen u = if is_fixed d.kind u || (not (gives d u) || agrees d u seen) then None else forbidding d.kind a u
+
+-- the first of these units for which there is a reason: the leaf that is denied, and the decision
+abbrev pub first_unit_denied : Access → Draft → Content → List AttributeUnit → Option (Leaf × Decision)
+first_unit_denied a d seen [] = None
+first_unit_denied a d seen (u ∷ us) = or_else (unit_denied a d seen u) (first_unit_denied a d seen us)
+
+-- whether a unit may be written: it isn't readOnly, and no leaf forbids it
+abbrev pub is_writable : Kind → Access → AttributeUnit → Bool
+is_writable kind a u = not (is_fixed kind u) && is_none (forbidding kind a u)
+
+-- the units that may be written, in order
+abbrev pub writable : Kind → Access → List AttributeUnit
+writable kind a = filter (is_writable kind a) (units kind)
+
+-- since a rule would let the client do at a leaf what it may not do there before
+unfoldable pub widened : Turn → Leaf → Decision → Plan
+widened turn l d = refused_as turn decided.Deny (Some d.rule) (Some l) Widens
+
+-- what is shown, or that it is done where there is nothing to show
+abbrev pub shown_or_done : Option (List ℕ) → Reply
+shown_or_done None = Done
+shown_or_done (Some text) = Shown text
+
+-- the change of a resource, or none where it is as it was
+abbrev pub kept_if : Bool → Content → Change
+kept_if changed c = if changed then Keep c else Nothing
+
+-- the resource is kept, with what the client is shown of it, as the rule allows
+abbrev pub kept_with : Turn → ℕ → Bool → Content → Option (List ℕ) → Plan
+kept_with turn rule changed c text = record { reply = shown_or_done text; change = kept_if changed c; row = allowed turn rule }
+
+-- it is shown as the client then sees it; `a` is what the client could do before, by which it saw the resource
+abbrev pub changed_with : Viewer → Turn → List Content → Wanted → Access → Bool → Content → Plan
+changed_with v turn cs wanted a changed c = kept_with turn (a.read (simple Id)).rule changed c (kept_text v cs wanted c)
+
+-- unless it would open something to the client
+abbrev pub changed_if_narrow : Viewer → Turn → List Content → Wanted → Access → Bool → Content → Option (Op × Leaf × Decision) → Plan
+changed_if_narrow v turn cs wanted a changed c None = changed_with v turn cs wanted a changed c
+changed_if_narrow v turn cs wanted a changed c (Some (op, l, d)) = widened turn l d
+
+-- and unless another resource has a unique name of it, be it seen or not
+abbrev pub changed_if_free : Viewer → Turn → List Content → Wanted → Access → Bool → Content → Plan
+changed_if_free v turn cs wanted a changed c =
+    if is_taken (without c.id cs) c then refused turn Taken else changed_if_narrow v turn cs wanted a changed c (widening c.kind a (access_to v c))
+
+-- and unless it would lack what its kind requires
+abbrev pub changed_if_complete : Viewer → Turn → List Content → Wanted → Access → Bool → Option Content → Plan
+changed_if_complete v turn cs wanted a changed None = refused turn ResultValue
+changed_if_complete v turn cs wanted a changed (Some c) = changed_if_free v turn cs wanted a changed c
+
+-- the units that may be written take what the draft has
+abbrev pub written : Viewer → Turn → List Content → Draft → Wanted → Content → List AttributeUnit → Plan
+written v turn cs d wanted c us = changed_if_complete v turn cs wanted (access_to v c) (changes d us (rows c)) (replaced d us turn.moment c)
+
+-- unless the body gives one that may not be written something else than is seen there
+abbrev pub written_if_allowed : Viewer → Turn → List Content → Draft → Wanted → Content → Option (Leaf × Decision) → Plan
+written_if_allowed v turn cs d wanted c (Some (l, decision)) = denied turn decision l
+written_if_allowed v turn cs d wanted c None = written v turn cs d wanted c (writable c.kind (access_to v c))
+
+unfoldable pub replacing : Viewer → Turn → List Content → Draft → Wanted → Content → Plan
+replacing v turn cs d wanted c =
+    if sameb the_kind d.kind c.kind
+    then written_if_allowed v turn cs d wanted c (first_unit_denied (access_to v c) d (visible v c) (units d.kind))
+    else refused turn MessageValue
+
 -- ---- all requests
 
 -- the resource that a request names
@@ -179,6 +264,7 @@ planned v turn cs (Err refusal) = refused turn refusal
 planned v turn cs (Ok (Get wanted)) = at_seen v turn (got v turn cs wanted) (sought turn cs)
 planned v turn cs (Ok (Search query)) = listed v turn cs query
 planned v turn cs (Ok (MakeOne draft wanted)) = creating v turn cs draft wanted
+planned v turn cs (Ok (Replace draft wanted)) = at_seen v turn (replacing v turn cs draft wanted) (sought turn cs)
 planned v turn cs (Ok Remove) = at_seen v turn (removed v turn) (sought turn cs)
 
 -- for whom a turn is: its client, by the policy, below the base

@@ -1,22 +1,21 @@
 //! What is to be done for a request to make a resource (RFC 7644 section 3.3).
-ghost use Rattle.std.specs.Prelude.{◌≡◌, ◌≢◌, ◌&&◌, ℕ, List, not, find, map, IfOk, Err, false};
-ghost use Rattle.std.specs.List.{list_any};
+ghost use Rattle.std.specs.Prelude.{◌≡◌, ◌≢◌, ◌&&◌, ℕ, List, not, find, IfOk, Err};
 ghost use Rattle.scim_text.specs.declared.memory.Failed.{Failed};
 ghost use Rattle.scim_schema.specs.declared.Attribute.{Attribute};
 ghost use Rattle.scim_schema.specs.declared.Leaf.{Leaf};
 ghost use Rattle.scim_schema.specs.Table.{leaves};
-ghost use Rattle.scim_schema.specs.Units.{simple, is_same_unit};
-ghost use Rattle.scim_value.specs.Uniqueness.{name_of};
+ghost use Rattle.scim_schema.specs.Units.{simple};
 ghost use Rattle.scim_value.specs.Resource.{HasBase};
 ghost use Rattle.scim_policy.specs.Table.{decision};
 ghost use Rattle.scim_view.specs.View.{viewer_of};
 ghost use Rattle.scim_shelf.specs.declared.faults.ShelfFault.{ShelfFault};
 ghost use Rattle.scim_shelf.specs.Shelves.{Counts, KeepsStore, Answers};
-ghost use Rattle.scim_shelf.specs.Stores.{IsStore, has_name, is_taken, is_used};
+ghost use Rattle.scim_shelf.specs.Stores.{IsStore, is_used};
 ghost use Rattle.scim_service.specs.Answers.{KeepsSound};
 ghost use Rattle.scim_service.specs.Step as spec;
 
-use crate::plans::{Finding, Plan, denied, groups_beside, refused, resource_text, row_of};
+use crate::names::has_taken_name;
+use crate::plans::{Finding, Plan, denied, kept_text, refused, row_of};
 use crate::replies::Reply;
 use crate::requests::Turn;
 use scim_audit::{Decided, Refusal};
@@ -24,10 +23,10 @@ use scim_cell::{Id, Text};
 use scim_change::create;
 use scim_json::{Draft, UseFor};
 use scim_policy::Decisions;
-use scim_schema::{Attribute, Kind, Leaf, Op, Unit, leaves, unit_of};
+use scim_schema::{Attribute, Kind, Leaf, Op, leaves, unit_of};
 use scim_shelf::{Change, Shelf, ShelfFault};
 use scim_text::{Failed, NoMemory};
-use scim_value::{Resource, UniqueName, location, unique_names};
+use scim_value::{Resource, location};
 use scim_view::{Viewer, Wanted};
 use std::alloc::Global;
 
@@ -38,23 +37,11 @@ fn is_for(turn: &Turn, draft: &Draft) -> bool
     draft.kind() == turn.request.kind && draft.use_for() == UseFor::Creating
 }
 
-/// Whether the unit is one of these.
-fn is_among(unit: Unit, units: &[Unit]) -> bool
-    ensures { result ≡ list_any (is_same_unit unit) units.now }
-{
-    for other in units {
-        if unit == *other {
-            return true;
-        }
-    }
-    false
-}
-
 /// Whether making a resource of the draft is decided at the leaf.
 fn is_decided(draft: &Draft, leaf: Leaf) -> bool
     ensures { result ≡ spec.is_decided draft.now leaf }
 {
-    leaf == Leaf::simple(Attribute::Id) || is_among(unit_of(leaf), draft.given())
+    leaf == Leaf::simple(Attribute::Id) || draft.gives(unit_of(leaf))
 }
 
 /// The first of these leaves at which the decisions deny what the draft gives.
@@ -76,46 +63,6 @@ fn first_denied(decisions: &Decisions, draft: &Draft) -> Option<Leaf>
     first_denied_of(decisions, draft, leaves(draft.kind()))
 }
 
-/// Whether a resource has one of the names.
-fn any_taken<S: Shelf>(
-    alloc: Global,
-    shelf: &mut S,
-    names: &[UniqueName],
-) -> Result<bool, Failed<ShelfFault>>
-    ensures answer { IfOk result (Answers S.stands S.is_honest shelf.old shelf.new (λ store b. b ≡ list_any (λ n. list_any (has_name n) store.resources) (map name_of names.now))) }
-    ensures store { KeepsStore S.stands shelf.old shelf.new }
-    ensures honest { S.is_honest shelf.new → S.is_honest shelf.old }
-    ensures counts { Counts (S.failures shelf.old) (S.failures shelf.new) result }
-    ensures not_full { result ≢ Err (Failed.Because ShelfFault.Full) }
-{
-    match names {
-        [] => Ok(false),
-        [name, rest @ ..] => {
-            let owner = shelf.name_owner(alloc, name)?;
-            if owner.is_some() {
-                return Ok(true);
-            }
-            any_taken(alloc, shelf, rest)
-        }
-    }
-}
-
-/// Whether a resource, be it seen or not, has a unique name of this one.
-fn has_taken_name<S: Shelf>(
-    alloc: Global,
-    shelf: &mut S,
-    new: &Resource,
-) -> Result<bool, Failed<ShelfFault>>
-    ensures answer { IfOk result (Answers S.stands S.is_honest shelf.old shelf.new (λ store b. b ≡ is_taken store.resources new.now)) }
-    ensures store { KeepsStore S.stands shelf.old shelf.new }
-    ensures honest { S.is_honest shelf.new → S.is_honest shelf.old }
-    ensures counts { Counts (S.failures shelf.old) (S.failures shelf.new) result }
-    ensures not_full { result ≢ Err (Failed.Because ShelfFault.Full) }
-{
-    let names = unique_names(alloc, new)?;
-    any_taken(alloc, shelf, names.as_slice())
-}
-
 /// Whether a resource, of whatever kind, has the id.
 fn has_used_id<S: Shelf>(alloc: Global, shelf: &mut S, id: Id) -> Result<bool, Failed<ShelfFault>>
     ensures answer { IfOk result (Answers S.stands S.is_honest shelf.old shelf.new (λ store b. b ≡ is_used store.resources id)) }
@@ -130,39 +77,6 @@ fn has_used_id<S: Shelf>(alloc: Global, shelf: &mut S, id: Id) -> Result<bool, F
     }
     let group = shelf.by_id(alloc, Kind::Group, id)?;
     Ok(group.is_some())
-}
-
-/// What the client is shown of a resource that is made: nothing, where it doesn't see it.
-fn created_text<S: Shelf>(
-    alloc: Global,
-    viewer: &Viewer<'_>,
-    shelf: &mut S,
-    resource: &Resource,
-    wanted: &Wanted,
-) -> Result<Option<Text>, Failed<ShelfFault>>
-    ensures text { IfOk result (Answers S.stands S.is_honest shelf.old shelf.new (λ store text. (base : List ℕ) → IsStore base store
-        → is_used store.resources resource.now.id ≡ false
-        → text ≡ spec.created_text (viewer_of viewer.now) store.resources wanted.now resource.now)) }
-    ensures store { KeepsStore S.stands shelf.old shelf.new }
-    ensures honest { S.is_honest shelf.new → S.is_honest shelf.old }
-    ensures counts { Counts (S.failures shelf.old) (S.failures shelf.new) result }
-    ensures not_full { result ≢ Err (Failed.Because ShelfFault.Full) }
-{
-    let decisions = viewer.decisions(alloc, resource)?;
-    let seen = decisions.of(Leaf::simple(Attribute::Id));
-    if !seen.allow {
-        return Ok(None);
-    }
-    let groups = groups_beside(alloc, shelf, resource)?;
-    let text = resource_text(
-        alloc,
-        viewer,
-        &decisions,
-        groups.as_slice(),
-        resource,
-        wanted,
-    )?;
-    Ok(Some(text))
 }
 
 /// What is to be done where the resource is made: `text` is what the client is shown of it, and `rule` the one
@@ -215,13 +129,14 @@ fn plan_if_free<S: Shelf>(
     ensures counts { Counts (S.failures shelf.old) (S.failures shelf.new) result }
     ensures not_full { result ≢ Err (Failed.Because ShelfFault.Full) }
 {
-    if has_taken_name(alloc, shelf, &resource)? {
+    if has_taken_name(alloc, shelf, &None, &resource)? {
         return Ok(refused(alloc, turn, Refusal::Taken)?);
     }
     if has_used_id(alloc, shelf, resource.id())? {
         return Ok(refused(alloc, turn, Refusal::IdInUse)?);
     }
-    let text = created_text(alloc, viewer, shelf, &resource, wanted)?;
+    let decisions = viewer.decisions(alloc, &resource)?;
+    let text = kept_text(alloc, viewer, shelf, &decisions, &resource, wanted)?;
     Ok(made(alloc, viewer, turn, resource, rule, text)?)
 }
 

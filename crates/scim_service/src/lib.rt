@@ -2,8 +2,11 @@
 //! a list of requests (RFC 7644 section 3).
 #![tactic(auto)]
 
+mod changed;
 mod creations;
+mod names;
 mod plans;
+mod replacements;
 mod replies;
 mod requests;
 mod service;

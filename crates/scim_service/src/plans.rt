@@ -14,11 +14,12 @@ ghost use Rattle.scim_query.specs.Pages.{IsPage};
 ghost use Rattle.scim_shelf.specs.declared.changes.Change.{Change};
 ghost use Rattle.scim_shelf.specs.declared.faults.ShelfFault.{ShelfFault};
 ghost use Rattle.scim_shelf.specs.Shelves.{Counts, KeepsStore, Answers};
-ghost use Rattle.scim_shelf.specs.Stores.{IsStore};
+ghost use Rattle.scim_shelf.specs.Stores.{IsStore, AreOf};
 ghost use Rattle.scim_service.specs.Answers.{KeepsSound};
 ghost use Rattle.scim_service.specs.Step as spec;
 
 use crate::creations::plan_create;
+use crate::replacements::plan_replace;
 use crate::replies::Reply;
 use crate::requests::{Ask, Turn};
 use crate::visitors::{GroupVisitor, SearchVisitor};
@@ -73,7 +74,7 @@ pub(crate) fn row_of(
     })
 }
 
-fn refused_as(
+pub(crate) fn refused_as(
     alloc: Global,
     turn: &Turn,
     decided: Decided,
@@ -106,7 +107,7 @@ pub(crate) fn refused(alloc: Global, turn: &Turn, refusal: Refusal) -> Result<Pl
 }
 
 #[tactic(auto, unfolding(crate::specs::Step::absent))]
-fn absent(alloc: Global, turn: &Turn) -> Result<Plan, NoMemory>
+pub(crate) fn absent(alloc: Global, turn: &Turn) -> Result<Plan, NoMemory>
     ensures plan { IfOk result (λ plan. plan ≡ spec.absent turn.now) }
     ensures change { IfOk result (λ plan. plan.change ≡ Change.Nothing) }
 {
@@ -114,7 +115,7 @@ fn absent(alloc: Global, turn: &Turn) -> Result<Plan, NoMemory>
 }
 
 #[tactic(auto, unfolding(crate::specs::Step::hidden))]
-fn hidden(alloc: Global, turn: &Turn, decision: Decision) -> Result<Plan, NoMemory>
+pub(crate) fn hidden(alloc: Global, turn: &Turn, decision: Decision) -> Result<Plan, NoMemory>
     ensures plan { IfOk result (λ plan. plan ≡ spec.hidden turn.now decision) }
     ensures change { IfOk result (λ plan. plan.change ≡ Change.Nothing) }
 {
@@ -149,7 +150,7 @@ pub(crate) fn denied(
     )
 }
 
-fn allowed(alloc: Global, turn: &Turn, rule: u32) -> Result<AuditRow, NoMemory>
+pub(crate) fn allowed(alloc: Global, turn: &Turn, rule: u32) -> Result<AuditRow, NoMemory>
     ensures { IfOk result (λ row. row ≡ spec.allowed turn.now rule) }
 {
     let finding = Finding {
@@ -162,7 +163,7 @@ fn allowed(alloc: Global, turn: &Turn, rule: u32) -> Result<AuditRow, NoMemory>
 }
 
 /// The resource that the turn's request names.
-fn found<S: Shelf>(
+pub(crate) fn found<S: Shelf>(
     alloc: Global,
     shelf: &mut S,
     turn: &Turn,
@@ -217,6 +218,41 @@ pub(crate) fn resource_text(
     let visible = viewer.with_groups_by(alloc, decisions, groups, resource)?;
     let shown = project(alloc, visible, wanted)?;
     Ok(Text::new(to_json(alloc, &shown)?))
+}
+
+/// What the client is shown of a resource that is kept, by these decisions on reading it: nothing, where it
+/// doesn't see it.
+pub(crate) fn kept_text<S: Shelf>(
+    alloc: Global,
+    viewer: &Viewer<'_>,
+    shelf: &mut S,
+    decisions: &Decisions,
+    resource: &Resource,
+    wanted: &Wanted,
+) -> Result<Option<Text>, Failed<ShelfFault>>
+    requires { (l : Leaf) → decision decisions.now l ≡ view.read_decision (viewer_of viewer.now) resource.now l }
+    ensures text { IfOk result (Answers S.stands S.is_honest shelf.old shelf.new (λ store text. (base : List ℕ) → IsStore base store
+        → AreOf resource.now.kind resource.now.id store.resources
+        → text ≡ spec.kept_text (viewer_of viewer.now) store.resources wanted.now resource.now)) }
+    ensures store { KeepsStore S.stands shelf.old shelf.new }
+    ensures honest { S.is_honest shelf.new → S.is_honest shelf.old }
+    ensures counts { Counts (S.failures shelf.old) (S.failures shelf.new) result }
+    ensures not_full { result ≢ Err (Failed.Because ShelfFault.Full) }
+{
+    let seen = decisions.of(Leaf::simple(Attribute::Id));
+    if !seen.allow {
+        return Ok(None);
+    }
+    let groups = groups_beside(alloc, shelf, resource)?;
+    let text = resource_text(
+        alloc,
+        viewer,
+        decisions,
+        groups.as_slice(),
+        resource,
+        wanted,
+    )?;
+    Ok(Some(text))
 }
 
 /// What is to be done for a request to show the resource that it names.
@@ -429,7 +465,8 @@ pub(crate) fn planned<S: Shelf>(
 ) -> Result<Plan, Failed<ShelfFault>>
     ensures plan { IfOk result (Answers S.stands S.is_honest shelf.old shelf.new (λ store plan. (base : List ℕ) → IsStore base store
         → plan ≡ spec.planned (viewer_of viewer.now) turn.now store.resources turn.now.request.ask)) }
-    ensures sound { IfOk result (λ plan. KeepsSound viewer.now.base.now plan.change) }
+    ensures sound { IfOk result (Answers S.stands S.is_honest shelf.old shelf.new (λ store plan. IsStore viewer.now.base.now store
+        → KeepsSound viewer.now.base.now plan.change)) }
     ensures store { KeepsStore S.stands shelf.old shelf.new }
     ensures honest { S.is_honest shelf.new → S.is_honest shelf.old }
     ensures counts { Counts (S.failures shelf.old) (S.failures shelf.new) result }
@@ -439,6 +476,9 @@ pub(crate) fn planned<S: Shelf>(
         Ok(Ask::Get(wanted)) => plan_get(alloc, viewer, shelf, turn, wanted),
         Ok(Ask::Search(query)) => plan_search(alloc, viewer, shelf, turn, query),
         Ok(Ask::Create(draft, wanted)) => { plan_create(alloc, viewer, shelf, turn, draft, wanted) }
+        Ok(Ask::Replace(draft, wanted)) => {
+            plan_replace(alloc, viewer, shelf, turn, draft, wanted)
+        }
         Ok(Ask::Remove) => plan_remove(alloc, viewer, shelf, turn),
         Err(refusal) => Ok(refused(alloc, turn, *refusal)?),
     }

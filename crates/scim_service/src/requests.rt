@@ -17,6 +17,10 @@ pub enum Ask {
     /// To make a resource of a draft (RFC 7644 section 3.3), and to show of it what is wanted. The draft is of
     /// the request's kind and was read for Creating; another is answered [`Refusal::MessageValue`].
     Create(Draft, Wanted),
+    /// To replace the resource that the request names by what a draft gives, as far as the policy lets the client
+    /// write it (RFC 7644 section 3.5.1), and to show of it what is wanted. The draft is of the request's kind;
+    /// another is answered [`Refusal::MessageValue`].
+    Replace(Draft, Wanted),
     /// To remove the resource that the request names (RFC 7644 section 3.6).
     Remove,
 }

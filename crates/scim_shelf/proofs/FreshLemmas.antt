@@ -2,12 +2,9 @@
 use Rattle.std.proofs.Common.{◌≡◌, ◌≢◌, refl, sym, ◌∙◌, ap, ap₂, ℕ, Bool, true, false, ◌&&◌, ◌||◌, List, [], ◌∷◌, is_some}
 use Rattle.std.specs.Prelude.{All, find, Option, None, Some, Contains}
 use Rattle.std.specs.List.{list_any}
-use Rattle.std.specs.Ordering.{nat_cmp}
-use Rattle.std.specs.Cmp.Lexicographic.{slice_cmp}
 use Rattle.std.proofs.lemmas.List.Elements.{All-nil, All-cons, All-weaker, All-contains}
 use Rattle.std.proofs.lemmas.Slice.Eq.{bytes_eq-Decides}
 use Rattle.std.proofs.lemmas.Map.Made.{is_member-Decides}
-use Rattle.std.proofs.lemmas.Map.Lookups.{exact_bytes}
 use denote.Enum.Bare.{sameb}
 use Rattle.scim_schema.specs.declared.Kind.{Kind}
 use Rattle.scim_schema.specs.declared.Kind.TheVariants.{User, Group}
@@ -15,13 +12,11 @@ use Rattle.scim_schema.specs.contracts.Kind.{the_type as the_kind}
 use Rattle.scim_cell.specs.Content.{Content}
 use Rattle.scim_cell.specs.Equality.{is_same_id}
 use Rattle.scim_value.specs.Uniqueness.{Name, unique_names, AreApart}
-use Rattle.scim_shelf.specs.Stores.{AreKeyed, HasPlace, is_at, has_name, is_taken, is_used, without}
-use Rattle.scim_shelf.proofs.PlaceLemmas.{by_order, without_less, without_greater}
-use Rattle.scim_shelf.proofs.StoreLemmas.{keyed_above, keyed_tail}
+use Rattle.scim_shelf.specs.Stores.{AreOf, HasPlace, is_at, has_name, is_taken, is_used}
 use Rattle.scim_shelf.proofs.NameLemmas.{by_bool, is_same_name-Decides}
 
 -- a test that none passes fails for each
-none_passes : {X : Type 0} (p : X → Bool) (xs : List X) → list_any p xs ≡ false → All (λ x. p x ≡ false) xs
+pub none_passes : {X : Type 0} (p : X → Bool) (xs : List X) → list_any p xs ≡ false → All (λ x. p x ≡ false) xs
 none_passes p [] h = All-nil (λ x. p x ≡ false)
 none_passes p (x ∷ xs) h =
     by_bool (p x) (λ t. absurd (let some : list_any p (x ∷ xs) ≡ true = rw t refl in cc))
@@ -32,11 +27,15 @@ pub found_any : {X : Type 0} (p : X → Bool) (xs : List X) → is_some (find p 
 found_any p [] = refl
 found_any p (x ∷ xs) = by_bool (p x) (λ t. rw t refl) (λ f. rw f (found_any p xs))
 
+-- where none has an id, each that has it is of any kind
+pub unused_own : (kind : Kind) (id : List ℕ) (cs : List Content) → is_used cs id ≡ false → AreOf kind id cs
+unused_own kind id cs fresh = All-weaker (λ d. is_same_id id d.id ≡ false) (λ d. d.id ≡ id → d.kind ≡ kind)
+    (λ d other same. absurd (let yes : is_same_id id d.id ≡ true = (bytes_eq-Decides id d.id).1 (sym same) in cc)) cs (none_passes (λ d. is_same_id id d.id) cs fresh)
+
 -- a resource whose names aren't taken and whose id isn't used has a place
 pub free_place : (cs : List Content) (c : Content) → is_taken cs c ≡ false → is_used cs c.id ≡ false → HasPlace cs c
 free_place cs c free fresh = record {
-  kinds = All-weaker (λ d. is_same_id c.id d.id ≡ false) (λ d. d.id ≡ c.id → d.kind ≡ c.kind)
-      (λ d other same. absurd (let yes : is_same_id c.id d.id ≡ true = (bytes_eq-Decides c.id d.id).1 (sym same) in cc)) cs (none_passes (λ d. is_same_id c.id d.id) cs fresh);
+  kinds = unused_own c.kind c.id cs fresh;
   names = λ k e l apart. record {
     ids = λ same. apart (sym same);
     names = λ n own other.
@@ -45,16 +44,6 @@ free_place cs c free fresh = record {
         let named = (is_member-Decides is_same_name-Decides _ n).1 other in cc);
   };
 }
-
--- where an id isn't used, there is nothing to take out
-pub without_unused : (id : List ℕ) (cs : List Content) → AreKeyed cs → is_used cs id ≡ false → without id cs ≡ cs
-without_unused id [] keyed fresh = refl
-without_unused id (d ∷ ds) keyed fresh =
-    by_bool (is_same_id id d.id) (λ t. absurd (let some : is_used (d ∷ ds) id ≡ true = rw t refl in cc)) (λ f.
-    (let rest = without_unused id ds (keyed_tail d ds keyed) (rw f at fresh) in
-    by_order (slice_cmp nat_cmp id d.id) (λ h. without_less id d ds h (keyed_above d ds keyed))
-    (λ h. absurd (let same : is_same_id id d.id ≡ true = (bytes_eq-Decides id d.id).1 (exact_bytes id d.id h) in cc))
-    (λ h. without_greater id d ds h ∙ ap (λ (xs : List Content). d ∷ xs) rest)))
 
 -- an id is one of a user or one of a group
 either_kind : (k : Kind) (s : Bool) → s ≡ (sameb the_kind k User && s) || (sameb the_kind k Group && s)

@@ -2,6 +2,7 @@ pub mod PlaceLemmas
 pub mod StoreLemmas
 pub mod NameLemmas
 pub mod FreshLemmas
+pub mod ChangeLemmas
 pub mod CollectionLemmas
 pub mod OwnerLemmas
 pub mod ShowLemmas

@@ -48,7 +48,7 @@ none_named n c [] h apart = refl
 none_named n c (d ∷ ds) h apart =
     rw (apart_names n c d (All-head (AreApart c) d ds apart) h) (none_named n c ds h (All-tail (AreApart c) d ds apart))
 
-found_unnamed : (n : Name) (c : Content) (test : Content → Bool) (ds : List Content) → has_name n c ≡ true → All (AreApart c) ds → has_in n (find test ds) ≡ false
+pub found_unnamed : (n : Name) (c : Content) (test : Content → Bool) (ds : List Content) → has_name n c ≡ true → All (AreApart c) ds → has_in n (find test ds) ≡ false
 found_unnamed n c test [] h apart = refl
 found_unnamed n c test (d ∷ ds) h apart =
     by_bool (test d)
@@ -157,10 +157,10 @@ found_by_id test id (d ∷ ds) keyed h = by_bool (test d) here (later (found_by_
 at_id : (kind : Kind) (id : List ℕ) (c : Content) → is_at kind id c ≡ (is_of kind c && has_id id c)
 at_id kind id c = ap (λ (b : Bool). is_of kind c && b) (sym (is_eq-slice_cmp id c.id))
 
-not_at : (kind : Kind) (id : List ℕ) (c : Content) → has_id id c ≡ false → is_at kind id c ≡ false
+pub not_at : (kind : Kind) (id : List ℕ) (c : Content) → has_id id c ≡ false → is_at kind id c ≡ false
 not_at kind id c h = at_id kind id c ∙ rw h (by_bool (is_of kind c) (λ t. rw t refl) (λ f. rw f refl))
 
-none_at : (kind : Kind) (id : List ℕ) (cs : List Content) → AreAbove id cs → find (is_at kind id) cs ≡ None
+pub none_at : (kind : Kind) (id : List ℕ) (cs : List Content) → AreAbove id cs → find (is_at kind id) cs ≡ None
 none_at kind id [] up = refl
 none_at kind id (c ∷ cs) up = rw (not_at kind id c (rw up.0 refl)) (none_at kind id cs up.1)
 

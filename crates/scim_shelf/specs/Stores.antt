@@ -88,9 +88,13 @@ changed (Remove kind id) cs = without id cs
 abbrev pub after : Change → AuditRow → Store → Store
 after change row store = record { resources = changed change store.resources; audit = store.audit ++ row ∷ [] }
 
+-- a resource of the id is of the kind
+abbrev pub AreOf : Kind → List ℕ → List Content → Type 0
+AreOf kind id cs = All (λ d. d.id ≡ id → d.kind ≡ kind) cs
+
 -- a resource of its id is of its kind, and one of another id shares no unique name with it
 pub record HasPlace (cs : List Content) (c : Content) : Type 0 where
-  pub kinds : All (λ d. d.id ≡ c.id → d.kind ≡ c.kind) cs
+  pub kinds : AreOf c.kind c.id cs
   pub names : All (λ d. d.id ≢ c.id → AreApart c d) cs
 
 -- the change may be made: a resource that is kept has a place

@@ -95,7 +95,7 @@ some_row a l k (r ∷ rs) e some = elim (cases_Bool (sameb the_attribute r.unit.
 ]
 
 -- a unit of a single-valued attribute has one value at most
-one_value : (kind : Kind) (u : AttributeUnit) (rs : List Row) → AreSound kind rs → is_multi_valued u.attribute ≡ false → length (values u rs) ≤ 1
+pub one_value : (kind : Kind) (u : AttributeUnit) (rs : List Row) → AreSound kind rs → is_multi_valued u.attribute ≡ false → length (values u rs) ≤ 1
 one_value kind u [] h single = omega arith
 one_value kind u (r ∷ rs) h single = elim (cases_Bool (is_eq (unit_cmp r.unit u))) [
   | inl t ↦

@@ -11,6 +11,7 @@ mod parts;
 mod resource_changes;
 mod resources;
 mod row_lists;
+mod row_splits;
 mod uniqueness;
 mod validity;
 
@@ -18,5 +19,7 @@ pub use faults::Invalid;
 pub use laws::{cells_are_listed, cells_stand_in_rows, parts_are_sound_rows, rows_determine_cells};
 pub use parts::Part;
 pub use resources::{Resource, location};
+pub use row_lists::copy_rows;
+pub use row_splits::values_among;
 pub use uniqueness::{UniqueName, known_text, unique_names};
 pub use validity::is_resource;

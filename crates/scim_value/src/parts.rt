@@ -15,7 +15,8 @@ ghost use Rattle.scim_value.specs.Changes.{restricted_part, with_values};
 ghost use Rattle.scim_value.specs.Positions.{HasPositions};
 
 use crate::row_lists::{copy_rows, kept_rows};
-use scim_cell::{Atom, Id, Row, RowTest, compare_units};
+use crate::row_splits::split_rows;
+use scim_cell::{Atom, Id, Row, RowTest};
 use scim_schema::{Attribute, Kind, Leaf, Unit, is_multi_valued, unit_of};
 use scim_text::NoMemory;
 use std::alloc::Global;
@@ -99,7 +100,7 @@ impl Part {
         (kind, id, rows)
     }
 
-    // The rows of the units before this one, its own, and those of the units after it.
+    /// The rows of the units before this one, its own, and those of the units after it.
     fn split(&self, unit: Unit) -> (&[Row], &[Row], &[Row])
         ensures before { result.0.now ≡ filter (λ r. is_lt (unit_cmp r.unit unit)) (spec.rows self.now) }
         ensures own { result.1.now ≡ spec.values unit (spec.rows self.now) }
@@ -107,15 +108,7 @@ impl Part {
         ensures whole { spec.rows self.now ≡ result.0.now ++ (result.1.now ++ result.2.now) }
         ensures valid { IsPart self.now }
     {
-        let rows = self.rows();
-        let start = rows.partition_point(|row| compare_units(row.unit(), unit).is_lt());
-        let (before, rest) = rows.split_at(start);
-        if !begins_with_unit(rest, unit) {
-            return (before, &[], rest);
-        }
-        let end = rest.partition_point(|row| !compare_units(row.unit(), unit).is_gt());
-        let (own, after) = rest.split_at(end);
-        (before, own, after)
+        split_rows(self.rows(), unit)
     }
 
     /// The values of a unit, by position.
@@ -218,16 +211,6 @@ fn begins_with(rows: &[Row], attribute: Attribute) -> bool
 {
     match rows {
         [first, ..] => first.unit().attribute == attribute,
-        [] => false,
-    }
-}
-
-// Whether there is a first row, and it is of the unit.
-fn begins_with_unit(rows: &[Row], unit: Unit) -> bool
-    ensures { result ≡ list_any (λ r. is_eq (unit_cmp r.unit unit)) (take 1 rows.now) }
-{
-    match rows {
-        [first, ..] => compare_units(first.unit(), unit).is_eq(),
         [] => false,
     }
 }

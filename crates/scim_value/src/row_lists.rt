@@ -24,8 +24,8 @@ pub(crate) fn kept_rows<T: RowTest>(
     Ok(copies)
 }
 
-/// Copies of rows.
-pub(crate) fn copy_rows(alloc: Global, own: &[Row]) -> Result<Vec<Row>, NoMemory>
+/// Copies of rows. NoMemory where none was to be had.
+pub fn copy_rows(alloc: Global, own: &[Row]) -> Result<Vec<Row>, NoMemory>
     ensures { IfOk result (λ v. v.items ≡ own.now) }
 {
     let mut copies = Vec::with_capacity(alloc, own.len())?;

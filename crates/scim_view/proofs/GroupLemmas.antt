@@ -21,6 +21,7 @@ use Rattle.scim_schema.specs.declared.SubAttribute.TheVariants.{Value}
 use Rattle.scim_schema.specs.Characteristics.{is_multi_valued}
 use Rattle.scim_schema.specs.Units.{simple, leaf_at, whole, unit_of, is_same_leaf}
 use Rattle.scim_schema.proofs.Facts.{leaf_one}
+use Rattle.scim_schema.specs.Mutability.{is_write_only}
 use Rattle.scim_cell.specs.declared.rows.Field.{Field}
 use Rattle.scim_cell.specs.Content.{Content, IsPart}
 use Rattle.scim_cell.specs.Ids.{id_text}
@@ -30,7 +31,7 @@ use Rattle.scim_cell.proofs.Facts.{sound-AreRising, PartsRise}
 use Rattle.scim_value.proofs.Facts.{sound_part, unit_same, restricted_sound, rows_content}
 use Rattle.scim_policy.specs.declared.rules.Decision.{Decision}
 use Rattle.scim_view.specs.declared.groups.SeenGroup.{SeenGroup}
-use Rattle.scim_view.specs.View.{Viewer, read_decision, is_write_only, may_be_seen, visible_by, view_by}
+use Rattle.scim_view.specs.View.{Viewer, read_decision, may_be_seen, visible_by, view_by}
 use Rattle.scim_view.specs.Groups as spec
 use Rattle.scim_cell.specs.Order.{id_cmp}
 use Rattle.scim_value.specs.Members.{is_text, lists}

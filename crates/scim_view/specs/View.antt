@@ -5,10 +5,8 @@ use Rattle.scim_schema.specs.declared.Kind.{Kind}
 use Rattle.scim_schema.specs.declared.Leaf.{Leaf}
 use Rattle.scim_schema.specs.declared.Attribute.TheVariants.{Id}
 use Rattle.scim_schema.specs.declared.Op.TheVariants.{Read}
-use Rattle.scim_schema.specs.declared.characteristics.Mutability.TheVariants.{WriteOnly}
-use Rattle.scim_schema.specs.contracts.characteristics.Mutability.{the_type as the_mutability}
-use Rattle.scim_schema.specs.Characteristics.{characteristics_of}
 use Rattle.scim_schema.specs.Units.{simple}
+use Rattle.scim_schema.specs.Mutability.{is_write_only}
 use Rattle.scim_cell.specs.Content.{Content}
 use Rattle.scim_cell.specs.Rows.{Test, rows, restricted, content}
 use Rattle.scim_policy.specs.declared.rules.Decision.{Decision}
@@ -33,10 +31,6 @@ read_decision v c l = decide v.policy v.client Read c l
 -- whether the client may read the leaf of the resource
 abbrev pub may_read : Viewer → Content → Leaf → Bool
 may_read v c l = (read_decision v c l).allow
-
--- whether the leaf is never shown to anyone (RFC 7643 section 7, mutability)
-abbrev pub is_write_only : Kind → Leaf → Bool
-is_write_only kind l = sameb the_mutability (characteristics_of kind l).mutability WriteOnly
 
 -- whether the client sees that the resource is there: it may read its `id`
 unfoldable pub sees : Viewer → Content → Bool

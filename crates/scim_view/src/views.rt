@@ -2,13 +2,14 @@
 ghost use Rattle.std.specs.Prelude.{◌≡◌, ◌&&◌, not, IfOk};
 ghost use Rattle.scim_schema.specs.declared.Leaf.{Leaf};
 ghost use Rattle.scim_schema.specs.declared.Kind.{Kind};
+ghost use Rattle.scim_schema.specs.Mutability.{is_write_only};
 ghost use Rattle.scim_policy.specs.Table.{decision};
 ghost use Rattle.scim_view.specs.View as spec;
 
 use crate::viewers::Viewer;
 use scim_cell::{Row, RowTest};
 use scim_policy::Decisions;
-use scim_schema::{Attribute, Kind, Leaf, Mutability, Op, characteristics_of};
+use scim_schema::{Attribute, Kind, Leaf, Op, is_write_only};
 use scim_text::NoMemory;
 use scim_value::{Part, Resource};
 use std::alloc::Global;
@@ -23,10 +24,9 @@ pub(crate) struct MayBeSeen<'d> {
 impl MayBeSeen<'_> {
     /// Whether the leaf may be seen.
     pub(crate) fn shows(&self, leaf: Leaf) -> bool
-        ensures { result ≡ (not (spec.is_write_only self.now.kind leaf) && (decision self.now.decisions.now leaf).allow) }
+        ensures { result ≡ (not (is_write_only self.now.kind leaf) && (decision self.now.decisions.now leaf).allow) }
     {
-        characteristics_of(self.kind, leaf).mutability != Mutability::WriteOnly
-            && self.decisions.of(leaf).allow
+        !is_write_only(self.kind, leaf) && self.decisions.of(leaf).allow
     }
 }
 
@@ -65,7 +65,21 @@ impl Viewer<'_> {
         ensures { IfOk result (λ p. p ≡ spec.visible (spec.viewer_of self.now) resource.now) }
     {
         let decisions = self.decisions(alloc, resource)?;
-        visible_by(alloc, &decisions, resource)
+        self.visible_by(alloc, &decisions, resource)
+    }
+
+    /// The same as [`Viewer::visible`], by decisions that [`Viewer::decisions`] gave for the resource, so that
+    /// the policy isn't asked about it again. NoMemory where none was to be had.
+    pub fn visible_by(
+        &self,
+        alloc: Global,
+        decisions: &Decisions,
+        resource: &Resource,
+    ) -> Result<Part, NoMemory>
+        requires { (l : Leaf) → decision decisions.now l ≡ spec.read_decision (spec.viewer_of self.now) resource.now l }
+        ensures { IfOk result (λ p. p ≡ spec.visible (spec.viewer_of self.now) resource.now) }
+    {
+        visible_by(alloc, decisions, resource)
     }
 
     /// What the client may see of the resource, as [`Viewer::visible`]; None where it doesn't see that

@@ -1,5 +1,5 @@
 -- What the rules say of a leaf, one after the other.
-use Rattle.std.specs.Prelude.{ℕ, ◌+◌, List, [], ◌∷◌, Option, None, Some, if◌then◌else◌}
+use Rattle.std.specs.Prelude.{◌≡◌, ℕ, ◌+◌, Bool, ◌&&◌, List, [], ◌∷◌, Option, None, Some, if◌then◌else◌}
 use denote.Enum.Bare.{sameb}
 use Rattle.scim_schema.specs.declared.Leaf.{Leaf}
 use Rattle.scim_schema.specs.declared.SubAttribute.{SubAttribute}
@@ -7,12 +7,16 @@ use Rattle.scim_schema.specs.contracts.SubAttribute.{the_type as the_sub_attribu
 use Rattle.scim_policy.specs.declared.rules.Decision.{Decision}
 use Rattle.std.specs.List.{list_any}
 use Rattle.std.specs.Option.{option_eq}
+use Rattle.scim_schema.specs.declared.Kind.{Kind}
 use Rattle.scim_schema.specs.declared.Op.{Op}
+use Rattle.scim_schema.specs.contracts.Kind.{the_type as the_kind}
+use Rattle.scim_schema.specs.contracts.Op.{the_type as the_op}
 use Rattle.scim_cell.specs.Content.{Content}
 use Rattle.scim_policy.specs.Rules.{Rule}
 use Rattle.scim_policy.specs.declared.rules.PolicyPath.{PolicyPath}
-use Rattle.scim_policy.specs.Decide.{covers, paths_on, speaks_of}
-use Rattle.scim_policy.specs.Table.{or_else}
+use Rattle.scim_policy.specs.declared.decisions.Decisions.{Decisions}
+use Rattle.scim_policy.specs.Decide.{covers, names, paths_on, is_target_met, speaks_of}
+use Rattle.scim_policy.specs.Table.{or_else, decided}
 
 -- what a path decides of a leaf: the decision where it covers the leaf
 abbrev pub by_path : PolicyPath → Decision → Leaf → Option Decision
@@ -34,3 +38,15 @@ by_rule client op c l n r = if speaks_of client op c r then by_paths (paths_on c
 abbrev pub by_rules : List ℕ → Op → Content → Leaf → ℕ → List Rule → Option Decision
 by_rules client op c l n [] = None
 by_rules client op c l n (r ∷ rs) = or_else (by_rule client op c l n r) (by_rules client op c l (n + 1) rs)
+
+-- whether the rule is for the client and the resource, whatever the operation
+abbrev pub is_for : List ℕ → Content → Rule → Bool
+is_for client c r = list_any (names client) r.clients && (list_any (sameb the_kind c.kind) r.kinds && is_target_met c r)
+
+-- what a numbered rule that is for the client and the resource decides of a leaf, where it is for the operation
+abbrev pub by_op : Op → Kind → ℕ → Rule → Leaf → Option Decision
+by_op op kind n r l = if list_any (sameb the_op op) r.ops then by_paths (paths_on kind r.paths) (record { rule = n; allow = r.allow }) l else None
+
+-- one table decides what another did, and of the rest what is added
+abbrev pub Adds : (Leaf → Option Decision) → Decisions → Decisions → Type 0
+Adds added old new = (l : Leaf) → decided new l ≡ or_else (decided old l) (added l)

@@ -11,11 +11,12 @@ use Rattle.scim_schema.specs.declared.Kind.TheVariants.{User}
 use Rattle.scim_schema.specs.declared.Attribute.TheVariants.{Id, Members}
 use Rattle.scim_schema.specs.declared.SubAttribute.TheVariants.{Value}
 use Rattle.scim_schema.specs.Units.{simple, leaf_at}
+use Rattle.scim_schema.specs.Mutability.{is_write_only}
 use Rattle.scim_cell.specs.declared.rows.Field.{Field}
 use Rattle.scim_cell.specs.Content.{Content}
 use Rattle.scim_policy.specs.declared.rules.Decision.{Decision}
 use Rattle.scim_view.specs.declared.groups.SeenGroup.{SeenGroup}
-use Rattle.scim_view.specs.View.{Viewer, is_write_only, visible_by}
+use Rattle.scim_view.specs.View.{Viewer, visible_by}
 use Rattle.scim_value.specs.Members.{lists}
 use Rattle.scim_view.specs.Groups.{seen, display_of}
 

@@ -10,7 +10,7 @@ use Rattle.scim_ask.proofs.asks.draft_of.Goals as goal
 pub returns-in-Ok : goal.returns-in-Ok
 returns-in-Ok c =
     subst (λ (due : Result Draft Refusal). UnlessMemory (Tells (λ (y d : Draft). d ≡ y) due) c.draft_in.result)
-    (draft_of_text c.args.kind c.args.body.now _ c.in-Ok.ensures.cases.0 c.in-Ok.ensures.cases.1) c.draft_in.ensures
+    (draft_of_text c.args.use_for c.args.kind c.args.body.now _ c.in-Ok.ensures.cases.0 c.in-Ok.ensures.cases.1) c.draft_in.ensures
 
 pub returns-in-Err : goal.returns-in-Err
-returns-in-Err c = no_draft c.args.kind c.args.body.now c.in-Err.ensures.cases.0
+returns-in-Err c = no_draft c.args.use_for c.args.kind c.args.body.now c.in-Err.ensures.cases.0

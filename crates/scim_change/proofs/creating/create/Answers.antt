@@ -1,7 +1,7 @@
-use Rattle.std.proofs.Common.{◌≡◌, sym, ◌∙◌, ap, subst, List, ◌∷◌, ◌++◌}
+use Rattle.std.proofs.Common.{◌≡◌, sym, ◌∙◌, ap, subst, ◌∷◌, ◌++◌}
 use Rattle.scim_schema.specs.declared.Kind.{Kind}
-use Rattle.scim_cell.specs.Rows.{Row, content, AreSound}
-use Rattle.scim_value.specs.Resource.{IsResource, HasBase}
+use Rattle.scim_cell.specs.Rows.{content}
+use Rattle.scim_value.specs.Resource.{HasBase}
 use Rattle.scim_change.specs.Create.{id_row, meta_rows, created_rows, created}
 use Rattle.scim_change.proofs.RowLemmas.{created_sound}
 use Rattle.scim_change.proofs.CreateLemmas.{is_resource, has_base}

@@ -12,9 +12,9 @@ returns-clause-done g c store stands honest is =
     let turn = c.args.turn.now in
     let plan = c.in_ok-reply.field-0 in
     let made : plan ≡ spec.planned viewer turn store.resources turn.request.ask = c.in_ok-reply.ensures.plan store stands (c.in_ok-commit.ensures.honest honest) viewer.base is in
-    let may : CanKeep store plan.change = subst (λ (p : Plan). CanKeep store p.change) (sym made) (can_keep viewer turn store turn.request.ask) in
+    let may : CanKeep store plan.change = subst (λ (p : Plan). CanKeep store p.change) (sym made) (can_keep viewer turn store turn.request.ask is.keyed) in
     let done : g.S.Shelf.stands c.commit.new.self (after plan.change plan.row store) = c.in_ok-commit.ensures.ok store (c.in_ok-reply.ensures.store store stands) is.keyed may in (
       ap (λ (p : Plan). p.reply) made,
       subst (λ (p : Plan). g.S.Shelf.stands c.commit.new.self (after p.change p.row store)) made done,
-      subst (λ (p : Plan). IsStore viewer.base (after p.change p.row store)) made (stays_store viewer.base store plan.change plan.row is c.in_ok-reply.ensures.sound may),
+      subst (λ (p : Plan). IsStore viewer.base (after p.change p.row store)) made (stays_store viewer.base store plan.change plan.row is (c.in_ok-reply.ensures.sound store stands (c.in_ok-commit.ensures.honest honest) is) may),
     )

@@ -1,0 +1,150 @@
+//! What it takes to replace a user, by how many rules a policy has, and a group, by how many members it has.
+use crate::service_runs::{
+    draft_of, heading, make, print_line, service_over_nothing, timed, turn_with,
+};
+use anyhow::Result;
+use bench_values::id_of;
+use scim_json::UseFor;
+use scim_schema::{Kind, Op};
+use scim_service::{Ask, Turn};
+use scim_view::Wanted;
+use std::alloc::Global;
+use std::io::Print;
+use std::time::Clock;
+
+/// How many rules a policy has.
+const RULES: [usize; 2] = [10, 1_000];
+
+/// How many members a group has.
+const MEMBERS: [usize; 2] = [100, 10_000];
+
+/// So many turns are timed together.
+const TURNS: usize = 20;
+
+/// Of so many passes the fastest counts.
+const PASSES: usize = 7;
+
+/// A policy file of so many rules, of which the last lets the client do all, and the others have a target that
+/// has to be tried and doesn't hold.
+fn policy_text(alloc: Global, rules: usize) -> Result<String> {
+    let mut text = String::from_str(alloc, "{\"version\":1,\"rules\":[")?;
+    for _ in 1..rules {
+        text.push_str(
+            "{\"allow\":false,\"clients\":[\"hr\"],\"ops\":[\"read\",\"modify\",\"delete\"],\"types\":[\"User\",\"Group\"],\"target\":\"displayName eq \\\"nobody\\\"\",\"paths\":[\"title\"]},",
+        )?;
+    }
+    text.push_str(
+        "{\"allow\":true,\"clients\":[\"hr\"],\"ops\":[\"read\",\"create\",\"modify\",\"delete\"],\"types\":[\"User\",\"Group\"],\"paths\":[\"*\"]}]}",
+    )?;
+    Ok(text)
+}
+
+/// The body of a user of 15 cells, with a title.
+fn user_body(alloc: Global, title: &str) -> Result<String> {
+    Ok(format!(in alloc;
+        "{{\"active\":true,\"displayName\":\"Barbara Jensen\",\"emails\":[{{\"primary\":true,\"type\":\"work\",\"value\":\"bjensen@example.com\"}}],\"name\":{{\"familyName\":\"Jensen\",\"givenName\":\"Barbara\"}},\"title\":\"{title}\",\"urn:ietf:params:scim:schemas:extension:enterprise:2.0:User\":{{\"department\":\"Tours\"}},\"userName\":\"bjensen\"}}"
+    )?)
+}
+
+/// The body of a group of a name, with so many members.
+fn group_body(alloc: Global, name: &str, members: usize) -> Result<String> {
+    let mut body = format!(in alloc; "{{\"displayName\":\"{name}\",\"members\":[")?;
+    for place in 0..members {
+        let comma = if place == 0 { "" } else { "," };
+        write!(body, "{comma}{{\"value\":\"user{place}\"}}")?;
+    }
+    body.push_str("]}")?;
+    Ok(body)
+}
+
+/// A turn by which the one resource becomes what the body gives: it is made, or replaced.
+fn turn_of(alloc: Global, kind: Kind, use_for: UseFor, body: &str) -> Result<Turn> {
+    let draft = draft_of(alloc, kind, use_for, body)?;
+    let (op, ask) = match use_for {
+        UseFor::Creating => (Op::Create, Ask::Create(draft, Wanted::Default)),
+        UseFor::Replacing => (Op::Modify, Ask::Replace(draft, Wanted::Default)),
+    };
+    Ok(turn_with(heading(alloc)?, op, kind, 1, ask))
+}
+
+/// Turns by which the resource becomes what each of the two bodies gives, in turn.
+fn turns_of(alloc: Global, kind: Kind, bodies: [&str; 2]) -> Result<Vec<Turn>> {
+    let mut turns = Vec::new(alloc);
+    for place in 0..TURNS {
+        let [one, other] = bodies;
+        let body = if place % 2 == 0 { one } else { other };
+        turns.push(turn_of(alloc, kind, UseFor::Replacing, body)?)?;
+    }
+    Ok(turns)
+}
+
+/// Nanoseconds a turn.
+fn measure(
+    rt: &impl Clock,
+    alloc: Global,
+    policy: &str,
+    kind: Kind,
+    bodies: [&str; 2],
+) -> Result<u128> {
+    let mut service = service_over_nothing(alloc, policy)?;
+    let [_, last] = bodies;
+    make(
+        alloc,
+        &mut service,
+        &turn_of(alloc, kind, UseFor::Creating, last)?,
+    )?;
+    let turns = turns_of(alloc, kind, bodies)?;
+    let mut best = timed(rt, alloc, &mut service, turns.as_slice(), 200)?;
+    for _ in 1..PASSES {
+        best = best.min(timed(rt, alloc, &mut service, turns.as_slice(), 200)?);
+    }
+    Ok(best)
+}
+
+fn measure_user(rt: &impl Clock, alloc: Global, rules: usize) -> Result<u128> {
+    let policy = policy_text(alloc, rules)?;
+    let one = user_body(alloc, "Tour Guide")?;
+    let other = user_body(alloc, "Guide")?;
+    measure(
+        rt,
+        alloc,
+        policy.as_str(),
+        Kind::User,
+        [one.as_str(), other.as_str()],
+    )
+}
+
+fn measure_group(rt: &impl Clock, alloc: Global, members: usize) -> Result<u128> {
+    let policy = policy_text(alloc, 1)?;
+    let one = group_body(alloc, "Team", members)?;
+    let other = group_body(alloc, "Crew", members)?;
+    measure(
+        rt,
+        alloc,
+        policy.as_str(),
+        Kind::Group,
+        [one.as_str(), other.as_str()],
+    )
+}
+
+/// Prints what PUTs take, in nanoseconds.
+pub fn run(rt: &(impl Clock + Print), alloc: Global) -> Result<()> {
+    let [fewer, more] = RULES;
+    println!(rt;
+        "nanoseconds a PUT of a user of 15 cells, by policies of {fewer} and of {more} rules"
+    )?;
+    print_line(
+        rt,
+        "user",
+        measure_user(rt, alloc, fewer)?,
+        measure_user(rt, alloc, more)?,
+    )?;
+    let [fewer, more] = MEMBERS;
+    println!(rt; "nanoseconds a PUT of a group of {fewer} and of {more} members")?;
+    print_line(
+        rt,
+        "group",
+        measure_group(rt, alloc, fewer)?,
+        measure_group(rt, alloc, more)?,
+    )
+}

@@ -1,0 +1,37 @@
+-- What the outcome of a replacing rests on.
+use Rattle.std.specs.Prelude.{◌≡◌, ◌≢◌, ℕ, List, Option, None, Some, All}
+use Rattle.scim_schema.specs.declared.Unit.{Unit as AttributeUnit}
+use Rattle.scim_schema.specs.declared.Attribute.TheVariants.{Meta}
+use Rattle.scim_schema.specs.declared.SubAttribute.TheVariants.{LastModified}
+use Rattle.scim_schema.specs.Units.{leaf_at, unit_of}
+use Rattle.scim_cell.specs.Content.{Content}
+use Rattle.scim_cell.specs.Rows.{rows, values}
+use Rattle.scim_value.specs.Resource.{IsResource}
+use Rattle.scim_json.specs.Drafts.{Draft, IsDraft}
+use Rattle.scim_change.specs.Replace.{changes, replaced}
+
+-- two resources have the same values of each of these units
+abbrev pub AgreeAt : List AttributeUnit → Content → Content → Type 0
+AgreeAt us a b = All (λ u. values u (rows a) ≡ values u (rows b)) us
+
+-- a unit that is none of these, nor `meta.lastModified`
+pub record IsApart (us : List AttributeUnit) (v : AttributeUnit) : Type 0 where
+  pub none : All (λ u. u ≢ v) us
+  pub unstamped : unit_of (leaf_at Meta LastModified) ≢ v
+
+-- the resource has after the replacing what it had, but at the units and at `meta.lastModified`
+abbrev pub Stays : List AttributeUnit → Content → Content → Type 0
+Stays us before after = (v : AttributeUnit) → IsApart us v → values v (rows after) ≡ values v (rows before)
+
+-- two outcomes are alike: both are refused, or both have the same values of the units, and keep all others of their own
+abbrev pub AreAlike : List AttributeUnit → Content → Content → Option Content → Option Content → Type 0
+AreAlike us a b None None = Unit {0}
+AreAlike us a b (Some x) (Some y) = AgreeAt us x y × Stays us a x × Stays us b y
+AreAlike us a b _ _ = ⊥
+
+-- what becomes of a resource at the units that are replaced rests on what it has there: from two resources that agree there come alike outcomes, and `meta.lastModified` moves in both or in neither
+abbrev pub ReplacingRestsOnItsUnits : Type 0
+ReplacingRestsOnItsUnits =
+    (d : Draft) (us : List AttributeUnit) (moment : ℕ) (a b : Content)
+    → IsDraft d → IsResource a → IsResource b → a.kind ≡ d.kind → b.kind ≡ d.kind → AgreeAt us a b
+    → (changes d us (rows a) ≡ changes d us (rows b)) × AreAlike us a b (replaced d us moment a) (replaced d us moment b)

@@ -1,0 +1,39 @@
+-- What becomes of a resource that is replaced by what a draft gives (RFC 7644 section 3.5.1).
+use Rattle.std.specs.Prelude.{ℕ, Bool, not, ◌&&◌, ◌||◌, List, [], ◌∷◌, Option, None, Some, if◌then◌else◌}
+use Rattle.std.specs.List.{list_any}
+use Rattle.scim_schema.specs.declared.Unit.{Unit as AttributeUnit}
+use Rattle.scim_schema.specs.declared.Attribute.TheVariants.{Meta}
+use Rattle.scim_schema.specs.declared.SubAttribute.TheVariants.{LastModified}
+use Rattle.scim_schema.specs.Mutability.{is_secret}
+use Rattle.scim_schema.specs.Units.{leaf_at, unit_of}
+use Rattle.scim_cell.specs.declared.atoms.Atom.TheVariants.{Moment}
+use Rattle.scim_cell.specs.Content.{Content}
+use Rattle.scim_cell.specs.Rows.{Row, rows, content, values, put_values}
+use Rattle.scim_json.specs.Agreement.{are_same_values}
+use Rattle.scim_json.specs.Drafts.{Draft, gives, lacks_required}
+use Rattle.scim_change.specs.Create.{meta_row}
+
+-- rows with the draft's values of each of these units, in place of their own; of a unit that the draft lacks nothing is left
+abbrev pub with_units : Draft → List AttributeUnit → List Row → List Row
+with_units d [] rs = rs
+with_units d (u ∷ us) rs = with_units d us (put_values u (values u d.rows) rs)
+
+-- whether the draft has other values of a unit, or writes it without its being kept: one that is writeOnly and that the body gives
+abbrev pub changes_unit : Draft → List Row → AttributeUnit → Bool
+changes_unit d rs u = not (are_same_values (values u rs) (values u d.rows)) || (is_secret d.kind u && gives d u)
+
+-- whether it does so at one of these units
+abbrev pub changes : Draft → List AttributeUnit → List Row → Bool
+changes d us rs = list_any (changes_unit d rs) us
+
+-- rows of what was last modified at the moment (RFC 7643 section 3.1)
+abbrev pub modified_at : ℕ → List Row → List Row
+modified_at moment rs = put_values (unit_of (leaf_at Meta LastModified)) (meta_row LastModified (Moment moment) ∷ []) rs
+
+-- what has these rows, unless they are without what the kind requires
+abbrev pub if_complete : ℕ → Content → List Row → Option Content
+if_complete moment c rs = if lacks_required c.kind rs then None else Some (content c.kind c.id (modified_at moment rs))
+
+-- the resource with the draft's values of these units, modified at the moment, or, where that changes nothing, as it was; none, where a required attribute would be missing
+unfoldable pub replaced : Draft → List AttributeUnit → ℕ → Content → Option Content
+replaced d us moment c = if changes d us (rows c) then if_complete moment c (with_units d us (rows c)) else Some c

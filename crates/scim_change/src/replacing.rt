@@ -1,0 +1,133 @@
+//! A resource that is replaced by what a body gives of it (RFC 7644 section 3.5.1).
+ghost use Rattle.std.specs.Prelude.{◌≡◌, ◌≤◌, List, ℕ, All, Some, None, false, IfOk};
+ghost use Rattle.scim_text.specs.Failures.{OnFault};
+ghost use Rattle.scim_text.specs.Moments.{last_moment};
+ghost use Rattle.scim_schema.specs.Mutability as written;
+ghost use Rattle.scim_cell.specs.Rows.{AreSound, content, put_values, rows, values};
+ghost use Rattle.scim_value.specs.Resource.{HasBase};
+ghost use Rattle.scim_json.specs.Drafts.{IsDraft};
+ghost use Rattle.scim_change.specs.Replace as spec;
+
+use crate::creating::moment_row;
+use scim_cell::Row;
+use scim_json::{Draft, lacks_required};
+use scim_schema::{Attribute, Leaf, Mutability, SubAttribute, Unit, mutability_of, unit_of};
+use scim_text::{Failed, Moment, NoMemory};
+use scim_value::{Part, Resource, copy_rows, values_among};
+use std::alloc::Global;
+use thiserror::Error;
+
+/// A resource after a change, and whether the change moved anything of it.
+#[derive(Debug, Drop)]
+pub struct Changed {
+    pub resource: Resource,
+    pub changed: bool,
+}
+
+/// The result lacks what its kind requires (RFC 7644 section 3.12, invalidValue).
+#[derive(Clone, Copy, Debug, PartialEq, Eq, Error)]
+#[error("a required attribute would be missing")]
+pub struct MissingRequired;
+
+/// The resource with the draft's values of these units in place of its own, last modified at the moment
+/// (RFC 7644 section 3.5.1). Of a unit that the draft has no value of nothing is left; units that aren't
+/// among these stay. Where the draft has the values that stand there already, and writes nothing that
+/// isn't kept, the resource comes back as it was, `meta.lastModified` too.
+///
+/// The draft is of the resource's kind, and none of the units is readOnly. MissingRequired where an
+/// attribute that the kind requires would be missing; NoMemory where none was to be had. The resource is
+/// dropped then.
+pub fn replace(
+    alloc: Global,
+    resource: Resource,
+    draft: &Draft,
+    units: &[Unit],
+    moment: Moment,
+) -> Result<Changed, Failed<MissingRequired>>
+    requires kind { draft.now.kind ≡ resource.kind }
+    requires writable { All (λ u. written.is_fixed resource.kind u ≡ false) units.now }
+    ensures value { IfOk result (λ c. spec.replaced draft.now units.now moment resource ≡ Some c.resource) }
+    ensures changed { IfOk result (λ c. c.changed ≡ spec.changes draft.now units.now (rows resource)) }
+    ensures missing { OnFault result (spec.replaced draft.now units.now moment resource ≡ None) }
+    ensures base { (base : List ℕ) → HasBase base resource → IfOk result (λ c. HasBase base c.resource) }
+{
+    if !changes(draft, units, resource.part()) {
+        return Ok(Changed {
+            resource,
+            changed: false,
+        });
+    }
+    let part = with_units(alloc, resource.into_part(), draft, units)?;
+    if lacks_required(part.kind(), part.rows()) {
+        return Err(Failed::Because(MissingRequired));
+    }
+    let part = modified_at(alloc, part, moment)?;
+    Ok(Changed {
+        resource: Resource::of_whole(part),
+        changed: true,
+    })
+}
+
+/// Whether the draft changes the part at one of these units.
+fn changes(draft: &Draft, units: &[Unit], part: &Part) -> bool
+    ensures { result ≡ spec.changes draft.now units.now (rows part.now) }
+{
+    for unit in units {
+        if changes_unit(draft, part, *unit) {
+            return true;
+        }
+    }
+    false
+}
+
+/// Whether the draft has other values of the unit than the part, or gives what is written and isn't kept.
+fn changes_unit(draft: &Draft, part: &Part, unit: Unit) -> bool
+    ensures { result ≡ spec.changes_unit draft.now (rows part.now) unit }
+{
+    part.values(unit) != draft.values(unit)
+        || (mutability_of(draft.kind(), unit) == Mutability::WriteOnly && draft.gives(unit))
+}
+
+/// The part with the draft's values of these units in place of its own. NoMemory where none was to be had.
+fn with_units(
+    alloc: Global,
+    mut part: Part,
+    draft: &Draft,
+    units: &[Unit],
+) -> Result<Part, NoMemory>
+    requires { draft.now.kind ≡ part.kind }
+    ensures rows { IfOk result (λ p. rows p ≡ spec.with_units draft.now units.now (rows part)) }
+    ensures kind { IfOk result (λ p. p.kind ≡ part.kind) }
+    ensures id { IfOk result (λ p. p.id ≡ part.id) }
+    ensures valid { IfOk result (λ p. IsDraft draft.now) }
+{
+    // Contracts know from this call what holds of a draft.
+    let given = draft.rows();
+    for unit in units {
+        part = put_given(alloc, part, given, *unit)?;
+    }
+    Ok(part)
+}
+
+/// The part with what these rows give of the unit in place of its own values. NoMemory where none was to be
+/// had.
+fn put_given(alloc: Global, part: Part, given: &[Row], unit: Unit) -> Result<Part, NoMemory>
+    requires { AreSound part.kind given.now }
+    ensures rows { IfOk result (λ p. rows p ≡ put_values unit (values unit given.now) (rows part)) }
+    ensures kind { IfOk result (λ p. p.kind ≡ part.kind) }
+    ensures id { IfOk result (λ p. p.id ≡ part.id) }
+{
+    let values = copy_rows(alloc, values_among(given, unit))?;
+    part.put(unit, values)
+}
+
+/// The part as one that was last modified at the moment. NoMemory where none was to be had.
+fn modified_at(alloc: Global, part: Part, moment: Moment) -> Result<Part, NoMemory>
+    ensures whole { IfOk result (λ p. p ≡ content part.kind part.id (spec.modified_at moment (rows part))) }
+    ensures bound { IfOk result (λ p. moment ≤ last_moment) }
+{
+    let mut values = Vec::with_capacity(alloc, 1)?;
+    values.push(moment_row(alloc, SubAttribute::LastModified, moment)?)?;
+    let leaf = Leaf::of(Attribute::Meta, SubAttribute::LastModified);
+    part.put(unit_of(leaf), values)
+}

@@ -1,0 +1,133 @@
+-- What is planned where a resource is replaced.
+use Rattle.std.proofs.Common.{◌≡◌, refl, sym, ◌∙◌, ap, subst, ℕ, Bool, true, false, List, [], ◌∷◌, inl, inr, is_some, All, filter}
+use Rattle.std.specs.Prelude.{◌&&◌, ◌||◌, not, Option, None, Some, option_and_then, find, Result, Ok, Err, IfOk}
+use Rattle.std.specs.List.{list_any}
+use Rattle.std.proofs.lemmas.Bool.{cases_Bool}
+use Rattle.std.proofs.lemmas.List.Elements.{All-head, All-tail, All-weaker, filter_passes}
+use denote.Enum.Bare.{sameb}
+use Rattle.scim_schema.specs.contracts.Kind.{the_type as the_kind}
+use Rattle.scim_schema.specs.declared.Kind.{Kind}
+use Rattle.scim_schema.specs.declared.Op.{Op}
+use Rattle.scim_schema.specs.declared.Leaf.{Leaf}
+use Rattle.scim_schema.specs.declared.Unit.{Unit as AttributeUnit}
+use Rattle.scim_schema.specs.declared.Attribute.TheVariants.{Id}
+use Rattle.scim_schema.specs.Mutability.{is_fixed}
+use Rattle.scim_schema.specs.Units.{simple, units}
+use Rattle.scim_cell.specs.Content.{Content}
+use Rattle.scim_cell.specs.Rows.{rows}
+use Rattle.scim_audit.specs.declared.refusals.Refusal.TheVariants.{ResultValue, Taken}
+use Rattle.scim_json.specs.Agreement.{agrees}
+use Rattle.scim_json.specs.Drafts.{Draft, gives}
+use Rattle.scim_change.specs.Replace.{changes, replaced}
+use Rattle.scim_policy.specs.declared.rules.Decision.{Decision}
+use Rattle.scim_policy.specs.Access.{Access, forbidding, widening}
+use Rattle.scim_view.specs.declared.projection.Wanted.{Wanted}
+use Rattle.scim_value.specs.Resource.{IsResource, HasBase}
+use Rattle.scim_view.specs.View.{Viewer, read_decision, visible}
+use Rattle.scim_shelf.specs.Stores.{Store, IsStore, is_at, is_taken, without}
+use Rattle.scim_service.specs.declared.requests.Turn.{Turn}
+use Rattle.scim_service.specs.declared.plans.Plan.{Plan}
+use Rattle.scim_service.specs.code.Questions.{is_in_question}
+use Rattle.scim_service.specs.Step.{refused, access_to, unit_denied, first_unit_denied, writable, widened, kept_text, kept_with, changed_if_free, changed_if_complete, is_writable, written, written_if_allowed, replacing, sought, at_seen}
+
+-- a unit that isn't in question isn't denied
+unit_passes : (a : Access) (d : Draft) (seen : Content) (u : AttributeUnit) → is_in_question a d u ≡ false → unit_denied a d seen u ≡ None
+unit_passes a d seen u h = elim (cases_Bool (is_fixed d.kind u)) [
+  | inl fixed ↦ rw fixed refl
+  | inr free ↦ elim (cases_Bool (gives d u)) [
+    | inr lacks ↦ rw (free, lacks) refl
+    | inl given ↦ elim (cases_Bool (agrees d u seen)) [
+      | inl agree ↦ rw (free, given, agree) refl
+      | inr differ ↦ (let none : is_some (forbidding d.kind a u) ≡ false = rw (free, given) at h in rw (free, given, differ) (nothing (forbidding d.kind a u) none))
+    ]
+  ]
+]
+  where
+    nothing : (o : Option (Leaf × Decision)) → is_some o ≡ false → o ≡ None
+    nothing None e = refl
+    nothing (Some x) e = cc
+
+-- so where none is in question, none is denied
+pub none_questioned : (a : Access) (d : Draft) (seen : Content) (us : List AttributeUnit) → list_any (is_in_question a d) us ≡ false → first_unit_denied a d seen us ≡ None
+none_questioned a d seen [] h = refl
+none_questioned a d seen (u ∷ us) h = elim (cases_Bool (is_in_question a d u)) [
+  | inl t ↦ (let yes : list_any (is_in_question a d) (u ∷ us) ≡ true = rw t refl in cc)
+  | inr f ↦ rw (unit_passes a d seen u f) (none_questioned a d seen us (rw f at h))
+]
+
+-- what a unit in question is denied by
+pub unit_questioned : (a : Access) (d : Draft) (seen : Content) (u : AttributeUnit) → is_in_question a d u ≡ true → agrees d u seen ≡ false → forbidding d.kind a u ≡ unit_denied a d seen u
+unit_questioned a d seen u h differ = elim (cases_Bool (is_fixed d.kind u)) [
+  | inl fixed ↦ (let no : is_in_question a d u ≡ false = rw fixed refl in cc)
+  | inr free ↦ elim (cases_Bool (gives d u)) [
+    | inr lacks ↦ (let no : is_in_question a d u ≡ false = rw (free, lacks) refl in cc)
+    | inl given ↦ rw (free, given, differ) refl
+  ]
+]
+
+-- one that agrees isn't denied
+pub unit_agrees : (a : Access) (d : Draft) (seen : Content) (u : AttributeUnit) → agrees d u seen ≡ true → None ≡ unit_denied a d seen u
+unit_agrees a d seen u agree = elim (cases_Bool (is_fixed d.kind u)) [
+  | inl fixed ↦ rw fixed refl
+  | inr free ↦ elim (cases_Bool (gives d u)) [ inl given ↦ rw (free, given, agree) refl | inr lacks ↦ rw (free, lacks) refl ]
+]
+
+-- ---- the change
+
+module _ (v : Viewer) (turn : Turn) (cs : List Content) (wanted : Wanted) (a : Access) (changed : Bool) (c : Content) where
+  pub taken_is : is_taken (without c.id cs) c ≡ true → refused turn Taken ≡ changed_if_free v turn cs wanted a changed c
+  taken_is t = rw t refl
+
+  pub widened_is : (op : Op) (l : Leaf) (d : Decision) → is_taken (without c.id cs) c ≡ false → widening c.kind a (access_to v c) ≡ Some (op, l, d) → widened turn l d ≡ changed_if_free v turn cs wanted a changed c
+  widened_is op l d free wide = rw (free, wide) refl
+
+  pub changed_is : (rule : ℕ) (text : Option (List ℕ)) → is_taken (without c.id cs) c ≡ false → widening c.kind a (access_to v c) ≡ None
+      → rule ≡ (a.read (simple Id)).rule → text ≡ kept_text v cs wanted c → kept_with turn rule changed c text ≡ changed_if_free v turn cs wanted a changed c
+  changed_is rule text free narrow rule_is text_is = rw (free, narrow) (λ i. kept_with turn (rule_is i) changed c (text_is i))
+
+-- what may be written isn't readOnly
+pub writable_free : (kind : Kind) (a : Access) (us : List AttributeUnit) → All (λ u. is_fixed kind u ≡ false) (filter (is_writable kind a) us)
+writable_free kind a us = All-weaker (λ u. is_writable kind a u ≡ true) (λ u. is_fixed kind u ≡ false) free (filter (is_writable kind a) us) (filter_passes (is_writable kind a) us)
+  where
+    free : (u : AttributeUnit) → is_writable kind a u ≡ true → is_fixed kind u ≡ false
+    free u passes = elim (cases_Bool (is_fixed kind u)) [
+      | inl fixed ↦ absurd (let no : is_writable kind a u ≡ false = rw fixed refl in cc)
+      | inr plain ↦ plain
+    ]
+
+-- ---- the resource that a request names, once it is there and seen
+
+module _ (v : Viewer) (turn : Turn) (cs : List Content) (d : Draft) (wanted : Wanted) (c : Content) where
+  -- what becomes of it is planned
+  pub written_is : (us : List AttributeUnit) (changed : Bool) (x : Content) → replaced d us turn.moment c ≡ Some x → changed ≡ changes d us (rows c)
+      → changed_if_free v turn cs wanted (access_to v c) changed x ≡ written v turn cs d wanted c us
+  written_is us changed x e same = rw e (ap (λ (b : Bool). changed_if_free v turn cs wanted (access_to v c) b x) same)
+
+  pub replacing_is : sameb the_kind d.kind c.kind ≡ true → first_unit_denied (access_to v c) d (visible v c) (units d.kind) ≡ None
+      → written_if_allowed v turn cs d wanted c None ≡ replacing v turn cs d wanted c
+  unfolding replacing
+  replacing_is own none = rw (own, none) refl
+
+pub seen_is : (v : Viewer) (turn : Turn) (cs : List Content) (next : Content → Plan) (c : Content) (plan : Plan)
+    → plan ≡ next c → (read_decision v c (simple Id)).allow ≡ true → Some c ≡ sought turn cs → plan ≡ at_seen v turn next (sought turn cs)
+seen_is v turn cs next c plan made allows found = rw (← found) (rw allows made)
+
+-- what holds of an answer under a condition
+pub IfOk-when : {X F : Type 0} (A : Type 0) (P : X → Type 0) (r : Result X F) → (A → IfOk r P) → IfOk r (λ x. A → P x)
+IfOk-when A P (Ok x) holds = holds
+IfOk-when A P (Err e) holds = tt
+
+-- the one that is sought is below the base
+pub sought_base : (base : List ℕ) (turn : Turn) (store : Store) (c : Content) → IsStore base store → Some c ≡ sought turn store.resources → HasBase base c
+sought_base base turn store c is found = by_id turn.request.id found
+  where
+    in_all : (kind : Kind) (id : List ℕ) (ds : List Content) → All (λ d. IsResource d × HasBase base d) ds → Some c ≡ find (is_at kind id) ds → HasBase base c
+    in_all kind id [] all e = cc
+    in_all kind id (d ∷ ds) all e = elim (cases_Bool (is_at kind id d)) [
+      | inl t ↦ (let same : Some c ≡ Some d = rw t at e in let one : c ≡ d = cc in subst (λ (x : Content). HasBase base x) (sym one) (All-head (λ x. IsResource x × HasBase base x) d ds all).1)
+      | inr f ↦ in_all kind id ds (All-tail (λ x. IsResource x × HasBase base x) d ds all) (rw f at e)
+    ]
+
+    by_id : (id : Option (List ℕ)) → Some c ≡ option_and_then (λ (i : List ℕ). find (is_at turn.request.kind i) store.resources) id → HasBase base c
+    by_id None e = cc
+    by_id (Some id) e = in_all turn.request.kind id store.resources is.sound e

@@ -1,0 +1,3 @@
+-- How the code goes about a request.
+pub mod Others
+pub mod Questions

@@ -1,0 +1,114 @@
+//! What is to be done where a resource is changed.
+ghost use Rattle.std.specs.Prelude.{◌≡◌, ◌≢◌, ℕ, List, IfOk, Err};
+ghost use Rattle.scim_text.specs.declared.memory.Failed.{Failed};
+ghost use Rattle.scim_schema.specs.declared.Attribute.{Attribute};
+ghost use Rattle.scim_schema.specs.Units.{simple};
+ghost use Rattle.scim_value.specs.Resource.{HasBase};
+ghost use Rattle.scim_policy.specs.Table.{access_in};
+ghost use Rattle.scim_view.specs.View.{viewer_of};
+ghost use Rattle.scim_shelf.specs.declared.changes.Change.{Change};
+ghost use Rattle.scim_shelf.specs.declared.faults.ShelfFault.{ShelfFault};
+ghost use Rattle.scim_shelf.specs.Shelves.{Counts, KeepsStore, Answers};
+ghost use Rattle.scim_shelf.specs.Stores.{IsStore, AreOf};
+ghost use Rattle.scim_service.specs.Answers.{KeepsSound};
+ghost use Rattle.scim_service.specs.Step as spec;
+
+use crate::names::has_taken_name;
+use crate::plans::{Plan, allowed, kept_text, refused, refused_as};
+use crate::replies::Reply;
+use crate::requests::Turn;
+use scim_audit::{Decided, Refusal};
+use scim_cell::Text;
+use scim_change::Changed;
+use scim_policy::{Decision, Rights};
+use scim_schema::{Attribute, Leaf};
+use scim_shelf::{Change, Shelf, ShelfFault};
+use scim_text::{Failed, NoMemory};
+use scim_value::Resource;
+use scim_view::{Viewer, Wanted};
+use std::alloc::Global;
+
+/// The change would open to the client what this decision allows at the leaf.
+#[tactic(auto, unfolding(crate::specs::Step::widened))]
+fn widened(alloc: Global, turn: &Turn, leaf: Leaf, decision: Decision) -> Result<Plan, NoMemory>
+    ensures plan { IfOk result (λ plan. plan ≡ spec.widened turn.now leaf decision) }
+    ensures change { IfOk result (λ plan. plan.change ≡ Change.Nothing) }
+{
+    refused_as(
+        alloc,
+        turn,
+        Decided::Deny,
+        Some(decision.rule),
+        Some(leaf),
+        Refusal::Widens,
+    )
+}
+
+/// What is shown, or that it is done where there is nothing to show.
+fn shown_or_done(text: Option<Text>) -> Reply
+    ensures { result ≡ spec.shown_or_done text }
+{
+    match text {
+        Some(text) => Reply::Shown(text),
+        None => Reply::Done,
+    }
+}
+
+/// What is to be done where the resource is kept: `text` is what the client is shown of it, and `rule` the
+/// one that let the client see it before.
+fn changed_with(
+    alloc: Global,
+    turn: &Turn,
+    rule: u32,
+    changed: Changed,
+    text: Option<Text>,
+) -> Result<Plan, NoMemory>
+    ensures plan { IfOk result (λ plan. plan ≡ spec.kept_with turn.now rule changed.changed changed.resource text) }
+    ensures sound { (base : List ℕ) → HasBase base changed.resource → IfOk result (λ plan. KeepsSound base plan.change) }
+{
+    let Changed { resource, changed } = changed;
+    let row = allowed(alloc, turn, rule)?;
+    let change = if changed {
+        Change::Keep(resource)
+    } else {
+        Change::Nothing
+    };
+    Ok(Plan {
+        reply: shown_or_done(text),
+        change,
+        row,
+    })
+}
+
+/// What is to be done where a resource has become this one, and `rights` is what the client could do with it
+/// before. The policy is asked once of the resource as it is now.
+pub(crate) fn plan_changed<S: Shelf>(
+    alloc: Global,
+    viewer: &Viewer<'_>,
+    shelf: &mut S,
+    turn: &Turn,
+    wanted: &Wanted,
+    rights: &Rights,
+    changed: Changed,
+) -> Result<Plan, Failed<ShelfFault>>
+    ensures plan { IfOk result (Answers S.stands S.is_honest shelf.old shelf.new (λ store plan. (base : List ℕ) → IsStore base store
+        → AreOf changed.resource.kind changed.resource.id store.resources
+        → plan ≡ spec.changed_if_free (viewer_of viewer.now) turn.now store.resources wanted.now (access_in rights.now) changed.changed changed.resource)) }
+    ensures sound { HasBase viewer.now.base.now changed.resource → IfOk result (λ plan. KeepsSound viewer.now.base.now plan.change) }
+    ensures store { KeepsStore S.stands shelf.old shelf.new }
+    ensures honest { S.is_honest shelf.new → S.is_honest shelf.old }
+    ensures counts { Counts (S.failures shelf.old) (S.failures shelf.new) result }
+    ensures not_full { result ≢ Err (Failed.Because ShelfFault.Full) }
+{
+    let resource = &changed.resource;
+    if has_taken_name(alloc, shelf, &Some(resource.id()), resource)? {
+        return Ok(refused(alloc, turn, Refusal::Taken)?);
+    }
+    let after = viewer.policy.rights(alloc, viewer.client, resource)?;
+    if let Some((_, leaf, decision)) = rights.widening(resource.kind(), &after) {
+        return Ok(widened(alloc, turn, leaf, decision)?);
+    }
+    let text = kept_text(alloc, viewer, shelf, after.read(), resource, wanted)?;
+    let rule = rights.read().of(Leaf::simple(Attribute::Id)).rule;
+    Ok(changed_with(alloc, turn, rule, changed, text)?)
+}

@@ -1,0 +1,72 @@
+//! Unique names that are taken (RFC 7643 section 2.2).
+ghost use Rattle.std.specs.Prelude.{◌≡◌, ◌≢◌, ℕ, List, map, IfOk, Err};
+ghost use Rattle.std.specs.List.{list_any};
+ghost use Rattle.scim_text.specs.declared.memory.Failed.{Failed};
+ghost use Rattle.scim_value.specs.Uniqueness.{name_of};
+ghost use Rattle.scim_shelf.specs.declared.faults.ShelfFault.{ShelfFault};
+ghost use Rattle.scim_shelf.specs.Shelves.{Counts, KeepsStore, Answers};
+ghost use Rattle.scim_shelf.specs.Stores.{IsStore, has_name, is_taken};
+ghost use Rattle.scim_service.specs.code.Others as spec;
+
+use scim_cell::Id;
+use scim_shelf::{Shelf, ShelfFault};
+use scim_text::Failed;
+use scim_value::{Resource, UniqueName, unique_names};
+use std::alloc::Global;
+
+/// Whether the owner of a name is another resource than the one of the id.
+fn is_another(owner: &Option<Resource>, own: &Option<Id>) -> bool
+    ensures { result ≡ spec.is_another own.now owner.now }
+{
+    match owner {
+        Some(owner) => match own {
+            Some(own) => *own != owner.id(),
+            None => true,
+        },
+        None => false,
+    }
+}
+
+/// Whether a resource, but for the one of the id, has one of the names.
+fn any_taken<S: Shelf>(
+    alloc: Global,
+    shelf: &mut S,
+    own: &Option<Id>,
+    names: &[UniqueName],
+) -> Result<bool, Failed<ShelfFault>>
+    ensures answer { IfOk result (Answers S.stands S.is_honest shelf.old shelf.new (λ store b. (base : List ℕ) → IsStore base store
+        → b ≡ list_any (λ n. list_any (has_name n) (spec.beside own.now store.resources)) (map name_of names.now))) }
+    ensures store { KeepsStore S.stands shelf.old shelf.new }
+    ensures honest { S.is_honest shelf.new → S.is_honest shelf.old }
+    ensures counts { Counts (S.failures shelf.old) (S.failures shelf.new) result }
+    ensures not_full { result ≢ Err (Failed.Because ShelfFault.Full) }
+{
+    match names {
+        [] => Ok(false),
+        [name, rest @ ..] => {
+            let owner = shelf.name_owner(alloc, name)?;
+            if is_another(&owner, own) {
+                return Ok(true);
+            }
+            any_taken(alloc, shelf, own, rest)
+        }
+    }
+}
+
+/// Whether a resource, be it seen or not, but for the one of the id has a unique name of this one.
+pub(crate) fn has_taken_name<S: Shelf>(
+    alloc: Global,
+    shelf: &mut S,
+    own: &Option<Id>,
+    new: &Resource,
+) -> Result<bool, Failed<ShelfFault>>
+    ensures answer { IfOk result (Answers S.stands S.is_honest shelf.old shelf.new (λ store b. (base : List ℕ) → IsStore base store
+        → b ≡ is_taken (spec.beside own.now store.resources) new.now)) }
+    ensures store { KeepsStore S.stands shelf.old shelf.new }
+    ensures honest { S.is_honest shelf.new → S.is_honest shelf.old }
+    ensures counts { Counts (S.failures shelf.old) (S.failures shelf.new) result }
+    ensures not_full { result ≢ Err (Failed.Because ShelfFault.Full) }
+{
+    let names = unique_names(alloc, new)?;
+    any_taken(alloc, shelf, own, names.as_slice())
+}

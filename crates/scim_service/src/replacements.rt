@@ -1,0 +1,223 @@
+//! What is to be done for a request to replace a resource (RFC 7644 section 3.5.1).
+ghost use Rattle.std.specs.Prelude.{◌≡◌, ◌≢◌, ℕ, List, filter, None, IfOk, Err};
+ghost use Rattle.std.specs.List.{list_any};
+ghost use Rattle.scim_text.specs.declared.memory.Failed.{Failed};
+ghost use Rattle.scim_schema.specs.Units.{units};
+ghost use Rattle.scim_value.specs.Resource.{HasBase};
+ghost use Rattle.scim_policy.specs.Table.{access_in};
+ghost use Rattle.scim_view.specs.View.{viewer_of, visible};
+ghost use Rattle.scim_shelf.specs.declared.faults.ShelfFault.{ShelfFault};
+ghost use Rattle.scim_shelf.specs.Shelves.{Counts, KeepsStore, Answers};
+ghost use Rattle.scim_shelf.specs.Stores.{IsStore, AreOf};
+ghost use Rattle.scim_service.specs.Answers.{KeepsSound};
+ghost use Rattle.scim_service.specs.Step as spec;
+ghost use Rattle.scim_service.specs.code.Questions.{is_in_question};
+
+use crate::changed::plan_changed;
+use crate::plans::{Plan, absent, denied, found, hidden, refused};
+use crate::requests::Turn;
+use scim_audit::Refusal;
+use scim_change::{MissingRequired, replace};
+use scim_json::Draft;
+use scim_policy::{Decision, Rights};
+use scim_schema::{Attribute, Kind, Leaf, Mutability, Unit, mutability_of, units};
+use scim_shelf::{Shelf, ShelfFault};
+use scim_text::{Failed, NoMemory};
+use scim_value::{Part, Resource};
+use scim_view::{Viewer, Wanted};
+use std::alloc::Global;
+
+/// Whether the client may write the unit.
+fn is_writable(rights: &Rights, kind: Kind, unit: Unit) -> bool
+    ensures { result ≡ spec.is_writable kind (access_in rights.now) unit }
+{
+    mutability_of(kind, unit) != Mutability::ReadOnly && rights.forbidding(kind, unit).is_none()
+}
+
+/// Those of these units that the client may write. NoMemory where none was to be had.
+fn writable_of(
+    alloc: Global,
+    rights: &Rights,
+    kind: Kind,
+    units: &[Unit],
+) -> Result<Vec<Unit>, NoMemory>
+    ensures { IfOk result (λ v. v.items ≡ filter (spec.is_writable kind (access_in rights.now)) units.now) }
+{
+    let mut writable = Vec::new(alloc);
+    for unit in units {
+        if is_writable(rights, kind, *unit) {
+            writable.push(*unit)?;
+        }
+    }
+    Ok(writable)
+}
+
+/// Whether the body gives the unit, and the client may not write it.
+fn is_questionable(rights: &Rights, draft: &Draft, unit: Unit) -> bool
+    ensures { result ≡ is_in_question (access_in rights.now) draft.now unit }
+{
+    mutability_of(draft.kind(), unit) != Mutability::ReadOnly
+        && draft.gives(unit)
+        && rights.forbidding(draft.kind(), unit).is_some()
+}
+
+/// Whether the body gives one of these units that the client may not write.
+fn is_any_questionable(rights: &Rights, draft: &Draft, units: &[Unit]) -> bool
+    ensures { result ≡ list_any (is_in_question (access_in rights.now) draft.now) units.now }
+{
+    for unit in units {
+        if is_questionable(rights, draft, *unit) {
+            return true;
+        }
+    }
+    false
+}
+
+/// Why the body may not give what it gives of the unit, where this is what the client sees of the resource.
+/// NoMemory where none was to be had.
+fn unit_denied(
+    alloc: Global,
+    rights: &Rights,
+    draft: &Draft,
+    seen: &Part,
+    unit: Unit,
+) -> Result<Option<(Leaf, Decision)>, NoMemory>
+    ensures { IfOk result (λ o. o ≡ spec.unit_denied (access_in rights.now) draft.now seen.now unit) }
+{
+    if !is_questionable(rights, draft, unit) || draft.agrees(alloc, unit, seen)? {
+        return Ok(None);
+    }
+    Ok(rights.forbidding(draft.kind(), unit))
+}
+
+/// The first of these units for which there is a reason. NoMemory where none was to be had.
+fn first_denied_among(
+    alloc: Global,
+    rights: &Rights,
+    draft: &Draft,
+    seen: &Part,
+    units: &[Unit],
+) -> Result<Option<(Leaf, Decision)>, NoMemory>
+    ensures { IfOk result (λ o. o ≡ spec.first_unit_denied (access_in rights.now) draft.now seen.now units.now) }
+{
+    for unit in units {
+        let denied = unit_denied(alloc, rights, draft, seen, *unit)?;
+        if denied.is_some() {
+            return Ok(denied);
+        }
+    }
+    Ok(None)
+}
+
+/// The first unit for which there is a reason. What the client sees of the resource is made only where the
+/// body gives something that it may not write. NoMemory where none was to be had.
+fn first_unit_denied(
+    alloc: Global,
+    viewer: &Viewer<'_>,
+    rights: &Rights,
+    draft: &Draft,
+    resource: &Resource,
+) -> Result<Option<(Leaf, Decision)>, NoMemory>
+    requires { access_in rights.now ≡ spec.access_to (viewer_of viewer.now) resource.now }
+    ensures { IfOk result (λ o. o ≡ spec.first_unit_denied (spec.access_to (viewer_of viewer.now) resource.now)
+        draft.now (visible (viewer_of viewer.now) resource.now) (units draft.now.kind)) }
+{
+    let own = units(draft.kind());
+    if !is_any_questionable(rights, draft, own) {
+        return Ok(None);
+    }
+    let seen = viewer.visible_by(alloc, rights.read(), resource)?;
+    first_denied_among(alloc, rights, draft, &seen, own)
+}
+
+/// What is to be done where the policy lets the client give all that the body gives.
+fn plan_allowed<S: Shelf>(
+    alloc: Global,
+    viewer: &Viewer<'_>,
+    shelf: &mut S,
+    turn: &Turn,
+    draft: &Draft,
+    wanted: &Wanted,
+    rights: &Rights,
+    resource: Resource,
+) -> Result<Plan, Failed<ShelfFault>>
+    requires rights { access_in rights.now ≡ spec.access_to (viewer_of viewer.now) resource }
+    requires kind { draft.now.kind ≡ resource.kind }
+    ensures plan { IfOk result (Answers S.stands S.is_honest shelf.old shelf.new (λ store plan. (base : List ℕ) → IsStore base store
+        → AreOf resource.kind resource.id store.resources
+        → plan ≡ spec.written_if_allowed (viewer_of viewer.now) turn.now store.resources draft.now wanted.now resource None)) }
+    ensures sound { HasBase viewer.now.base.now resource → IfOk result (λ plan. KeepsSound viewer.now.base.now plan.change) }
+    ensures store { KeepsStore S.stands shelf.old shelf.new }
+    ensures honest { S.is_honest shelf.new → S.is_honest shelf.old }
+    ensures counts { Counts (S.failures shelf.old) (S.failures shelf.new) result }
+    ensures not_full { result ≢ Err (Failed.Because ShelfFault.Full) }
+{
+    let kind = resource.kind();
+    let writable = writable_of(alloc, rights, kind, units(kind))?;
+    match replace(alloc, resource, draft, writable.as_slice(), turn.moment) {
+        Ok(changed) => plan_changed(alloc, viewer, shelf, turn, wanted, rights, changed),
+        Err(Failed::Because(MissingRequired)) => Ok(refused(alloc, turn, Refusal::ResultValue)?),
+        Err(Failed::NoMemory) => Err(Failed::NoMemory),
+    }
+}
+
+/// What is to be done for a request to replace a resource that the client sees.
+#[tactic(auto, unfolding(crate::specs::Step::replacing))]
+fn plan_seen<S: Shelf>(
+    alloc: Global,
+    viewer: &Viewer<'_>,
+    shelf: &mut S,
+    turn: &Turn,
+    draft: &Draft,
+    wanted: &Wanted,
+    rights: &Rights,
+    resource: Resource,
+) -> Result<Plan, Failed<ShelfFault>>
+    requires { access_in rights.now ≡ spec.access_to (viewer_of viewer.now) resource }
+    ensures plan { IfOk result (Answers S.stands S.is_honest shelf.old shelf.new (λ store plan. (base : List ℕ) → IsStore base store
+        → AreOf resource.kind resource.id store.resources
+        → plan ≡ spec.replacing (viewer_of viewer.now) turn.now store.resources draft.now wanted.now resource)) }
+    ensures sound { HasBase viewer.now.base.now resource → IfOk result (λ plan. KeepsSound viewer.now.base.now plan.change) }
+    ensures store { KeepsStore S.stands shelf.old shelf.new }
+    ensures honest { S.is_honest shelf.new → S.is_honest shelf.old }
+    ensures counts { Counts (S.failures shelf.old) (S.failures shelf.new) result }
+    ensures not_full { result ≢ Err (Failed.Because ShelfFault.Full) }
+{
+    if draft.kind() != resource.kind() {
+        return Ok(refused(alloc, turn, Refusal::MessageValue)?);
+    }
+    match first_unit_denied(alloc, viewer, rights, draft, &resource)? {
+        Some((leaf, decision)) => Ok(denied(alloc, turn, decision, leaf)?),
+        None => plan_allowed(alloc, viewer, shelf, turn, draft, wanted, rights, resource),
+    }
+}
+
+/// What is to be done for a request to replace the resource that it names.
+pub(crate) fn plan_replace<S: Shelf>(
+    alloc: Global,
+    viewer: &Viewer<'_>,
+    shelf: &mut S,
+    turn: &Turn,
+    draft: &Draft,
+    wanted: &Wanted,
+) -> Result<Plan, Failed<ShelfFault>>
+    ensures plan { IfOk result (Answers S.stands S.is_honest shelf.old shelf.new (λ store plan. (base : List ℕ) → IsStore base store
+        → plan ≡ spec.at_seen (viewer_of viewer.now) turn.now
+        (spec.replacing (viewer_of viewer.now) turn.now store.resources draft.now wanted.now) (spec.sought turn.now store.resources))) }
+    ensures sound { IfOk result (Answers S.stands S.is_honest shelf.old shelf.new (λ store plan. IsStore viewer.now.base.now store
+        → KeepsSound viewer.now.base.now plan.change)) }
+    ensures store { KeepsStore S.stands shelf.old shelf.new }
+    ensures honest { S.is_honest shelf.new → S.is_honest shelf.old }
+    ensures counts { Counts (S.failures shelf.old) (S.failures shelf.new) result }
+    ensures not_full { result ≢ Err (Failed.Because ShelfFault.Full) }
+{
+    let Some(resource) = found(alloc, shelf, turn)? else {
+        return Ok(absent(alloc, turn)?);
+    };
+    let rights = viewer.policy.rights(alloc, viewer.client, &resource)?;
+    let seen = rights.read().of(Leaf::simple(Attribute::Id));
+    if !seen.allow {
+        return Ok(hidden(alloc, turn, seen)?);
+    }
+    plan_seen(alloc, viewer, shelf, turn, draft, wanted, &rights, resource)
+}
