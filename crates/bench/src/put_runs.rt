@@ -4,7 +4,7 @@ use crate::service_runs::{
 };
 use anyhow::Result;
 use bench_values::id_of;
-use scim_json::UseFor;
+use scim_body::UseFor;
 use scim_schema::{Kind, Op};
 use scim_service::{Ask, Turn};
 use scim_view::Wanted;

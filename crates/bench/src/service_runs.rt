@@ -1,9 +1,9 @@
 //! What turns of a service over a store in memory take, by how many users it has; and what bodies take.
 use anyhow::{Result, bail, ensure};
 use bench_values::{fastest, id_of, ratio};
+use scim_body::{Draft, UseFor, read_body};
 use scim_cell::Text;
 use scim_filter::{Filter, read_filter};
-use scim_json::{Draft, UseFor, read_body};
 use scim_policy::read_policy;
 use scim_query::Query;
 use scim_samples::BASE;

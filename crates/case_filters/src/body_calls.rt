@@ -1,6 +1,6 @@
-//! The calls of `scim_json` on bodies of requests.
+//! The calls of `scim_body`.
 use case_values::{Case, CaseFault, kind_of, said};
-use scim_json::{BodyFault, Draft, UseFor, read_body};
+use scim_body::{BodyFault, Draft, UseFor, read_body};
 use scim_samples::row_text;
 use scim_schema::{Kind, Unit};
 use scim_text::Failed;

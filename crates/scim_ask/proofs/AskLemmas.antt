@@ -3,8 +3,8 @@ use Rattle.std.proofs.Common.{◌≡◌, ap, ◌∙◌, ℕ, List}
 use Rattle.std.specs.Prelude.{Option, Result, Ok}
 use Rattle.scim_schema.specs.declared.Kind.{Kind}
 use Rattle.scim_audit.specs.declared.refusals.Refusal.{Refusal}
-use Rattle.scim_json.specs.declared.drafts.UseFor.TheVariants.{Creating, Replacing}
-use Rattle.scim_json.specs.Drafts.{Draft}
+use Rattle.scim_body.specs.declared.drafts.UseFor.TheVariants.{Creating, Replacing}
+use Rattle.scim_body.specs.Drafts.{Draft}
 use Rattle.scim_view.specs.declared.projection.Wanted.{Wanted}
 use Rattle.scim_query.specs.declared.queries.Query.{Query}
 use Rattle.scim_route.specs.declared.routes.Form.{Form}

@@ -9,7 +9,7 @@ use Rattle.serde_json.specs.Read.{read}
 use Rattle.scim_schema.specs.declared.Kind.{Kind}
 use Rattle.scim_audit.specs.declared.refusals.Refusal.TheVariants.{Syntax}
 use Rattle.scim_ask.specs.SearchBodies.{value_in}
-use Rattle.scim_json.specs.declared.drafts.UseFor.{UseFor}
+use Rattle.scim_body.specs.declared.drafts.UseFor.{UseFor}
 use Rattle.scim_ask.specs.Asks.{draft_in, draft_asked}
 
 not_utf8 : (body : List ℕ) → (IsUtf8 body → ⊥) → is_utf8 body ≡ false

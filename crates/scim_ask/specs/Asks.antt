@@ -5,10 +5,10 @@ use Rattle.serde_json.specs.Read.{read}
 use Rattle.scim_schema.specs.declared.Kind.{Kind}
 use Rattle.scim_audit.specs.declared.refusals.Refusal.{Refusal}
 use Rattle.scim_audit.specs.declared.refusals.Refusal.TheVariants.{NotSupported, Syntax, MessageValue}
-use Rattle.scim_json.specs.declared.drafts.UseFor.{UseFor}
-use Rattle.scim_json.specs.declared.drafts.UseFor.TheVariants.{Creating, Replacing}
-use Rattle.scim_json.specs.Drafts.{Draft}
-use Rattle.scim_json.specs.Bodies.{Body, malformed, wrong, drafted, body_of}
+use Rattle.scim_body.specs.declared.drafts.UseFor.{UseFor}
+use Rattle.scim_body.specs.declared.drafts.UseFor.TheVariants.{Creating, Replacing}
+use Rattle.scim_body.specs.Drafts.{Draft}
+use Rattle.scim_body.specs.Bodies.{Body, malformed, wrong, drafted, body_of}
 use Rattle.scim_route.specs.declared.routes.Form.{Form}
 use Rattle.scim_route.specs.declared.routes.Form.TheVariants as form
 use Rattle.scim_route.specs.declared.routes.Route.{Route}

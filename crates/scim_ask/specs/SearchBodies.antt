@@ -8,8 +8,8 @@ use Rattle.serde_json.specs.Read.{read}
 use Rattle.scim_schema.specs.declared.Kind.{Kind}
 use Rattle.scim_audit.specs.declared.refusals.Refusal.{Refusal}
 use Rattle.scim_audit.specs.declared.refusals.Refusal.TheVariants.{Syntax, MessageValue}
-use Rattle.scim_json.specs.BodyNames.{is_twice, listed}
-use Rattle.scim_json.specs.BodyValues.{collected, if_given, given_named, is_absent}
+use Rattle.scim_body.specs.BodyNames.{is_twice, listed}
+use Rattle.scim_body.specs.BodyValues.{collected, if_given, given_named, is_absent}
 use Rattle.scim_ask.specs.declared.arrangements.Arrangement.{Arrangement}
 use Rattle.scim_ask.specs.Refused.{◌>>=◌}
 use Rattle.scim_ask.specs.AttributeLists.{Lists}

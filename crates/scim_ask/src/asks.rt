@@ -15,7 +15,7 @@ use crate::attribute_lists::wanted_by;
 use crate::query_strings::{lists_of, search_by};
 use crate::search_bodies::search_by_body;
 use scim_audit::Refusal;
-use scim_json::{BodyFault, Draft, UseFor, read_body};
+use scim_body::{BodyFault, Draft, UseFor, read_body};
 use scim_query::Query;
 use scim_route::{Form, Parameters, Route};
 use scim_schema::Kind;

@@ -5,7 +5,6 @@
 mod arrangements;
 mod asks;
 mod attribute_lists;
-mod members;
 mod query_strings;
 mod search_bodies;
 mod searches;

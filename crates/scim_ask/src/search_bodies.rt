@@ -4,9 +4,9 @@ ghost use Rattle.std.specs.Option.{option_copied};
 ghost use Rattle.serde_json.specs.Find.{as_array, as_object, as_str};
 ghost use Rattle.serde_json.specs.View.{view, items_view, members_view};
 ghost use Rattle.scim_text.specs.Failures.{UnlessMemory};
-ghost use Rattle.scim_json.specs.BodyNames.{items_list, listed};
-ghost use Rattle.scim_json.specs.BodyValues.{collected, given_named};
-ghost use Rattle.scim_json.specs.code.Given.{after};
+ghost use Rattle.scim_body.specs.BodyNames.{items_list, listed};
+ghost use Rattle.scim_body.specs.BodyValues.{collected, given_named};
+ghost use Rattle.scim_body.specs.code.Given.{after};
 ghost use Rattle.scim_ask.specs.Refused.{Tells};
 ghost use Rattle.scim_ask.specs.Searches.{IsQuery, sought, sought_of};
 ghost use Rattle.scim_ask.specs.SearchBodies as spec;
@@ -14,9 +14,9 @@ ghost use Rattle.scim_ask.specs.code.Views.{texts_in, lists_in, settings_in, IsW
 
 use crate::arrangements::{Arrangement, arranged};
 use crate::attribute_lists::AttributeLists;
-use crate::members::{given_named, is_absent, is_twice};
 use crate::searches::{Settings, filter_of, query_of};
 use scim_audit::Refusal;
+use scim_body::{given_named, is_absent, is_twice};
 use scim_query::Query;
 use scim_schema::Kind;
 use scim_text::Failed;

@@ -30,8 +30,8 @@ use Rattle.scim_cell.proofs.Facts.{IsIdText-id_text}
 use Rattle.scim_cell.specs.Rows.{Row, content, values, atom_in, atom_at, cell_at, is_primary, AreSound}
 use Rattle.scim_value.specs.Resource.{first_at, location, IsFilled, IsNamedAs, MembersHaveValues, HasAtMostOnePrimary, HasFewValues, MayBeKept, IsResource, HasBase}
 use Rattle.scim_value.proofs.Facts.{get_cell, part_content, rows_content}
-use Rattle.scim_json.specs.Drafts.{Draft, MayBeGiven, IsDraft, is_empty, lacks_required}
-use Rattle.scim_json.specs.declared.drafts.UseFor.TheVariants.{Creating}
+use Rattle.scim_body.specs.Drafts.{Draft, MayBeGiven, IsDraft, is_empty, lacks_required}
+use Rattle.scim_body.specs.declared.drafts.UseFor.TheVariants.{Creating}
 use Rattle.scim_change.specs.Create.{row_of, meta_row, id_row, meta_rows, created_rows}
 use Rattle.scim_change.proofs.RowLemmas.{four, created_sound}
 use Rattle.scim_change.proofs.ValueLemmas.{values_meta, values_id, values_whole}

@@ -17,8 +17,8 @@ use Rattle.scim_cell.specs.Content.{Content}
 use Rattle.scim_cell.specs.Rows.{Row, rows, content, values}
 use Rattle.scim_value.specs.Resource.{IsFilled, IsNamedAs, IsResource}
 use Rattle.scim_value.proofs.Facts.{get_cell, sound_part}
-use Rattle.scim_json.specs.Agreement.{are_same_values}
-use Rattle.scim_json.specs.Drafts.{Draft, IsDraft, gives, lacks_required}
+use Rattle.scim_change.specs.Agreement.{are_same_values}
+use Rattle.scim_body.specs.Drafts.{Draft, IsDraft, gives, lacks_required}
 use Rattle.scim_change.specs.Replace.{changes, changes_unit, if_complete, modified_at, replaced, with_units}
 use Rattle.scim_change.specs.Laws.{AgreeAt, AreAlike, Stays, ReplacingRestsOnItsUnits}
 use Rattle.scim_change.proofs.AtomLemmas.{rows_modified}

@@ -6,3 +6,4 @@ pub mod PutLemmas
 pub mod ReplaceLemmas
 pub mod AtomLemmas
 pub mod LawLemmas
+pub mod Facts

@@ -23,7 +23,7 @@ use Rattle.scim_cell.specs.Content.{HasType}
 use Rattle.scim_cell.specs.Place.{sub_attributes_by_place, unit_cmp}
 use Rattle.scim_cell.specs.Rows.{Row, values, atom_in, cell_at, has_fields, IsSoundField, IsSoundRow}
 use Rattle.scim_value.proofs.Facts.{In, fields_in, unit_total}
-use Rattle.scim_json.specs.Drafts.{Draft, MayBeGiven, IsDraft, is_missing, lacks_required}
+use Rattle.scim_body.specs.Drafts.{Draft, MayBeGiven, IsDraft, is_missing, lacks_required}
 use Rattle.scim_change.proofs.ValueLemmas.{other_unit}
 
 -- ---- a simple attribute among rows

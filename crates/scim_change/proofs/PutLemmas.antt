@@ -18,7 +18,7 @@ use Rattle.scim_schema.proofs.Facts.{is_same_unit-Decides}
 use Rattle.scim_cell.specs.Place.{unit_cmp}
 use Rattle.scim_cell.specs.Rows.{Row, values, put_values, has_fields, IsSoundRow, AreSound, AreValues}
 use Rattle.scim_value.proofs.Facts.{filter_filter, one_value, put_sound, unit_same, unit_total}
-use Rattle.scim_json.specs.Drafts.{Draft}
+use Rattle.scim_body.specs.Drafts.{Draft}
 use Rattle.scim_change.specs.Replace.{with_units}
 use Rattle.scim_change.proofs.ValueLemmas.{is_own, none_own}
 
@@ -51,7 +51,7 @@ all_own u (r ∷ vs) h =
     rw (passes_own u r (All-head (λ (s : Row). s.unit ≡ u) r vs h)) (ap (λ rs. r ∷ rs) (all_own u vs (All-tail (λ (s : Row). s.unit ≡ u) r vs h)))
 
 -- a test that each row of the unit passes hides none of them
-within : (u : AttributeUnit) (p : Row → Bool) (rs : List Row) → ((r : Row) → r.unit ≡ u → p r ≡ true) → values u (filter p rs) ≡ values u rs
+pub within : (u : AttributeUnit) (p : Row → Bool) (rs : List Row) → ((r : Row) → r.unit ≡ u → p r ≡ true) → values u (filter p rs) ≡ values u rs
 within u p rs h = filter_filter p (is_own u) (is_own u) both rs
   where
     both : (r : Row) → is_own u r ≡ p r && is_own u r

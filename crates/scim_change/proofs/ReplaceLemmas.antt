@@ -22,7 +22,7 @@ use Rattle.scim_cell.specs.Content.{Content, HasType}
 use Rattle.scim_cell.specs.Rows.{Row, rows, content, values, atom_in, atom_at, cell_at, is_primary, IsValue, AreSound, AreValues}
 use Rattle.scim_value.specs.Resource.{first_at, IsFilled, IsNamedAs, MayBeKept, IsResource, HasBase}
 use Rattle.scim_value.proofs.Facts.{get_cell, part_content, put_sound, rows_content, sound_part}
-use Rattle.scim_json.specs.Drafts.{Draft, MayBeGiven, IsDraft, lacks_required}
+use Rattle.scim_body.specs.Drafts.{Draft, MayBeGiven, IsDraft, lacks_required}
 use Rattle.scim_change.specs.Create.{meta_row}
 use Rattle.scim_change.specs.Replace.{with_units, changes, modified_at, replaced}
 use Rattle.scim_change.proofs.RowLemmas.{has_last_modified, one_field}
@@ -61,14 +61,14 @@ stamp_own moment rs = values_put stamp (stamps moment) rs (stamps_own moment)
 pub no_stamp : (a : Attribute) → stamp ≢ whole a
 no_stamp a e = let s : Some LastModified ≡ None = ap (λ (v : AttributeUnit). v.sub_attribute) e in cc
 
-other_meta : (b : SubAttribute) → LastModified ≢ b → stamp ≢ unit_of (leaf_at Meta b)
+pub other_meta : (b : SubAttribute) → LastModified ≢ b → stamp ≢ unit_of (leaf_at Meta b)
 other_meta b n e =
     let s : Some LastModified ≡ Some b = ap (λ (v : AttributeUnit). v.sub_attribute) e in
     let same : LastModified ≡ b = cc in n same
 
 -- ---- units that no client may write
 
-fixed_id : (kind : Kind) → is_fixed kind (whole Id) ≡ true
+pub fixed_id : (kind : Kind) → is_fixed kind (whole Id) ≡ true
 fixed_id User = refl
 fixed_id Group = refl
 

@@ -33,7 +33,7 @@ use Rattle.scim_cell.specs.Place.{attribute_number, sub_attribute_number, unit_c
 use Rattle.scim_cell.specs.Rows.{Row, has_fields, IsSoundField, IsSoundRow, Precedes, AreSound}
 use Rattle.scim_value.specs.Resource.{location}
 use Rattle.scim_value.proofs.Facts.{across, pairs_append, precedes_less, unit_same}
-use Rattle.scim_json.specs.Drafts.{Draft, MayBeGiven, IsDraft}
+use Rattle.scim_body.specs.Drafts.{Draft, MayBeGiven, IsDraft}
 use Rattle.scim_change.specs.Create.{row_of, meta_row, id_row, meta_rows, created_rows}
 
 -- ---- leaves that the server fills in

@@ -15,7 +15,7 @@ use Rattle.scim_schema.specs.Names.{kind_name}
 use Rattle.scim_cell.specs.Place.{unit_cmp}
 use Rattle.scim_cell.specs.Rows.{Row, values}
 use Rattle.scim_value.proofs.Facts.{unit_same}
-use Rattle.scim_json.specs.Drafts.{Draft, IsDraft}
+use Rattle.scim_body.specs.Drafts.{Draft, IsDraft}
 use Rattle.scim_change.specs.Create.{meta_row, id_row, meta_rows, created_rows}
 use Rattle.scim_change.proofs.RowLemmas.{others, four}
 

@@ -13,7 +13,7 @@ use Rattle.scim_cell.specs.Content.{Content}
 use Rattle.scim_cell.specs.Ids.{id_text}
 use Rattle.scim_cell.specs.Rows.{Row, content}
 use Rattle.scim_value.specs.Resource.{location}
-use Rattle.scim_json.specs.Drafts.{Draft}
+use Rattle.scim_body.specs.Drafts.{Draft}
 
 -- the value of a leaf that is a unit of its own
 abbrev pub row_of : Leaf → Atom → Row

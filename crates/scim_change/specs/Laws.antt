@@ -7,7 +7,7 @@ use Rattle.scim_schema.specs.Units.{leaf_at, unit_of}
 use Rattle.scim_cell.specs.Content.{Content}
 use Rattle.scim_cell.specs.Rows.{rows, values}
 use Rattle.scim_value.specs.Resource.{IsResource}
-use Rattle.scim_json.specs.Drafts.{Draft, IsDraft}
+use Rattle.scim_body.specs.Drafts.{Draft, IsDraft}
 use Rattle.scim_change.specs.Replace.{changes, replaced}
 
 -- two resources have the same values of each of these units

@@ -1,3 +1,4 @@
+pub mod Agreement
 pub mod Create
 pub mod Laws
 pub mod Replace

@@ -9,8 +9,8 @@ use Rattle.scim_schema.specs.Units.{leaf_at, unit_of}
 use Rattle.scim_cell.specs.declared.atoms.Atom.TheVariants.{Moment}
 use Rattle.scim_cell.specs.Content.{Content}
 use Rattle.scim_cell.specs.Rows.{Row, rows, content, values, put_values}
-use Rattle.scim_json.specs.Agreement.{are_same_values}
-use Rattle.scim_json.specs.Drafts.{Draft, gives, lacks_required}
+use Rattle.scim_change.specs.Agreement.{are_same_values}
+use Rattle.scim_body.specs.Drafts.{Draft, gives, lacks_required}
 use Rattle.scim_change.specs.Create.{meta_row}
 
 -- rows with the draft's values of each of these units, in place of their own; of a unit that the draft lacks nothing is left

@@ -4,11 +4,11 @@ ghost use Rattle.scim_text.specs.Moments.{last_moment};
 ghost use Rattle.scim_cell.specs.Ids.{IsId};
 ghost use Rattle.scim_cell.specs.declared.atoms.Atom.{Atom};
 ghost use Rattle.scim_value.specs.Resource.{HasBase};
-ghost use Rattle.scim_json.specs.declared.drafts.UseFor.{UseFor};
+ghost use Rattle.scim_body.specs.declared.drafts.UseFor.{UseFor};
 ghost use Rattle.scim_change.specs.Create as spec;
 
+use scim_body::{Draft, UseFor};
 use scim_cell::{Atom, Field, Id, Row, Text};
-use scim_json::{Draft, UseFor};
 use scim_schema::{Attribute, Kind, Leaf, SubAttribute, unit_of};
 use scim_text::{Moment, NoMemory};
 use scim_value::{Part, Resource, location};

@@ -5,12 +5,12 @@ ghost use Rattle.scim_text.specs.Moments.{last_moment};
 ghost use Rattle.scim_schema.specs.Mutability as written;
 ghost use Rattle.scim_cell.specs.Rows.{AreSound, content, put_values, rows, values};
 ghost use Rattle.scim_value.specs.Resource.{HasBase};
-ghost use Rattle.scim_json.specs.Drafts.{IsDraft};
+ghost use Rattle.scim_body.specs.Drafts.{IsDraft};
 ghost use Rattle.scim_change.specs.Replace as spec;
 
 use crate::creating::moment_row;
+use scim_body::{Draft, lacks_required};
 use scim_cell::Row;
-use scim_json::{Draft, lacks_required};
 use scim_schema::{Attribute, Leaf, Mutability, SubAttribute, Unit, mutability_of, unit_of};
 use scim_text::{Failed, Moment, NoMemory};
 use scim_value::{Part, Resource, copy_rows, values_among};
@@ -121,8 +121,9 @@ fn put_given(alloc: Global, part: Part, given: &[Row], unit: Unit) -> Result<Par
     part.put(unit, values)
 }
 
-/// The part as one that was last modified at the moment. NoMemory where none was to be had.
-fn modified_at(alloc: Global, part: Part, moment: Moment) -> Result<Part, NoMemory>
+/// The part as one that was last modified at the moment (RFC 7643 section 3.1). The only error is [`NoMemory`]; the part
+/// is dropped then.
+pub fn modified_at(alloc: Global, part: Part, moment: Moment) -> Result<Part, NoMemory>
     ensures whole { IfOk result (λ p. p ≡ content part.kind part.id (spec.modified_at moment (rows part))) }
     ensures bound { IfOk result (λ p. moment ≤ last_moment) }
 {

@@ -1,3 +1,4 @@
+pub mod Facts
 pub mod AddedTokens
 pub mod Adding
 pub mod Ascending
@@ -15,10 +16,3 @@ pub mod ReadingLemmas
 pub mod TakenLemmas
 pub mod DocumentLemmas
 pub mod OwnRows
-pub mod BodyLemmas
-pub mod SameValueLemmas
-pub mod CollectedLemmas
-pub mod LeafTables
-pub mod GivenFields
-pub mod GivenRows
-pub mod DraftLemmas

@@ -1,6 +1,6 @@
 -- The cells of an attribute by its shape, and of an attribute that no row has.
 use Rattle.std.proofs.Common.{◌≡◌, ◌≢◌, List, [], ◌∷◌, ◌++◌, append-nil, Bool, true, false, ◌||◌, Option, Some, None, inl, inr, refl, ap, ap₂, ◌∙◌}
-use Rattle.std.specs.Prelude.{All, not, if◌then◌else◌}
+use Rattle.std.specs.Prelude.{All, if◌then◌else◌}
 use Rattle.std.specs.List.{list_any, flat_map}
 use Rattle.std.specs.Option.{option_eq}
 use Rattle.std.specs.Ordering.{is_eq}
@@ -32,19 +32,12 @@ use Rattle.scim_schema.specs.declared.json_keys.JsonShape.{JsonShape}
 use Rattle.scim_schema.specs.declared.json_keys.JsonShape.TheVariants.{Simple, Complex, MultiValued}
 use Rattle.scim_schema.specs.JsonKeys.{shape_of, ordered_sub_attributes}
 use Rattle.scim_json.specs.PartData.{has_extension}
+use Rattle.scim_json.proofs.Facts.{fits}
 use Rattle.scim_json.proofs.FoundValues.{all_written, shaped_cells}
 
 -- ---- the tables, by computation
 
--- a shape fits the number of values and the sub-attributes
-abbrev pub fits : JsonShape → Bool → List SubAttribute → Bool
-fits Simple many [] = not many
-fits Simple many (b ∷ bs) = false
-fits Complex many [] = false
-fits Complex many (b ∷ bs) = not many
-fits MultiValued many bs = many
-
--- so does that of each attribute
+-- the shape of each attribute fits it
 pub shape_fits : (a : Attribute) → fits (shape_of a) (is_multi_valued a) (sub_attributes_by_place a) ≡ true
 unfolding shape_of sub_attributes_by_place
 shape_fits Id = refl

@@ -1,9 +1,4 @@
-pub mod Agreement
-pub mod Bodies
-pub mod BodyNames
-pub mod BodyValues
 pub mod Documents
-pub mod Drafts
 pub mod Found
 pub mod Laws
 pub mod ListData

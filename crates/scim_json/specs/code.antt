@@ -1,6 +1,3 @@
--- How the code writes JSON, what it remembers of the items before, and how it keeps what it reads.
-pub mod Given
-pub mod Inside
-pub mod SameValues
+-- How the code writes JSON, and what it remembers of the items before.
 pub mod Taken
 pub mod Tokens

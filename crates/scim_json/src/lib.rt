@@ -2,28 +2,18 @@
 //! 3 and 8, RFC 7644 section 3).
 #![tactic(auto)]
 
-mod agreement;
-mod bodies;
-mod body_names;
-mod body_values;
 mod documents;
-mod drafts;
 mod faults;
 mod laws;
 mod lists;
 mod reading;
-mod required;
-mod same_values;
 mod writing;
 
-pub use bodies::{BodyFault, read_body};
 pub use documents::read_documents;
-pub use drafts::{Draft, UseFor};
 pub use faults::{Damaged, DamagedItem};
 pub use laws::{
     documents_are_apart, documents_read_back, parts_are_shown_whole, stored_resources_read_back,
 };
 pub use lists::to_list_json;
-pub use reading::read_stored;
-pub use required::lacks_required;
+pub use reading::{atom_of, parse, read_stored};
 pub use writing::{stored_text, to_json};

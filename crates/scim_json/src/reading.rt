@@ -46,8 +46,8 @@ pub fn read_stored(alloc: Global, base: &str, text: &str) -> Result<Resource, Fa
     }
 }
 
-/// The JSON value of a text.
-pub(crate) fn parse(alloc: Global, text: &str) -> Result<Value, Failed<Damaged>>
+/// The JSON value of a text (RFC 8259). Damaged where it has none; NoMemory where none was to be had.
+pub fn parse(alloc: Global, text: &str) -> Result<Value, Failed<Damaged>>
     ensures value { IfOk result (λ v. read text.now ≡ Some (view v)) }
     ensures nests { IfOk result (λ v. depth (view v) ≤ max_depth) }
     ensures damaged { OnFault result (read text.now ≡ None) }
@@ -281,8 +281,9 @@ fn read_cell(
     Ok(())
 }
 
-/// The value as an atom of a type, where it is one (RFC 7643 section 2.3).
-pub(crate) fn atom_of(
+/// The value as an atom of a type; None where it isn't one (RFC 7643 section 2.3). NoMemory where none was to be
+/// had.
+pub fn atom_of(
     alloc: Global,
     value: &Value,
     attribute_type: AttributeType,

@@ -16,7 +16,7 @@ use Rattle.scim_schema.specs.Units.{simple}
 use Rattle.scim_cell.specs.Content.{Content}
 use Rattle.scim_cell.specs.Kinds.{is_of, of_kind}
 use Rattle.scim_value.specs.Uniqueness.{Name}
-use Rattle.scim_json.specs.Drafts.{Draft}
+use Rattle.scim_body.specs.Drafts.{Draft}
 use Rattle.scim_json.specs.PartData.{part_data}
 use Rattle.scim_policy.specs.declared.rules.Decision.{Decision}
 use Rattle.scim_view.specs.declared.projection.Wanted.{Wanted}

@@ -16,8 +16,8 @@ use Rattle.scim_schema.specs.Units.{simple, units}
 use Rattle.scim_cell.specs.Content.{Content}
 use Rattle.scim_cell.specs.Rows.{rows}
 use Rattle.scim_audit.specs.declared.refusals.Refusal.TheVariants.{ResultValue, Taken}
-use Rattle.scim_json.specs.Agreement.{agrees}
-use Rattle.scim_json.specs.Drafts.{Draft, gives}
+use Rattle.scim_change.specs.Agreement.{agrees}
+use Rattle.scim_body.specs.Drafts.{Draft, gives}
 use Rattle.scim_change.specs.Replace.{changes, replaced}
 use Rattle.scim_policy.specs.declared.rules.Decision.{Decision}
 use Rattle.scim_policy.specs.Access.{Access, forbidding, widening}

@@ -14,7 +14,7 @@ use Rattle.scim_cell.specs.Content.{Content}
 use Rattle.scim_cell.specs.Rows.{rows, content}
 use Rattle.scim_audit.specs.declared.refusals.Refusal.{Refusal}
 use Rattle.scim_audit.specs.declared.rows.AuditRow.{AuditRow}
-use Rattle.scim_json.specs.Drafts.{Draft, lacks_required}
+use Rattle.scim_body.specs.Drafts.{Draft, lacks_required}
 use Rattle.scim_change.specs.Replace.{changes, with_units, modified_at, if_complete, replaced}
 use Rattle.scim_policy.specs.declared.rules.Decision.{Decision}
 use Rattle.scim_policy.specs.Access.{Access, widening}

@@ -23,10 +23,10 @@ use Rattle.scim_audit.specs.declared.rows.Decided.{Decided}
 use Rattle.scim_audit.specs.declared.rows.Decided.TheVariants as decided
 use Rattle.scim_audit.specs.declared.rows.AuditRow.{AuditRow}
 use Rattle.scim_value.specs.Resource.{location}
-use Rattle.scim_json.specs.declared.drafts.UseFor.TheVariants.{Creating}
-use Rattle.scim_json.specs.contracts.drafts.UseFor.{the_type as the_use_for}
-use Rattle.scim_json.specs.Agreement.{agrees}
-use Rattle.scim_json.specs.Drafts.{Draft, gives}
+use Rattle.scim_body.specs.declared.drafts.UseFor.TheVariants.{Creating}
+use Rattle.scim_body.specs.contracts.drafts.UseFor.{the_type as the_use_for}
+use Rattle.scim_change.specs.Agreement.{agrees}
+use Rattle.scim_body.specs.Drafts.{Draft, gives}
 use Rattle.scim_json.specs.PartData.{part_data}
 use Rattle.scim_json.specs.ListData.{list_data}
 use Rattle.scim_change.specs.Create.{created}

@@ -17,8 +17,8 @@ use crate::changed::plan_changed;
 use crate::plans::{Plan, absent, denied, found, hidden, refused};
 use crate::requests::Turn;
 use scim_audit::Refusal;
-use scim_change::{MissingRequired, replace};
-use scim_json::Draft;
+use scim_body::Draft;
+use scim_change::{MissingRequired, agrees, replace};
 use scim_policy::{Decision, Rights};
 use scim_schema::{Attribute, Kind, Leaf, Mutability, Unit, mutability_of, units};
 use scim_shelf::{Shelf, ShelfFault};
@@ -84,7 +84,7 @@ fn unit_denied(
 ) -> Result<Option<(Leaf, Decision)>, NoMemory>
     ensures { IfOk result (λ o. o ≡ spec.unit_denied (access_in rights.now) draft.now seen.now unit) }
 {
-    if !is_questionable(rights, draft, unit) || draft.agrees(alloc, unit, seen)? {
+    if !is_questionable(rights, draft, unit) || agrees(alloc, draft, unit, seen)? {
         return Ok(None);
     }
     Ok(rights.forbidding(draft.kind(), unit))

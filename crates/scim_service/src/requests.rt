@@ -1,7 +1,7 @@
 //! What clients ask of the service.
 use scim_audit::Refusal;
+use scim_body::Draft;
 use scim_cell::{Id, Text};
-use scim_json::Draft;
 use scim_query::Query;
 use scim_schema::{Kind, Op};
 use scim_text::Moment;

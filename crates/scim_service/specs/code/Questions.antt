@@ -2,7 +2,7 @@
 use Rattle.std.specs.Prelude.{Bool, not, ◌&&◌, is_some}
 use Rattle.scim_schema.specs.declared.Unit.{Unit as AttributeUnit}
 use Rattle.scim_schema.specs.Mutability.{is_fixed}
-use Rattle.scim_json.specs.Drafts.{Draft, gives}
+use Rattle.scim_body.specs.Drafts.{Draft, gives}
 use Rattle.scim_policy.specs.Access.{Access, forbidding}
 
 -- whether a body gives a unit that may not be written, so that it counts what is seen there

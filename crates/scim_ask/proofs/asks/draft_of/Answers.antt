@@ -2,7 +2,7 @@ use Rattle.std.proofs.Common.{◌≡◌, subst}
 use Rattle.std.specs.Prelude.{Result}
 use Rattle.scim_text.specs.Failures.{UnlessMemory}
 use Rattle.scim_audit.specs.declared.refusals.Refusal.{Refusal}
-use Rattle.scim_json.specs.Drafts.{Draft}
+use Rattle.scim_body.specs.Drafts.{Draft}
 use Rattle.scim_ask.specs.Refused.{Tells}
 use Rattle.scim_ask.proofs.BodyLemmas.{draft_of_text, no_draft}
 use Rattle.scim_ask.proofs.asks.draft_of.Goals as goal

@@ -1,7 +1,7 @@
 use Rattle.std.proofs.Common.{◌≡◌, ◌++◌, drop, option_map}
 use Rattle.serde_json.specs.View.{items_view}
-use Rattle.scim_json.specs.BodyNames.{items_list}
-use Rattle.scim_json.specs.BodyValues.{collected}
+use Rattle.scim_body.specs.BodyNames.{items_list}
+use Rattle.scim_body.specs.BodyValues.{collected}
 use Rattle.scim_ask.specs.SearchBodies.{text_item}
 use Rattle.scim_ask.specs.code.Views.{texts_in}
 use Rattle.scim_ask.proofs.search_bodies.texts_of.Given as goal

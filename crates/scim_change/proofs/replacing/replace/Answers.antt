@@ -5,7 +5,7 @@ use Rattle.scim_schema.specs.declared.Unit.{Unit as AttributeUnit}
 use Rattle.scim_cell.specs.Content.{Content}
 use Rattle.scim_cell.specs.Rows.{Row, rows, content}
 use Rattle.scim_value.specs.Resource.{IsResource, HasBase}
-use Rattle.scim_json.specs.Drafts.{Draft, lacks_required}
+use Rattle.scim_body.specs.Drafts.{Draft, lacks_required}
 use Rattle.scim_change.specs.Replace.{changes, with_units, modified_at}
 use Rattle.scim_change.proofs.ReplaceLemmas.{is_resource, base_kept, as_it_was, refused, complete}
 use Rattle.scim_change.proofs.replacing.replace.Goals as goal

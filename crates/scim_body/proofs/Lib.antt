@@ -1,0 +1,6 @@
+pub mod BodyLemmas
+pub mod CollectedLemmas
+pub mod LeafTables
+pub mod GivenFields
+pub mod GivenRows
+pub mod DraftLemmas

@@ -1,0 +1,79 @@
+-- The keys of a body, which name attributes in any case of their letters (RFC 7643 section 2.1), and those of which two are one name.
+use Rattle.std.specs.Prelude.{ℕ, List, [], ◌∷◌, ◌&&◌, ◌||◌, Bool, false, not, Option, None, Some, length, nat_lt, if◌then◌else◌}
+use Rattle.std.specs.List.{list_any}
+use Rattle.std.specs.Option.{option_eq}
+use denote.Enum.Bare.{sameb}
+use Rattle.serde_json.specs.Data.{Data, Items, no_items, item, Members, no_members, member}
+use Rattle.serde_json.specs.Find.{as_array, as_object}
+use Rattle.scim_schema.specs.declared.Kind.{Kind}
+use Rattle.scim_schema.specs.declared.Attribute.{Attribute}
+use Rattle.scim_schema.specs.declared.schemas.Schema.{Schema}
+use Rattle.scim_schema.specs.contracts.schemas.Schema.{the_type as the_schema}
+use Rattle.scim_schema.specs.Names.{attribute_name, sub_attribute_name}
+use Rattle.scim_schema.specs.Schemas.{urn, extensions, extension_of}
+use Rattle.scim_schema.specs.Table.{attributes, sub_attributes}
+use Rattle.scim_schema.specs.Characteristics.{is_multi_valued}
+use Rattle.scim_schema.specs.Units.{simple}
+use Rattle.scim_schema.specs.Mutability.{is_read_only}
+use Rattle.scim_text.specs.Names.{is_same_name}
+
+-- the values of the members whose key is the name, in order
+abbrev pub values_named : List ℕ → Members → List Data
+values_named name no_members = []
+values_named name (member k d ms) = if is_same_name name k then d ∷ values_named name ms else values_named name ms
+
+-- the first of values
+abbrev pub first : List Data → Option Data
+first [] = None
+first (d ∷ ds) = Some d
+
+-- the value under a name
+abbrev pub value_named : List ℕ → Members → Option Data
+value_named name ms = first (values_named name ms)
+
+-- whether two keys are one name
+abbrev pub is_twice : List ℕ → Members → Bool
+is_twice name ms = nat_lt 1 (length (values_named name ms))
+
+-- whether something is there that passes a test
+abbrev pub is_there_and : {A : Type 0} → (A → Bool) → Option A → Bool
+is_there_and test None = false
+is_there_and test (Some a) = test a
+
+-- the values of a list
+abbrev pub items_list : Items → List Data
+items_list no_items = []
+items_list (item d ds) = d ∷ items_list ds
+
+-- the values that are meant where a list is due: those of a list, and anything else as the one value of a list
+abbrev pub listed : Option Items → Data → List Data
+listed None d = d ∷ []
+listed (Some ds) d = items_list ds
+
+-- whether two keys of an object name one sub-attribute of the attribute
+abbrev pub sub_attributes_clash : Attribute → Members → Bool
+sub_attributes_clash a ms = list_any (λ b. is_twice (sub_attribute_name b) ms) (sub_attributes a)
+
+-- whether they do in a value of the attribute, which has keys where it is an object
+abbrev pub value_clashes : Attribute → Data → Bool
+value_clashes a d = is_there_and (sub_attributes_clash a) (as_object d)
+
+-- whether they do in what a body has for the attribute: in some value of a multi-valued one, also one that would be dropped
+abbrev pub values_clash : Attribute → Data → Bool
+values_clash a d = if is_multi_valued a then list_any (value_clashes a) (listed (as_array d) d) else value_clashes a d
+
+-- whether two keys name the attribute, or, unless it is readOnly, one of its sub-attributes in a value
+unfoldable pub attribute_clashes : Kind → Members → Attribute → Bool
+attribute_clashes kind ms a = is_twice (attribute_name a) ms || (not (is_read_only kind (simple a)) && is_there_and (values_clash a) (value_named (attribute_name a) ms))
+
+-- whether they do for an attribute of that extension; for None of the core schema
+abbrev pub schema_clashes : Kind → Option Schema → Members → Bool
+schema_clashes kind s ms = list_any (λ a. option_eq (sameb the_schema) (extension_of a) s && attribute_clashes kind ms a) (attributes kind)
+
+-- whether two keys are the URN of the extension, or clash in its object (RFC 7643 section 3.3)
+abbrev pub extension_clashes : Kind → Members → Schema → Bool
+extension_clashes kind ms s = is_twice (urn s) ms || is_there_and (λ d. is_there_and (schema_clashes kind (Some s)) (as_object d)) (value_named (urn s) ms)
+
+-- whether two keys clash anywhere in a body
+unfoldable pub body_clashes : Kind → Members → Bool
+body_clashes kind ms = schema_clashes kind None ms || list_any (extension_clashes kind ms) (extensions kind)

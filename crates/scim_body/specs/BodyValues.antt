@@ -1,0 +1,143 @@
+-- What the values in a body are read as (RFC 7643 sections 2.3 to 2.5). None stands for a value that is refused.
+use Rattle.std.specs.Prelude.{ℕ, List, [], ◌∷◌, ◌++◌, ◌||◌, Bool, true, false, Option, Some, None, option_map, option_and_then, length, nat_lt, nat_le, if◌then◌else◌, codes}
+use Rattle.std.specs.List.{list_any, count_by}
+use denote.Enum.Bare.{sameb}
+use Rattle.serde_json.specs.Data.{Data, null, boolean, number, string, array, object, no_items, item, Members}
+use Rattle.serde_json.specs.Find.{as_array, as_object}
+use Rattle.scim_schema.specs.declared.Kind.{Kind}
+use Rattle.scim_schema.specs.declared.Attribute.{Attribute}
+use Rattle.scim_schema.specs.declared.SubAttribute.{SubAttribute}
+use Rattle.scim_schema.specs.declared.SubAttribute.TheVariants as sub_attribute
+use Rattle.scim_schema.specs.declared.characteristics.AttributeType.{AttributeType}
+use Rattle.scim_schema.specs.declared.characteristics.AttributeType.TheVariants.{Boolean}
+use Rattle.scim_schema.specs.contracts.SubAttribute.{the_type as the_sub_attribute}
+use Rattle.scim_schema.specs.contracts.characteristics.AttributeType.{the_type as the_attribute_type}
+use Rattle.scim_schema.specs.Names.{sub_attribute_name}
+use Rattle.scim_schema.specs.Table.{sub_attributes}
+use Rattle.scim_schema.specs.Characteristics.{characteristics_of}
+use Rattle.scim_schema.specs.Units.{leaf_at, whole}
+use Rattle.scim_schema.specs.Mutability.{is_read_only}
+use Rattle.scim_text.specs.Names.{is_same_name}
+use Rattle.scim_cell.specs.declared.atoms.Atom.{Atom}
+use Rattle.scim_cell.specs.declared.atoms.Atom.TheVariants.{Text, Truth, Moment}
+use Rattle.scim_cell.specs.declared.rows.Field.{Field}
+use Rattle.scim_cell.specs.Place.{sub_attributes_by_place}
+use Rattle.scim_cell.specs.Rows.{Row, is_primary}
+use Rattle.scim_lists.specs.SameValues.{is_nameless, with_values}
+use Rattle.scim_json.specs.Found.{atom_of}
+use Rattle.scim_body.specs.BodyNames.{value_named, listed}
+
+-- ---- one value
+
+-- what is read of each of some things, in order; None where one of them is refused
+abbrev pub collected : {K X : Type 0} → (K → Option (List X)) → List K → Option (List X)
+collected read [] = Some []
+collected read (k ∷ ks) = option_and_then (λ xs. option_map (λ ys. xs ++ ys) (collected read ks)) (read k)
+
+-- null and `[]`, which count as no value (RFC 7643 section 2.5)
+abbrev pub is_absent : Data → Bool
+is_absent null = true
+is_absent (array no_items) = true
+is_absent (array (item d ds)) = false
+is_absent (boolean b) = false
+is_absent (number n) = false
+is_absent (string s) = false
+is_absent (object ms) = false
+
+-- a value, unless it counts as none
+abbrev pub present : Option Data → Option Data
+present None = None
+present (Some d) = if is_absent d then None else Some d
+
+-- the value that an object gives under a name
+abbrev pub given_named : List ℕ → Members → Option Data
+given_named name ms = present (value_named name ms)
+
+-- what is read of a value that is given; nothing, where none is
+abbrev pub if_given : {X : Type 0} → (Data → Option (List X)) → Option Data → Option (List X)
+if_given read None = Some []
+if_given read (Some d) = read d
+
+-- the boolean that a text names, in any case of its letters
+abbrev pub truth_of_text : List ℕ → Option Bool
+truth_of_text s = if is_same_name s (codes "true") then Some true else (if is_same_name s (codes "false") then Some false else None)
+
+-- a boolean, or the text that names it
+abbrev pub truth_of : Data → Option Bool
+truth_of (boolean b) = Some b
+truth_of (string s) = truth_of_text s
+truth_of null = None
+truth_of (number n) = None
+truth_of (array ds) = None
+truth_of (object ms) = None
+
+-- whether an atom is within the limit: a text has at most 65,536 bytes
+abbrev pub is_short : Atom → Bool
+is_short (Text t) = nat_le (length t) 65536
+is_short (Truth b) = true
+is_short (Moment m) = true
+
+abbrev pub short : Atom → Option Atom
+short atom = if is_short atom then Some atom else None
+
+-- the value as an atom of a type
+abbrev pub given_atom : AttributeType → Data → Option Atom
+given_atom t d = if sameb the_attribute_type t Boolean then option_map Truth (truth_of d) else option_and_then short (atom_of t d)
+
+-- ---- complex values
+
+-- the field of a sub-attribute that has this value
+abbrev pub field_with : Kind → Attribute → SubAttribute → Data → Option (List Field)
+field_with kind a b d =
+    option_map (λ atom. record { leaf = leaf_at a b; atom = atom } ∷ []) (given_atom (characteristics_of kind (leaf_at a b)).attribute_type d)
+
+-- the field of a sub-attribute that an object gives; what is readOnly is ignored (RFC 7643 section 2.2)
+abbrev pub field_in : Kind → Attribute → Members → SubAttribute → Option (List Field)
+field_in kind a ms b =
+    if is_read_only kind (leaf_at a b) then Some [] else if_given (field_with kind a b) (given_named (sub_attribute_name b) ms)
+
+-- the fields that an object gives, in order of place; keys that name no sub-attribute are ignored
+abbrev pub fields_in : Kind → Attribute → Members → Option (List Field)
+fields_in kind a ms = collected (field_in kind a ms) (sub_attributes_by_place a)
+
+-- whether the attribute has a sub-attribute `value` (RFC 7643 section 2.4)
+abbrev pub has_value : Attribute → Bool
+has_value a = list_any (λ b. sameb the_sub_attribute b sub_attribute.Value) (sub_attributes a)
+
+-- the field of what isn't an object: it is the `value`, where there is one
+abbrev pub value_alone : Kind → Attribute → Data → Option (List Field)
+value_alone kind a d = if has_value a then field_with kind a sub_attribute.Value d else None
+
+abbrev pub fields_with : Kind → Attribute → Data → Option Members → Option (List Field)
+fields_with kind a d None = value_alone kind a d
+fields_with kind a d (Some ms) = fields_in kind a ms
+
+-- the fields of a value of a complex attribute (RFC 7643 section 2.3.8)
+abbrev pub fields_of : Kind → Attribute → Data → Option (List Field)
+fields_of kind a d = fields_with kind a d (as_object d)
+
+-- ---- values of a multi-valued attribute (RFC 7643 section 2.4)
+
+-- the value that has these fields; none, where there is no field
+abbrev pub value_with : Attribute → List Field → List Row
+value_with a [] = []
+value_with a (f ∷ fs) = record { unit = whole a; fields = f ∷ fs } ∷ []
+
+-- the value that an item of a list is; none, where it counts as none
+abbrev pub value_of : Kind → Attribute → Data → Option (List Row)
+value_of kind a d = if is_absent d then Some [] else option_map (value_with a) (fields_of kind a d)
+
+-- whether the values are refused: two are primary, there are over 10,000, or a member has no `value`
+abbrev pub are_refused : Attribute → List Row → Bool
+are_refused a rs = nat_lt 1 (count_by is_primary rs) || nat_lt 10000 (length rs) || list_any (is_nameless a) rs
+
+abbrev pub checked : Attribute → List Row → Option (List Row)
+checked a rs = if are_refused a rs then None else Some rs
+
+-- the values that are given for a multi-valued attribute: those of a list, or one alone
+abbrev pub listed_values : Kind → Attribute → Data → Option (List Row)
+listed_values kind a d = collected (value_of kind a) (listed (as_array d) d)
+
+-- the values of a multi-valued attribute: each that is given once
+abbrev pub values_of : Kind → Attribute → Data → Option (List Row)
+values_of kind a d = option_and_then (λ rs. checked a (with_values a [] rs)) (listed_values kind a d)

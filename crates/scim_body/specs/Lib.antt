@@ -1,0 +1,5 @@
+pub mod BodyNames
+pub mod BodyValues
+pub mod Drafts
+pub mod Bodies
+pub mod code

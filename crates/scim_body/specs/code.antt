@@ -1,0 +1,3 @@
+-- How drafts are kept, and what was read of the values of a body.
+pub mod Given
+pub mod Inside

@@ -1,0 +1,363 @@
+//! Bodies of requests that make or replace a resource (RFC 7644 sections 3.3 and 3.5.1): first the form
+//! of a whole body, then its values.
+ghost use Rattle.std.specs.Prelude.{◌≡◌, ◌++◌, IfOk, OnOk, Some, None, option_map, map};
+ghost use Rattle.std.specs.List.{flat_map};
+ghost use Rattle.serde_json.specs.Read.{read};
+ghost use Rattle.serde_json.specs.View.{view, members_view};
+ghost use Rattle.scim_text.specs.Failures.{UnlessMemory, OnFault};
+ghost use Rattle.scim_body.specs.BodyValues.{collected, values_of};
+ghost use Rattle.scim_body.specs.Bodies as spec;
+ghost use Rattle.scim_body.specs.Bodies.{GivesDraft};
+ghost use Rattle.scim_body.specs.Drafts as drafts;
+ghost use Rattle.scim_body.specs.code.Given.{AreOfBody, with_given, unit_given, units_given, members_or_none};
+
+use crate::clashes::body_clashes;
+use crate::drafts::{Draft, UseFor};
+use crate::members::given_named;
+use crate::required::lacks_required;
+use crate::values::{WrongValue, read_atom, read_fields, read_values};
+use scim_cell::{Atom, Field, Row};
+use scim_json::{Damaged, parse};
+use scim_schema::{
+    Attribute, JsonShape, Kind, Leaf, Schema, Unit, attributes, characteristics_of, extension_of,
+    is_read_only, is_write_only, shape_of, unit_of,
+};
+use scim_text::{Failed, NoMemory};
+use serde_json::{Map, Value};
+use std::alloc::Global;
+use thiserror::Error;
+
+/// Why a body is refused.
+#[derive(Clone, Copy, Debug, PartialEq, Eq, Error)]
+pub enum BodyFault {
+    /// It isn't a JSON object, or two keys of one object that differ are one name (RFC 7644 section
+    /// 3.12, invalidSyntax).
+    #[error("not a JSON object whose keys are each a name of its own")]
+    Syntax,
+    /// A value is of another type or over a limit, or what is required is missing (RFC 7644 section
+    /// 3.12, invalidValue).
+    #[error("a value is missing, of another type, or over a limit")]
+    Value,
+}
+
+/// A unit that a body gives, and the values that are kept for it.
+#[derive(Drop)]
+struct UnitGiven {
+    unit: Unit,
+    values: Vec<Row>,
+}
+
+/// What a body gives of a resource of the kind (RFC 7643 sections 2 to 4): the values that it has for
+/// attributes of the kind that aren't readOnly, with names in any case of their letters. A boolean may
+/// be the text that names it, a list of one its one value, a complex value the text that is its `value`.
+/// null, `[]`, values without known sub-attributes, and those that are the same as an earlier one of
+/// their list count as none. `schemas` isn't looked at.
+///
+/// Syntax where the text isn't a JSON object, or where two keys that differ name one attribute, one
+/// extension, or one sub-attribute within a value that isn't readOnly, wherever in the body. Else Value
+/// where a value is of another type, a text is over 65,536 bytes, `userName` is empty, a member has no
+/// `value`, an attribute has two values whose `primary` is true or over 10,000, and, in a body that is
+/// read for Creating, where a required attribute is missing. NoMemory where none was to be had.
+pub fn read_body(
+    alloc: Global,
+    kind: Kind,
+    use_for: UseFor,
+    text: &str,
+) -> Result<Draft, Failed<BodyFault>>
+    ensures { UnlessMemory (GivesDraft kind use_for (read text.now)) result }
+{
+    let value = match parse(alloc, text) {
+        Ok(value) => value,
+        Err(Failed::Because(Damaged)) => return Err(Failed::Because(BodyFault::Syntax)),
+        Err(Failed::NoMemory) => return Err(Failed::NoMemory),
+    };
+    let Some(members) = value.as_object() else {
+        return Err(Failed::Because(BodyFault::Syntax));
+    };
+    if body_clashes(members, kind) {
+        return Err(Failed::Because(BodyFault::Syntax));
+    }
+    match read_draft(alloc, members, kind, use_for) {
+        Ok(draft) => Ok(draft),
+        Err(Failed::Because(WrongValue)) => Err(Failed::Because(BodyFault::Value)),
+        Err(Failed::NoMemory) => Err(Failed::NoMemory),
+    }
+}
+
+/// The draft of an object.
+///
+/// WrongValue where a value is refused, or in a create a required attribute is missing. NoMemory where
+/// none was to be had.
+fn read_draft(
+    alloc: Global,
+    members: &Map<String, Value>,
+    kind: Kind,
+    use_for: UseFor,
+) -> Result<Draft, Failed<WrongValue>>
+    ensures given { IfOk result
+        (λ d. spec.body_with kind use_for (spec.all_given kind (members_view members.now.entries)) ≡ spec.drafted d) }
+    ensures wrong { OnFault result
+        (spec.body_with kind use_for (spec.all_given kind (members_view members.now.entries)) ≡ spec.wrong) }
+{
+    let given = read_all(alloc, members, kind)?;
+    draft_of(alloc, kind, use_for, given)
+}
+
+/// All that the body gives.
+///
+/// Errors: as `read_attributes`.
+#[tactic(auto, unfolding(crate::specs::Bodies::all_given))]
+fn read_all(
+    alloc: Global,
+    members: &Map<String, Value>,
+    kind: Kind,
+) -> Result<Vec<UnitGiven>, Failed<WrongValue>>
+    ensures given { IfOk result
+        (λ v. spec.all_given kind (members_view members.now.entries) ≡ Some (units_given v.items)) }
+    ensures wrong { OnFault result (spec.all_given kind (members_view members.now.entries) ≡ None) }
+{
+    let mut given = Vec::new(alloc);
+    read_attributes(alloc, members, kind, attributes(kind), &mut given)?;
+    Ok(given)
+}
+
+/// What the body gives of these attributes.
+///
+/// WrongValue where a value is refused; `given` has then what came before it. NoMemory where none was
+/// to be had.
+fn read_attributes(
+    alloc: Global,
+    members: &Map<String, Value>,
+    kind: Kind,
+    attributes: &[Attribute],
+    given: &mut Vec<UnitGiven>,
+) -> Result<(), Failed<WrongValue>>
+    ensures given { OnOk result
+        (with_given given.old.items (collected (spec.given_of kind (members_view members.now.entries)) attributes.now)
+        ≡ Some (units_given given.new.items)) }
+    ensures wrong { OnFault result
+        (collected (spec.given_of kind (members_view members.now.entries)) attributes.now ≡ None) }
+{
+    for attribute in attributes {
+        read_given(alloc, members, kind, *attribute, given)?;
+    }
+    Ok(())
+}
+
+/// What the body gives of an attribute, in its own object or in that of an extension.
+///
+/// Errors: as `read_attributes`.
+fn read_given(
+    alloc: Global,
+    members: &Map<String, Value>,
+    kind: Kind,
+    attribute: Attribute,
+    given: &mut Vec<UnitGiven>,
+) -> Result<(), Failed<WrongValue>>
+    ensures given { OnOk result
+        (with_given given.old.items (spec.given_of kind (members_view members.now.entries) attribute)
+        ≡ Some (units_given given.new.items)) }
+    ensures wrong { OnFault result
+        (spec.given_of kind (members_view members.now.entries) attribute ≡ None) }
+{
+    match schema_members(members, extension_of(attribute))? {
+        Some(object) => read_attribute(alloc, object, kind, attribute, given),
+        None => Ok(()),
+    }
+}
+
+/// The object in which the attributes of an extension stand, or of the core schema; None where it isn't
+/// given. WrongValue where it is no object.
+fn schema_members(
+    members: &Map<String, Value>,
+    schema: Option<Schema>,
+) -> Result<Option<&Map<String, Value>>, Failed<WrongValue>>
+    ensures given { IfOk result (λ o. spec.schema_members schema (members_view members.now.entries)
+        ≡ Some (members_or_none (option_map (λ m. members_view m.now.entries) o))) }
+    ensures wrong { OnFault result (spec.schema_members schema (members_view members.now.entries) ≡ None) }
+{
+    let Some(schema) = schema else {
+        return Ok(Some(members));
+    };
+    match given_named(members, schema.urn()) {
+        Some(value) => match value.as_object() {
+            Some(object) => Ok(Some(object)),
+            None => Err(Failed::Because(WrongValue)),
+        },
+        None => Ok(None),
+    }
+}
+
+/// What an object gives of an attribute.
+///
+/// Errors: as `read_attributes`.
+fn read_attribute(
+    alloc: Global,
+    members: &Map<String, Value>,
+    kind: Kind,
+    attribute: Attribute,
+    given: &mut Vec<UnitGiven>,
+) -> Result<(), Failed<WrongValue>>
+    ensures given { OnOk result
+        (with_given given.old.items (spec.attribute_given kind attribute (members_view members.now.entries))
+        ≡ Some (units_given given.new.items)) }
+    ensures wrong { OnFault result
+        (spec.attribute_given kind attribute (members_view members.now.entries) ≡ None) }
+{
+    if is_read_only(kind, Leaf::simple(attribute)) {
+        return Ok(());
+    }
+    let Some(value) = given_named(members, attribute.name()) else {
+        return Ok(());
+    };
+    match shape_of(attribute) {
+        JsonShape::Simple => read_simple(alloc, value, kind, attribute, given),
+        JsonShape::Complex => read_complex(alloc, value, kind, attribute, given),
+        JsonShape::MultiValued => read_multi_valued(alloc, value, kind, attribute, given),
+    }
+}
+
+/// A simple attribute.
+///
+/// Errors: as `read_attributes`.
+fn read_simple(
+    alloc: Global,
+    value: &Value,
+    kind: Kind,
+    attribute: Attribute,
+    given: &mut Vec<UnitGiven>,
+) -> Result<(), Failed<WrongValue>>
+    ensures given { OnOk result (with_given given.old.items (spec.simple_given kind attribute (view value.now))
+        ≡ Some (units_given given.new.items)) }
+    ensures wrong { OnFault result (spec.simple_given kind attribute (view value.now) ≡ None) }
+{
+    let leaf = Leaf::simple(attribute);
+    let atom = read_atom(alloc, value, characteristics_of(kind, leaf).attribute_type)?;
+    if attribute == Attribute::UserName && is_empty(&atom) {
+        return Err(Failed::Because(WrongValue));
+    }
+    given.push(field_given(alloc, kind, Field { leaf, atom })?)?;
+    Ok(())
+}
+
+/// Whether an atom is an empty text.
+fn is_empty(atom: &Atom) -> bool
+    ensures { result ≡ drafts.is_empty atom.now }
+{
+    match atom {
+        Atom::Text(text) => text.as_str().is_empty(),
+        Atom::Truth(_) | Atom::Moment(_) => false,
+    }
+}
+
+/// The unit of a field of its own; of a writeOnly one nothing is kept. NoMemory where none was to be
+/// had.
+fn field_given(alloc: Global, kind: Kind, field: Field) -> Result<UnitGiven, NoMemory>
+    ensures { IfOk result (λ g. unit_given g ≡ spec.field_given kind field) }
+{
+    let unit = unit_of(field.leaf);
+    let mut values = Vec::new(alloc);
+    if is_write_only(kind, field.leaf) {
+        return Ok(UnitGiven { unit, values });
+    }
+    let mut fields = Vec::new(alloc);
+    fields.push(field)?;
+    values.push(Row::new(unit, fields))?;
+    Ok(UnitGiven { unit, values })
+}
+
+/// A complex attribute.
+///
+/// Errors: as `read_attributes`.
+fn read_complex(
+    alloc: Global,
+    value: &Value,
+    kind: Kind,
+    attribute: Attribute,
+    given: &mut Vec<UnitGiven>,
+) -> Result<(), Failed<WrongValue>>
+    ensures given { OnOk result (with_given given.old.items (spec.complex_given kind attribute (view value.now))
+        ≡ Some (units_given given.new.items)) }
+    ensures wrong { OnFault result (spec.complex_given kind attribute (view value.now) ≡ None) }
+{
+    let fields = read_fields(alloc, value, kind, attribute)?;
+    push_fields(alloc, kind, fields, given)?;
+    Ok(())
+}
+
+/// Each field as a unit of its own. NoMemory where none was to be had.
+fn push_fields(
+    alloc: Global,
+    kind: Kind,
+    fields: Vec<Field>,
+    given: &mut Vec<UnitGiven>,
+) -> Result<(), NoMemory>
+    ensures { OnOk result (units_given given.new.items
+        ≡ units_given given.old.items ++ map (spec.field_given kind) fields.items) }
+{
+    for field in fields {
+        given.push(field_given(alloc, kind, field)?)?;
+    }
+    Ok(())
+}
+
+/// A multi-valued attribute; it isn't given where no value is left.
+///
+/// Errors: as `read_attributes`.
+fn read_multi_valued(
+    alloc: Global,
+    value: &Value,
+    kind: Kind,
+    attribute: Attribute,
+    given: &mut Vec<UnitGiven>,
+) -> Result<(), Failed<WrongValue>>
+    ensures given { OnOk result
+        (with_given given.old.items (option_map (spec.whole_given attribute) (values_of kind attribute (view value.now)))
+        ≡ Some (units_given given.new.items)) }
+    ensures wrong { OnFault result (values_of kind attribute (view value.now) ≡ None) }
+{
+    let values = read_values(alloc, value, kind, attribute)?;
+    if !values.is_empty() {
+        let unit = Unit::whole(attribute);
+        given.push(UnitGiven { unit, values })?;
+    }
+    Ok(())
+}
+
+/// The draft of what a body gives; a create needs what is required.
+///
+/// WrongValue where that is missing. NoMemory where none was to be had.
+fn draft_of(
+    alloc: Global,
+    kind: Kind,
+    use_for: UseFor,
+    given: Vec<UnitGiven>,
+) -> Result<Draft, Failed<WrongValue>>
+    requires { AreOfBody kind given.items }
+    ensures given { IfOk result
+        (λ d. spec.judged use_for (spec.draft_of kind use_for (units_given given.items)) ≡ spec.drafted d) }
+    ensures wrong { OnFault result
+        (spec.judged use_for (spec.draft_of kind use_for (units_given given.items)) ≡ spec.wrong) }
+{
+    let (units, rows) = parts_of(alloc, given)?;
+    if use_for == UseFor::Creating && lacks_required(kind, rows.as_slice()) {
+        return Err(Failed::Because(WrongValue));
+    }
+    Ok(Draft::new(kind, use_for, units, rows))
+}
+
+/// The units that are given, and the rows of their values, one unit after another. NoMemory where none
+/// was to be had.
+fn parts_of(alloc: Global, given: Vec<UnitGiven>) -> Result<(Vec<Unit>, Vec<Row>), NoMemory>
+    ensures units { IfOk result (λ parts. parts.0.items ≡ map (λ g. g.unit) (units_given given.items)) }
+    ensures rows { IfOk result (λ parts. parts.1.items ≡ flat_map (λ g. g.values) (units_given given.items)) }
+{
+    let mut units = Vec::new(alloc);
+    let mut rows = Vec::new(alloc);
+    for one in given {
+        let UnitGiven { unit, mut values } = one;
+        units.push(unit)?;
+        rows.append(&mut values)?;
+    }
+    Ok((units, rows))
+}

@@ -1,0 +1,124 @@
+//! Keys of a body that clash: two keys of one object that are one name leave open which of their values is meant.
+ghost use Rattle.std.specs.Prelude.{◌≡◌};
+ghost use Rattle.std.specs.List.{list_any};
+ghost use Rattle.serde_json.specs.View.{view, items_view, members_view};
+ghost use Rattle.scim_body.specs.BodyNames as spec;
+
+use crate::members::{is_twice, value_named};
+use scim_schema::{
+    Attribute, Kind, Leaf, Schema, attributes, extension_of, extensions, is_multi_valued,
+    is_read_only, sub_attributes,
+};
+use serde_json::{Map, Value};
+
+/// Whether two keys name one sub-attribute of the attribute.
+fn sub_attributes_clash(members: &Map<String, Value>, attribute: Attribute) -> bool
+    ensures { result ≡ spec.sub_attributes_clash attribute (members_view members.now.entries) }
+{
+    for sub_attribute in sub_attributes(attribute) {
+        if is_twice(members, sub_attribute.name()) {
+            return true;
+        }
+    }
+    false
+}
+
+/// Whether they do in a value of the attribute.
+fn value_clashes(value: &Value, attribute: Attribute) -> bool
+    ensures { result ≡ spec.value_clashes attribute (view value.now) }
+{
+    match value.as_object() {
+        Some(members) => sub_attributes_clash(members, attribute),
+        None => false,
+    }
+}
+
+/// Whether they do in one of some values.
+fn any_clashes(values: &[Value], attribute: Attribute) -> bool
+    ensures { result ≡ list_any (spec.value_clashes attribute) (spec.items_list (items_view values.now)) }
+{
+    for value in values {
+        if value_clashes(value, attribute) {
+            return true;
+        }
+    }
+    false
+}
+
+/// Whether two keys name one sub-attribute in what a body has for the attribute: in some value of a multi-valued one, also
+/// in one that counts as none.
+pub fn values_clash(value: &Value, attribute: Attribute) -> bool
+    ensures { result ≡ spec.values_clash attribute (view value.now) }
+{
+    if !is_multi_valued(attribute) {
+        return value_clashes(value, attribute);
+    }
+    match value.as_array() {
+        Some(values) => any_clashes(values, attribute),
+        None => value_clashes(value, attribute),
+    }
+}
+
+/// Whether two keys name the attribute, or one of its sub-attributes in a value. What is readOnly is
+/// ignored, and isn't looked into.
+#[tactic(auto, unfolding(crate::specs::BodyNames::attribute_clashes))]
+fn attribute_clashes(members: &Map<String, Value>, kind: Kind, attribute: Attribute) -> bool
+    ensures { result ≡ spec.attribute_clashes kind (members_view members.now.entries) attribute }
+{
+    if is_twice(members, attribute.name()) {
+        return true;
+    }
+    if is_read_only(kind, Leaf::simple(attribute)) {
+        return false;
+    }
+    match value_named(members, attribute.name()) {
+        Some(value) => values_clash(value, attribute),
+        None => false,
+    }
+}
+
+/// Whether two keys clash in an object with the attributes of an extension, or of the core schema.
+fn schema_clashes(members: &Map<String, Value>, kind: Kind, schema: Option<Schema>) -> bool
+    ensures { result ≡ spec.schema_clashes kind schema (members_view members.now.entries) }
+{
+    for attribute in attributes(kind) {
+        if extension_of(*attribute) == schema && attribute_clashes(members, kind, *attribute) {
+            return true;
+        }
+    }
+    false
+}
+
+/// Whether two keys are the URN of the extension, or clash in its object.
+fn extension_clashes(members: &Map<String, Value>, kind: Kind, schema: Schema) -> bool
+    ensures { result ≡ spec.extension_clashes kind (members_view members.now.entries) schema }
+{
+    if is_twice(members, schema.urn()) {
+        return true;
+    }
+    match value_named(members, schema.urn()).and_then(Value::as_object) {
+        Some(extended) => schema_clashes(extended, kind, Some(schema)),
+        None => false,
+    }
+}
+
+/// Whether they do for one of these extensions.
+fn any_extension_clashes(members: &Map<String, Value>, kind: Kind, schemas: &[Schema]) -> bool
+    ensures { result ≡ list_any (spec.extension_clashes kind (members_view members.now.entries)) schemas.now }
+{
+    for schema in schemas {
+        if extension_clashes(members, kind, *schema) {
+            return true;
+        }
+    }
+    false
+}
+
+/// Whether two keys that differ name one attribute of the kind, the same extension, or one
+/// sub-attribute within a value of an attribute that isn't readOnly, anywhere in a body.
+#[tactic(auto, unfolding(crate::specs::BodyNames::body_clashes))]
+pub(crate) fn body_clashes(members: &Map<String, Value>, kind: Kind) -> bool
+    ensures { result ≡ spec.body_clashes kind (members_view members.now.entries) }
+{
+    schema_clashes(members, kind, None) || any_extension_clashes(members, kind, extensions(kind))
+}

@@ -1,0 +1,114 @@
+//! Drafts: what the bodies of requests give of resources.
+ghost use Rattle.std.specs.Prelude.{◌≡◌};
+ghost use Rattle.scim_cell.specs.Rows.{values};
+ghost use Rattle.scim_body.specs.Drafts as spec;
+ghost use Rattle.scim_body.specs.Drafts.{IsDraft};
+
+use scim_cell::Row;
+use scim_schema::{Kind, Unit};
+use scim_value::values_among;
+use std::marker::Model;
+
+/// What a body is read for: to make a resource (RFC 7644 section 3.3), or to replace one (section
+/// 3.5.1).
+#[derive(Clone, Copy, Debug, PartialEq, Eq)]
+pub enum UseFor {
+    Creating,
+    Replacing,
+}
+
+/// What a body gives: a kind, what it was read for, the units that have a value in it, and the rows
+/// of the values, without those that aren't kept, as a password.
+///
+/// Contracts know of every draft that its values may stand in a resource of the kind; and of one that was
+/// read for Creating that it has all that the kind requires.
+#[derive(Debug, Drop)]
+pub struct Draft {
+    kind: Kind,
+    use_for: UseFor,
+    given: Vec<Unit>,
+    rows: Vec<Row>,
+}
+
+impl Model for Draft {
+    ghost use Rattle.std.specs.Coded.{codes};
+    ghost use Rattle.scim_schema.specs.contracts.Unit as unit;
+    ghost use Rattle.scim_cell.specs.contracts.rows.Row as row;
+    ghost use Rattle.scim_body.specs.Drafts.{Draft, IsDraft};
+    ghost use Rattle.scim_body.specs.code.Inside.{draft_of};
+
+    ghost Value = { Draft };
+
+    ghost coded = { Prim.hlevel (codes, unit.the_row.coded, row.the_row.coded) };
+
+    ghost view = { draft_of };
+
+    ghost invariant = { λ d. IsDraft (draft_of d) };
+}
+
+impl Draft {
+    /// The draft of these units and rows.
+    pub(crate) fn new(kind: Kind, use_for: UseFor, given: Vec<Unit>, rows: Vec<Row>) -> Draft
+        requires { IsDraft (record { kind = kind; use_for = use_for; given = given.items; rows = rows.items }) }
+        ensures kind { result.kind ≡ kind }
+        ensures use_for { result.use_for ≡ use_for }
+        ensures given { result.given ≡ given.items }
+        ensures rows { result.rows ≡ rows.items }
+    {
+        Draft {
+            kind,
+            use_for,
+            given,
+            rows,
+        }
+    }
+
+    /// The kind.
+    pub fn kind(&self) -> Kind
+        ensures { result ≡ self.now.kind }
+    {
+        self.kind
+    }
+
+    /// What the body was read for.
+    pub fn use_for(&self) -> UseFor
+        ensures { result ≡ self.now.use_for }
+    {
+        self.use_for
+    }
+
+    /// The units that the body has a value for, in the order of the table.
+    pub fn given(&self) -> &[Unit]
+        ensures { result.now ≡ self.now.given }
+    {
+        self.given.as_slice()
+    }
+
+    /// Whether the body has a value for the unit.
+    pub fn gives(&self, unit: Unit) -> bool
+        ensures { result ≡ spec.gives self.now unit }
+    {
+        for own in self.given() {
+            if unit == *own {
+                return true;
+            }
+        }
+        false
+    }
+
+    /// The values of a unit that are kept, by position; none of what isn't kept, as a password.
+    pub fn values(&self, unit: Unit) -> &[Row]
+        ensures values { result.now ≡ values unit self.now.rows }
+        ensures valid { IsDraft self.now }
+    {
+        values_among(self.rows(), unit)
+    }
+
+    /// The rows of the values, in order of unit.
+    pub fn rows(&self) -> &[Row]
+        ensures rows { result.now ≡ self.now.rows }
+        ensures valid { IsDraft self.now }
+    {
+        self.rows.as_slice()
+    }
+}

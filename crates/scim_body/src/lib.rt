@@ -1,0 +1,16 @@
+//! The bodies of requests: what they give of resources (RFC 7644 sections 3.3 and 3.5.1).
+#![tactic(auto)]
+
+mod bodies;
+mod clashes;
+mod drafts;
+mod members;
+mod required;
+mod values;
+
+pub use bodies::{BodyFault, read_body};
+pub use clashes::values_clash;
+pub use drafts::{Draft, UseFor};
+pub use members::{given_named, is_absent, is_twice, value_named};
+pub use required::lacks_required;
+pub use values::{WrongValue, read_atom, read_fields, read_listed};

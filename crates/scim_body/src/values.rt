@@ -1,0 +1,315 @@
+//! The values of a body (RFC 7643 sections 2.3 to 2.5).
+ghost use Rattle.std.specs.Prelude.{◌≡◌, ◌∷◌, [], IfOk, OnOk, Some, None, option_map, count_by};
+ghost use Rattle.std.specs.List.{list_any};
+ghost use Rattle.serde_json.specs.View.{view, items_view, members_view};
+ghost use Rattle.scim_text.specs.Failures.{OnFault};
+ghost use Rattle.scim_body.specs.BodyNames.{items_list};
+ghost use Rattle.scim_cell.specs.Rows.{is_primary};
+ghost use Rattle.scim_lists.specs.SameValues.{is_nameless};
+ghost use Rattle.scim_body.specs.BodyValues as spec;
+ghost use Rattle.scim_body.specs.code.Given.{after};
+
+use crate::members::{given_named, is_absent};
+use scim_cell::{Atom, Field, Row, sub_attributes_by_place};
+use scim_json::atom_of;
+use scim_lists::{MOST_VALUES, is_nameless, with_values};
+use scim_schema::{
+    Attribute, AttributeType, Kind, Leaf, SubAttribute, Unit, characteristics_of, is_read_only,
+    sub_attributes,
+};
+use scim_text::{Failed, same_name};
+use serde_json::{Map, Value};
+use std::alloc::Global;
+use std::slice;
+
+/// How many bytes a text may have.
+const LONGEST_TEXT: usize = 65_536;
+
+/// A value of a body is refused: it is of another type, or over a limit.
+#[derive(Clone, Copy, Debug, PartialEq, Eq)]
+pub struct WrongValue;
+
+/// A boolean, or the text that names it in any case of its letters.
+fn read_truth(value: &Value) -> Option<bool>
+    ensures { result ≡ spec.truth_of (view value.now) }
+{
+    if let Some(truth) = value.as_bool() {
+        return Some(truth);
+    }
+    let text = value.as_str()?;
+    if same_name(text, "true") {
+        return Some(true);
+    }
+    if same_name(text, "false") {
+        return Some(false);
+    }
+    None
+}
+
+/// Whether an atom is within the limit for texts.
+fn is_short(atom: &Atom) -> bool
+    ensures { result ≡ spec.is_short atom.now }
+{
+    match atom {
+        Atom::Text(text) => text.as_str().len() <= LONGEST_TEXT,
+        Atom::Truth(_) | Atom::Moment(_) => true,
+    }
+}
+
+/// The value as an atom of a type.
+///
+/// WrongValue where it isn't one, or a text over the limit. NoMemory where none was to be had.
+pub fn read_atom(
+    alloc: Global,
+    value: &Value,
+    attribute_type: AttributeType,
+) -> Result<Atom, Failed<WrongValue>>
+    ensures given { IfOk result (λ a. spec.given_atom attribute_type (view value.now) ≡ Some a) }
+    ensures wrong { OnFault result (spec.given_atom attribute_type (view value.now) ≡ None) }
+{
+    if attribute_type == AttributeType::Boolean {
+        return match read_truth(value) {
+            Some(truth) => Ok(Atom::Truth(truth)),
+            None => Err(Failed::Because(WrongValue)),
+        };
+    }
+    let Some(atom) = atom_of(alloc, value, attribute_type)? else {
+        return Err(Failed::Because(WrongValue));
+    };
+    if is_short(&atom) {
+        Ok(atom)
+    } else {
+        Err(Failed::Because(WrongValue))
+    }
+}
+
+/// The field of a sub-attribute that has this value.
+///
+/// Errors: as `read_atom`.
+fn read_field(
+    alloc: Global,
+    value: &Value,
+    kind: Kind,
+    attribute: Attribute,
+    sub_attribute: SubAttribute,
+) -> Result<Field, Failed<WrongValue>>
+    ensures given { IfOk result
+        (λ f. spec.field_with kind attribute sub_attribute (view value.now) ≡ Some (f ∷ [])) }
+    ensures wrong { OnFault result (spec.field_with kind attribute sub_attribute (view value.now) ≡ None) }
+{
+    let leaf = Leaf::of(attribute, sub_attribute);
+    let atom = read_atom(alloc, value, characteristics_of(kind, leaf).attribute_type)?;
+    Ok(Field { leaf, atom })
+}
+
+/// Adds the field of a sub-attribute that an object gives; what is readOnly is ignored.
+///
+/// Errors: as `read_atom`; nothing is added then.
+fn read_sub_attribute(
+    alloc: Global,
+    members: &Map<String, Value>,
+    kind: Kind,
+    attribute: Attribute,
+    sub_attribute: SubAttribute,
+    fields: &mut Vec<Field>,
+) -> Result<(), Failed<WrongValue>>
+    ensures given { OnOk result
+        (after fields.old.items (spec.field_in kind attribute (members_view members.now.entries) sub_attribute)
+        ≡ Some fields.new.items) }
+    ensures wrong { OnFault result
+        (spec.field_in kind attribute (members_view members.now.entries) sub_attribute ≡ None) }
+{
+    if is_read_only(kind, Leaf::of(attribute, sub_attribute)) {
+        return Ok(());
+    }
+    let Some(value) = given_named(members, sub_attribute.name()) else {
+        return Ok(());
+    };
+    fields.push(read_field(alloc, value, kind, attribute, sub_attribute)?)?;
+    Ok(())
+}
+
+/// The fields that an object gives, in order of place.
+///
+/// Errors: as `read_atom`.
+fn read_object(
+    alloc: Global,
+    members: &Map<String, Value>,
+    kind: Kind,
+    attribute: Attribute,
+) -> Result<Vec<Field>, Failed<WrongValue>>
+    ensures given { IfOk result
+        (λ v. spec.fields_in kind attribute (members_view members.now.entries) ≡ Some v.items) }
+    ensures wrong { OnFault result
+        (spec.fields_in kind attribute (members_view members.now.entries) ≡ None) }
+{
+    let mut fields = Vec::new(alloc);
+    for sub_attribute in sub_attributes_by_place(attribute) {
+        read_sub_attribute(alloc, members, kind, attribute, *sub_attribute, &mut fields)?;
+    }
+    Ok(fields)
+}
+
+/// Whether the attribute has a sub-attribute `value`.
+fn has_value(attribute: Attribute) -> bool
+    ensures { result ≡ spec.has_value attribute }
+{
+    for sub_attribute in sub_attributes(attribute) {
+        if *sub_attribute == SubAttribute::Value {
+            return true;
+        }
+    }
+    false
+}
+
+/// The field of what isn't an object: it is the `value`, where there is one.
+///
+/// Errors: as `read_atom`; WrongValue where the attribute has no such sub-attribute.
+fn read_alone(
+    alloc: Global,
+    value: &Value,
+    kind: Kind,
+    attribute: Attribute,
+) -> Result<Vec<Field>, Failed<WrongValue>>
+    ensures given { IfOk result (λ v. spec.value_alone kind attribute (view value.now) ≡ Some v.items) }
+    ensures wrong { OnFault result (spec.value_alone kind attribute (view value.now) ≡ None) }
+{
+    if !has_value(attribute) {
+        return Err(Failed::Because(WrongValue));
+    }
+    let mut fields = Vec::new(alloc);
+    fields.push(read_field(alloc, value, kind, attribute, SubAttribute::Value)?)?;
+    Ok(fields)
+}
+
+/// The fields of a value of a complex attribute, in order of place.
+///
+/// WrongValue where it is of another type, or one of them is. NoMemory where none was to be had.
+pub fn read_fields(
+    alloc: Global,
+    value: &Value,
+    kind: Kind,
+    attribute: Attribute,
+) -> Result<Vec<Field>, Failed<WrongValue>>
+    ensures given { IfOk result (λ v. spec.fields_of kind attribute (view value.now) ≡ Some v.items) }
+    ensures wrong { OnFault result (spec.fields_of kind attribute (view value.now) ≡ None) }
+{
+    match value.as_object() {
+        Some(members) => read_object(alloc, members, kind, attribute),
+        None => read_alone(alloc, value, kind, attribute),
+    }
+}
+
+/// Adds the value that an item of a list is; none, where it counts as none or has no known
+/// sub-attribute.
+///
+/// Errors: as `read_fields`; nothing is added then.
+fn read_value(
+    alloc: Global,
+    value: &Value,
+    kind: Kind,
+    attribute: Attribute,
+    values: &mut Vec<Row>,
+) -> Result<(), Failed<WrongValue>>
+    ensures given { OnOk result
+        (after values.old.items (spec.value_of kind attribute (view value.now)) ≡ Some values.new.items) }
+    ensures wrong { OnFault result (spec.value_of kind attribute (view value.now) ≡ None) }
+{
+    if is_absent(value) {
+        return Ok(());
+    }
+    let fields = read_fields(alloc, value, kind, attribute)?;
+    if fields.is_empty() {
+        return Ok(());
+    }
+    values.push(Row::new(Unit::whole(attribute), fields))?;
+    Ok(())
+}
+
+/// The values that are given for a multi-valued attribute (RFC 7643 section 2.4): those of a list, or one alone; null,
+/// `[]` and values without known sub-attributes are none.
+///
+/// WrongValue where one is of another type, or a text is over the limit. NoMemory where none was to be had.
+pub fn read_listed(
+    alloc: Global,
+    value: &Value,
+    kind: Kind,
+    attribute: Attribute,
+) -> Result<Vec<Row>, Failed<WrongValue>>
+    ensures given { IfOk result (λ v. spec.listed_values kind attribute (view value.now) ≡ Some v.items) }
+    ensures wrong { OnFault result (spec.listed_values kind attribute (view value.now) ≡ None) }
+{
+    match value.as_array() {
+        Some(items) => read_items(alloc, items, kind, attribute),
+        None => read_items(alloc, slice::from_ref(value), kind, attribute),
+    }
+}
+
+/// The values that the items of a list are.
+///
+/// Errors: as `read_fields`.
+fn read_items(
+    alloc: Global,
+    items: &[Value],
+    kind: Kind,
+    attribute: Attribute,
+) -> Result<Vec<Row>, Failed<WrongValue>>
+    ensures given { IfOk result
+        (λ v. spec.collected (spec.value_of kind attribute) (items_list (items_view items.now)) ≡ Some v.items) }
+    ensures wrong { OnFault result
+        (spec.collected (spec.value_of kind attribute) (items_list (items_view items.now)) ≡ None) }
+{
+    let mut values = Vec::new(alloc);
+    for item in items {
+        read_value(alloc, item, kind, attribute, &mut values)?;
+    }
+    Ok(values)
+}
+
+/// Whether values are refused: two are primary (RFC 7643 section 2.4), there are too many, or a member
+/// has no `value` (section 4.2).
+fn are_refused(attribute: Attribute, values: &[Row]) -> bool
+    ensures { result ≡ spec.are_refused attribute values.now }
+{
+    count_primary(values) > 1 || values.len() > MOST_VALUES || any_nameless(attribute, values)
+}
+
+/// How many values are marked as the primary one.
+fn count_primary(values: &[Row]) -> usize
+    ensures { result ≡ count_by is_primary values.now }
+{
+    values.iter().filter(|value| value.is_primary()).count()
+}
+
+/// Whether one is a member without a `value`.
+fn any_nameless(attribute: Attribute, values: &[Row]) -> bool
+    ensures { result ≡ list_any (is_nameless attribute) values.now }
+{
+    for value in values {
+        if is_nameless(attribute, value) {
+            return true;
+        }
+    }
+    false
+}
+
+/// The values of a multi-valued attribute, each once: those of a list, or one alone.
+///
+/// WrongValue where one is of another type, two are primary, there are too many, or a member has no
+/// `value`. NoMemory where none was to be had.
+pub(crate) fn read_values(
+    alloc: Global,
+    value: &Value,
+    kind: Kind,
+    attribute: Attribute,
+) -> Result<Vec<Row>, Failed<WrongValue>>
+    ensures given { IfOk result (λ v. spec.values_of kind attribute (view value.now) ≡ Some v.items) }
+    ensures wrong { OnFault result (spec.values_of kind attribute (view value.now) ≡ None) }
+{
+    let read = read_listed(alloc, value, kind, attribute)?;
+    let values = with_values(alloc, attribute, Vec::new(alloc), read)?;
+    if are_refused(attribute, values.as_slice()) {
+        return Err(Failed::Because(WrongValue));
+    }
+    Ok(values)
+}

@@ -1,0 +1,23 @@
+-- When what a body gives of a unit is what a part has there, both read by the rules of bodies.
+use Rattle.std.specs.Prelude.{Bool, false, ◌&&◌, List, [], if◌then◌else◌}
+use Rattle.std.specs.Cmp.Lexicographic.{pointwise}
+use Rattle.scim_schema.specs.declared.Kind.{Kind}
+use Rattle.scim_schema.specs.declared.Unit.{Unit as AttributeUnit}
+use Rattle.scim_schema.specs.Mutability.{is_fixed, is_secret}
+use Rattle.scim_cell.specs.Content.{Content}
+use Rattle.scim_cell.specs.Equality.{is_same_row}
+use Rattle.scim_cell.specs.Rows.{Row, rows, values}
+use Rattle.scim_lists.specs.SameValues.{with_values}
+use Rattle.scim_body.specs.Drafts.{Draft, gives}
+
+-- what a body with these values of a unit would give of it: nothing of a readOnly unit, and else each value once
+abbrev pub as_given : Kind → AttributeUnit → List Row → List Row
+as_given kind u vs = if is_fixed kind u then [] else with_values u.attribute [] vs
+
+-- whether two lists of values are the same, one by one
+abbrev pub are_same_values : List Row → List Row → Bool
+are_same_values = pointwise is_same_row
+
+-- whether the draft has of the unit what the part has; what is writeOnly can't be compared, so what a body gives of it never agrees
+unfoldable pub agrees : Draft → AttributeUnit → Content → Bool
+agrees d u c = if is_secret d.kind u && gives d u then false else are_same_values (values u d.rows) (as_given d.kind u (values u (rows c)))

@@ -1,8 +1,0 @@
-use Rattle.std.proofs.Common.{◌≡◌, ◌++◌, map}
-use Rattle.scim_json.specs.Bodies.{field_given}
-use Rattle.scim_json.specs.code.Given.{units_given}
-use Rattle.scim_json.proofs.bodies.push_fields.Given as goal
-
--- the fields so far are pushed
-abbrev pub invariant-loop-field : goal.invariant-loop-field
-invariant-loop-field l = units_given l.given.items ≡ units_given l.fn.given.items ++ map (field_given l.kind) l.yielded

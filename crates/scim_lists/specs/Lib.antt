@@ -1,0 +1,2 @@
+pub mod SameValues
+pub mod code

@@ -1,0 +1,2 @@
+-- How same values are found.
+pub mod Keys
