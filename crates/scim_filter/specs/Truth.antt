@@ -72,3 +72,8 @@ rows_at _ k rs = []
 abbrev pub truth_at : Tree → ℕ → List Row → Bool
 truth_at (Values path inner) k rs = truth inner (rows_at path.meant k rs)
 truth_at _ k rs = false
+
+-- whether what stands between the brackets of a value path holds of one value; any other filter holds of none
+abbrev pub truth_in_value : Tree → Row → Bool
+truth_in_value (Values path inner) r = truth inner (r ∷ [])
+truth_in_value _ r = false

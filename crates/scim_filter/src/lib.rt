@@ -28,5 +28,6 @@ pub use reading::read_filter;
 pub use string_literals::StringLiteral;
 pub use tokens::{Token, read_tokens};
 pub use tree::{Filter, Literal, Meant, Node, Operator, Path};
-pub use truth::{holds, holds_at};
+pub use truth::{holds, holds_at, holds_of};
+pub use types::truth_of;
 pub use written_paths::{WrittenPath, written_path};

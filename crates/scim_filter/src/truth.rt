@@ -264,6 +264,19 @@ pub fn holds(alloc: Global, filter: &Filter, part: &Part) -> Result<bool, NoMemo
     node_holds(alloc, filter.tree(), Cells::All(part))
 }
 
+/// Whether what stands between the brackets of a value path, which the filter is, holds of one value of the
+/// path's attribute (RFC 7644 section 3.5.2). A filter that is no value path holds of none. NoMemory where none
+/// was to be had.
+pub fn holds_of(alloc: Global, filter: &Filter, value: &Row) -> Result<bool, NoMemory>
+    ensures { IfOk result (λ b. b ≡ spec.truth_in_value (tree_of filter.now) value.now) }
+{
+    let Node::Values(_, inner) = filter.tree() else {
+        return Ok(false);
+    };
+    let cells = Cells::Of(value.unit().attribute, slice::from_ref(value));
+    node_holds(alloc, inner, cells)
+}
+
 /// Whether what stands between the brackets of a value path, which the filter is, holds of the cells
 /// at one position of the path's attribute, from 0 (RFC 7644 sections 3.4.2.2 and 3.5.2). A filter that
 /// is no value path holds of none. NoMemory where none was to be had.

@@ -47,7 +47,7 @@ impl Meant {
 }
 
 /// The truth value that a text spells, in any ASCII case.
-pub(crate) fn truth_of(text: &str) -> Option<bool>
+pub fn truth_of(text: &str) -> Option<bool>
     ensures { result ≡ spec.truth_in text.now }
 {
     if is_keyword(b"true", text.as_bytes()) {

@@ -1,0 +1,18 @@
+//! The steps of a PATCH (RFC 7644 section 3.5.2): each changes the values of one unit of a resource, by a path of
+//! one form and an operation.
+#![tactic(auto)]
+
+mod changes;
+mod described;
+mod everywhere;
+mod fields;
+mod listed;
+mod matches;
+mod permission;
+mod positions;
+mod settling;
+mod steps;
+mod table;
+
+pub use changes::Change;
+pub use steps::{StepFault, values_after};

@@ -1,0 +1,88 @@
+//! Values after a step, and whether the step chose them as the primary one.
+ghost use Rattle.std.specs.Prelude.{◌≡◌, IfOk, map, filter};
+ghost use Rattle.std.specs.List.{list_any};
+ghost use Rattle.scim_cell.specs.Rows.{is_primary};
+ghost use Rattle.scim_lists.specs.SameValues as lists;
+ghost use Rattle.scim_steps.specs.Table as spec;
+
+use scim_cell::Row;
+use scim_lists::{is_same_value, with_values};
+use scim_schema::Attribute;
+use scim_text::NoMemory;
+use std::alloc::Global;
+
+/// A value after a step, and whether the step chose it as the primary one.
+#[derive(Drop)]
+pub(crate) struct Position {
+    pub(crate) value: Row,
+    pub(crate) chosen: bool,
+}
+
+/// Values that the step leaves as they are. NoMemory where none was to be had.
+pub(crate) fn keep(alloc: Global, values: Vec<Row>) -> Result<Vec<Position>, NoMemory>
+    ensures { IfOk result (λ v. v.items ≡ map spec.kept values.items) }
+{
+    let mut positions = Vec::with_capacity(alloc, values.len())?;
+    for value in values {
+        positions.push(Position {
+            value,
+            chosen: false,
+        })?;
+    }
+    Ok(positions)
+}
+
+/// Copies of the values that are marked as the primary one. NoMemory where none was to be had.
+fn primary_ones(alloc: Global, given: &[Row]) -> Result<Vec<Row>, NoMemory>
+    ensures { IfOk result (λ v. v.items ≡ filter is_primary given.now) }
+{
+    let mut primary = Vec::new(alloc);
+    for value in given {
+        if value.is_primary() {
+            primary.push(value.try_copy(alloc)?)?;
+        }
+    }
+    Ok(primary)
+}
+
+/// Copies of the given values that are marked as the primary one, each once. NoMemory where none was to be had.
+pub(crate) fn given_primary(
+    alloc: Global,
+    attribute: Attribute,
+    given: &[Row],
+) -> Result<Vec<Row>, NoMemory>
+    ensures { IfOk result (λ v. v.items ≡ spec.given_primary attribute given.now) }
+{
+    let primary = primary_ones(alloc, given)?;
+    with_values(alloc, attribute, Vec::new(alloc), primary)
+}
+
+/// Whether one of the values is the same as this one.
+fn has_same(attribute: Attribute, values: &[Row], value: &Row) -> bool
+    ensures { result ≡ list_any (λ other. lists.is_same_value attribute other value.now) values.now }
+{
+    for other in values {
+        if is_same_value(attribute, other, value) {
+            return true;
+        }
+    }
+    false
+}
+
+/// The values, of which those that are the same as one of the given primary ones are chosen. A step with two primary
+/// ones that differ is refused before, so this looks at one for each value at most. NoMemory where none was to be had.
+pub(crate) fn mark(
+    alloc: Global,
+    attribute: Attribute,
+    primary: &[Row],
+    values: Vec<Row>,
+) -> Result<Vec<Position>, NoMemory>
+    ensures { IfOk result (λ v. v.items ≡ map (spec.marked attribute primary.now) values.items) }
+{
+    let mut positions = Vec::with_capacity(alloc, values.len())?;
+    for value in values {
+        let chosen = has_same(attribute, primary, &value);
+        positions.push(Position { value, chosen })?;
+    }
+    Ok(positions)
+}
