@@ -1,0 +1,12 @@
+pub mod Stand
+pub mod Outcomes
+pub mod StandLemmas
+pub mod LooseLemmas
+pub mod PrimaryLemmas
+pub mod FieldLemmas
+pub mod SoundLemmas
+pub mod SingleLemmas
+pub mod StepLemmas
+pub mod LengthLemmas
+pub mod ApplyLemmas
+pub mod LawLemmas

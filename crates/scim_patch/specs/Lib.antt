@@ -1,0 +1,4 @@
+pub mod Kept
+pub mod Laws
+pub mod Patch
+pub mod code

@@ -1,0 +1,19 @@
+-- The rows of the units that steps are about.
+use Rattle.std.specs.Prelude.{Bool, not, List, filter}
+use Rattle.std.specs.List.{list_any}
+use Rattle.scim_schema.specs.declared.Unit.{Unit as AttributeUnit}
+use Rattle.scim_schema.specs.Units.{is_same_unit}
+use Rattle.scim_cell.specs.Rows.{Row, values}
+use Rattle.scim_change.specs.Agreement.{are_same_values}
+
+-- whether a unit is one of these
+abbrev pub is_about : List AttributeUnit → AttributeUnit → Bool
+is_about us u = list_any (is_same_unit u) us
+
+-- the rows of these units
+abbrev pub rows_about : List AttributeUnit → List Row → List Row
+rows_about us rs = filter (λ (r : Row). is_about us r.unit) rs
+
+-- whether a unit has other values afterwards
+abbrev pub is_other : List Row → List Row → AttributeUnit → Bool
+is_other before rs u = not (are_same_values (values u before) (values u rs))

@@ -1,0 +1,11 @@
+//! What clients ask to be changed of a resource, step by step (RFC 7644 section 3.5.2).
+#![tactic(auto)]
+
+mod applying;
+mod laws;
+mod patches;
+mod touched;
+
+pub use applying::apply;
+pub use laws::patching_rests_on_its_units;
+pub use patches::{Patch, Step};
