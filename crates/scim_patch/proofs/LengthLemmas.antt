@@ -28,7 +28,11 @@ use Rattle.scim_steps.specs.Table.{kept, marked, given_primary, is_listed, row}
 use Rattle.scim_steps.specs.Steps.{is_forbidden, gives_two_primary, settled, judged, after}
 use Rattle.scim_patch.specs.Patch.{Step, Pathless, Of, Patch, AreGivenValues, MayBeMade, IsStep, IsPatch, units_in, stepped, all_stepped, is_unseen_writing, changes}
 use Rattle.scim_patch.specs.code.Touched.{is_other}
-use Rattle.scim_patch.specs.code.Lengths.{is_told_by_length, unit_told_among, unit_told_by_length, changes_number}
+use Rattle.scim_patch.specs.code.Lengths.{is_told_by_length, unit_told_among}
+use Rattle.scim_patch.specs.declared.touched.Before.{Before}
+use Rattle.scim_patch.specs.declared.touched.Before.TheVariants.{Number, Rows}
+use Rattle.scim_patch.specs.code.Before.{IsBefore, tells}
+use Rattle.scim_patch.proofs.ApplyLemmas.{changes_same}
 use Rattle.scim_patch.proofs.Outcomes.{not_refused}
 use Rattle.scim_patch.proofs.SingleLemmas.{kept_left, nothing_left}
 use Rattle.scim_patch.proofs.SoundLemmas.{with_all}
@@ -127,22 +131,22 @@ same_by_length kind u change vs ws told may full h same =
 -- ---- one step
 
 -- two tests of two lists agree where the number of values tells whether they are others
-numbers_tell : (vs ws : List Row) → (length ws ≡ length vs → ws ≡ vs) → not (are_same_values vs ws) ≡ not (length vs == length ws)
-numbers_tell vs ws told = elim (cases_Bool (length vs == length ws)) [
+numbers_tell : (vs ws : List Row) → (length ws ≡ length vs → ws ≡ vs) → not (are_same_values vs ws) ≡ not (length ws == length vs)
+numbers_tell vs ws told = elim (cases_Bool (length ws == length vs)) [
   | inl t ↦
-      let equal = told (sym ((unsigned_Decides (length vs) (length ws)).0 t)) in
+      let equal = told ((unsigned_Decides (length ws) (length vs)).0 t) in
       let same : are_same_values vs ws ≡ true = (pointwise_decides is_same_row-Decides vs ws).1 (sym equal) in rw (t, same) refl
   | inr n ↦ elim (cases_Bool (are_same_values vs ws)) [
     | inl s ↦
         let same = (pointwise_decides is_same_row-Decides vs ws).0 s in
-        absurd (let t : (length vs == length ws) ≡ true = (unsigned_Decides (length vs) (length ws)).1 (ap (λ (rs : List Row). length rs) same) in cc)
+        absurd (let t : (length ws == length vs) ≡ true = (unsigned_Decides (length ws) (length vs)).1 (ap (λ (rs : List Row). length rs) (sym same)) in cc)
     | inr d ↦ rw (n, d) refl
   ]
 ]
 
 module _ (c : Content) (own : IsResource c) (left : List Row) where
   one_step : (v : AttributeUnit) (change : Change) → is_told_by_length change ≡ true → Contains (units c.kind) v → MayBeMade c.kind v change
-      → Ok left ≡ stepped c.kind (Of v change) (rows c) → is_other (rows c) left v ≡ not (length (values v (rows c)) == length (values v left))
+      → Ok left ≡ stepped c.kind (Of v change) (rows c) → is_other (rows c) left v ≡ not (length (values v left) == length (values v (rows c)))
   one_step v change told there may h =
       let out = found c own v there change may left h in
       let stand = stands c own v there change may left h in
@@ -157,7 +161,7 @@ module _ (c : Content) (own : IsResource c) (left : List Row) where
   or_no false = refl
 
   by_steps : (u : AttributeUnit) (steps : List Step) → unit_told_among steps ≡ Some u → All (IsStep c.kind) steps → Ok left ≡ all_stepped c.kind steps (Ok (rows c))
-      → list_any (is_other (rows c) left) (flat_map units_in steps) ≡ not (length (values u (rows c)) == length (values u left))
+      → list_any (is_other (rows c) left) (flat_map units_in steps) ≡ not (length (values u left) == length (values u (rows c)))
   by_steps u [] told may h = absurd (cc told)
   by_steps u (Pathless ∷ steps) told may h = absurd (cc told)
   by_steps u (Of v change ∷ s ∷ steps) told may h = absurd (cc told)
@@ -165,12 +169,14 @@ module _ (c : Content) (own : IsResource c) (left : List Row) where
     | inl t ↦
         let first = All-head (IsStep c.kind) (Of v change) [] may in
         let same : v ≡ u = (let e : Some v ≡ Some u = rw t at told in cc) in
-        or_no (is_other (rows c) left v) ∙ one_step v change t first.0 first.1 h ∙ ap (λ w. not (length (values w (rows c)) == length (values w left))) same
+        or_no (is_other (rows c) left v) ∙ one_step v change t first.0 first.1 h ∙ ap (λ w. not (length (values w left) == length (values w (rows c)))) same
     | inr n ↦ absurd (let e : None ≡ Some u = rw n at told in cc)
   ]
 
--- so the number of values of the unit tells whether a patch changed something
-pub changes_by_number : (p : Patch) (c d : Content) → IsResource c → p.kind ≡ c.kind → IsPatch p → (u : AttributeUnit) → unit_told_by_length p ≡ Some u
-    → Ok (rows d) ≡ all_stepped c.kind p.steps (Ok (rows c)) → changes_number p (length (values u (rows c))) (length (values u (rows d))) ≡ changes p (rows c) (rows d)
-changes_by_number p c d own of_kind may u told h =
-    ap (λ b. list_any (is_unseen_writing p.kind) p.steps || b) (sym (by_steps c own (rows d) u p.steps told (subst (λ k. All (IsStep k) p.steps) of_kind may) h))
+-- so what was kept of a resource tells whether a patch changed something
+pub tells_change : (p : Patch) (c d : Content) → IsResource c → p.kind ≡ c.kind → IsPatch p → Ok (rows d) ≡ all_stepped c.kind p.steps (Ok (rows c))
+    → (b : Before) → IsBefore p (rows c) b → tells p (rows d) b ≡ changes p (rows c) (rows d)
+tells_change p c d own of_kind may h (Number u n) is =
+    let number = by_steps c own (rows d) u p.steps is.0 (subst (λ k. All (IsStep k) p.steps) of_kind may) h in
+    ap (λ b. list_any (is_unseen_writing p.kind) p.steps || b) (ap (λ m. not (length (values u (rows d)) == m)) is.1 ∙ sym number)
+tells_change p c d own of_kind may h (Rows v) is = ap (λ rs. changes p rs (rows d)) is.0 ∙ changes_same p (rows c) (rows d)

@@ -7,6 +7,6 @@ pub mod FieldLemmas
 pub mod SoundLemmas
 pub mod SingleLemmas
 pub mod StepLemmas
-pub mod LengthLemmas
 pub mod ApplyLemmas
+pub mod LengthLemmas
 pub mod LawLemmas

@@ -1,4 +1,5 @@
--- How patches are kept, what the code answers, and what it remembers meanwhile.
+-- How patches are kept, what the code answers, and what it keeps meanwhile.
+pub mod Before
 pub mod Inside
 pub mod Lengths
 pub mod Outcomes

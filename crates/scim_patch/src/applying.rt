@@ -1,5 +1,5 @@
 //! What becomes of a resource that is patched: its steps, one after another.
-ghost use Rattle.std.specs.Prelude.{◌≡◌, List, ℕ, false, Ok, Some, IfOk, map, filter, All};
+ghost use Rattle.std.specs.Prelude.{◌≡◌, List, ℕ, Ok, IfOk, map, filter, All};
 ghost use Rattle.std.specs.Ordering.{is_lt, is_gt};
 ghost use Rattle.scim_text.specs.Failures.{UnlessMemory};
 ghost use Rattle.scim_cell.specs.Place.{unit_cmp};
@@ -9,11 +9,10 @@ ghost use Rattle.scim_steps.specs.Changes.{change_of};
 ghost use Rattle.scim_steps.specs.Steps.{after, rows_answered};
 ghost use Rattle.scim_patch.specs.Patch as spec;
 ghost use Rattle.scim_patch.specs.Kept.{outcome, patch_of, step_of};
-ghost use Rattle.scim_patch.specs.code.Lengths.{unit_told_by_length};
-ghost use Rattle.scim_patch.specs.code.Outcomes.{rows_left, rows_told};
+ghost use Rattle.scim_patch.specs.code.Outcomes.{rows_left};
 
 use crate::patches::{Patch, Step};
-use crate::touched::{changes, changes_number, touched_rows, unit_told_by_length};
+use crate::touched::{before_of, is_changed};
 use scim_cell::{Row, compare_units};
 use scim_change::{Changed, modified_at};
 use scim_schema::{Kind, Unit};
@@ -118,75 +117,6 @@ fn all_stepped(
     Ok(resource)
 }
 
-/// The resource after the steps of a patch, and whether they changed it, where the number of values of the one unit
-/// that it is about tells that. No value is copied for it.
-///
-/// Errors: as `apply`; the resource is dropped then.
-fn told_by_length(
-    alloc: Global,
-    resource: Resource,
-    patch: &Patch,
-    unit: Unit,
-) -> Result<Changed, Failed<StepFault>>
-    requires kind { patch.now.kind ≡ resource.kind }
-    requires alone { unit_told_by_length (patch_of patch.now) ≡ Some unit }
-    ensures rows { UnlessMemory (λ r. rows_told r
-        ≡ spec.all_stepped resource.kind (map step_of patch.now.steps) (Ok (rows resource))) result }
-    ensures changed { IfOk result (λ c. c.changed ≡ spec.changes (patch_of patch.now) (rows resource) (rows c.resource)) }
-    ensures same { IfOk result (λ c. c.changed ≡ false → c.resource ≡ resource) }
-    ensures kind { IfOk result (λ c. c.resource.kind ≡ resource.kind) }
-    ensures id { IfOk result (λ c. c.resource.id ≡ resource.id) }
-    ensures base { (base : List ℕ) → HasBase base resource → IfOk result (λ c. HasBase base c.resource) }
-{
-    let before = resource.part().values(unit).len();
-    let resource = all_stepped(alloc, resource, patch.steps())?;
-    let after = resource.part().values(unit).len();
-    let changed = changes_number(patch, before, after);
-    Ok(Changed { resource, changed })
-}
-
-/// The same, whatever the steps are: the values of the units that they are about are copied first.
-///
-/// Errors: as `apply`; the resource is dropped then.
-fn told_by_values(
-    alloc: Global,
-    resource: Resource,
-    patch: &Patch,
-) -> Result<Changed, Failed<StepFault>>
-    requires { patch.now.kind ≡ resource.kind }
-    ensures rows { UnlessMemory (λ r. rows_told r
-        ≡ spec.all_stepped resource.kind (map step_of patch.now.steps) (Ok (rows resource))) result }
-    ensures changed { IfOk result (λ c. c.changed ≡ spec.changes (patch_of patch.now) (rows resource) (rows c.resource)) }
-    ensures same { IfOk result (λ c. c.changed ≡ false → c.resource ≡ resource) }
-    ensures kind { IfOk result (λ c. c.resource.kind ≡ resource.kind) }
-    ensures id { IfOk result (λ c. c.resource.id ≡ resource.id) }
-    ensures base { (base : List ℕ) → HasBase base resource → IfOk result (λ c. HasBase base c.resource) }
-{
-    let before = touched_rows(alloc, patch, resource.part())?;
-    let resource = all_stepped(alloc, resource, patch.steps())?;
-    let changed = changes(patch, before.as_slice(), resource.part());
-    Ok(Changed { resource, changed })
-}
-
-/// The resource after the steps of a patch, and whether they changed it.
-///
-/// Errors: as `apply`; the resource is dropped then.
-fn told(alloc: Global, resource: Resource, patch: &Patch) -> Result<Changed, Failed<StepFault>>
-    requires { patch.now.kind ≡ resource.kind }
-    ensures rows { UnlessMemory (λ r. rows_told r
-        ≡ spec.all_stepped resource.kind (map step_of patch.now.steps) (Ok (rows resource))) result }
-    ensures changed { IfOk result (λ c. c.changed ≡ spec.changes (patch_of patch.now) (rows resource) (rows c.resource)) }
-    ensures same { IfOk result (λ c. c.changed ≡ false → c.resource ≡ resource) }
-    ensures kind { IfOk result (λ c. c.resource.kind ≡ resource.kind) }
-    ensures id { IfOk result (λ c. c.resource.id ≡ resource.id) }
-    ensures base { (base : List ℕ) → HasBase base resource → IfOk result (λ c. HasBase base c.resource) }
-{
-    match unit_told_by_length(patch.steps()) {
-        Some(unit) => told_by_length(alloc, resource, patch, unit),
-        None => told_by_values(alloc, resource, patch),
-    }
-}
-
 /// The resource after the steps of a patch, one after another, last modified at the moment (RFC 7644 section 3.5.2).
 /// Where its values are the same afterwards, and no step writes what isn't kept, it is as it was, `meta.lastModified`
 /// too.
@@ -207,8 +137,9 @@ pub fn apply(
     ensures outcome { UnlessMemory (λ r. outcome r ≡ spec.applied (patch_of patch.now) moment resource) result }
     ensures base { (base : List ℕ) → HasBase base resource → IfOk result (λ c. HasBase base c.resource) }
 {
-    let Changed { resource, changed } = told(alloc, resource, patch)?;
-    if !changed {
+    let before = before_of(alloc, patch, resource.part())?;
+    let resource = all_stepped(alloc, resource, patch.steps())?;
+    if !is_changed(&before, patch, resource.part()) {
         return Ok(Changed {
             resource,
             changed: false,

@@ -6,6 +6,7 @@ ghost use Rattle.scim_steps.specs.Changes.{change_of};
 ghost use Rattle.scim_patch.specs.Patch as spec;
 ghost use Rattle.scim_patch.specs.Kept.{patch_of, step_of};
 ghost use Rattle.scim_patch.specs.code.Lengths as lengths;
+ghost use Rattle.scim_patch.specs.code.Before.{IsBefore, IsInOrder, tells};
 ghost use Rattle.scim_patch.specs.code.Touched.{is_about, is_other, rows_about};
 
 use crate::patches::{Patch, Step};
@@ -15,6 +16,15 @@ use scim_steps::Change;
 use scim_text::NoMemory;
 use scim_value::{Part, values_among};
 use std::alloc::Global;
+
+/// What is kept of a resource, to tell afterwards whether its values are others.
+#[derive(Drop)]
+pub(crate) enum Before {
+    /// How many values the one unit had that the patch is about: their number tells it.
+    Number(Unit, usize),
+    /// Copies of the rows of the units that the patch is about.
+    Rows(Vec<Row>),
+}
 
 impl Patch {
     /// The units that the steps are about, in the order of the steps. NoMemory where none was to be had.
@@ -42,12 +52,7 @@ fn units_of(alloc: Global, steps: &[Step]) -> Result<Vec<Unit>, NoMemory>
 fn is_one_of(units: &[Unit], unit: Unit) -> bool
     ensures { result ≡ is_about units.now unit }
 {
-    for other in units {
-        if unit == *other {
-            return true;
-        }
-    }
-    false
+    units.iter().any(|other| unit == *other)
 }
 
 /// Copies of the rows of these units. NoMemory where none was to be had.
@@ -64,12 +69,23 @@ fn rows_of(alloc: Global, units: &[Unit], rows: &[Row]) -> Result<Vec<Row>, NoMe
 }
 
 /// Copies of the rows that a part has of the units that the patch is about. NoMemory where none was to be had.
-pub(crate) fn touched_rows(alloc: Global, patch: &Patch, part: &Part) -> Result<Vec<Row>, NoMemory>
+fn touched_rows(alloc: Global, patch: &Patch, part: &Part) -> Result<Vec<Row>, NoMemory>
     ensures rows { IfOk result (λ v. v.items ≡ rows_about (spec.touched (patch_of patch.now)) (rows part.now)) }
     ensures sorted { IfOk result (λ v. AllPairs (λ r s. Precedes r.unit s.unit) v.items) }
 {
     let units = patch.touched(alloc)?;
     rows_of(alloc, units.as_slice(), part.rows())
+}
+
+/// What is kept of a part: of one step that only takes values away, or puts some behind them of which none is the
+/// primary one, the number of values, and else the rows themselves. NoMemory where none was to be had.
+pub(crate) fn before_of(alloc: Global, patch: &Patch, part: &Part) -> Result<Before, NoMemory>
+    ensures { IfOk result (IsBefore (patch_of patch.now) (rows part.now)) }
+{
+    match unit_told_by_length(patch.steps()) {
+        Some(unit) => Ok(Before::Number(unit, part.values(unit).len())),
+        None => Ok(Before::Rows(touched_rows(alloc, patch, part)?)),
+    }
 }
 
 /// Whether the change writes: each does but an add of nothing.
@@ -121,25 +137,11 @@ fn is_any_other(steps: &[Step], before: &[Row], part: &Part) -> bool
     false
 }
 
-/// Whether the patch changed something, where these rows were those of the units that it is about, and the part is what
-/// came of it.
-pub(crate) fn changes(patch: &Patch, before: &[Row], part: &Part) -> bool
-    requires { AllPairs (λ r s. Precedes r.unit s.unit) before.now }
-    ensures { result ≡ spec.changes (patch_of patch.now) before.now (rows part.now) }
-{
-    is_any_unseen_writing(patch.kind(), patch.steps()) || is_any_other(patch.steps(), before, part)
-}
-
 /// Whether one of the values is the primary one.
 fn has_primary(values: &[Row]) -> bool
     ensures { result ≡ list_any is_primary values.now }
 {
-    for value in values {
-        if value.is_primary() {
-            return true;
-        }
-    }
-    false
+    values.iter().any(|value| value.is_primary())
 }
 
 /// Whether the number of values after the change tells whether they are others: the change only takes values away, or
@@ -160,7 +162,7 @@ fn is_told_by_length(change: &Change) -> bool
 }
 
 /// The unit of the one step, where the number of its values tells whether they are others afterwards.
-pub(crate) fn unit_told_by_length(steps: &[Step]) -> Option<Unit>
+fn unit_told_by_length(steps: &[Step]) -> Option<Unit>
     ensures { result ≡ lengths.unit_told_among (map step_of steps.now) }
 {
     match steps {
@@ -169,9 +171,14 @@ pub(crate) fn unit_told_by_length(steps: &[Step]) -> Option<Unit>
     }
 }
 
-/// Whether the patch changed something, where these were the numbers of values before and after, which tell it.
-pub(crate) fn changes_number(patch: &Patch, before: usize, after: usize) -> bool
-    ensures { result ≡ lengths.changes_number (patch_of patch.now) before after }
+/// Whether the patch changed something, where this was kept of what it was applied to, and the part is what came of it.
+pub(crate) fn is_changed(before: &Before, patch: &Patch, part: &Part) -> bool
+    requires { IsInOrder before.now }
+    ensures { result ≡ tells (patch_of patch.now) (rows part.now) before.now }
 {
-    is_any_unseen_writing(patch.kind(), patch.steps()) || before != after
+    let is_other = match before {
+        Before::Number(unit, number) => part.values(*unit).len() != *number,
+        Before::Rows(before) => is_any_other(patch.steps(), before.as_slice(), part),
+    };
+    is_any_unseen_writing(patch.kind(), patch.steps()) || is_other
 }

@@ -61,12 +61,9 @@ pub(crate) fn given_primary(
 fn has_same(attribute: Attribute, values: &[Row], value: &Row) -> bool
     ensures { result ≡ list_any (λ other. lists.is_same_value attribute other value.now) values.now }
 {
-    for other in values {
-        if is_same_value(attribute, other, value) {
-            return true;
-        }
-    }
-    false
+    values
+        .iter()
+        .any(|other| is_same_value(attribute, other, value))
 }
 
 /// The values, of which those that are the same as one of the given primary ones are chosen. A step with two primary

@@ -51,12 +51,9 @@ fn count_chosen(positions: &[Position]) -> usize
 fn any_nameless(attribute: Attribute, positions: &[Position]) -> bool
     ensures { result ≡ list_any (λ (p : Position). lists.is_nameless attribute p.value) positions.now }
 {
-    for position in positions {
-        if is_nameless(attribute, &position.value) {
-            return true;
-        }
-    }
-    false
+    positions
+        .iter()
+        .any(|position| is_nameless(attribute, &position.value))
 }
 
 /// Whether the values are refused: two are chosen as the primary one, a member has no `value`, or there are too many.

@@ -1,10 +1,10 @@
 -- Changes after which the number of values tells whether they are others.
-use Rattle.std.specs.Prelude.{ℕ, Bool, true, false, not, ◌||◌, ◌==◌, List, [], ◌∷◌, Option, None, Some, if◌then◌else◌}
+use Rattle.std.specs.Prelude.{Bool, true, false, not, List, [], ◌∷◌, Option, None, Some, if◌then◌else◌}
 use Rattle.std.specs.List.{list_any}
 use Rattle.scim_schema.specs.declared.Unit.{Unit as AttributeUnit}
 use Rattle.scim_cell.specs.Rows.{is_primary}
 use Rattle.scim_steps.specs.Changes.{Change, Keep, KeepMatches, KeepSubAttribute, Append, Clear, RemoveListed, RemoveMatches}
-use Rattle.scim_patch.specs.Patch.{Step, Of, Patch, is_unseen_writing}
+use Rattle.scim_patch.specs.Patch.{Step, Of, Patch}
 
 -- such a change only takes values away, or puts some behind them of which none is the primary one
 abbrev pub is_told_by_length : Change → Bool
@@ -24,7 +24,3 @@ unit_told_among _ = None
 
 abbrev pub unit_told_by_length : Patch → Option AttributeUnit
 unit_told_by_length p = unit_told_among p.steps
-
--- whether the patch changed something, as these numbers of values before and after tell
-abbrev pub changes_number : Patch → ℕ → ℕ → Bool
-changes_number p before after = list_any (is_unseen_writing p.kind) p.steps || not (before == after)
