@@ -49,7 +49,7 @@ abbrev AreOf : Kind → Attribute → List Given → Type 0
 AreOf kind a gs = AreGivenRows kind a (rows_of gs)
 
 -- a `userName` that is given isn't empty
-filled : (a : Attribute) (atom : Atom) → (sameb the_attribute a UserName && is_empty atom) ≡ false → simple a ≡ simple UserName → is_empty atom ≡ false
+pub filled : (a : Attribute) (atom : Atom) → (sameb the_attribute a UserName && is_empty atom) ≡ false → simple a ≡ simple UserName → is_empty atom ≡ false
 filled a atom h e = go (sameb the_attribute a UserName) (is_empty atom) (true_same the_attribute a UserName (ap (λ (l : Leaf). l.attribute) e)) h
   where
     go : (b c : Bool) → b ≡ true → (b && c) ≡ false → c ≡ false

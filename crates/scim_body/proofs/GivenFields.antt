@@ -95,7 +95,7 @@ no_field : (kind : Kind) (a : Attribute) (b : SubAttribute) → IsAtMostOne kind
 no_field kind a b = record { own = All-nil (IsOf kind a b); few = omega arith }
 
 -- what is read of the value of one
-with_one : (kind : Kind) (a : Attribute) (b : SubAttribute) (d : Data) (fs : List Field) → HasLeaf kind (leaf_at a b) → is_read_only kind (leaf_at a b) ≡ false
+pub with_one : (kind : Kind) (a : Attribute) (b : SubAttribute) (d : Data) (fs : List Field) → HasLeaf kind (leaf_at a b) → is_read_only kind (leaf_at a b) ≡ false
     → field_with kind a b d ≡ Some fs → IsAtMostOne kind a b fs
 with_one kind a b d fs has writable h =
     let t = (characteristics_of kind (leaf_at a b)).attribute_type in

@@ -35,7 +35,7 @@ use Rattle.scim_value.specs.Resource.{IsShort}
 use Rattle.scim_value.proofs.Facts.{precedes_less, unit_same}
 use Rattle.scim_body.specs.BodyNames.{listed}
 use Rattle.scim_lists.specs.SameValues.{member_value, is_members, is_nameless, is_same_value, with_value, with_values}
-use Rattle.scim_body.specs.BodyValues.{collected, is_absent, fields_of, value_with, value_of, are_refused, checked, values_of}
+use Rattle.scim_body.specs.BodyValues.{is_absent, fields_of, value_with, value_of, are_refused, checked, listed_values, values_of}
 use Rattle.scim_body.specs.Drafts.{MayBeGiven, is_empty}
 use Rattle.scim_body.specs.Bodies.{Given, field_given, whole_given}
 use Rattle.scim_body.proofs.CollectedLemmas.{mapped, chained, not_refused, unless, none_passes, kept_map, one_pair, pairs_map, collected_all}
@@ -148,7 +148,7 @@ not_members : (a b : Attribute) → is_multi_valued a ≡ false → b ≡ a → 
 not_members a b single e m = let many : is_multi_valued a ≡ true = ap is_multi_valued (sym e ∙ m) in true≢false (sym many ∙ single)
 
 -- a field that is kept makes a row that may be given
-single_row : (kind : Kind) (a : Attribute) (f : Field) → is_multi_valued a ≡ false → IsSingle kind a f → is_write_only kind f.leaf ≡ false → IsGivenRow kind (row_with f)
+pub single_row : (kind : Kind) (a : Attribute) (f : Field) → is_multi_valued a ≡ false → IsSingle kind a f → is_write_only kind f.leaf ≡ false → IsGivenRow kind (row_with f)
 single_row kind a f single h kept = record {
   full = refl;
   own = record {
@@ -213,7 +213,7 @@ pub record IsValueOf (kind : Kind) (a : Attribute) (r : Row) : Type 0 where
   pub may_be_given : All (MayBeGiven kind) r.fields
 
 -- fields make a value
-value_made : (kind : Kind) (a : Attribute) (fs : List Field) → is_multi_valued a ≡ true → AreFields kind a fs → All (IsValueOf kind a) (value_with a fs)
+pub value_made : (kind : Kind) (a : Attribute) (fs : List Field) → is_multi_valued a ≡ true → AreFields kind a fs → All (IsValueOf kind a) (value_with a fs)
 value_made kind a [] many h = All-nil (IsValueOf kind a)
 value_made kind a (f ∷ fs) many h =
     let sound : All (IsSoundField kind (whole a)) (f ∷ fs)
@@ -275,13 +275,18 @@ values_given kind a rs many own h =
       few = omega (arith, length_filter test rs, ltb-false 10000 (length rs) numbers.1);
     }
 
+-- the values that are listed for a multi-valued attribute
+pub values_listed : (kind : Kind) (a : Attribute) (d : Data) (rs : List Row) → Contains (attributes kind) a → is_read_only kind (simple a) ≡ false → is_multi_valued a ≡ true
+    → listed_values kind a d ≡ Some rs → All (IsValueOf kind a) rs
+values_listed kind a d rs has writable many h =
+    collected_all (λ (d : Data). Unit {0}) (IsValueOf kind a) (value_of kind a) (λ e vs q r. item_made kind a e vs has writable many r) (listed (as_array d) d) (λ i e l. tt) rs h
+
 -- the values that are read of a multi-valued attribute
 pub values_read : (kind : Kind) (a : Attribute) (d : Data) (rs : List Row) → Contains (attributes kind) a → is_read_only kind (simple a) ≡ false → is_multi_valued a ≡ true
     → values_of kind a d ≡ Some rs → AreGivenRows kind a rs
 values_read kind a d rs has writable many h =
-    let ds = listed (as_array d) d in
-    let c = chained (λ vs. checked a (with_values a [] vs)) (collected (value_of kind a) ds) rs h in
-    let own : All (IsValueOf kind a) c.0 = collected_all (λ (d : Data). Unit {0}) (IsValueOf kind a) (value_of kind a) (λ e vs q r. item_made kind a e vs has writable many r) ds (λ i e l. tt) c.0 c.1 in
+    let c = chained (λ vs. checked a (with_values a [] vs)) (listed_values kind a d) rs h in
+    let own : All (IsValueOf kind a) c.0 = values_listed kind a d c.0 has writable many c.1 in
     let kept = not_refused (are_refused a (with_values a [] c.0)) (with_values a [] c.0) rs c.2 in
     subst (AreGivenRows kind a) kept.1 (values_given kind a (with_values a [] c.0) many (with_all (IsValueOf kind a) a [] c.0 (All-nil (IsValueOf kind a)) own) kept.0)
 

@@ -65,13 +65,13 @@ pub sub_attributes_own : (a : Attribute) → All (IsSubAttribute a) (sub_attribu
 sub_attributes_own a = all_passes (λ b. list_any (λ c. sameb the_sub_attribute c b) (sub_attributes a)) (sub_attributes_by_place a) (all_of_attribute a)
 
 -- what is in one of the lists is in all of them one after another
-contains_joined : {K X : Type 0} (f : K → List X) (ks : List K) (k : K) (x : X) (i : ℕ) → i < length ks → get_or ks i k ≡ k → Contains (f k) x → Contains (flat_map f ks) x
+pub contains_joined : {K X : Type 0} (f : K → List X) (ks : List K) (k : K) (x : X) (i : ℕ) → i < length ks → get_or ks i k ≡ k → Contains (f k) x → Contains (flat_map f ks) x
 contains_joined f [] k x i l e c = absurd (omega arith)
 contains_joined f (j ∷ ks) k x zero l e c = Contains-append_left (f j) (flat_map f ks) x (subst (λ m. Contains (f m) x) (sym e) c)
 contains_joined f (j ∷ ks) k x (suc i) l e c = Contains-append_right (f j) (flat_map f ks) x (contains_joined f ks k x i (omega arith) e c)
 
 -- what is made of an element is among what is made of all
-contains_made : {K X : Type 0} (f : K → X) (ks : List K) (k : K) (i : ℕ) → i < length ks → get_or ks i k ≡ k → Contains (map f ks) (f k)
+pub contains_made : {K X : Type 0} (f : K → X) (ks : List K) (k : K) (i : ℕ) → i < length ks → get_or ks i k ≡ k → Contains (map f ks) (f k)
 contains_made f [] k i l e = absurd (omega arith)
 contains_made f (j ∷ ks) k zero l e = (zero, omega arith, ap f e)
 contains_made f (j ∷ ks) k (suc i) l e = let c = contains_made f ks k i (omega arith) e in (suc c.0, omega (arith, c.1), c.2)
@@ -81,7 +81,7 @@ attribute_leaf : (kind : Kind) (a : Attribute) (l : Leaf) → Contains (attribut
 attribute_leaf kind a l c d = contains_joined (λ b. leaves_with b (sub_attributes b)) (attributes kind) a l c.0 c.1 c.2 d
 
 -- the leaf of a sub-attribute stands among those of its attribute
-sub_attribute_leaf : (a : Attribute) (bs : List SubAttribute) (b : SubAttribute) → Contains bs b → Contains (leaves_with a bs) (leaf_at a b)
+pub sub_attribute_leaf : (a : Attribute) (bs : List SubAttribute) (b : SubAttribute) → Contains bs b → Contains (leaves_with a bs) (leaf_at a b)
 sub_attribute_leaf a [] b c = absurd (omega (arith, c.1))
 sub_attribute_leaf a (d ∷ bs) b c = contains_made (leaf_at a) (d ∷ bs) b c.0 c.1 c.2
 

@@ -4,3 +4,4 @@ pub mod LeafTables
 pub mod GivenFields
 pub mod GivenRows
 pub mod DraftLemmas
+pub mod Facts

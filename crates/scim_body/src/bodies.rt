@@ -4,6 +4,7 @@ ghost use Rattle.std.specs.Prelude.{◌≡◌, ◌++◌, IfOk, OnOk, Some, None,
 ghost use Rattle.std.specs.List.{flat_map};
 ghost use Rattle.serde_json.specs.Read.{read};
 ghost use Rattle.serde_json.specs.View.{view, members_view};
+ghost use Rattle.scim_schema.specs.JsonKeys.{shape_of};
 ghost use Rattle.scim_text.specs.Failures.{UnlessMemory, OnFault};
 ghost use Rattle.scim_body.specs.BodyValues.{collected, values_of};
 ghost use Rattle.scim_body.specs.Bodies as spec;
@@ -40,11 +41,13 @@ pub enum BodyFault {
     Value,
 }
 
-/// A unit that a body gives, and the values that are kept for it.
+/// A unit that a client gives, and the values that are kept for it; of a writeOnly one none are.
 #[derive(Drop)]
-struct UnitGiven {
-    unit: Unit,
-    values: Vec<Row>,
+pub struct UnitGiven {
+    /// The unit.
+    pub unit: Unit,
+    /// Its values.
+    pub values: Vec<Row>,
 }
 
 /// What a body gives of a resource of the kind (RFC 7643 sections 2 to 4): the values that it has for
@@ -210,11 +213,50 @@ fn read_attribute(
     let Some(value) = given_named(members, attribute.name()) else {
         return Ok(());
     };
+    read_shaped(alloc, value, kind, attribute, given)
+}
+
+/// A value of an attribute, by its shape.
+///
+/// Errors: as `read_attributes`.
+fn read_shaped(
+    alloc: Global,
+    value: &Value,
+    kind: Kind,
+    attribute: Attribute,
+    given: &mut Vec<UnitGiven>,
+) -> Result<(), Failed<WrongValue>>
+    ensures given { OnOk result
+        (with_given given.old.items (spec.shaped_given kind attribute (shape_of attribute) (view value.now))
+        ≡ Some (units_given given.new.items)) }
+    ensures wrong { OnFault result
+        (spec.shaped_given kind attribute (shape_of attribute) (view value.now) ≡ None) }
+{
     match shape_of(attribute) {
         JsonShape::Simple => read_simple(alloc, value, kind, attribute, given),
         JsonShape::Complex => read_complex(alloc, value, kind, attribute, given),
         JsonShape::MultiValued => read_multi_valued(alloc, value, kind, attribute, given),
     }
+}
+
+/// The units that a value gives of an attribute that isn't readOnly (RFC 7643 section 2.3): a simple one of itself,
+/// a complex one of each sub-attribute in it that isn't readOnly, and a multi-valued one of all its values, where it has some.
+///
+/// WrongValue where the value is refused, as `read_body` tells. NoMemory where none was to be had.
+pub fn read_units(
+    alloc: Global,
+    value: &Value,
+    kind: Kind,
+    attribute: Attribute,
+) -> Result<Vec<UnitGiven>, Failed<WrongValue>>
+    ensures given { IfOk result
+        (λ v. spec.shaped_given kind attribute (shape_of attribute) (view value.now) ≡ Some (units_given v.items)) }
+    ensures wrong { OnFault result
+        (spec.shaped_given kind attribute (shape_of attribute) (view value.now) ≡ None) }
+{
+    let mut given = Vec::new(alloc);
+    read_shaped(alloc, value, kind, attribute, &mut given)?;
+    Ok(given)
 }
 
 /// A simple attribute.
@@ -250,9 +292,9 @@ fn is_empty(atom: &Atom) -> bool
     }
 }
 
-/// The unit of a field of its own; of a writeOnly one nothing is kept. NoMemory where none was to be
-/// had.
-fn field_given(alloc: Global, kind: Kind, field: Field) -> Result<UnitGiven, NoMemory>
+/// The unit of a field of a single-valued attribute; of a writeOnly one nothing is kept. NoMemory where none
+/// was to be had.
+pub fn field_given(alloc: Global, kind: Kind, field: Field) -> Result<UnitGiven, NoMemory>
     ensures { IfOk result (λ g. unit_given g ≡ spec.field_given kind field) }
 {
     let unit = unit_of(field.leaf);

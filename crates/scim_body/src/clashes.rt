@@ -23,8 +23,8 @@ fn sub_attributes_clash(members: &Map<String, Value>, attribute: Attribute) -> b
     false
 }
 
-/// Whether they do in a value of the attribute.
-fn value_clashes(value: &Value, attribute: Attribute) -> bool
+/// Whether two keys of a value of the attribute name one of its sub-attributes.
+pub fn value_clashes(value: &Value, attribute: Attribute) -> bool
     ensures { result ≡ spec.value_clashes attribute (view value.now) }
 {
     match value.as_object() {

@@ -8,9 +8,9 @@ mod members;
 mod required;
 mod values;
 
-pub use bodies::{BodyFault, read_body};
-pub use clashes::values_clash;
+pub use bodies::{BodyFault, UnitGiven, field_given, read_body, read_units};
+pub use clashes::{value_clashes, values_clash};
 pub use drafts::{Draft, UseFor};
 pub use members::{given_named, is_absent, is_twice, value_named};
 pub use required::lacks_required;
-pub use values::{WrongValue, read_atom, read_fields, read_listed};
+pub use values::{WrongValue, read_atom, read_field, read_fields, read_listed};

@@ -86,7 +86,7 @@ pub fn read_atom(
 /// The field of a sub-attribute that has this value.
 ///
 /// Errors: as `read_atom`.
-fn read_field(
+pub fn read_field(
     alloc: Global,
     value: &Value,
     kind: Kind,

@@ -43,7 +43,7 @@ impl Model for Patch {
 
 impl Patch {
     /// The patch of these steps.
-    pub(crate) fn new(kind: Kind, steps: Vec<Step>) -> Patch
+    pub fn new(kind: Kind, steps: Vec<Step>) -> Patch
         requires { spec.IsPatch (record { kind = kind; steps = map step_of steps.items }) }
         ensures kind { result.kind ≡ kind }
         ensures steps { result.steps ≡ steps.items }

@@ -1,0 +1,5 @@
+pub mod Readings
+pub mod PathSteps
+pub mod Messages
+pub mod Targets
+pub mod code

@@ -1,0 +1,2 @@
+-- What the reader of a message has read so far.
+pub mod Inside

@@ -1,0 +1,15 @@
+//! The messages of PATCH (RFC 7644 section 3.5.2): the steps that their operations ask for.
+#![tactic(auto)]
+
+mod faults;
+mod laws;
+mod messages;
+mod operations;
+mod path_steps;
+mod readings;
+mod targets;
+mod value_steps;
+
+pub use faults::PatchFault;
+pub use laws::targets_are_named;
+pub use messages::read_patch;
