@@ -11,12 +11,15 @@ use Rattle.scim_route.specs.declared.routes.Form.{Form}
 use Rattle.scim_route.specs.declared.routes.Form.TheVariants as form
 use Rattle.scim_route.specs.Parameters.{parameters_of}
 use Rattle.scim_service.specs.declared.requests.Ask.TheVariants.{Get, Search, Create, Replace}
+use Rattle.scim_service.specs.declared.requests.Ask.TheVariants as to
+use Rattle.scim_patch.specs.Patch.{Patch}
+use Rattle.scim_patch.specs.Kept.{Kept, patch_of}
 use Rattle.scim_ask.specs.Refused.{◌>>=◌}
 use Rattle.scim_ask.specs.AttributeLists.{Lists, Wants}
 use Rattle.scim_ask.specs.Searches.{Sought, sought, sought_of, IsQuery}
 use Rattle.scim_ask.specs.QueryStrings.{search_of}
 use Rattle.scim_ask.specs.SearchBodies.{search_of_body}
-use Rattle.scim_ask.specs.Asks.{Asked, showing, searching, creating, replacing, lists_asked, draft_asked, asked, IsAsk}
+use Rattle.scim_ask.specs.Asks.{Asked, showing, searching, creating, replacing, patching, lists_asked, draft_asked, patch_asked, asked, IsAsk}
 
 -- lists that are wanted are what is asked to be shown
 pub shows : (f : Form) (kind : Kind) (query : Option (List ℕ)) (body : List ℕ) (w : Wanted) → f ≡ form.Get
@@ -64,5 +67,16 @@ replaces kind query body d w a b = (
   replacing a.0 b.0,
   ap (λ (draft : Result Draft Refusal). draft >>= λ one. lists_asked query >>= λ ls. Ok (replacing one ls)) a.1
       ∙ ap (λ (found : Result Lists Refusal). found >>= λ ls. Ok (replacing a.0 ls)) b.1,
+  (a.2, b.2),
+)
+
+-- and a patch and what is wanted are what is asked to be made of one
+pub changes : (kind : Kind) (query : Option (List ℕ)) (body : List ℕ) (p : Kept) (w : Wanted)
+    → ((patch : Patch) × (patch_asked kind body ≡ Ok patch) × (patch_of p ≡ patch)) → ((lists : Lists) × (lists_asked query ≡ Ok lists) × Wants kind lists w)
+    → (x : Asked) × (asked form.Patch kind query body ≡ Ok x) × IsAsk kind x (to.Patch p w)
+changes kind query body p w a b = (
+  patching a.0 b.0,
+  ap (λ (patch : Result Patch Refusal). patch >>= λ one. lists_asked query >>= λ ls. Ok (patching one ls)) a.1
+      ∙ ap (λ (found : Result Lists Refusal). found >>= λ ls. Ok (patching a.0 ls)) b.1,
   (a.2, b.2),
 )

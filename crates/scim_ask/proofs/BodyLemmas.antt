@@ -10,7 +10,7 @@ use Rattle.scim_schema.specs.declared.Kind.{Kind}
 use Rattle.scim_audit.specs.declared.refusals.Refusal.TheVariants.{Syntax}
 use Rattle.scim_ask.specs.SearchBodies.{value_in}
 use Rattle.scim_body.specs.declared.drafts.UseFor.{UseFor}
-use Rattle.scim_ask.specs.Asks.{draft_in, draft_asked}
+use Rattle.scim_ask.specs.Asks.{draft_in, draft_asked, patch_in_text, patch_asked}
 
 not_utf8 : (body : List ℕ) → (IsUtf8 body → ⊥) → is_utf8 body ≡ false
 not_utf8 body broken = false_from_ne_true (is_utf8 body) (λ t. broken (IsUtf8-from_is_utf8 body t))
@@ -39,3 +39,13 @@ draft_of_text use_for kind body text same utf8 = let passes = is_utf8-from_IsUtf
 pub no_draft : (use_for : UseFor) (kind : Kind) (body : List ℕ) → (IsUtf8 body → ⊥) → draft_asked use_for kind body ≡ Err Syntax
 unfolding draft_asked
 no_draft use_for kind body broken = let fails = not_utf8 body broken in rw fails refl
+
+-- ---- the same of patches
+
+pub patch_of_text : (kind : Kind) (body text : List ℕ) → text ≡ body → IsUtf8 body → patch_in_text kind text ≡ patch_asked kind body
+unfolding patch_asked
+patch_of_text kind body text same utf8 = let passes = is_utf8-from_IsUtf8 body utf8 in rw passes (ap (patch_in_text kind) same)
+
+pub no_patch : (kind : Kind) (body : List ℕ) → (IsUtf8 body → ⊥) → patch_asked kind body ≡ Err Syntax
+unfolding patch_asked
+no_patch kind body broken = let fails = not_utf8 body broken in rw fails refl

@@ -2,6 +2,7 @@
 ghost use Rattle.std.specs.Prelude.{◌≡◌};
 ghost use Rattle.std.specs.Option.{option_copied};
 ghost use Rattle.scim_text.specs.Failures.{UnlessMemory};
+ghost use Rattle.scim_patch.specs.Kept.{patch_of};
 ghost use Rattle.scim_route.specs.declared.routes.Form.{Form};
 ghost use Rattle.scim_route.specs.Parameters.{parameters_of};
 ghost use Rattle.scim_ask.specs.Refused.{Tells};
@@ -16,6 +17,8 @@ use crate::query_strings::{lists_of, search_by};
 use crate::search_bodies::search_by_body;
 use scim_audit::Refusal;
 use scim_body::{BodyFault, Draft, UseFor, read_body};
+use scim_operations::{PatchFault, read_patch};
+use scim_patch::Patch;
 use scim_query::Query;
 use scim_route::{Form, Parameters, Route};
 use scim_schema::Kind;
@@ -124,21 +127,62 @@ fn replacement(
     Ok(Ask::Replace(draft, wanted_by_query(alloc, kind, query)?))
 }
 
+/// The patch that a text asks for.
+///
+/// Syntax, Path and MessageValue as `read_patch` says. NoMemory where none was to be had.
+#[tactic(auto, unfolding(crate::specs::Asks::patch_in_text))]
+fn patch_in_text(alloc: Global, kind: Kind, text: &str) -> Result<Patch, Failed<Refusal>>
+    ensures { UnlessMemory (Tells (λ due p. patch_of p ≡ due) (spec.patch_in_text kind text.now)) result }
+{
+    match read_patch(alloc, kind, text) {
+        Ok(patch) => Ok(patch),
+        Err(Failed::NoMemory) => Err(Failed::NoMemory),
+        Err(Failed::Because(PatchFault::Syntax)) => Err(Failed::Because(Refusal::Syntax)),
+        Err(Failed::Because(PatchFault::Path)) => Err(Failed::Because(Refusal::Path)),
+        Err(Failed::Because(PatchFault::Value)) => Err(Failed::Because(Refusal::MessageValue)),
+    }
+}
+
+/// The same by a body; Syntax also where it is no UTF-8.
+fn patch_by(alloc: Global, kind: Kind, body: &[u8]) -> Result<Patch, Failed<Refusal>>
+    ensures { UnlessMemory (Tells (λ due p. patch_of p ≡ due) (spec.patch_asked kind body.now)) result }
+{
+    match str::from_utf8(body) {
+        Ok(text) => patch_in_text(alloc, kind, text),
+        Err(_) => Err(Failed::Because(Refusal::Syntax)),
+    }
+}
+
+/// To change a resource.
+///
+/// Errors: as `patch_by`, and then as `wanted_by_query`.
+fn change(
+    alloc: Global,
+    kind: Kind,
+    query: Option<&[u8]>,
+    body: &[u8],
+) -> Result<Ask, Failed<Refusal>>
+    ensures { UnlessMemory (Tells (IsAsk kind) (spec.asked Form.Patch kind (option_copied query.entry) body.now)) result }
+{
+    let patch = patch_by(alloc, kind, body)?;
+    Ok(Ask::Patch(patch, wanted_by_query(alloc, kind, query)?))
+}
+
 /// What a routed request asks of the resources of a kind, by the query string of the route and its body.
 ///
-/// Of the query string, requests for one resource and those that make or replace one read the attribute lists alone (RFC 7644
+/// Of the query string, requests for one resource and those that make, replace or change one read the attribute lists alone (RFC 7644
 /// section 3.9); a list of resources reads it all (section 3.4.2); a search that is posted reads its body alone
-/// (section 3.4.3). Bodies of other requests than those that make or replace a resource or post a search aren't looked at.
+/// (section 3.4.3). Bodies of other requests than those that make, replace or change a resource or post a search aren't looked at.
 ///
 /// Parameters and keys are read in any ASCII case. An attribute list that names nothing is a list all the same, and
 /// shows what is always shown; without a text it counts as not given, and in a query string blank parts of it do. A
 /// blank filter counts as not given, and a sortBy that names nothing too. A startIndex below 1 is 1, as where none is
 /// given; a count below 0 is 0, above 200 it is 200, and 100 where none is given.
 ///
-/// Fails with the first that holds of these: NotSupported where a resource is to be changed; Syntax where
-/// a body that is read isn't a JSON object in UTF-8, or has a key in two spellings; Filter where the filter is none;
-/// MessageValue where another value isn't of its type, or none of its parameter, or both attribute lists are given, or
-/// the body gives no draft of a resource. And with NoMemory where no memory is to be had.
+/// Fails with the first that holds of these: Syntax where a body that is read isn't a JSON object in UTF-8 of the form
+/// that is asked for, or has a key in two spellings; Filter where the filter is none; Path where a path of a change is
+/// none or names nothing; MessageValue where another value isn't of its type, or none of its parameter, or both
+/// attribute lists are given, or the body gives no draft of a resource. And with NoMemory where no memory is to be had.
 pub fn ask(alloc: Global, route: &Route<'_>, body: &[u8]) -> Result<Ask, Failed<Refusal>>
     ensures { UnlessMemory (Asks route.now body.now) result }
 {
@@ -154,6 +198,6 @@ pub fn ask(alloc: Global, route: &Route<'_>, body: &[u8]) -> Result<Ask, Failed<
             Ok(Ask::Remove)
         }
         Form::Replace => replacement(alloc, kind, query, body),
-        Form::Patch => Err(Failed::Because(Refusal::NotSupported)),
+        Form::Patch => change(alloc, kind, query, body),
     }
 }

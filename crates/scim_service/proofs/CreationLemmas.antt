@@ -1,5 +1,5 @@
 -- Names and ids in use, and what a client is shown of what is made.
-use Rattle.std.proofs.Common.{◌≡◌, refl, sym, ◌∙◌, ap, subst, ◌≤◌, ℕ, Bool, true, false, ◌&&◌, ◌||◌, List, [], ◌∷◌, ◌++◌, filter, is_some, ◌-◌, length, length-drop, get_or, drop, take, take_all, inl, inr, arith}
+use Rattle.std.proofs.Common.{◌≡◌, refl, sym, ◌∙◌, ap, subst, ◌≤◌, ℕ, Bool, true, false, ◌&&◌, ◌||◌, List, [], ◌∷◌, ◌++◌, is_some, ◌-◌, length, length-drop, get_or, drop, take, take_all, inl, inr, arith}
 use Rattle.std.specs.Prelude.{find, not, Option, None, Some}
 use Rattle.std.specs.List.{list_any}
 use Rattle.std.proofs.lemmas.Bool.{cases_Bool}

@@ -4,4 +4,5 @@ pub mod PlanLemmas
 pub mod CreationLemmas
 pub mod StepLemmas
 pub mod ReplaceLemmas
+pub mod PatchLemmas
 pub mod RunLemmas

@@ -1,6 +1,6 @@
 -- What is planned where a resource is replaced.
-use Rattle.std.proofs.Common.{◌≡◌, refl, sym, ◌∙◌, ap, subst, ℕ, Bool, true, false, List, [], ◌∷◌, inl, inr, is_some, All, filter}
-use Rattle.std.specs.Prelude.{◌&&◌, ◌||◌, not, Option, None, Some, option_and_then, find, Result, Ok, Err, IfOk}
+use Rattle.std.proofs.Common.{◌≡◌, refl, sym, ap, subst, ℕ, Bool, true, false, List, [], ◌∷◌, inl, inr, is_some, All, filter}
+use Rattle.std.specs.Prelude.{Option, None, Some, option_and_then, find, Result, Ok, Err, IfOk}
 use Rattle.std.specs.List.{list_any}
 use Rattle.std.proofs.lemmas.Bool.{cases_Bool}
 use Rattle.std.proofs.lemmas.List.Elements.{All-head, All-tail, All-weaker, filter_passes}
@@ -15,7 +15,7 @@ use Rattle.scim_schema.specs.Mutability.{is_fixed}
 use Rattle.scim_schema.specs.Units.{simple, units}
 use Rattle.scim_cell.specs.Content.{Content}
 use Rattle.scim_cell.specs.Rows.{rows}
-use Rattle.scim_audit.specs.declared.refusals.Refusal.TheVariants.{ResultValue, Taken}
+use Rattle.scim_audit.specs.declared.refusals.Refusal.TheVariants.{Taken}
 use Rattle.scim_change.specs.Agreement.{agrees}
 use Rattle.scim_body.specs.Drafts.{Draft, gives}
 use Rattle.scim_change.specs.Replace.{changes, replaced}
@@ -28,7 +28,7 @@ use Rattle.scim_shelf.specs.Stores.{Store, IsStore, is_at, is_taken, without}
 use Rattle.scim_service.specs.declared.requests.Turn.{Turn}
 use Rattle.scim_service.specs.declared.plans.Plan.{Plan}
 use Rattle.scim_service.specs.code.Questions.{is_in_question}
-use Rattle.scim_service.specs.Step.{refused, access_to, unit_denied, first_unit_denied, writable, widened, kept_text, kept_with, changed_if_free, changed_if_complete, is_writable, written, written_if_allowed, replacing, sought, at_seen}
+use Rattle.scim_service.specs.Step.{refused, access_to, unit_denied, first_unit_denied, widened, kept_text, kept_with, changed_if_free, is_writable, written, written_if_allowed, replacing, sought, at_seen}
 
 -- a unit that isn't in question isn't denied
 unit_passes : (a : Access) (d : Draft) (seen : Content) (u : AttributeUnit) → is_in_question a d u ≡ false → unit_denied a d seen u ≡ None

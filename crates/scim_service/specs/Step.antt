@@ -18,7 +18,7 @@ use Rattle.scim_cell.specs.Content.{Content}
 use Rattle.scim_cell.specs.Kinds.{of_kind}
 use Rattle.scim_cell.specs.Rows.{rows}
 use Rattle.scim_audit.specs.declared.refusals.Refusal.{Refusal}
-use Rattle.scim_audit.specs.declared.refusals.Refusal.TheVariants.{MessageValue, NotFound, Denied, ResultValue, Taken, Widens, IdInUse}
+use Rattle.scim_audit.specs.declared.refusals.Refusal.TheVariants.{MessageValue, NotFound, Denied, Mutability, NoTarget, ResultValue, Taken, Widens, IdInUse}
 use Rattle.scim_audit.specs.declared.rows.Decided.{Decided}
 use Rattle.scim_audit.specs.declared.rows.Decided.TheVariants as decided
 use Rattle.scim_audit.specs.declared.rows.AuditRow.{AuditRow}
@@ -31,6 +31,10 @@ use Rattle.scim_json.specs.PartData.{part_data}
 use Rattle.scim_json.specs.ListData.{list_data}
 use Rattle.scim_change.specs.Create.{created}
 use Rattle.scim_change.specs.Replace.{changes, replaced}
+use Rattle.scim_steps.specs.declared.steps.StepFault.{StepFault}
+use Rattle.scim_steps.specs.declared.steps.StepFault.TheVariants as fault
+use Rattle.scim_patch.specs.Patch.{Patch, touched, applied}
+use Rattle.scim_patch.specs.Kept.{patch_of}
 use Rattle.scim_policy.specs.Rules.{Rule}
 use Rattle.scim_policy.specs.declared.rules.Decision.{Decision}
 use Rattle.scim_policy.specs.Access.{Access, access, forbidding, widening}
@@ -47,7 +51,7 @@ use Rattle.scim_shelf.specs.declared.changes.Change.{Change}
 use Rattle.scim_shelf.specs.declared.changes.Change.TheVariants.{Nothing, Keep, Remove as TakeOut}
 use Rattle.scim_shelf.specs.Stores.{Store, is_at, is_taken, is_used, keep, without, after}
 use Rattle.scim_service.specs.declared.requests.Ask.{Ask}
-use Rattle.scim_service.specs.declared.requests.Ask.TheVariants.{Get, Search, Create as MakeOne, Replace, Remove}
+use Rattle.scim_service.specs.declared.requests.Ask.TheVariants.{Get, Search, Create as MakeOne, Replace, Patch as PatchOne, Remove}
 use Rattle.scim_service.specs.declared.requests.Turn.{Turn}
 use Rattle.scim_service.specs.declared.replies.Reply.{Reply}
 use Rattle.scim_service.specs.declared.replies.Reply.TheVariants.{Shown, Created, Done, Refused}
@@ -247,6 +251,35 @@ replacing v turn cs d wanted c =
     then written_if_allowed v turn cs d wanted c (first_unit_denied (access_to v c) d (visible v c) (units d.kind))
     else refused turn MessageValue
 
+-- ---- what is patched (RFC 7644 section 3.5.2)
+
+-- the first of these units that the policy forbids: the leaf that is denied, and the decision
+abbrev pub first_forbidden : Kind → Access → List AttributeUnit → Option (Leaf × Decision)
+first_forbidden kind a [] = None
+first_forbidden kind a (u ∷ us) = or_else (forbidding kind a u) (first_forbidden kind a us)
+
+-- what a step that is refused is answered
+abbrev pub step_refusal : StepFault → Refusal
+step_refusal fault.Mutability = Mutability
+step_refusal fault.NoTarget = NoTarget
+step_refusal fault.Value = ResultValue
+
+-- the steps make this of the resource, or one of them is refused
+abbrev pub patched_with : Viewer → Turn → List Content → Wanted → Content → Result (Content × Bool) StepFault → Plan
+patched_with v turn cs wanted c (Err e) = refused turn (step_refusal e)
+patched_with v turn cs wanted c (Ok (x, changed)) = changed_if_free v turn cs wanted (access_to v c) changed x
+
+-- unless one is about a unit that may not be written, they are applied to the resource as it is kept, whatever of it is seen
+abbrev pub patched_if_allowed : Viewer → Turn → List Content → Patch → Wanted → Content → Option (Leaf × Decision) → Plan
+patched_if_allowed v turn cs p wanted c (Some (l, d)) = denied turn d l
+patched_if_allowed v turn cs p wanted c None = patched_with v turn cs wanted c (applied p turn.moment c)
+
+unfoldable pub patching : Viewer → Turn → List Content → Patch → Wanted → Content → Plan
+patching v turn cs p wanted c =
+    if sameb the_kind p.kind c.kind
+    then patched_if_allowed v turn cs p wanted c (first_forbidden p.kind (access_to v c) (touched p))
+    else refused turn MessageValue
+
 -- ---- all requests
 
 -- the resource that a request names
@@ -265,6 +298,7 @@ planned v turn cs (Ok (Get wanted)) = at_seen v turn (got v turn cs wanted) (sou
 planned v turn cs (Ok (Search query)) = listed v turn cs query
 planned v turn cs (Ok (MakeOne draft wanted)) = creating v turn cs draft wanted
 planned v turn cs (Ok (Replace draft wanted)) = at_seen v turn (replacing v turn cs draft wanted) (sought turn cs)
+planned v turn cs (Ok (PatchOne patch wanted)) = at_seen v turn (patching v turn cs (patch_of patch) wanted) (sought turn cs)
 planned v turn cs (Ok Remove) = at_seen v turn (removed v turn) (sought turn cs)
 
 -- for whom a turn is: its client, by the policy, below the base

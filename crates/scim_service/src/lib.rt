@@ -5,6 +5,7 @@
 mod changed;
 mod creations;
 mod names;
+mod patches;
 mod plans;
 mod replacements;
 mod replies;

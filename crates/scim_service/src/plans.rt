@@ -19,6 +19,7 @@ ghost use Rattle.scim_service.specs.Answers.{KeepsSound};
 ghost use Rattle.scim_service.specs.Step as spec;
 
 use crate::creations::plan_create;
+use crate::patches::plan_patch;
 use crate::replacements::plan_replace;
 use crate::replies::Reply;
 use crate::requests::{Ask, Turn};
@@ -479,6 +480,7 @@ pub(crate) fn planned<S: Shelf>(
         Ok(Ask::Replace(draft, wanted)) => {
             plan_replace(alloc, viewer, shelf, turn, draft, wanted)
         }
+        Ok(Ask::Patch(patch, wanted)) => plan_patch(alloc, viewer, shelf, turn, patch, wanted),
         Ok(Ask::Remove) => plan_remove(alloc, viewer, shelf, turn),
         Err(refusal) => Ok(refused(alloc, turn, *refusal)?),
     }

@@ -2,6 +2,7 @@
 use scim_audit::Refusal;
 use scim_body::Draft;
 use scim_cell::{Id, Text};
+use scim_patch::Patch;
 use scim_query::Query;
 use scim_schema::{Kind, Op};
 use scim_text::Moment;
@@ -21,6 +22,9 @@ pub enum Ask {
     /// write it (RFC 7644 section 3.5.1), and to show of it what is wanted. The draft is of the request's kind;
     /// another is answered [`Refusal::MessageValue`].
     Replace(Draft, Wanted),
+    /// To change the resource that the request names by the steps of a patch (RFC 7644 section 3.5.2), and to show of
+    /// it what is wanted. The patch is of the request's kind; another is answered [`Refusal::MessageValue`].
+    Patch(Patch, Wanted),
     /// To remove the resource that the request names (RFC 7644 section 3.6).
     Remove,
 }

@@ -1,4 +1,4 @@
-use Rattle.std.proofs.Common.{◌≡◌, ◌∙◌, ap, List, map}
+use Rattle.std.proofs.Common.{◌∙◌, ap, List, map}
 use Rattle.std.specs.List.{list_any}
 use Rattle.std.proofs.lemmas.Result.{IfOk-weaker}
 use Rattle.scim_value.specs.declared.uniqueness.UniqueName.{UniqueName}

@@ -4,7 +4,7 @@ use Rattle.std.proofs.lemmas.Result.{IfOk-weaker}
 use Rattle.scim_audit.specs.declared.refusals.Refusal.{Refusal}
 use Rattle.scim_view.specs.View.{viewer_of}
 use Rattle.scim_service.specs.declared.requests.Ask.{Ask}
-use Rattle.scim_service.specs.declared.requests.Ask.TheVariants.{Get, Search, Create, Replace}
+use Rattle.scim_service.specs.declared.requests.Ask.TheVariants.{Get, Search, Create, Replace, Patch}
 use Rattle.scim_service.specs.Step as spec
 use Rattle.scim_service.proofs.plans.planned.Goals as goal
 
@@ -39,3 +39,11 @@ returns-in-Ok-Replace-clause-plan g c =
     (λ plan answer store stands honest base is.
     answer store stands honest base is ∙ ap (λ (a : Result Ask Refusal). spec.planned (viewer_of c.args.viewer.now) c.args.turn.now store.resources a) (sym asked))
     c.plan_replace.ensures.plan
+
+pub returns-in-Ok-Patch-clause-plan : goal.returns-in-Ok-Patch-clause-plan
+returns-in-Ok-Patch-clause-plan g c =
+    let asked : c.args.turn.now.request.ask ≡ Ok (Patch c.in-Ok-Patch.patch c.in-Ok-Patch.wanted) = c.in-Ok-Patch.is ∙ ap (λ (a : Ask). Ok a) (rw c.in-Ok-Patch.is at c.in-Ok-Patch.field-0-is) in
+    IfOk-weaker c.plan_patch.result _ _
+    (λ plan answer store stands honest base is.
+    answer store stands honest base is ∙ ap (λ (a : Result Ask Refusal). spec.planned (viewer_of c.args.viewer.now) c.args.turn.now store.resources a) (sym asked))
+    c.plan_patch.ensures.plan

@@ -1,0 +1,146 @@
+//! What is to be done for a request to change a resource step by step (RFC 7644 section 3.5.2).
+ghost use Rattle.std.specs.Prelude.{◌≡◌, ◌≢◌, ℕ, List, None, IfOk, Err};
+ghost use Rattle.scim_text.specs.declared.memory.Failed.{Failed};
+ghost use Rattle.scim_value.specs.Resource.{HasBase};
+ghost use Rattle.scim_patch.specs.Patch.{touched};
+ghost use Rattle.scim_patch.specs.Kept.{patch_of};
+ghost use Rattle.scim_policy.specs.Table.{access_in};
+ghost use Rattle.scim_view.specs.View.{viewer_of};
+ghost use Rattle.scim_shelf.specs.declared.faults.ShelfFault.{ShelfFault};
+ghost use Rattle.scim_shelf.specs.Shelves.{Counts, KeepsStore, Answers};
+ghost use Rattle.scim_shelf.specs.Stores.{IsStore, AreOf};
+ghost use Rattle.scim_service.specs.Answers.{KeepsSound};
+ghost use Rattle.scim_service.specs.Step as spec;
+
+use crate::changed::plan_changed;
+use crate::plans::{Plan, absent, denied, found, hidden, refused};
+use crate::requests::Turn;
+use scim_audit::Refusal;
+use scim_patch::{Patch, Step, apply};
+use scim_policy::{Decision, Rights};
+use scim_schema::{Attribute, Leaf};
+use scim_shelf::{Shelf, ShelfFault};
+use scim_steps::StepFault;
+use scim_text::Failed;
+use scim_value::Resource;
+use scim_view::{Viewer, Wanted};
+use std::alloc::Global;
+
+/// What a step that is refused is answered.
+fn step_refusal(fault: StepFault) -> Refusal
+    ensures { result ≡ spec.step_refusal fault }
+{
+    match fault {
+        StepFault::Mutability => Refusal::Mutability,
+        StepFault::NoTarget => Refusal::NoTarget,
+        StepFault::Value => Refusal::ResultValue,
+    }
+}
+
+/// The first of the units that the steps are about that the client may not write: the leaf that is denied, and
+/// the decision.
+fn first_forbidden(rights: &Rights, patch: &Patch) -> Option<(Leaf, Decision)>
+    ensures { result ≡ spec.first_forbidden patch.now.kind (access_in rights.now) (touched (patch_of patch.now)) }
+{
+    let kind = patch.kind();
+    let steps = patch.steps();
+    for step in steps {
+        if let Step::Of(unit, _) = step {
+            let forbidden = rights.forbidding(kind, *unit);
+            if forbidden.is_some() {
+                return forbidden;
+            }
+        }
+    }
+    None
+}
+
+/// What is to be done where the policy lets the client write all units that the steps are about.
+fn plan_allowed<S: Shelf>(
+    alloc: Global,
+    viewer: &Viewer<'_>,
+    shelf: &mut S,
+    turn: &Turn,
+    patch: &Patch,
+    wanted: &Wanted,
+    rights: &Rights,
+    resource: Resource,
+) -> Result<Plan, Failed<ShelfFault>>
+    requires rights { access_in rights.now ≡ spec.access_to (viewer_of viewer.now) resource }
+    requires kind { patch.now.kind ≡ resource.kind }
+    ensures plan { IfOk result (Answers S.stands S.is_honest shelf.old shelf.new (λ store plan. (base : List ℕ) → IsStore base store
+        → AreOf resource.kind resource.id store.resources
+        → plan ≡ spec.patched_if_allowed (viewer_of viewer.now) turn.now store.resources (patch_of patch.now) wanted.now resource None)) }
+    ensures sound { HasBase viewer.now.base.now resource → IfOk result (λ plan. KeepsSound viewer.now.base.now plan.change) }
+    ensures store { KeepsStore S.stands shelf.old shelf.new }
+    ensures honest { S.is_honest shelf.new → S.is_honest shelf.old }
+    ensures counts { Counts (S.failures shelf.old) (S.failures shelf.new) result }
+    ensures not_full { result ≢ Err (Failed.Because ShelfFault.Full) }
+{
+    match apply(alloc, resource, patch, turn.moment) {
+        Ok(changed) => plan_changed(alloc, viewer, shelf, turn, wanted, rights, changed),
+        Err(Failed::Because(fault)) => Ok(refused(alloc, turn, step_refusal(fault))?),
+        Err(Failed::NoMemory) => Err(Failed::NoMemory),
+    }
+}
+
+/// What is to be done for a request to patch a resource that the client sees.
+#[tactic(auto, unfolding(crate::specs::Step::patching))]
+fn plan_seen<S: Shelf>(
+    alloc: Global,
+    viewer: &Viewer<'_>,
+    shelf: &mut S,
+    turn: &Turn,
+    patch: &Patch,
+    wanted: &Wanted,
+    rights: &Rights,
+    resource: Resource,
+) -> Result<Plan, Failed<ShelfFault>>
+    requires { access_in rights.now ≡ spec.access_to (viewer_of viewer.now) resource }
+    ensures plan { IfOk result (Answers S.stands S.is_honest shelf.old shelf.new (λ store plan. (base : List ℕ) → IsStore base store
+        → AreOf resource.kind resource.id store.resources
+        → plan ≡ spec.patching (viewer_of viewer.now) turn.now store.resources (patch_of patch.now) wanted.now resource)) }
+    ensures sound { HasBase viewer.now.base.now resource → IfOk result (λ plan. KeepsSound viewer.now.base.now plan.change) }
+    ensures store { KeepsStore S.stands shelf.old shelf.new }
+    ensures honest { S.is_honest shelf.new → S.is_honest shelf.old }
+    ensures counts { Counts (S.failures shelf.old) (S.failures shelf.new) result }
+    ensures not_full { result ≢ Err (Failed.Because ShelfFault.Full) }
+{
+    if patch.kind() != resource.kind() {
+        return Ok(refused(alloc, turn, Refusal::MessageValue)?);
+    }
+    match first_forbidden(rights, patch) {
+        Some((leaf, decision)) => Ok(denied(alloc, turn, decision, leaf)?),
+        None => plan_allowed(alloc, viewer, shelf, turn, patch, wanted, rights, resource),
+    }
+}
+
+/// What is to be done for a request to patch the resource that it names.
+pub(crate) fn plan_patch<S: Shelf>(
+    alloc: Global,
+    viewer: &Viewer<'_>,
+    shelf: &mut S,
+    turn: &Turn,
+    patch: &Patch,
+    wanted: &Wanted,
+) -> Result<Plan, Failed<ShelfFault>>
+    ensures plan { IfOk result (Answers S.stands S.is_honest shelf.old shelf.new (λ store plan. (base : List ℕ) → IsStore base store
+        → plan ≡ spec.at_seen (viewer_of viewer.now) turn.now
+        (spec.patching (viewer_of viewer.now) turn.now store.resources (patch_of patch.now) wanted.now) (spec.sought turn.now store.resources))) }
+    ensures sound { IfOk result (Answers S.stands S.is_honest shelf.old shelf.new (λ store plan. IsStore viewer.now.base.now store
+        → KeepsSound viewer.now.base.now plan.change)) }
+    ensures store { KeepsStore S.stands shelf.old shelf.new }
+    ensures honest { S.is_honest shelf.new → S.is_honest shelf.old }
+    ensures counts { Counts (S.failures shelf.old) (S.failures shelf.new) result }
+    ensures not_full { result ≢ Err (Failed.Because ShelfFault.Full) }
+{
+    let Some(resource) = found(alloc, shelf, turn)? else {
+        return Ok(absent(alloc, turn)?);
+    };
+    let rights = viewer.policy.rights(alloc, viewer.client, &resource)?;
+    let seen = rights.read().of(Leaf::simple(Attribute::Id));
+    if !seen.allow {
+        return Ok(hidden(alloc, turn, seen)?);
+    }
+    plan_seen(alloc, viewer, shelf, turn, patch, wanted, &rights, resource)
+}
