@@ -20,7 +20,7 @@ use Rattle.scim_value.proofs.Facts.{get_cell, sound_part}
 use Rattle.scim_change.specs.Agreement.{are_same_values}
 use Rattle.scim_body.specs.Drafts.{Draft, IsDraft, gives, lacks_required}
 use Rattle.scim_change.specs.Replace.{changes, changes_unit, if_complete, modified_at, replaced, with_units}
-use Rattle.scim_change.specs.Laws.{AgreeAt, AreAlike, Stays, ReplacingRestsOnItsUnits}
+use Rattle.scim_change.specs.Laws.{AgreeAt, AreAlike, IsLeft, Stays, ReplacingRestsOnItsUnits}
 use Rattle.scim_change.proofs.AtomLemmas.{rows_modified}
 use Rattle.scim_change.proofs.NameLemmas.{IsSimple, cell_there, has_row, user_name, display_name}
 use Rattle.scim_change.proofs.PutLemmas.{is_listed, values_listed, values_unlisted}
@@ -125,22 +125,30 @@ module _ (d : Draft) (is : IsDraft d) (us : List AttributeUnit) (moment : ℕ) w
     stays v apart =
         ap (values v) rows_outcome ∙ stamp_apart moment given v apart.unstamped ∙ values_unlisted d us v (rows c) (none_listed us v apart.none)
 
+    left : IsLeft us true moment c outcome
+    left = record { kind = refl; id = refl; stays = stays; modified = ap (values stamp) rows_outcome ∙ stamp_own moment given }
+
+  -- what isn't changed is left
+  as_it_was : (c : Content) → IsLeft us false moment c c
+  as_it_was c = record { kind = refl; id = refl; stays = λ v apart. refl; modified = refl }
+
   -- ---- the outcomes of two resources
 
   module _ (a b : Content) (one : IsResource a) (other : IsResource b) (k : a.kind ≡ d.kind) (l : b.kind ≡ d.kind) where
     agree : AgreeAt us (outcome a one k) (outcome b other l)
     agree = λ n u m. (let t = at_listed us n u m in listed a one k (get_or us n u) t ∙ sym (listed b other l (get_or us n u) t))
 
-    completed : (x y : Bool) → lacks_required a.kind (given a one k) ≡ x → lacks_required b.kind (given b other l) ≡ y → x ≡ y → AreAlike us a b (if_complete moment a (given a one k)) (if_complete moment b (given b other l))
+    completed : (x y : Bool) → lacks_required a.kind (given a one k) ≡ x → lacks_required b.kind (given b other l) ≡ y → x ≡ y
+        → AreAlike us true moment a b (if_complete moment a (given a one k)) (if_complete moment b (given b other l))
     completed true true e f same = rw (e, f) tt
-    completed false false e f same = rw (e, f) (agree, stays a one k, stays b other l)
+    completed false false e f same = rw (e, f) (agree, left a one k, left b other l)
     completed true false e f same = cc
     completed false true e f same = cc
 
-    alike : (x y : Bool) → changes d us (rows a) ≡ x → changes d us (rows b) ≡ y → x ≡ y → AgreeAt us a b → AreAlike us a b (replaced d us moment a) (replaced d us moment b)
+    alike : (x y : Bool) → changes d us (rows a) ≡ x → changes d us (rows b) ≡ y → x ≡ y → AgreeAt us a b → AreAlike us x moment a b (replaced d us moment a) (replaced d us moment b)
     unfolding replaced
     alike true true e f same same_values = rw (e, f) (completed _ _ refl refl (lacks a one k ∙ sym (lacks b other l)))
-    alike false false e f same same_values = rw (e, f) (same_values, (λ v apart. refl), (λ v apart. refl))
+    alike false false e f same same_values = rw (e, f) (same_values, as_it_was a, as_it_was b)
     alike true false e f same same_values = cc
     alike false true e f same same_values = cc
 

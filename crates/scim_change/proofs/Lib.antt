@@ -7,3 +7,4 @@ pub mod ReplaceLemmas
 pub mod AtomLemmas
 pub mod LawLemmas
 pub mod Facts
+pub mod OutcomeLemmas

@@ -1,13 +1,15 @@
 -- What the outcome of a replacing rests on.
-use Rattle.std.specs.Prelude.{◌≡◌, ◌≢◌, ℕ, List, Option, None, Some, All}
+use Rattle.std.specs.Prelude.{◌≡◌, ◌≢◌, ℕ, Bool, List, [], ◌∷◌, Option, None, Some, All, if◌then◌else◌}
 use Rattle.scim_schema.specs.declared.Unit.{Unit as AttributeUnit}
 use Rattle.scim_schema.specs.declared.Attribute.TheVariants.{Meta}
 use Rattle.scim_schema.specs.declared.SubAttribute.TheVariants.{LastModified}
 use Rattle.scim_schema.specs.Units.{leaf_at, unit_of}
+use Rattle.scim_cell.specs.declared.atoms.Atom.TheVariants.{Moment}
 use Rattle.scim_cell.specs.Content.{Content}
 use Rattle.scim_cell.specs.Rows.{rows, values}
 use Rattle.scim_value.specs.Resource.{IsResource}
 use Rattle.scim_body.specs.Drafts.{Draft, IsDraft}
+use Rattle.scim_change.specs.Create.{meta_row}
 use Rattle.scim_change.specs.Replace.{changes, replaced}
 
 -- two resources have the same values of each of these units
@@ -23,15 +25,28 @@ pub record IsApart (us : List AttributeUnit) (v : AttributeUnit) : Type 0 where
 abbrev pub Stays : List AttributeUnit → Content → Content → Type 0
 Stays us before after = (v : AttributeUnit) → IsApart us v → values v (rows after) ≡ values v (rows before)
 
+-- where something changed, `meta.lastModified` is the moment afterwards; else it is what it was (RFC 7643 section 3.1)
+abbrev pub IsStamped : Bool → ℕ → Content → Content → Type 0
+IsStamped changed moment before after =
+    values (unit_of (leaf_at Meta LastModified)) (rows after)
+    ≡ (if changed then meta_row LastModified (Moment moment) ∷ [] else values (unit_of (leaf_at Meta LastModified)) (rows before))
+
+-- what a change of the units at the moment leaves of a resource: its kind and its id, all else that it had, and `meta.lastModified` as it has to be
+pub record IsLeft (us : List AttributeUnit) (changed : Bool) (moment : ℕ) (before after : Content) : Type 0 where
+  pub kind : after.kind ≡ before.kind
+  pub id : after.id ≡ before.id
+  pub stays : Stays us before after
+  pub modified : IsStamped changed moment before after
+
 -- two outcomes are alike: both are refused, or both have the same values of the units, and keep all others of their own
-abbrev pub AreAlike : List AttributeUnit → Content → Content → Option Content → Option Content → Type 0
-AreAlike us a b None None = Unit {0}
-AreAlike us a b (Some x) (Some y) = AgreeAt us x y × Stays us a x × Stays us b y
-AreAlike us a b _ _ = ⊥
+abbrev pub AreAlike : List AttributeUnit → Bool → ℕ → Content → Content → Option Content → Option Content → Type 0
+AreAlike us changed moment a b None None = Unit {0}
+AreAlike us changed moment a b (Some x) (Some y) = AgreeAt us x y × IsLeft us changed moment a x × IsLeft us changed moment b y
+AreAlike us changed moment a b _ _ = ⊥
 
 -- what becomes of a resource at the units that are replaced rests on what it has there: from two resources that agree there come alike outcomes, and `meta.lastModified` moves in both or in neither
 abbrev pub ReplacingRestsOnItsUnits : Type 0
 ReplacingRestsOnItsUnits =
     (d : Draft) (us : List AttributeUnit) (moment : ℕ) (a b : Content)
     → IsDraft d → IsResource a → IsResource b → a.kind ≡ d.kind → b.kind ≡ d.kind → AgreeAt us a b
-    → (changes d us (rows a) ≡ changes d us (rows b)) × AreAlike us a b (replaced d us moment a) (replaced d us moment b)
+    → (changes d us (rows a) ≡ changes d us (rows b)) × AreAlike us (changes d us (rows a)) moment a b (replaced d us moment a) (replaced d us moment b)

@@ -15,7 +15,7 @@ use Rattle.scim_value.specs.Resource.{IsResource}
 use Rattle.scim_value.proofs.Facts.{rows_content, sound_part}
 use Rattle.scim_change.specs.Agreement.{are_same_values}
 use Rattle.scim_change.specs.Replace.{modified_at}
-use Rattle.scim_change.specs.Laws.{AgreeAt, Stays}
+use Rattle.scim_change.specs.Laws.{AgreeAt, IsLeft, Stays}
 use Rattle.scim_change.proofs.Facts.{rows_modified, stamp, stamps, stamp_apart, stamp_own, values_put, values_stay}
 use Rattle.scim_steps.specs.declared.steps.StepFault.{StepFault}
 use Rattle.scim_steps.specs.declared.steps.StepFault.TheVariants as fault
@@ -198,6 +198,13 @@ module _ (p : Patch) (moment : ℕ) where
     stays v apart =
         ap (values v) rows_outcome ∙ stamp_apart moment rs v apart.unstamped ∙ untouched_stay c own p.steps may rs h v (none_listed (touched p) v apart.none)
 
+    is_left : IsLeft (touched p) true moment c outcome
+    is_left = record { kind = refl; id = refl; stays = stays; modified = ap (values stamp) rows_outcome ∙ stamp_own moment rs }
+
+  -- what isn't changed is left
+  as_it_was : (c : Content) → IsLeft (touched p) false moment c c
+  as_it_was c = record { kind = refl; id = refl; stays = λ v apart. refl; modified = refl }
+
   module _ (a b : Content) (is : IsPatch p) (one : IsResource a) (other : IsResource b) (k : a.kind ≡ p.kind) (l : b.kind ≡ p.kind) (agree : AgreeAt (touched p) a b) where
     -- the steps may be made of both
     may : All (IsStep a.kind) p.steps
@@ -213,19 +220,19 @@ module _ (p : Patch) (moment : ℕ) where
     -- what is finished of rows that are alike is alike
     finished_alike : (xs ys : List Row) (x : Bool) → all_stepped a.kind p.steps (Ok (rows a)) ≡ Ok xs → all_stepped b.kind p.steps (Ok (rows b)) ≡ Ok ys
         → AreSame (touched p) xs ys → AreSound a.kind xs → AreSound b.kind ys
-        → AreAlike (touched p) a b (Ok ((if x then content a.kind a.id (modified_at moment xs) else a), x)) (Ok ((if x then content b.kind b.id (modified_at moment ys) else b), x))
+        → AreAlike (touched p) moment a b (Ok ((if x then content a.kind a.id (modified_at moment xs) else a), x)) (Ok ((if x then content b.kind b.id (modified_at moment ys) else b), x))
     finished_alike xs ys true e f agreed first second = (
       refl,
       λ n u m. (let v = get_or (touched p) n u in
           told a one may xs e first v ∙ ap (λ vs. if is_same_unit stamp v then stamps moment else vs) (agreed v (at_listed (touched p) n u m)) ∙ sym (told b other may_too ys f second v)),
-      stays a one may xs e first,
-      stays b other may_too ys f second,
+      is_left a one may xs e first,
+      is_left b other may_too ys f second,
     )
-    finished_alike xs ys false e f agreed first second = (refl, agree, (λ v apart. refl), (λ v apart. refl))
+    finished_alike xs ys false e f agreed first second = (refl, agree, as_it_was a, as_it_was b)
 
     -- so are the outcomes where what the steps leave is
     alike : (x y : Result (List Row) StepFault) → all_stepped a.kind p.steps (Ok (rows a)) ≡ x → all_stepped b.kind p.steps (Ok (rows b)) ≡ y
-        → AreLeftAlike (touched p) a.kind b.kind x y → AreAlike (touched p) a b (applied p moment a) (applied p moment b)
+        → AreLeftAlike (touched p) a.kind b.kind x y → AreAlike (touched p) moment a b (applied p moment a) (applied p moment b)
     alike (Err e) (Err f) first second agreed =
         rw (sym (refused p moment a (sym k) (Because e) (sym first)), sym (refused p moment b (sym l) (Because f) (sym second))) agreed
     alike (Ok xs) (Ok ys) first second agreed =

@@ -10,3 +10,5 @@ pub mod StepLemmas
 pub mod ApplyLemmas
 pub mod LengthLemmas
 pub mod LawLemmas
+pub mod OutcomeLemmas
+pub mod Facts

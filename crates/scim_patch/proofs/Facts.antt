@@ -1,0 +1,3 @@
+-- What other crates may use of the proofs here.
+pub use Rattle.scim_patch.proofs.OutcomeLemmas.{applied_sound}
+pub use Rattle.scim_patch.proofs.StandLemmas.{same_content}
