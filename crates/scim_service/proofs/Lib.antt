@@ -6,3 +6,4 @@ pub mod StepLemmas
 pub mod ReplaceLemmas
 pub mod PatchLemmas
 pub mod RunLemmas
+pub mod Facts
