@@ -1,0 +1,11 @@
+pub mod RowLemmas
+pub mod WritableLemmas
+pub mod UnitLemmas
+pub mod StoreLemmas
+pub mod NameLemmas
+pub mod ChangeLemmas
+pub mod KeepLemmas
+pub mod RequestLemmas
+pub mod LawLemmas
+pub mod ListLemmas
+pub mod CellLemmas

@@ -1,0 +1,5 @@
+pub mod Alike
+pub mod Requests
+pub mod Lists
+pub mod Cells
+pub mod Laws
