@@ -1,13 +1,18 @@
 -- One request of a client, over two stores that are alike for it.
-use Rattle.std.proofs.Common.{List}
+use Rattle.std.proofs.Common.{◌∙◌, ap, sym, List}
 use Rattle.std.specs.Prelude.{All}
 use Rattle.std.proofs.lemmas.List.Elements.{All-weaker}
+use Rattle.scim_schema.specs.Mutability.{is_write_only}
+use Rattle.scim_schema.specs.Units.{unit_of}
 use Rattle.scim_cell.specs.Content.{Content}
+use Rattle.scim_cell.specs.Rows.{atom_at}
+use Rattle.scim_policy.specs.Access.{access}
 use Rattle.scim_value.specs.Resource.{IsResource, HasBase}
 use Rattle.scim_view.specs.View.{Viewer}
 use Rattle.scim_service.specs.Step.{viewer_at}
 use Rattle.scim_laws.specs.Alike.{IsAlike}
-use Rattle.scim_laws.specs.Laws.{OneRequest}
+use Rattle.scim_laws.specs.Laws.{OneRequest, NothingComesIntoView}
+use Rattle.scim_laws.proofs.WritableLemmas.{not_wider}
 use Rattle.scim_laws.proofs.StoreLemmas.{controls_same, seen_same, traits_from}
 use Rattle.scim_laws.proofs.RequestLemmas.{AreLike, planned_same}
 
@@ -26,3 +31,11 @@ one_request policy base turn s t one two alike is first second =
     let like = like_alike v s.resources t.resources one.sound two.sound alike in
     let answers = planned_same v turn s.resources t.resources like one.keyed two.keyed one.sound two.sound is.moment turn.request.ask is.ask first second in
     (answers.reply, alike_like v _ _ answers.like)
+
+-- what isn't changed is seen afterwards where it was seen before, unless something is opened
+pub nothing_comes_into_view : NothingComesIntoView
+nothing_comes_into_view v us old new kinds stays nothing l k atom own apart seen = record {
+  there = ap (atom_at l k) (sym (stays (unit_of l) apart)) ∙ seen.there;
+  shown = ap (λ kind. is_write_only kind l) (sym kinds) ∙ seen.shown;
+  readable = not_wider new.kind (access v.policy v.client old) (access v.policy v.client new) nothing l own seen.readable;
+}

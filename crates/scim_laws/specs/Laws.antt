@@ -1,10 +1,18 @@
 -- What a client can infer of what it may not see: nothing. Stores that are alike for it answer it alike and stay alike.
-use Rattle.std.specs.Prelude.{◌≡◌, ℕ, List, filter, All, Contains}
+use Rattle.std.specs.Prelude.{◌≡◌, ℕ, true, false, List, filter, All, Contains, None, Some}
 use Rattle.scim_schema.specs.declared.Leaf.{Leaf}
+use Rattle.scim_schema.specs.declared.Unit.{Unit as AttributeUnit}
+use Rattle.scim_schema.specs.Mutability.{is_write_only}
+use Rattle.scim_schema.specs.Table.{HasLeaf}
+use Rattle.scim_schema.specs.Units.{unit_of}
+use Rattle.scim_cell.specs.declared.atoms.Atom.{Atom}
 use Rattle.scim_cell.specs.Content.{Content}
+use Rattle.scim_cell.specs.Rows.{rows, cell_at}
 use Rattle.scim_value.specs.Resource.{IsResource}
 use Rattle.scim_policy.specs.Rules.{Rule}
-use Rattle.scim_view.specs.View.{Viewer}
+use Rattle.scim_change.specs.Laws.{IsApart, Stays}
+use Rattle.scim_policy.specs.Access.{access, widening}
+use Rattle.scim_view.specs.View.{Viewer, may_read}
 use Rattle.scim_shelf.specs.Stores.{Store, IsStore, keep}
 use Rattle.scim_service.specs.declared.requests.Turn.{Turn}
 use Rattle.scim_service.specs.Step.{viewer_at, plan, next_store}
@@ -49,3 +57,16 @@ HiddenCellsAreQuiet =
     (v : Viewer) (before after : List Content) (old new : Content)
     → Contains before old → keep new before ≡ after → IsResource old → IsResource new → old.kind ≡ new.kind → old.id ≡ new.id
     → ((l : Leaf) (k : ℕ) → IsHiddenAt v old new l k) → IsQuiet v before after
+
+-- what a viewer sees of a resource at a leaf and a position
+pub record IsSeenAt (v : Viewer) (c : Content) (l : Leaf) (k : ℕ) (atom : Atom) : Type 0 where
+  pub there : cell_at l k (rows c) ≡ Some atom
+  pub shown : is_write_only c.kind l ≡ false
+  pub readable : may_read v c l ≡ true
+
+-- where a change of some units opens nothing to a client, what it sees afterwards at other units it saw before
+abbrev pub NothingComesIntoView : Type 0
+NothingComesIntoView =
+    (v : Viewer) (us : List AttributeUnit) (old new : Content)
+    → new.kind ≡ old.kind → Stays us old new → widening new.kind (access v.policy v.client old) (access v.policy v.client new) ≡ None
+    → (l : Leaf) (k : ℕ) (atom : Atom) → HasLeaf new.kind l → IsApart us (unit_of l) → IsSeenAt v new l k atom → IsSeenAt v old l k atom

@@ -1,5 +1,5 @@
 //! The laws.
-ghost use Rattle.scim_laws.specs.Laws.{OneRequest, TwoLists, QuietOthers, TurnsLeaveStores, HiddenCellsAreQuiet};
+ghost use Rattle.scim_laws.specs.Laws.{OneRequest, TwoLists, QuietOthers, TurnsLeaveStores, HiddenCellsAreQuiet, NothingComesIntoView};
 
 /// One request of a client, over two stores that are alike for it, is answered alike, and the stores stay alike. That
 /// is for every policy, every client and whatever is asked; the id for what it may create is in use in neither store.
@@ -28,4 +28,10 @@ pub fn turns_leave_stores()
 /// and of an attribute that no target of the policy names and whose values needn't be unique.
 pub fn hidden_cells_are_quiet()
     ensures { HiddenCellsAreQuiet }
+{}
+
+/// Where a change of some units of a resource opens nothing to a client, what the client sees afterwards at other units
+/// it saw before, at the same leaf and position; `meta.lastModified` aside.
+pub fn nothing_comes_into_view()
+    ensures { NothingComesIntoView }
 {}

@@ -8,5 +8,8 @@
 mod laws;
 mod turns;
 
-pub use laws::{hidden_cells_are_quiet, one_request, quiet_others, turns_leave_stores, two_lists};
+pub use laws::{
+    hidden_cells_are_quiet, nothing_comes_into_view, one_request, quiet_others, turns_leave_stores,
+    two_lists,
+};
 pub use turns::turn_is_sound;
