@@ -3,7 +3,6 @@ use crate::service_runs::{
     draft_of, heading, make, print_line, service_over_nothing, timed, turn_with,
 };
 use anyhow::Result;
-use bench_values::id_of;
 use scim_body::UseFor;
 use scim_schema::{Kind, Op};
 use scim_service::{Ask, Turn};
@@ -26,7 +25,7 @@ const PASSES: usize = 7;
 
 /// A policy file of so many rules, of which the last lets the client do all, and the others have a target that
 /// has to be tried and doesn't hold.
-fn policy_text(alloc: Global, rules: usize) -> Result<String> {
+pub(crate) fn policy_text(alloc: Global, rules: usize) -> Result<String> {
     let mut text = String::from_str(alloc, "{\"version\":1,\"rules\":[")?;
     for _ in 1..rules {
         text.push_str(
@@ -46,19 +45,32 @@ fn user_body(alloc: Global, title: &str) -> Result<String> {
     )?)
 }
 
-/// The body of a group of a name, with so many members.
-fn group_body(alloc: Global, name: &str, members: usize) -> Result<String> {
-    let mut body = format!(in alloc; "{{\"displayName\":\"{name}\",\"members\":[")?;
+/// The JSON list of so many members from a number on.
+pub(crate) fn members_text(alloc: Global, first: usize, members: usize) -> Result<String> {
+    let mut text = String::from_str(alloc, "[")?;
     for place in 0..members {
         let comma = if place == 0 { "" } else { "," };
-        write!(body, "{comma}{{\"value\":\"user{place}\"}}")?;
+        write!(
+            text,
+            "{comma}{{\"value\":\"user{}\"}}",
+            first.saturating_add(place)
+        )?;
     }
-    body.push_str("]}")?;
-    Ok(body)
+    text.push(']')?;
+    Ok(text)
+}
+
+/// The body of a group of a name, with so many members.
+pub(crate) fn group_body(alloc: Global, name: &str, members: usize) -> Result<String> {
+    let members = members_text(alloc, 0, members)?;
+    Ok(format!(in alloc;
+        "{{\"displayName\":\"{name}\",\"members\":{}}}",
+        members.as_str()
+    )?)
 }
 
 /// A turn by which the one resource becomes what the body gives: it is made, or replaced.
-fn turn_of(alloc: Global, kind: Kind, use_for: UseFor, body: &str) -> Result<Turn> {
+pub(crate) fn turn_of(alloc: Global, kind: Kind, use_for: UseFor, body: &str) -> Result<Turn> {
     let draft = draft_of(alloc, kind, use_for, body)?;
     let (op, ask) = match use_for {
         UseFor::Creating => (Op::Create, Ask::Create(draft, Wanted::Default)),

@@ -1,5 +1,6 @@
 //! Whole requests: messages as bytes, one after another, over a service in memory, and the replies that must come.
 use crate::service_calls::{FRESH, push_rows, service_by};
+use crate::stores::{Store, goes_to, stores_of};
 use case_policies::policy;
 use case_values::{Case, CaseFault, said, text_or_json};
 use scim_cell::Id;
@@ -15,37 +16,86 @@ use std::alloc::Global;
 /// What is written where a message's body is waited for (RFC 9110 section 15.2.1).
 const CONTINUE: &str = "HTTP/1.1 100 Continue\r\n\r\n";
 
-/// What the steps are to be answered, each with the lines of the audit where it has `audit`.
+/// What the steps are to be answered, each with the lines of the audit where it has `audit`; by each store of the case,
+/// one after the other.
 pub fn expected(case: &Case<'_>) -> Result<String, CaseFault> {
     let mut text = String::new(case.alloc);
-    for value in case.list("steps") {
-        let step = Case {
-            alloc: case.alloc,
-            value,
-        };
-        text.push_str(message_text(&step, "reply", "gives", false)?.as_str())?;
-        for line in step.list("audit").iter().filter_map(Value::as_str) {
-            text.push_str(line)?;
-            text.push(';')?;
-        }
+    for store in stores_of(case) {
+        push_expected(case, store, &mut text)?;
     }
     Ok(text)
 }
 
 /// What the steps are answered.
 pub fn answered(case: &Case<'_>) -> Result<String, CaseFault> {
-    let policy = policy(case)?;
     let tokens = tokens_of(case)?;
-    let mut service = service_by(case, policy)?;
     let mut text = String::new(case.alloc);
+    for store in stores_of(case) {
+        push_answered(case, store, &tokens, &mut text)?;
+    }
+    Ok(text)
+}
+
+/// Adds what the steps are to be answered by a store. A step that says wrongly where it goes is to be answered all the
+/// same, and isn't.
+fn push_expected(case: &Case<'_>, store: &Store, text: &mut String) -> Result<(), CaseFault> {
     for value in case.list("steps") {
         let step = Case {
             alloc: case.alloc,
             value,
         };
-        push_step(&step, &tokens, &mut service, &mut text)?;
+        if goes_to(&step, store).unwrap_or(true) {
+            text.push_str(store.title)?;
+            push_expected_step(&step, store, text)?;
+        }
     }
-    Ok(text)
+    Ok(())
+}
+
+fn push_expected_step(step: &Case<'_>, store: &Store, text: &mut String) -> Result<(), CaseFault> {
+    let (head, body) = if step.value.get(store.reply).is_some() {
+        (store.reply, store.gives)
+    } else {
+        ("reply", "gives")
+    };
+    text.push_str(message_text(step, head, body, false)?.as_str())?;
+    for line in step.list("audit").iter().filter_map(Value::as_str) {
+        text.push_str(line)?;
+        text.push(';')?;
+    }
+    Ok(())
+}
+
+/// Adds what the steps are answered by a store, which is made for them.
+fn push_answered(
+    case: &Case<'_>,
+    store: &Store,
+    tokens: &Tokens,
+    text: &mut String,
+) -> Result<(), CaseFault> {
+    let policy = policy(case)?;
+    let mut service = service_by(case, policy, store.users)?;
+    push_steps(case, store, tokens, &mut service, text)
+}
+
+fn push_steps(
+    case: &Case<'_>,
+    store: &Store,
+    tokens: &Tokens,
+    service: &mut Service<MemoryShelf>,
+    text: &mut String,
+) -> Result<(), CaseFault> {
+    for value in case.list("steps") {
+        let step = Case {
+            alloc: case.alloc,
+            value,
+        };
+        if goes_to(&step, store)? {
+            text.push_str(store.title)?;
+            push_step(&step, tokens, service, text)?;
+        }
+    }
+    Ok(())
 }
 
 /// The tokens of the argument `tokens`, the text of a token file; of no client where it isn't given.

@@ -13,6 +13,7 @@ mod folder;
 mod outcomes;
 mod route_calls;
 mod service_calls;
+mod stores;
 mod tally;
 mod token_calls;
 mod vectors;

@@ -31,30 +31,34 @@ pub fn answer(case: &Case<'_>, call: &str) -> Option<Result<String, CaseFault>> 
 /// What the turns of the list `turns` are answered, one after another, and then the lines of the audit.
 fn service_call(case: &Case<'_>) -> Result<String, CaseFault> {
     let policy = policy(case)?;
-    let mut service = service_by(case, policy)?;
+    let mut service = service_by(case, policy, "users")?;
     told_of_turns(case, &mut service)
 }
 
 /// The same, where the service is given all the turns at once.
 fn run_call(case: &Case<'_>) -> Result<String, CaseFault> {
     let policy = policy(case)?;
-    let mut service = service_by(case, policy)?;
+    let mut service = service_by(case, policy, "users")?;
     told_of_run(case, &mut service)
 }
 
-/// A service by this policy over the argument `users`, below the argument `base`.
-pub fn service_by(case: &Case<'_>, policy: Policy) -> Result<Service<MemoryShelf>, CaseFault> {
+/// A service by this policy over the argument that `users` names, below the argument `base`.
+pub fn service_by(
+    case: &Case<'_>,
+    policy: Policy,
+    users: &'static str,
+) -> Result<Service<MemoryShelf>, CaseFault> {
     let base = Text::copy_of(case.alloc, case.text_or("base", BASE))?;
-    let shelf = shelf_of(case)?;
+    let shelf = shelf_of(case, users)?;
     Ok(Service::new(policy, base, shelf))
 }
 
-/// A shelf of the argument `users`, a users file; of the sample users and groups where it isn't given.
-fn shelf_of(case: &Case<'_>) -> Result<MemoryShelf, CaseFault> {
-    let users = text_or_json(case, "users", USERS)?;
+/// A shelf of the argument `name`, a users file; of the sample users and groups where it isn't given.
+fn shelf_of(case: &Case<'_>, name: &'static str) -> Result<MemoryShelf, CaseFault> {
+    let users = text_or_json(case, name, USERS)?;
     match read_documents(case.alloc, case.text_or("base", BASE), users.as_str()) {
         Ok(resources) => Ok(MemoryShelf::new(case.alloc, resources)?),
-        Err(_) => Err(CaseFault::Missing("users")),
+        Err(_) => Err(CaseFault::Missing(name)),
     }
 }
 

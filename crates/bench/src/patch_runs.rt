@@ -1,0 +1,187 @@
+//! What PATCHes of groups take, from the text of the message to the reply, by how many members a group has and a
+//! message names.
+use crate::put_runs::{group_body, members_text, policy_text, turn_of};
+use crate::service_runs::{heading, make, service_over_nothing, turn_with};
+use anyhow::{Result, ensure};
+use bench_values::ratio;
+use scim_body::UseFor;
+use scim_operations::read_patch;
+use scim_schema::{Kind, Op};
+use scim_service::{Ask, Service, Turn};
+use scim_shelf::MemoryShelf;
+use scim_view::Wanted;
+use std::alloc::Global;
+use std::io::Print;
+use std::time::{Clock, Instant};
+
+/// As many passes are made as have so many members together, and the fastest counts: the smaller the group, the more
+/// passes.
+const MEMBERS: usize = 200_000;
+
+/// A PATCH of a group by one operation with a list of members.
+#[derive(Clone, Copy)]
+struct Change {
+    /// The name of the operation.
+    op: &'static str,
+    /// How many members the group has before.
+    members: usize,
+    /// The first member of the list.
+    first: usize,
+    /// How many are listed.
+    listed: usize,
+}
+
+/// A group comes to have 100 members, and 10,000, which are the most.
+const ONE_ADDED: [Change; 2] = [
+    Change {
+        op: "add",
+        members: 99,
+        first: 99,
+        listed: 1,
+    },
+    Change {
+        op: "add",
+        members: 9_999,
+        first: 9_999,
+        listed: 1,
+    },
+];
+
+/// A group comes to have 1,000 members, and 10,000.
+const ALL_ADDED: [Change; 2] = [
+    Change {
+        op: "add",
+        members: 0,
+        first: 0,
+        listed: 1_000,
+    },
+    Change {
+        op: "add",
+        members: 0,
+        first: 0,
+        listed: 10_000,
+    },
+];
+
+/// The members that go are the first ones, so that all others move up.
+const SOME_REMOVED: [Change; 2] = [
+    Change {
+        op: "remove",
+        members: 1_000,
+        first: 0,
+        listed: 100,
+    },
+    Change {
+        op: "remove",
+        members: 10_000,
+        first: 0,
+        listed: 1_000,
+    },
+];
+
+/// The text of the message.
+fn message_text(alloc: Global, change: Change) -> Result<String> {
+    let op = change.op;
+    let members = members_text(alloc, change.first, change.listed)?;
+    Ok(format!(in alloc;
+        "{{\"schemas\":[\"urn:ietf:params:scim:api:messages:2.0:PatchOp\"],\"Operations\":[{{\"op\":\"{op}\",\"path\":\"members\",\"value\":{}}}]}}",
+        members.as_str()
+    )?)
+}
+
+/// The turn that the text of a message asks for.
+fn turn_for(alloc: Global, text: &str) -> Result<Turn> {
+    let patch = read_patch(alloc, Kind::Group, text)?;
+    let ask = Ask::Patch(patch, Wanted::Default);
+    Ok(turn_with(heading(alloc)?, Op::Modify, Kind::Group, 1, ask))
+}
+
+/// Reads the text of a message and answers it.
+fn patch(alloc: Global, service: &mut Service<MemoryShelf>, text: &str) -> Result<()> {
+    let turn = turn_for(alloc, text)?;
+    let reply = service.answer(alloc, &turn);
+    ensure!(
+        reply.status().as_u16() == 200,
+        "a PATCH is answered otherwise"
+    );
+    Ok(())
+}
+
+/// Nanoseconds of the PATCH, of the group that a turn has made in a store of its own.
+fn pass(rt: &impl Clock, alloc: Global, making: &Turn, text: &str) -> Result<u128> {
+    let policy = policy_text(alloc, 1)?;
+    let mut service = service_over_nothing(alloc, policy.as_str())?;
+    make(alloc, &mut service, making)?;
+    let start = Instant::now(rt)?;
+    patch(alloc, &mut service, text)?;
+    Ok(start.elapsed(rt)?.as_nanos())
+}
+
+/// Nanoseconds of the fastest of so many passes.
+fn fastest_pass(
+    rt: &impl Clock,
+    alloc: Global,
+    making: &Turn,
+    text: &str,
+    passes: usize,
+) -> Result<u128> {
+    let mut best = pass(rt, alloc, making, text)?;
+    for _ in 1..passes {
+        best = best.min(pass(rt, alloc, making, text)?);
+    }
+    Ok(best)
+}
+
+/// Nanoseconds of the change.
+fn measure(rt: &impl Clock, alloc: Global, change: Change) -> Result<u128> {
+    let body = group_body(alloc, "Team", change.members)?;
+    let making = turn_of(alloc, Kind::Group, UseFor::Creating, body.as_str())?;
+    let text = message_text(alloc, change)?;
+    let members = change.members.saturating_add(change.listed);
+    let passes = MEMBERS / members.max(1);
+    fastest_pass(rt, alloc, &making, text.as_str(), passes)
+}
+
+/// Prints what two changes take, and how many times as long the second may take at most.
+fn compare(
+    rt: &(impl Clock + Print),
+    alloc: Global,
+    what: &str,
+    changes: [Change; 2],
+    limit: usize,
+) -> Result<()> {
+    let [fewer, more] = changes;
+    let few = measure(rt, alloc, fewer)?;
+    let many = measure(rt, alloc, more)?;
+    println!(rt;
+        "{what}: {few}, {many}, {:.1} times, at most {limit}",
+        ratio(many, few)
+    )?;
+    Ok(())
+}
+
+/// Prints what PATCHes take, in nanoseconds.
+pub fn run(rt: &(impl Clock + Print), alloc: Global) -> Result<()> {
+    println!(rt; "nanoseconds a PATCH of a group, its message read too")?;
+    compare(
+        rt,
+        alloc,
+        "add one to 99 members and to 9,999",
+        ONE_ADDED,
+        130,
+    )?;
+    compare(
+        rt,
+        alloc,
+        "add 1,000 members and 10,000 to none",
+        ALL_ADDED,
+        15,
+    )?;
+    compare(
+        rt,
+        alloc,
+        "remove 100 of 1,000 members and 1,000 of 10,000",
+        SOME_REMOVED,
+        15,
+    )
+}
