@@ -1,0 +1,30 @@
+-- What explanations tell, for any policy, client, operation, resource and leaf.
+use Rattle.std.specs.Prelude.{◌≡◌, ◌==◌, ◌-◌, ℕ, false, List, All, length, map, take, Some, if◌then◌else◌}
+use Rattle.scim_schema.specs.declared.Op.{Op}
+use Rattle.scim_schema.specs.declared.Leaf.{Leaf}
+use Rattle.scim_cell.specs.Content.{Content}
+use Rattle.scim_policy.specs.Rules.{Rule}
+use Rattle.scim_policy.specs.Decide.{fits, misfit_of}
+use Rattle.scim_explain.specs.Explain.{Explanation, explained}
+
+-- the rules that an explanation tells of: those before the deciding one, or all where that is 0
+abbrev pub earlier : List Rule → Explanation → List Rule
+earlier policy e = if e.decision.rule == 0 then policy else take (e.decision.rule - 1) policy
+
+-- it has one misfit fewer than the number of the deciding rule, or as many as there are rules where that is 0
+abbrev pub TellsOfEachEarlierRule : Type 0
+TellsOfEachEarlierRule =
+    (policy : List Rule) (client : List ℕ) (op : Op) (c : Content) (l : Leaf)
+    → length (explained policy client op c l).misfits ≡ (let e = explained policy client op c l in if e.decision.rule == 0 then length policy else e.decision.rule - 1)
+
+-- its misfits are those of the rules before the deciding one, one of each
+abbrev pub TellsTheMisfitOfEach : Type 0
+TellsTheMisfitOfEach =
+    (policy : List Rule) (client : List ℕ) (op : Op) (c : Content) (l : Leaf)
+    → map Some (explained policy client op c l).misfits ≡ map (misfit_of client op c l) (earlier policy (explained policy client op c l))
+
+-- none of these rules fits
+abbrev pub NoEarlierRuleFits : Type 0
+NoEarlierRuleFits =
+    (policy : List Rule) (client : List ℕ) (op : Op) (c : Content) (l : Leaf)
+    → All (λ r. fits client op c l r ≡ false) (earlier policy (explained policy client op c l))

@@ -1,0 +1,84 @@
+//! Explanations of decisions.
+ghost use Rattle.std.specs.Prelude.{◌≡◌, IfOk};
+ghost use Rattle.scim_explain.specs.Explain as spec;
+
+use scim_policy::{Decision, Misfit, Policy};
+use scim_schema::{Leaf, Op};
+use scim_text::NoMemory;
+use scim_value::Resource;
+use std::alloc::Global;
+use std::marker::Model;
+
+/// Why a decision fell: the decision, and for each rule before the one that decided the first thing of it
+/// that doesn't fit; where none decided, for each rule. Contracts see the list and the decision.
+#[derive(Debug, Drop)]
+pub struct Explanation {
+    misfits: Vec<Misfit>,
+    decision: Decision,
+}
+
+impl Model for Explanation {
+    ghost use Rattle.std.specs.Coded.{codes};
+    ghost use Rattle.scim_policy.specs.contracts.misfits.Misfit as misfit_type;
+    ghost use Rattle.scim_policy.specs.contracts.rules.Decision as decision_type;
+    ghost use Rattle.scim_explain.specs.Explain.{Explanation};
+
+    ghost Value = { Explanation };
+
+    ghost coded = { Prim.hlevel (codes, misfit_type.the_row.coded, decision_type.the_row.coded) };
+
+    ghost view = { λ e. record { misfits = e.misfits.items; decision = e.decision } };
+}
+
+impl Explanation {
+    /// What doesn't fit of the rules before the one that decided, or of all where none did, in order of
+    /// their numbers.
+    pub fn misfits(&self) -> &[Misfit]
+        ensures { result.now ≡ self.now.misfits }
+    {
+        self.misfits.as_slice()
+    }
+
+    /// The decision that is explained.
+    pub fn decision(&self) -> Decision
+        ensures { result ≡ self.now.decision }
+    {
+        self.decision
+    }
+}
+
+/// Why the policy decides as it does of the client's operation on the leaf of the resource. Each rule is
+/// looked at once, up to the first that fits.
+///
+/// The only error is [`NoMemory`].
+pub fn explain(
+    alloc: Global,
+    policy: &Policy,
+    client: &str,
+    op: Op,
+    resource: &Resource,
+    leaf: Leaf,
+) -> Result<Explanation, NoMemory>
+    ensures { IfOk result (λ e. e ≡ spec.explained policy.now client.now op resource.now leaf) }
+{
+    let mut misfits = Vec::new(alloc);
+    let mut number = 0;
+    for rule in policy.rules() {
+        number += 1;
+        match rule.misfit(alloc, client, op, resource, leaf)? {
+            Some(misfit) => misfits.push(misfit)?,
+            None => {
+                let decision = Decision {
+                    rule: number,
+                    allow: rule.allows(),
+                };
+                return Ok(Explanation { misfits, decision });
+            }
+        }
+    }
+    let decision = Decision {
+        rule: 0,
+        allow: false,
+    };
+    Ok(Explanation { misfits, decision })
+}

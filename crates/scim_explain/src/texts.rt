@@ -1,0 +1,62 @@
+//! The text of an explanation.
+ghost use Rattle.std.specs.Prelude.{◌≡◌, IfOk, string_bytes};
+ghost use Rattle.scim_explain.specs.Texts as spec;
+
+use crate::explanations::Explanation;
+use scim_policy::{Decision, Misfit};
+use scim_text::NoMemory;
+use std::alloc::Global;
+
+/// The word for what of a rule doesn't fit.
+fn misfit_word(misfit: Misfit) -> &'static str
+    ensures { result.now ≡ spec.misfit_word misfit }
+{
+    match misfit {
+        Misfit::Client => "client",
+        Misfit::Op => "op",
+        Misfit::Kind => "type",
+        Misfit::Path => "path",
+        Misfit::Target => "target",
+    }
+}
+
+/// The word for what is decided.
+fn decision_word(decision: Decision) -> &'static str
+    ensures { result.now ≡ spec.decision_word decision }
+{
+    if decision.allow { "allow" } else { "deny" }
+}
+
+/// The line that says a word of a rule.
+fn rule_line(alloc: Global, number: usize, word: &str) -> Result<String, NoMemory>
+    ensures { IfOk result (λ line. string_bytes line ≡ spec.rule_line number word.now) }
+{
+    Ok(format!(in alloc; "rule {number}: {word}\n")?)
+}
+
+/// The lines of misfits, of the rules from 1 on.
+fn misfit_lines(alloc: Global, misfits: &[Misfit]) -> Result<String, NoMemory>
+    ensures { IfOk result (λ text. string_bytes text ≡ spec.misfit_lines 1 misfits.now) }
+{
+    let mut text = String::new(alloc);
+    for (index, misfit) in misfits.iter().enumerate() {
+        let line = rule_line(alloc, index + 1, misfit_word(*misfit))?;
+        text.push_str(line.as_str())?;
+    }
+    Ok(text)
+}
+
+/// The explanation in lines, each with a line feed at its end: for each rule before the one that decided, or
+/// where none did for each rule, `rule N: ` and what of it doesn't fit, `client`, `op`, `type`, `path` or
+/// `target`; and then the rule that decided, or 0, with `allow` or `deny`.
+///
+/// The only error is [`NoMemory`].
+pub fn print(alloc: Global, explanation: &Explanation) -> Result<String, NoMemory>
+    ensures { IfOk result (λ text. string_bytes text ≡ spec.explanation_text explanation.now) }
+{
+    let mut text = misfit_lines(alloc, explanation.misfits())?;
+    let decision = explanation.decision();
+    let line = rule_line(alloc, decision.rule as usize, decision_word(decision))?;
+    text.push_str(line.as_str())?;
+    Ok(text)
+}
