@@ -1,14 +1,13 @@
 -- A resource that is changed, among those that are kept.
-use Rattle.std.proofs.Common.{◌≡◌, ◌≢◌, refl, sym, ◌∙◌, ap, subst, subst₂, ℕ, Bool, true, false, ◌&&◌, List, [], ◌∷◌, ◌++◌, filter, is_some, cond, get_or}
+use Rattle.std.proofs.Common.{◌≡◌, ◌≢◌, refl, sym, ◌∙◌, ap, subst, subst₂, ℕ, Bool, true, false, List, [], ◌∷◌, ◌++◌, is_some, cond, get_or}
 use Rattle.std.specs.Prelude.{All, find, not, Option, None, Some}
 use Rattle.std.specs.Option.{option_map}
 use Rattle.std.specs.List.{list_any}
-use Rattle.std.specs.Ordering.{nat_cmp, is_lt, is_gt}
-use Rattle.std.specs.declared.cmp.Ordering.{Ordering}
-use Rattle.std.specs.declared.cmp.Ordering.TheVariants.{Less, Equal, Greater}
+use Rattle.std.specs.Ordering.{nat_cmp}
+use Rattle.std.specs.declared.cmp.Ordering.TheVariants.{Less, Equal}
 use Rattle.std.specs.Cmp.Lexicographic.{slice_cmp}
 use Rattle.std.proofs.lemmas.Cmp.{tied_itself, nat_list_cmp_total}
-use Rattle.std.proofs.lemmas.List.Elements.{All-nil, All-cons, All-head, All-tail, All-append, All-weaker, All-contains, filter-append}
+use Rattle.std.proofs.lemmas.List.Elements.{All-nil, All-cons, All-head, All-tail, All-contains}
 use Rattle.std.proofs.lemmas.Slice.Eq.{bytes_eq-Decides}
 use Rattle.std.proofs.lemmas.Map.Made.{is_member-Decides}
 use Rattle.std.proofs.lemmas.Map.Lookups.{exact_bytes}
@@ -20,10 +19,10 @@ use Rattle.scim_schema.proofs.Facts.{and_first, and_second}
 use Rattle.scim_cell.specs.Content.{Content}
 use Rattle.scim_cell.specs.Equality.{is_same_id}
 use Rattle.scim_cell.specs.Kinds.{is_of, of_kind}
-use Rattle.scim_value.specs.Uniqueness.{Name, unique_names, AreApart}
+use Rattle.scim_value.specs.Uniqueness.{Name, unique_names}
 use Rattle.scim_shelf.specs.Stores.{AreKeyed, AreOf, HasPlace, is_at, has_name, is_taken, below, above, without}
 use Rattle.scim_shelf.specs.code.Collections.{has_id, has_in}
-use Rattle.scim_shelf.proofs.PlaceLemmas.{AreAbove, by_order, reversed, above_lower, without_less, without_equal, without_greater}
+use Rattle.scim_shelf.proofs.PlaceLemmas.{AreAbove, by_order, above_lower, without_less, without_equal, without_greater}
 use Rattle.scim_shelf.proofs.StoreLemmas.{keyed_above, keyed_apart, keyed_tail, ids_differ}
 use Rattle.scim_shelf.proofs.NameLemmas.{by_bool, is_same_name-Decides, found_by_id, found_unnamed, is_eq-Equal, named_without, none_at, not_at}
 use Rattle.scim_shelf.proofs.FreshLemmas.{found_any, none_passes}

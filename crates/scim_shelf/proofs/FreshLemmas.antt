@@ -1,6 +1,6 @@
 -- Names and ids that no resource has.
-use Rattle.std.proofs.Common.{◌≡◌, ◌≢◌, refl, sym, ◌∙◌, ap, ap₂, ℕ, Bool, true, false, ◌&&◌, ◌||◌, List, [], ◌∷◌, is_some}
-use Rattle.std.specs.Prelude.{All, find, Option, None, Some, Contains}
+use Rattle.std.proofs.Common.{◌≡◌, refl, sym, ◌∙◌, ap₂, ℕ, Bool, true, false, ◌&&◌, ◌||◌, List, [], ◌∷◌, is_some}
+use Rattle.std.specs.Prelude.{All, find}
 use Rattle.std.specs.List.{list_any}
 use Rattle.std.proofs.lemmas.List.Elements.{All-nil, All-cons, All-weaker, All-contains}
 use Rattle.std.proofs.lemmas.Slice.Eq.{bytes_eq-Decides}
@@ -11,7 +11,7 @@ use Rattle.scim_schema.specs.declared.Kind.TheVariants.{User, Group}
 use Rattle.scim_schema.specs.contracts.Kind.{the_type as the_kind}
 use Rattle.scim_cell.specs.Content.{Content}
 use Rattle.scim_cell.specs.Equality.{is_same_id}
-use Rattle.scim_value.specs.Uniqueness.{Name, unique_names, AreApart}
+use Rattle.scim_value.specs.Uniqueness.{unique_names}
 use Rattle.scim_shelf.specs.Stores.{AreOf, HasPlace, is_at, has_name, is_taken, is_used}
 use Rattle.scim_shelf.proofs.NameLemmas.{by_bool, is_same_name-Decides}
 

@@ -1,12 +1,12 @@
 -- The notes of a collection, as resources come and go.
-use Rattle.std.proofs.Common.{◌≡◌, ◌≢◌, refl, sym, ◌∙◌, ap, ℕ, Bool, true, false, ◌&&◌, not, cond, List, ◌∷◌}
-use Rattle.std.specs.Prelude.{All}
+use Rattle.std.proofs.Common.{◌≡◌, ◌≢◌, refl, sym, ◌∙◌, ap, ℕ, Bool, true, false, ◌&&◌, ◌||◌, not, cond, List, [], ◌∷◌}
+use Rattle.std.specs.Prelude.{All, find}
 use Rattle.std.specs.Ordering.{nat_cmp, is_eq, is_lt, is_gt}
 use Rattle.std.specs.declared.cmp.Ordering.{Ordering}
 use Rattle.std.specs.declared.cmp.Ordering.TheVariants.{Less, Equal, Greater}
 use Rattle.std.specs.Cmp.Lexicographic.{slice_cmp}
 use Rattle.std.proofs.lemmas.Cmp.{tied_itself, nat_list_cmp_total}
-use Rattle.std.proofs.lemmas.List.Elements.{All-cons, All-append, All-filter, All-weaker, filter_passes}
+use Rattle.std.proofs.lemmas.List.Elements.{All-head, All-tail, All-cons, All-append, All-filter, All-weaker, filter_passes}
 use Rattle.std.proofs.lemmas.Map.Lookups.{exact_bytes}
 use Rattle.scim_cell.specs.Content.{Content}
 use Rattle.scim_schema.specs.declared.Kind.TheVariants.{Group}
@@ -17,8 +17,8 @@ use Rattle.scim_shelf.specs.declared.collections.Collection.{Collection}
 use Rattle.scim_value.specs.declared.uniqueness.UniqueName.{UniqueName}
 use Rattle.scim_shelf.specs.Stores.{is_group_with, below, above, keep, without}
 use Rattle.scim_shelf.specs.code.Owners.{owner}
-use Rattle.scim_shelf.specs.code.Members.{is_same, is_noted}
-use Rattle.scim_shelf.specs.code.Collections.{IsCollection}
+use Rattle.scim_shelf.specs.code.Members.{is_same, is_noted, is_group_in}
+use Rattle.scim_shelf.specs.code.Collections.{IsCollection, has_id}
 use Rattle.scim_shelf.proofs.PlaceLemmas.{reversed}
 use Rattle.scim_shelf.proofs.StoreLemmas.{All-both, ids_differ}
 use Rattle.scim_shelf.proofs.NameLemmas.{by_bool, is_eq-Equal, is_lt-Less}
@@ -97,22 +97,40 @@ noted_without old new value id gone cs left all =
     others_without (IsNoted new value) id cs
     (All-weaker (IsNoted old value) (λ d. d.id ≢ id → IsNoted new value d) (λ d noted differs lists. other_stays old new value id d.id gone (left d.id) differs (noted lists)) cs all)
 
--- the notes when a resource is kept: it is noted, and of the values that it had those that it doesn't list are forgotten
-pub noted_keep : (old mid new : Kept) (value : List ℕ) (had : Bool) (c : Content) (cs : List Content)
-    → ((i : List ℕ) → is_noted mid value i ≡ cond (is_group_with value c && is_same c.id i) true (is_noted old value i))
+-- a group that was found with an id is noted under each value that it lists
+found_noted : (notes : Kept) (v id : List ℕ) (cs : List Content) → All (IsNoted notes v) cs → is_group_in v (find (has_id id) cs) ≡ true → is_noted notes v id ≡ true
+found_noted notes v id [] all h = cc
+found_noted notes v id (c ∷ cs) all h = by_bool (has_id id c)
+    (λ t.
+    let same : id ≡ c.id = exact_bytes id c.id (is_eq-Equal (slice_cmp nat_cmp id c.id) t) in
+    let lists : is_group_with v c ≡ true = rw t at h in
+    ap (is_noted notes v) same ∙ All-head (IsNoted notes v) c cs all lists)
+    (λ f. found_noted notes v id cs (All-tail (IsNoted notes v) c cs all) (rw f at h))
+
+-- the notes when a resource is kept: the values that it lists are noted, where they weren't already, and of those that it had
+-- the ones that it doesn't list are forgotten
+pub noted_keep : (old mid new : Kept) (value : List ℕ) (listed had : Bool) (c : Content) (cs : List Content)
+    → ((i : List ℕ) → is_noted mid value i ≡ cond (listed && is_same c.id i) true (is_noted old value i))
+    → (lists_value value c ≡ true → (listed || is_group_in value (find (has_id c.id) cs)) ≡ true)
     → ((i : List ℕ) → is_noted old value i ≡ true → is_noted mid value i ≡ true)
     → ((i : List ℕ) → is_noted new value i ≡ cond ((had && not (lists_value value c)) && is_same c.id i) false (is_noted mid value i))
     → All (IsNoted old value) cs → All (IsNoted new value) (keep c cs)
-noted_keep old mid new value had c cs noted kept left all = others_keep (IsNoted new value) c cs here
+noted_keep old mid new value listed had c cs noted covered kept left all = others_keep (IsNoted new value) c cs here
     (All-weaker (IsNoted old value) (λ d. d.id ≢ c.id → IsNoted new value d)
     (λ d was differs lists. other_stays mid new value c.id d.id (had && not (lists_value value c)) (left d.id) differs (kept d.id (was lists))) cs all)
   where
+    same : is_same c.id c.id ≡ true
+    same = ap is_eq (tied_itself nat_list_cmp_total c.id)
+
+    noted_there : lists_value value c ≡ true → is_noted mid value c.id ≡ true
+    noted_there lists = by_bool listed
+        (λ t. noted c.id ∙ (λ i. cond (t i && same i) true (is_noted old value c.id)))
+        (λ f. kept c.id (found_noted old value c.id cs all (rw f at (covered lists))))
+
     here : is_group_with value c ≡ true → is_noted new value c.id ≡ true
     here lists =
-        let listed : lists_value value c ≡ true = and_right (is_of Group c) (lists_value value c) lists in
-        let same : is_same c.id c.id ≡ true = ap is_eq (tied_itself nat_list_cmp_total c.id) in
+        let listed' : lists_value value c ≡ true = and_right (is_of Group c) (lists_value value c) lists in
         left c.id
-        ∙ (λ i. cond ((had && not (listed i)) && is_same c.id c.id) false (is_noted mid value c.id))
+        ∙ (λ i. cond ((had && not (listed' i)) && is_same c.id c.id) false (is_noted mid value c.id))
         ∙ (λ i. cond (and_false had i && is_same c.id c.id) false (is_noted mid value c.id))
-        ∙ noted c.id
-        ∙ (λ i. cond (lists i && same i) true (is_noted old value c.id))
+        ∙ noted_there listed'

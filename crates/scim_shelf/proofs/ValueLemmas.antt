@@ -1,8 +1,12 @@
 -- The values of one more member.
-use Rattle.std.proofs.Common.{◌≡◌, refl, sym, ◌∙◌, ap, subst, ℕ, ◌+◌, ◌<◌, Bool, true, false, ◌&&◌, ◌||◌, not, cond, List, [], ◌∷◌, ◌++◌, length, take, get_or}
-use Rattle.std.specs.Prelude.{nat_eq, Option}
+use Rattle.std.proofs.Common.{◌≡◌, refl, sym, ◌∙◌, ap, subst, ℕ, ◌+◌, ◌<◌, Bool, true, false, ◌&&◌, ◌||◌, not, cond, List, [], ◌∷◌, ◌++◌, length, take, drop, ◌-◌, get_or, arith}
+use Rattle.std.specs.Prelude.{nat_eq, Option, None, Some}
+use Rattle.std.specs.List.{list_any}
 use Rattle.std.specs.Cmp.Lexicographic.{pointwise, bytes_decides}
+use Rattle.std.proofs.lemmas.List.{length-drop, take_all, take-append-drop}
 use Rattle.std.proofs.lemmas.List.Folds.{list_any-append, list_any_more}
+use Rattle.scim_cell.specs.declared.atoms.Atom.{Atom}
+use Rattle.scim_cell.specs.declared.atoms.Atom.TheVariants.{Text, Truth, Moment}
 use Rattle.scim_cell.specs.Content.{Content}
 use Rattle.scim_cell.specs.Rows.{Row}
 use Rattle.scim_value.specs.Members.{is_text, lists_value}
@@ -57,3 +61,33 @@ gone_more v u gone before new so_far absent =
 pub gone_same : (v u : List ℕ) (gone : List (List ℕ)) (before : Bool) (new : Content) → is_one_of v gone ≡ (before && not (lists_value v new))
     → lists_value u new ≡ true → is_one_of v gone ≡ ((before || pointwise nat_eq v u) && not (lists_value v new))
 gone_same v u gone before new so_far present = so_far ∙ skipped before (pointwise nat_eq v u) (lists_value v new) (same_lists u v new true present)
+
+-- two members have the same value, where one was found to have it and the other to be it
+pub same_value : (u : List ℕ) (one other : Option Atom) → ((v : List ℕ) → is_text v one ≡ pointwise nat_eq v u) → is_text u other ≡ true
+    → (v : List ℕ) → is_text v one ≡ is_text v other
+same_value u one (Some (Text t)) found h v = found v ∙ ap (pointwise nat_eq v) ((bytes_decides u t).0 h)
+same_value u one (Some (Truth b)) found h v = cc
+same_value u one (Some (Moment m)) found h v = cc
+same_value u one None found h v = cc
+
+or_shared : (a b c : Bool) → (b || (a || c)) ≡ ((a || b) || (a || c))
+or_shared true true c = refl
+or_shared true false c = refl
+or_shared false true c = refl
+or_shared false false c = refl
+
+-- what members list beyond others is listed by those that follow the first ones, where these have the values of the others' first
+pub beyond_shared : (v : List ℕ) (members others : List Row) (k : ℕ) → is_value_of v (take k others) ≡ is_value_of v (take k members)
+    → (is_value_of v (take (length members - k) (drop k members)) || is_value_of v others) ≡ (is_value_of v members || is_value_of v others)
+beyond_shared v members others k same =
+    let test = λ (m : Row). is_text v (value_in m) in
+    let rest : take (length members - k) (drop k members) ≡ drop k members =
+    take_all (length members - k) (drop k members) (omega (arith, length-drop k members)) in
+    let mine : (is_value_of v (take k members) || is_value_of v (drop k members)) ≡ is_value_of v members =
+    sym (list_any-append test (take k members) (drop k members)) ∙ ap (list_any test) (take-append-drop k members) in
+    let theirs : (is_value_of v (take k members) || is_value_of v (drop k others)) ≡ is_value_of v others =
+    ap (λ (b : Bool). b || is_value_of v (drop k others)) (sym same)
+    ∙ sym (list_any-append test (take k others) (drop k others)) ∙ ap (list_any test) (take-append-drop k others) in
+    (λ i. list_any test (rest i) || sym theirs i)
+    ∙ or_shared (is_value_of v (take k members)) (is_value_of v (drop k members)) (is_value_of v (drop k others))
+    ∙ (λ i. mine i || theirs i)

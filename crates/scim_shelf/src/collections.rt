@@ -1,5 +1,5 @@
 //! The resources of a store, to be found by id, by unique name and by member.
-ghost use Rattle.std.specs.Prelude.{◌≡◌, ◌&&◌, not, ℕ, List, [], true, IfOk, OnOk, OnErr, map, find, filter, All, AllPairs};
+ghost use Rattle.std.specs.Prelude.{◌≡◌, ◌&&◌, ◌||◌, not, ℕ, List, [], true, IfOk, OnOk, OnErr, map, find, filter, All, AllPairs};
 ghost use Rattle.std.specs.Ordering.{nat_cmp};
 ghost use Rattle.std.specs.Cmp.Lexicographic.{slice_cmp};
 ghost use Rattle.std.specs.BTreeSet.{contains};
@@ -12,13 +12,13 @@ ghost use Rattle.scim_value.specs.Members.{lists_value};
 ghost use Rattle.scim_value.specs.Uniqueness.{name_of, AreApart};
 ghost use Rattle.scim_shelf.specs.Stores.{HasPlace, has_name, is_group_with, keep, without};
 ghost use Rattle.scim_shelf.specs.code.Collections.{IsCollection, has_id, names_of, if_passes};
-ghost use Rattle.scim_shelf.specs.code.Members.{is_one_of, lists_in};
+ghost use Rattle.scim_shelf.specs.code.Members.{is_one_of, is_value_of, is_group_in, lists_in};
 
-use crate::groups::{is_group_with, values_beyond};
+use crate::groups::{is_group_with, members_beyond, members_of, values_beyond};
 use crate::members::Members;
 use crate::owners::Owners;
 use crate::shelf::Visitor;
-use scim_cell::{Id, Text};
+use scim_cell::{Id, Row, Text};
 use scim_schema::Kind;
 use scim_text::NoMemory;
 use scim_value::{Resource, UniqueName, unique_names};
@@ -97,6 +97,18 @@ impl Collection {
         }
     }
 
+    /// The members of a group after those that it begins with as the group with its id does, which is noted under
+    /// their values already; all of them where there is no such group.
+    fn members_to_note<'a>(&self, new: &'a Resource) -> &'a [Row]
+        ensures { (cs : List Content) → IsCollection cs self.now → (v : List ℕ) → lists_value v new.now ≡ true
+            → (is_value_of v result.now || is_group_in v (find (has_id new.now.id) cs)) ≡ true }
+    {
+        match self.with_id(new.id()) {
+            Some(old) if old.kind() == Kind::Group => members_beyond(old, new),
+            _ => members_of(new),
+        }
+    }
+
     /// Keeps a resource, instead of the one with its id. NoMemory where none was to be had: no answer is
     /// changed then.
     pub(crate) fn keep(&mut self, alloc: Global, resource: Resource) -> Result<(), NoMemory>
@@ -108,8 +120,9 @@ impl Collection {
         let names = unique_names(alloc, &resource)?;
         let old_names = self.names_at(alloc, id)?;
         let gone = self.values_gone(alloc, &resource)?;
+        let members = self.members_to_note(&resource);
         self.owners.reserve(names.len())?;
-        self.members.note_group(alloc, &resource)?;
+        self.members.note_members(alloc, members, id)?;
         self.by_id.insert(id, resource)?;
         self.owners.forget(old_names.as_slice());
         self.owners.note(names, id);

@@ -3,12 +3,11 @@ ghost use Rattle.std.specs.Prelude.{◌≡◌, ◌&&◌, ℕ, List, true, false,
 ghost use Rattle.std.specs.Cmp.Lexicographic.{pointwise};
 ghost use Rattle.std.specs.Option.{option_copied};
 ghost use Rattle.scim_value.specs.Members.{is_text, lists_value};
-ghost use Rattle.scim_shelf.specs.Stores.{is_group_with};
 ghost use Rattle.scim_shelf.specs.code.Members.{is_same, ids_at, is_noted, is_one_of, is_value_of, value_in};
 
 use crate::groups::value_of;
 use scim_cell::{Id, Row, Text};
-use scim_schema::{Attribute, Kind, Unit};
+use scim_schema::{Attribute, Unit};
 use scim_text::NoMemory;
 use scim_value::Resource;
 use std::alloc::Global;
@@ -90,26 +89,14 @@ impl Members {
         }
     }
 
-    /// Notes a resource under each value that it lists, if it is a group. NoMemory where none was to be had: it may
-    /// be noted under some of them then.
-    pub(crate) fn note_group(&mut self, alloc: Global, resource: &Resource) -> Result<(), NoMemory>
-        ensures ok { OnOk result ((v i : List ℕ) → is_noted self.new v i
-            ≡ cond (is_group_with v resource.now && is_same resource.now.id i) true (is_noted self.old v i)) }
-        ensures kept { (v i : List ℕ) → is_noted self.old v i ≡ true → is_noted self.new v i ≡ true }
-    {
-        if resource.kind() != Kind::Group {
-            return Ok(());
-        }
-        self.note_members(
-            alloc,
-            resource.part().values(Unit::whole(Attribute::Members)),
-            resource.id(),
-        )
-    }
-
     /// Notes the id under the `value` of each of these members. NoMemory where none was to be had: it may be noted
     /// under some of them then.
-    fn note_members(&mut self, alloc: Global, members: &[Row], id: Id) -> Result<(), NoMemory>
+    pub(crate) fn note_members(
+        &mut self,
+        alloc: Global,
+        members: &[Row],
+        id: Id,
+    ) -> Result<(), NoMemory>
         ensures ok { OnOk result ((v i : List ℕ) → is_noted self.new v i ≡ cond (is_value_of v members.now && is_same id i) true (is_noted self.old v i)) }
         ensures kept { (v i : List ℕ) → is_noted self.old v i ≡ true → is_noted self.new v i ≡ true }
     {

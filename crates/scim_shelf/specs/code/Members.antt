@@ -13,6 +13,7 @@ use Rattle.scim_cell.specs.declared.atoms.Atom.{Atom}
 use Rattle.scim_cell.specs.Content.{Content}
 use Rattle.scim_cell.specs.Rows.{Row, atom_in}
 use Rattle.scim_value.specs.Members.{is_text, lists_value}
+use Rattle.scim_shelf.specs.Stores.{is_group_with}
 use Rattle.scim_shelf.specs.declared.members.Members.{Members as Notes}
 
 -- whether two ids are one
@@ -57,3 +58,8 @@ is_value_of value members = list_any (λ (m : Row). is_text value (value_in m)) 
 abbrev pub lists_in : List ℕ → Option Content → Bool
 lists_in value None = false
 lists_in value (Some c) = lists_value value c
+
+-- whether what was found, if anything was, is a group that lists a value
+abbrev pub is_group_in : List ℕ → Option Content → Bool
+is_group_in value None = false
+is_group_in value (Some c) = is_group_with value c

@@ -1,4 +1,4 @@
-use Rattle.std.proofs.Common.{rules, ◌≡◌, refl, ◌∙◌, ap, sym, cond, false, ◌&&◌, List, ℕ}
+use Rattle.std.proofs.Common.{rules, ◌≡◌, refl, ◌∙◌, ap, sym, cond, true, false, ◌&&◌, List, ℕ}
 use Rattle.std.specs.Prelude.{None, Some, find}
 use Rattle.std.specs.BTreeMap.{insert_entry}
 use Rattle.std.specs.Option.{option_map}
@@ -11,7 +11,7 @@ use Rattle.scim_value.specs.Uniqueness.{name_of}
 use Rattle.scim_shelf.specs.Stores.{has_name}
 use Rattle.scim_shelf.specs.code.Owners.{is_among}
 use Rattle.scim_shelf.specs.code.Collections.{IsCollection, has_id, has_in}
-use Rattle.scim_shelf.specs.code.Members.{is_same, is_noted, is_one_of, lists_in}
+use Rattle.scim_shelf.specs.code.Members.{is_same, is_noted, is_one_of, is_value_of, lists_in}
 use Rattle.scim_shelf.proofs.StoreLemmas.{keep_keyed}
 use Rattle.scim_shelf.proofs.CollectionLemmas.{insert_keyed}
 use Rattle.scim_shelf.proofs.NameLemmas.{owner_keep}
@@ -43,24 +43,25 @@ returns-clause-ok c = λ cs h place.
           ∙ ap (λ (x : List ℕ). cond (has_name (name_of q) kept) (Some kept.id) (cond (has_in (name_of q) (find (has_id x) cs)) None (option_map (λ d. d.id) (find (has_name (name_of q)) cs)))) same
           ∙ sym (owner_keep (name_of q) kept cs h.keyed_apart place.names);
       noted = λ v.
-          noted_keep c.args.self.now.members c.note_group.new.self c.forget_values.new.self v (lists_in v (find (has_id kept.id) cs)) kept cs
-          (c.in_ok-note_group.ensures.ok v) (c.note_group.ensures.kept v)
+          noted_keep c.args.self.now.members c.note_members.new.self c.forget_values.new.self v (is_value_of v c.members_to_note-members.result.now) (lists_in v (find (has_id kept.id) cs)) kept cs
+          (λ i. c.in_ok-note_members.ensures.ok v i ∙ (λ j. cond (is_value_of v c.members_to_note-members.result.now && is_same (same j) i) true (is_noted c.args.self.now.members v i)))
+          (c.members_to_note-members.ensures cs h v) (c.note_members.ensures.kept v)
           (λ i.
           c.forget_values.ensures v i
-          ∙ (λ j. cond ((ap (is_one_of v) c.as_slice-2.ensures.value ∙ c.in_ok-gone.ensures cs h v) j && is_same (same j) i) false (is_noted c.note_group.new.self v i)))
+          ∙ (λ j. cond ((ap (is_one_of v) c.as_slice-2.ensures.value ∙ c.in_ok-gone.ensures cs h v) j && is_same (same j) i) false (is_noted c.note_members.new.self v i)))
           (h.noted v);
     }
 
-pub returns-in_err-note_group-clause-err : goal.returns-in_err-note_group-clause-err
-returns-in_err-note_group-clause-err c =
+pub returns-in_err-note_members-clause-err : goal.returns-in_err-note_members-clause-err
+returns-in_err-note_members-clause-err c =
     let old = c.args.self.now in
-    let new : Collection = record { by_id = old.by_id; owners = c.reserve.new.self; members = c.note_group.new.self } in
-    let same = λ (cs : List Content) (h : IsCollection cs old). more_noted cs old new h refl c.reserve.ensures.same c.note_group.ensures.kept in
+    let new : Collection = record { by_id = old.by_id; owners = c.reserve.new.self; members = c.note_members.new.self } in
+    let same = λ (cs : List Content) (h : IsCollection cs old). more_noted cs old new h refl c.reserve.ensures.same c.note_members.ensures.kept in
     search (rules, same)
 
 pub returns-in_err-insert-clause-err : goal.returns-in_err-insert-clause-err
 returns-in_err-insert-clause-err c =
     let old = c.args.self.now in
-    let new : Collection = record { by_id = c.insert.new.self; owners = c.reserve.new.self; members = c.note_group.new.self } in
-    let same = λ (cs : List Content) (h : IsCollection cs old). more_noted cs old new h c.in_err-insert.ensures.err c.reserve.ensures.same c.note_group.ensures.kept in
+    let new : Collection = record { by_id = c.insert.new.self; owners = c.reserve.new.self; members = c.note_members.new.self } in
+    let same = λ (cs : List Content) (h : IsCollection cs old). more_noted cs old new h c.in_err-insert.ensures.err c.reserve.ensures.same c.note_members.ensures.kept in
     search (rules, same)

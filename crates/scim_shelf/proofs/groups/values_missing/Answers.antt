@@ -3,16 +3,16 @@ use Rattle.std.specs.Prelude.{None, Some}
 use Rattle.scim_value.specs.Members.{lists_value}
 use Rattle.scim_shelf.specs.code.Members.{is_one_of, is_value_of}
 use Rattle.scim_shelf.proofs.ValueLemmas.{value_more, gone_more, gone_same, or_false}
-use Rattle.scim_shelf.proofs.groups.values_beyond.Goals as goal
-use Rattle.scim_shelf.proofs.groups.values_beyond.Goals.{in-Some+then-not-contains+in_ok-copy_of+in_ok-push, in-Some+else-not-contains, in_default}
+use Rattle.scim_shelf.proofs.groups.values_missing.Goals as goal
+use Rattle.scim_shelf.proofs.groups.values_missing.Goals.{in-Some+then-not-contains+in_ok-copy_of+in_ok-push, in-Some+else-not-contains, in_default}
 
 pub loop-member-preserved : goal.loop-member-preserved
 loop-member-preserved c =
-    let members = c.values-member-items.result.now in
+    let members = c.args.members.now in
     let k = c.loop-member.member-index in
     let member = c.member-item.result in
     let gone = c.loop-member.gone.items in
-    let new = c.args.new.now in
+    let new = c.args.group.now in
     let inside : k < length members = omega arith in
     let all = λ (v : List ℕ) (b : Bool). b && not (lists_value v new) in
     elim c.match-value_of.branch [
