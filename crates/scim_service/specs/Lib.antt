@@ -3,3 +3,4 @@ pub mod Step
 pub mod Visits
 pub mod Answers
 pub mod code
+pub mod laws

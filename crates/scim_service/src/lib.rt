@@ -4,6 +4,7 @@
 
 mod changed;
 mod creations;
+pub mod laws;
 mod names;
 mod patches;
 mod plans;

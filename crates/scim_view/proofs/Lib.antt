@@ -8,4 +8,6 @@ pub mod NarrowedLemmas
 pub mod MemberLemmas
 pub mod IndexLemmas
 pub mod ListLemmas
+pub mod WritableLemmas
+pub mod LawLemmas
 pub mod Facts

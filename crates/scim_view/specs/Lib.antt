@@ -4,4 +4,5 @@ pub mod Shown
 pub mod Sorted
 pub mod Groups
 pub mod Indexes
+pub mod Laws
 pub mod code

@@ -3,6 +3,7 @@
 
 mod groups;
 mod index;
+mod laws;
 mod lists;
 mod memberships;
 mod names;
@@ -11,6 +12,7 @@ mod viewers;
 mod views;
 
 pub use index::GroupIndex;
+pub use laws::nothing_comes_into_view;
 pub use names::Names;
 pub use projection::{Wanted, project};
 pub use viewers::Viewer;

@@ -1,5 +1,0 @@
-use Rattle.scim_laws.proofs.LawLemmas.{nothing_comes_into_view}
-use Rattle.scim_laws.proofs.laws.nothing_comes_into_view.Goals as goal
-
-pub returns : goal.returns
-returns c = nothing_comes_into_view

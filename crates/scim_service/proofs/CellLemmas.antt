@@ -1,0 +1,261 @@
+-- A change of nothing that a client may see, cell by cell.
+use Rattle.std.proofs.Common.{◌≡◌, ◌<◌, ◌⊎◌, refl, sym, ◌∙◌, ap, ap₂, subst, ℕ, zero, suc, Bool, true, false, List, [], ◌∷◌, filter, inl, inr, arith, if◌then◌else◌}
+use Rattle.std.specs.Prelude.{All, AllPairs, None, Some, not, ◌||◌}
+use Rattle.std.proofs.lemmas.Bool.{cases_Bool, and_parts}
+use Rattle.std.proofs.lemmas.List.Elements.{All-head, All-tail, All-nil, All-filter}
+use Rattle.std.proofs.lemmas.List.Kept.{AllPairs-filter}
+use mathlib.Core.Path.{fun_ext}
+use Rattle.scim_schema.specs.declared.Kind.{Kind}
+use Rattle.scim_schema.specs.declared.Op.TheVariants.{Read}
+use Rattle.scim_schema.specs.declared.Leaf.{Leaf}
+use Rattle.scim_schema.specs.declared.Unit.{Unit as AttributeUnit}
+use Rattle.scim_schema.specs.Mutability.{is_write_only}
+use Rattle.scim_schema.specs.Units.{unit_of, is_same_leaf}
+use Rattle.scim_schema.proofs.Facts.{leaf_one, leaf_same}
+use Rattle.scim_cell.specs.declared.atoms.Atom.{Atom}
+use Rattle.scim_cell.specs.declared.rows.Field.{Field}
+use Rattle.scim_cell.specs.Content.{Content}
+use Rattle.scim_cell.specs.Place.{sub_attribute_number}
+use Rattle.scim_cell.specs.Rows.{Row, rows, content, values, has_fields, restricted, restricted_row, atom_in, atom_at, cell_at, IsSoundField, IsValue, AreSound}
+use Rattle.scim_cell.proofs.Facts.{PartsRise}
+use Rattle.scim_value.specs.Resource.{IsResource}
+use Rattle.scim_value.proofs.Facts.{sound_part}
+use Rattle.scim_policy.specs.Control.{control, is_named_in, is_unique}
+use Rattle.scim_policy.proofs.Facts.{decide_same}
+use Rattle.scim_view.specs.View.{Viewer, read_decision, may_read, may_be_seen, visible, visible_by}
+use Rattle.scim_change.proofs.Facts.{values_fit}
+use Rattle.scim_service.specs.laws.Cells.{IsHiddenAt}
+use Rattle.scim_service.specs.laws.Laws.{HiddenCellsAreQuiet}
+use Rattle.scim_service.proofs.RowLemmas.{by_leaf}
+use Rattle.scim_view.proofs.Facts.{passing}
+use Rattle.scim_service.proofs.UnitLemmas.{same_restricted, attributes_same}
+use Rattle.scim_service.proofs.StoreLemmas.{may_see}
+use Rattle.scim_service.proofs.ChangeLemmas.{sees_leaf}
+
+-- ---- the fields of a value, by the atoms of their leaves
+
+-- a leaf's number among those of its attribute
+abbrev number : Leaf → ℕ
+number l = sub_attribute_number l.sub_attribute
+
+-- two leaves are two, whichever comes first
+other_way : (l m : Leaf) → is_same_leaf l m ≡ false → is_same_leaf m l ≡ false
+other_way l m other = elim (cases_Bool (is_same_leaf m l)) [
+  | inl same ↦ (let back : is_same_leaf l m ≡ true = leaf_same l m (sym (leaf_one m l same)) in cc)
+  | inr n ↦ n
+]
+
+-- what stands at the leaf of the first field, and at another one
+first_atom : (l : Leaf) (f : Field) (fs : List Field) → is_same_leaf f.leaf l ≡ true → atom_in l (f ∷ fs) ≡ Some f.atom
+first_atom l f fs same = rw same refl
+
+later_atom : (l : Leaf) (f : Field) (fs : List Field) → is_same_leaf f.leaf l ≡ false → atom_in l (f ∷ fs) ≡ atom_in l fs
+later_atom l f fs other = rw other refl
+
+-- fields that are kept by their leaves have the same atom of a leaf that is kept
+kept_atom : (keep : Leaf → Bool) (l : Leaf) (fs : List Field) → keep l ≡ true → atom_in l (filter (λ (f : Field). keep f.leaf) fs) ≡ atom_in l fs
+kept_atom keep l [] kept = refl
+kept_atom keep l (f ∷ fs) kept = elim (cases_Bool (is_same_leaf f.leaf l)) [
+  | inl same ↦ (let t : keep f.leaf ≡ true = ap keep (leaf_one f.leaf l same) ∙ kept in rw (t, same) refl)
+  | inr other ↦ elim (cases_Bool (keep f.leaf)) [
+    | inl t ↦ rw (t, other) (kept_atom keep l fs kept)
+    | inr n ↦ rw (n, other) (kept_atom keep l fs kept)
+  ]
+]
+
+-- fields behind another have an atom of none but a leaf behind it
+behind : (g : Field) (l : Leaf) (fs : List Field) → All (PartsRise g) fs → (number g.leaf < number l) ⊎ (atom_in l fs ≡ None)
+behind g l [] rise = inr refl
+behind g l (f ∷ fs) rise = elim (cases_Bool (is_same_leaf f.leaf l)) [
+  | inl same ↦ inl (subst (λ (m : Leaf). number g.leaf < number m) (leaf_one f.leaf l same) (All-head (PartsRise g) f fs rise))
+  | inr other ↦ rw other (behind g l fs (All-tail (PartsRise g) f fs rise))
+]
+
+found_behind : (g : Field) (l : Leaf) (fs : List Field) (x : Atom) → All (PartsRise g) fs → atom_in l fs ≡ Some x → number g.leaf < number l
+found_behind g l fs x rise there = elim (behind g l fs rise) [
+  | inl less ↦ less
+  | inr none ↦ cc
+]
+
+-- so none of its own leaf
+none_behind : (g : Field) (l : Leaf) (fs : List Field) → All (PartsRise g) fs → is_same_leaf g.leaf l ≡ true → atom_in l fs ≡ None
+none_behind g l fs rise same = elim (behind g l fs rise) [
+  | inl less ↦ (let tied : number g.leaf ≡ number l = ap (λ (m : Leaf). number m) (leaf_one g.leaf l same) in absurd (omega (arith, less, tied)))
+  | inr none ↦ none
+]
+
+-- the first of fields in order stands before the others, and those are in order
+rise_head : (f : Field) (fs : List Field) → AllPairs PartsRise (f ∷ fs) → All (PartsRise f) fs
+rise_head f fs order = λ k d b. order zero (suc k) d (omega arith) (omega arith)
+
+rise_tail : (f : Field) (fs : List Field) → AllPairs PartsRise (f ∷ fs) → AllPairs PartsRise fs
+rise_tail f fs order = λ i j d b c. order (suc i) (suc j) d (omega arith) (omega arith)
+
+module _ (P : Leaf → Type 0) where
+  abbrev IsAt : Field → Type 0
+  IsAt f = P f.leaf
+
+  -- what two lists have the same atoms of
+  abbrev AtomsAgree : List Field → List Field → Type 0
+  AtomsAgree fs gs = (l : Leaf) → P l → atom_in l fs ≡ atom_in l gs
+
+  -- where the first fields are of one leaf, their atoms are the same, and those of the later fields agree
+  module _ (f g : Field) (fs gs : List Field) (first : All (PartsRise f) fs) (second : All (PartsRise g) gs) (agree : AtomsAgree (f ∷ fs) (g ∷ gs)) where
+    heads_same : is_same_leaf f.leaf g.leaf ≡ true → P g.leaf → f ≡ g
+    heads_same same at =
+        let leaf : f.leaf ≡ g.leaf = leaf_one f.leaf g.leaf same in
+        let some : Some f.atom ≡ Some g.atom = sym (first_atom g.leaf f fs same) ∙ agree g.leaf at ∙ first_atom g.leaf g gs (leaf_same g.leaf g.leaf refl) in
+        let atom : f.atom ≡ g.atom = cc in
+        λ i. record { leaf = leaf i; atom = atom i }
+
+    tails_agree : is_same_leaf f.leaf g.leaf ≡ true → AtomsAgree fs gs
+    tails_agree same l at =
+        let leaf : f.leaf ≡ g.leaf = leaf_one f.leaf g.leaf same in
+        elim (cases_Bool (is_same_leaf f.leaf l)) [
+          | inl t ↦ none_behind f l fs first t ∙ sym (none_behind g l gs second (ap (λ m. is_same_leaf m l) (sym leaf) ∙ t))
+          | inr n ↦ sym (later_atom l f fs n) ∙ agree l at ∙ later_atom l g gs (ap (λ m. is_same_leaf m l) (sym leaf) ∙ n)
+        ]
+
+    -- they can't be of two: each would stand behind the other
+    heads_meet : is_same_leaf f.leaf g.leaf ≡ false → P f.leaf → P g.leaf → ⊥
+    heads_meet other at_f at_g =
+        let f_there : atom_in f.leaf gs ≡ Some f.atom
+        = sym (later_atom f.leaf g gs (other_way f.leaf g.leaf other)) ∙ sym (agree f.leaf at_f) ∙ first_atom f.leaf f fs (leaf_same f.leaf f.leaf refl) in
+        let g_there : atom_in g.leaf fs ≡ Some g.atom
+        = sym (later_atom g.leaf f fs other) ∙ agree g.leaf at_g ∙ first_atom g.leaf g gs (leaf_same g.leaf g.leaf refl) in
+        let f_behind : number g.leaf < number f.leaf = found_behind g f.leaf gs f.atom second f_there in
+        let g_behind : number f.leaf < number g.leaf = found_behind f g.leaf fs g.atom first g_there in
+        omega (arith, f_behind, g_behind)
+
+  -- fields in order that have the same atoms are the same
+  fields_same : (fs gs : List Field) → All IsAt fs → All IsAt gs → AllPairs PartsRise fs → AllPairs PartsRise gs → AtomsAgree fs gs → fs ≡ gs
+  fields_same [] [] at_f at_g order_f order_g agree = refl
+  fields_same [] (g ∷ gs) at_f at_g order_f order_g agree =
+      let none : None ≡ Some g.atom = agree g.leaf (All-head IsAt g gs at_g) ∙ first_atom g.leaf g gs (leaf_same g.leaf g.leaf refl) in cc
+  fields_same (f ∷ fs) [] at_f at_g order_f order_g agree =
+      let none : None ≡ Some f.atom = sym (agree f.leaf (All-head IsAt f fs at_f)) ∙ first_atom f.leaf f fs (leaf_same f.leaf f.leaf refl) in cc
+  fields_same (f ∷ fs) (g ∷ gs) at_f at_g order_f order_g agree =
+      let first = rise_head f fs order_f in
+      let second = rise_head g gs order_g in
+      elim (cases_Bool (is_same_leaf f.leaf g.leaf)) [
+        | inl same ↦
+            let rest = fields_same fs gs (All-tail IsAt f fs at_f) (All-tail IsAt g gs at_g) (rise_tail f fs order_f) (rise_tail g gs order_g) (tails_agree f g fs gs first second agree same) in
+            ap₂ ◌∷◌ (heads_same f g fs gs first second agree same (All-head IsAt g gs at_g)) rest
+        | inr other ↦ absurd (heads_meet f g fs gs first second agree other (All-head IsAt f fs at_f) (All-head IsAt g gs at_g))
+      ]
+
+-- ---- the values of a unit, by their cells
+
+module _ (kind : Kind) (keep : Leaf → Bool) (u : AttributeUnit) where
+  -- a leaf of the unit that is kept
+  abbrev IsKept : Leaf → Type 0
+  IsKept l = (unit_of l ≡ u) × (keep l ≡ true)
+
+  -- the fields of a value that are kept
+  abbrev kept : Row → List Field
+  kept r = filter (λ (f : Field). keep f.leaf) r.fields
+
+  kept_own : (r : Row) → IsValue kind u r → All (λ (f : Field). IsKept f.leaf) (kept r)
+  kept_own r is =
+      let own = All-filter (λ (f : Field). keep f.leaf) (IsSoundField kind r.unit) r.fields is.2.own in
+      let passes = passing (λ (f : Field). keep f.leaf) r.fields in
+      λ k e l. ((own k e l).0 ∙ is.0, passes k e l)
+
+  kept_order : (r : Row) → IsValue kind u r → AllPairs PartsRise (kept r)
+  kept_order r is = AllPairs-filter PartsRise (λ (f : Field). keep f.leaf) r.fields is.2.in_order
+
+  -- of two values that have the same atoms of each leaf that is kept, the same fields are kept
+  kept_same : (r s : Row) → IsValue kind u r → IsValue kind u s → ((l : Leaf) → IsKept l → atom_in l r.fields ≡ atom_in l s.fields) → kept r ≡ kept s
+  kept_same r s first second agree =
+      fields_same IsKept (kept r) (kept s) (kept_own r first) (kept_own s second) (kept_order r first) (kept_order s second)
+      (λ l is. kept_atom keep l r.fields is.1 ∙ agree l is ∙ sym (kept_atom keep l s.fields is.1))
+
+  -- of a value that has no atom of them no field is kept
+  none_kept : (r : Row) → IsValue kind u r → ((l : Leaf) → IsKept l → atom_in l r.fields ≡ None) → kept r ≡ []
+  none_kept r is none =
+      fields_same IsKept (kept r) [] (kept_own r is) (All-nil (λ (f : Field). IsKept f.leaf)) (kept_order r is) (λ i j d b c. absurd (omega (arith, c)))
+      (λ l at. kept_atom keep l r.fields at.1 ∙ none l at)
+
+  -- what two lists of values have the same cells of
+  abbrev CellsAgree : List Row → List Row → Type 0
+  CellsAgree vs ws = (l : Leaf) (k : ℕ) → IsKept l → atom_at l k vs ≡ atom_at l k ws
+
+  -- where the same cells are kept of two lists of values, the same is kept of both
+  values_same : (vs ws : List Row) → All (IsValue kind u) vs → All (IsValue kind u) ws → CellsAgree vs ws → restricted (by_leaf keep) vs ≡ restricted (by_leaf keep) ws
+  values_same [] [] first second agree = refl
+  values_same [] (w ∷ ws) first second agree =
+      rw (none_kept w (All-head (IsValue kind u) w ws second) (λ l is. sym (agree l zero is)))
+      (values_same [] ws first (All-tail (IsValue kind u) w ws second) (λ l k is. agree l (suc k) is))
+  values_same (v ∷ vs) [] first second agree =
+      rw (none_kept v (All-head (IsValue kind u) v vs first) (λ l is. agree l zero is))
+      (values_same vs [] (All-tail (IsValue kind u) v vs first) second (λ l k is. agree l (suc k) is))
+  values_same (v ∷ vs) (w ∷ ws) first second agree =
+      let v_own = All-head (IsValue kind u) v vs first in
+      let w_own = All-head (IsValue kind u) w ws second in
+      let rest = values_same vs ws (All-tail (IsValue kind u) v vs first) (All-tail (IsValue kind u) w ws second) (λ l k is. agree l (suc k) is) in
+      let fields : kept v ≡ kept w = kept_same v w v_own w_own (λ l is. agree l zero is) in
+      let unit : v.unit ≡ w.unit = v_own.0 ∙ sym w_own.0 in
+      let row : restricted_row (by_leaf keep) v ≡ restricted_row (by_leaf keep) w = λ i. record { unit = unit i; fields = fields i } in
+      λ i. if has_fields (row i) then row i ∷ rest i else rest i
+
+-- ---- resources, by their cells
+
+-- where two resources have the same cells of the leaves that are kept, the same is kept of both
+pub cells_kept : (keep : Leaf → Bool) (a b : Content) → IsResource a → IsResource b → a.kind ≡ b.kind
+    → ((l : Leaf) (k : ℕ) → keep l ≡ true → cell_at l k (rows a) ≡ cell_at l k (rows b)) → restricted (by_leaf keep) (rows a) ≡ restricted (by_leaf keep) (rows b)
+cells_kept keep a b one two kinds cells =
+    let first = sound_part a one.part in
+    let second : AreSound a.kind (rows b) = subst (λ (k : Kind). AreSound k (rows b)) (sym kinds) (sound_part b two.part) in
+    same_restricted a.kind keep (rows a) (rows b) first second
+    (λ u. values_same a.kind keep u (values u (rows a)) (values u (rows b)) (values_fit a.kind u (rows a) first).own (values_fit a.kind u (rows b) second).own
+    (λ l k is. subst (λ (w : AttributeUnit). atom_at l k (values w (rows a)) ≡ atom_at l k (values w (rows b))) is.0 (cells l k is.1)))
+
+module _ (v : Viewer) (old new : Content) (one : IsResource old) (two : IsResource new) (kinds : old.kind ≡ new.kind) (ids : old.id ≡ new.id)
+    (hidden : (l : Leaf) (k : ℕ) → IsHiddenAt v old new l k) where
+  -- whether a leaf's attribute is one that decisions or uniqueness rest on
+  abbrev decides_by : Kind → Leaf → Bool
+  decides_by kind l = is_named_in v.policy l.attribute || is_unique kind l.attribute
+
+  -- cells of a leaf that may be seen stay
+  seen_stays : (l : Leaf) (k : ℕ) → sees_leaf v old l ≡ true → cell_at l k (rows old) ≡ cell_at l k (rows new)
+  seen_stays l k sees = elim (hidden l k) [
+    | inl same ↦ same
+    | inr parts ↦ (let reads : may_read v old l ≡ true = (and_parts (not (is_write_only old.kind l)) (may_read v old l) sees).1 in let no' = parts.0 in cc)
+  ]
+
+  -- and those by which it is decided
+  control_stays : (l : Leaf) (k : ℕ) → decides_by old.kind l ≡ true → cell_at l k (rows old) ≡ cell_at l k (rows new)
+  control_stays l k decides = elim (hidden l k) [
+    | inl same ↦ same
+    | inr parts ↦ (let no' : decides_by old.kind l ≡ false = rw (parts.1, parts.2) refl in cc)
+  ]
+
+  -- so decisions rest on the same
+  control_kept : control v.policy old ≡ control v.policy new
+  unfolding control
+  control_kept =
+      sym (attributes_same (λ at. is_named_in v.policy at || is_unique old.kind at) old one)
+      ∙ cells_kept (decides_by old.kind) old new one two kinds control_stays
+      ∙ attributes_same (λ at. is_named_in v.policy at || is_unique old.kind at) new two
+      ∙ (λ i. filter (λ (r : Row). is_named_in v.policy r.unit.attribute || is_unique (kinds i) r.unit.attribute) (rows new))
+
+  -- and the viewer sees the same
+  seen_kept : visible v old ≡ visible v new
+  unfolding visible visible_by
+  seen_kept =
+      let decisions : read_decision v old ≡ read_decision v new = fun_ext (λ (l : Leaf). decide_same v.policy v.client Read old new l kinds control_kept) in
+      let may : may_see v old ≡ may_see v new = λ i. may_be_seen (decisions i) (kinds i) in
+      let seen : restricted (may_see v old) (rows old) ≡ restricted (may_see v new) (rows new)
+      = cells_kept (sees_leaf v old) old new one two kinds seen_stays ∙ ap (λ keep. restricted keep (rows new)) may in
+      λ i. content (kinds i) (ids i) (seen i)
+
+-- where each cell stays, or can't be read and nothing rests on its attribute, the viewer sees the same and decisions rest on the same
+pub hidden_cells : (v : Viewer) (old new : Content) → IsResource old → IsResource new → old.kind ≡ new.kind → old.id ≡ new.id
+    → ((l : Leaf) (k : ℕ) → IsHiddenAt v old new l k) → (visible v old ≡ visible v new) × (control v.policy old ≡ control v.policy new)
+hidden_cells v old new one two kinds ids hidden = (seen_kept v old new one two kinds ids hidden, control_kept v old new one two kinds ids hidden)
+
+-- so a change of such cells is quiet
+pub hidden_cells_are_quiet : HiddenCellsAreQuiet
+hidden_cells_are_quiet v before after old new there kept one two kinds ids hidden =
+    let both = hidden_cells v old new one two kinds ids hidden in
+    inr (inr (record { old = old; new = new; there = there; kept = kept; same_kind = kinds; same_id = ids; same_visible = both.0; same_control = both.1 }))

@@ -1,0 +1,152 @@
+-- A change of what a client may write: where it can't tell two resources apart before, it can't tell them apart afterwards.
+use Rattle.std.proofs.Common.{◌≡◌, refl, sym, ◌∙◌, ap, ap₂, subst, ℕ, Bool, true, false, List, filter, inl, inr, get_or}
+use Rattle.std.specs.Prelude.{All, not, ◌&&◌, ◌||◌, None}
+use Rattle.std.specs.Ordering.{is_eq}
+use Rattle.std.proofs.lemmas.Bool.{cases_Bool, and_parts}
+use Rattle.std.proofs.lemmas.List.Elements.{All-filter, All-weaker}
+use mathlib.Core.Path.{fun_ext}
+use denote.Enum.Bare.{same_true}
+use Rattle.scim_schema.specs.declared.Kind.{Kind}
+use Rattle.scim_schema.specs.declared.Op.{Op}
+use Rattle.scim_schema.specs.declared.Op.TheVariants.{Read, Modify, Delete}
+use Rattle.scim_schema.specs.declared.Attribute.{Attribute}
+use Rattle.scim_schema.specs.declared.Leaf.{Leaf}
+use Rattle.scim_schema.specs.declared.Unit.{Unit as AttributeUnit}
+use Rattle.scim_schema.specs.declared.characteristics.Mutability.TheVariants.{WriteOnly}
+use Rattle.scim_schema.specs.contracts.characteristics.Mutability.{the_type as the_mutability}
+use Rattle.scim_schema.specs.Mutability.{is_write_only}
+use Rattle.scim_schema.specs.Table.{HasLeaf}
+use Rattle.scim_schema.specs.Characteristics.{characteristics_of}
+use Rattle.scim_cell.specs.declared.rows.Field.{Field}
+use Rattle.scim_cell.specs.Content.{Content}
+use Rattle.scim_cell.specs.Place.{unit_cmp}
+use Rattle.scim_cell.specs.Rows.{Row, rows, values, has_fields, restricted, IsSoundField, IsSoundRow}
+use Rattle.scim_value.specs.Resource.{IsResource, MayBeKept}
+use Rattle.scim_value.proofs.Facts.{sound_part, unit_same}
+use Rattle.scim_policy.specs.Access.{Access, access, forbidding, widening}
+use Rattle.scim_policy.specs.Control.{control, is_named_in, is_unique}
+use Rattle.scim_policy.specs.Decide.{decide}
+use Rattle.scim_policy.proofs.Facts.{decide_same}
+use Rattle.scim_view.specs.View.{Viewer, may_be_seen, read_decision}
+use Rattle.scim_change.specs.Laws.{AgreeAt, IsLeft}
+use Rattle.scim_service.proofs.RowLemmas.{OfEach, Narrows, by_leaf, values_restricted, restricted_kept, restricted_twice}
+use Rattle.scim_view.proofs.Facts.{passing, readable_leaf, not_wider}
+use Rattle.scim_service.proofs.UnitLemmas.{attributes_same, kept_same}
+use Rattle.scim_service.proofs.StoreLemmas.{Traits, may_see, traits, access_same, may_see_same}
+
+-- whether the viewer may see a leaf of a resource
+abbrev pub sees_leaf : Viewer → Content → Leaf → Bool
+sees_leaf v c l = not (is_write_only c.kind l) && (read_decision v c l).allow
+
+-- what the viewer may do with a resource
+abbrev pub access_of : Viewer → Content → Access
+access_of v c = access v.policy v.client c
+
+-- nobody reads what isn't kept
+kept_open : (kind : Kind) (f : Field) → MayBeKept kind f → is_write_only kind f.leaf ≡ false
+kept_open kind f kept = elim (cases_Bool (is_write_only kind f.leaf)) [
+  | inl secret ↦ absurd (kept.shown (same_true the_mutability tt (characteristics_of kind f.leaf).mutability WriteOnly secret))
+  | inr open' ↦ open'
+]
+
+module _ (v : Viewer) where
+  -- ---- a unit that may be written is seen
+
+  module _ (c : Content) (own : IsResource c) (u : AttributeUnit) (free : forbidding c.kind (access_of v c) u ≡ None) where
+    seen_field : (r : Row) → r.unit ≡ u → (f : Field) → IsSoundField c.kind r.unit f → MayBeKept c.kind f → sees_leaf v c f.leaf ≡ true
+    seen_field r at f is kept =
+        let open' = kept_open c.kind f kept in
+        let reads : (read_decision v c f.leaf).allow ≡ true = readable_leaf c.kind (access_of v c) u free f.leaf (is.0 ∙ at) is.1 open' in
+        rw (open', reads) refl
+
+    seen_row : (r : Row) → is_eq (unit_cmp r.unit u) ≡ true → IsSoundRow c.kind r → All (MayBeKept c.kind) r.fields → All (λ f. sees_leaf v c f.leaf ≡ true) r.fields
+    seen_row r at is kept = λ k e l. seen_field r (unit_same r.unit u at) (get_or r.fields k e) (is.own k e l) (kept k e l)
+
+    written_seen : restricted (may_see v c) (values u (rows c)) ≡ values u (rows c)
+    written_seen =
+        let sound = sound_part c own.part in
+        let at = passing (λ (r : Row). is_eq (unit_cmp r.unit u)) (rows c) in
+        let is = All-filter (λ (r : Row). is_eq (unit_cmp r.unit u)) (IsSoundRow c.kind) (rows c) sound.own in
+        let kept = All-filter (λ (r : Row). is_eq (unit_cmp r.unit u)) (λ r. All (MayBeKept c.kind) r.fields) (rows c) own.may_be_kept in
+        restricted_kept (sees_leaf v c) (values u (rows c)) (All-filter (λ (r : Row). is_eq (unit_cmp r.unit u)) (λ r. has_fields r ≡ true) (rows c) sound.full)
+        (λ k e l. seen_row (get_or (values u (rows c)) k e) (at k e l) (is k e l) (kept k e l))
+
+  -- so two resources that the viewer can't tell apart have the same values there
+  pub agree_at : (us : List AttributeUnit) (a b : Content) → IsResource a → IsResource b → traits v a ≡ traits v b
+      → All (λ u. forbidding a.kind (access_of v a) u ≡ None) us → AgreeAt us a b
+  agree_at us a b one two same free =
+      All-weaker (λ u. forbidding a.kind (access_of v a) u ≡ None) (λ u. values u (rows a) ≡ values u (rows b)) by_unit us free
+    where
+      kinds : a.kind ≡ b.kind
+      kinds = ap (λ (t : Traits). t.kind) same
+
+      by_unit : (u : AttributeUnit) → forbidding a.kind (access_of v a) u ≡ None → values u (rows a) ≡ values u (rows b)
+      by_unit u e =
+          let f : forbidding b.kind (access_of v b) u ≡ None = ap₂ (λ (k : Kind) (x : Access). forbidding k x u) (sym kinds) (sym (access_same v a b same)) ∙ e in
+          sym (written_seen a one u e) ∙ sym (values_restricted (sees_leaf v a) u (rows a)) ∙ ap (λ (t : Traits). values u t.rows) same
+          ∙ values_restricted (sees_leaf v b) u (rows b) ∙ written_seen b two u f
+
+  -- ---- after the change
+
+  module _ (us : List AttributeUnit) (changed : Bool) (moment : ℕ) (a b x y : Content) (one : IsResource a) (two : IsResource b) (three : IsResource x) (four : IsResource y)
+      (same : traits v a ≡ traits v b) (agree : AgreeAt us x y) (first : IsLeft us changed moment a x) (second : IsLeft us changed moment b y) where
+    kinds_before : a.kind ≡ b.kind
+    kinds_before = ap (λ (t : Traits). t.kind) same
+
+    pub kinds_after : x.kind ≡ y.kind
+    kinds_after = first.kind ∙ kinds_before ∙ sym second.kind
+
+    pub ids_after : x.id ≡ y.id
+    ids_after = first.id ∙ ap (λ (t : Traits). t.id) same ∙ sym second.id
+
+    -- decisions rest on the same values
+    abbrev decides_by : Kind → Attribute → Bool
+    decides_by kind at = is_named_in v.policy at || is_unique kind at
+
+    control_before : restricted (by_leaf (λ l. decides_by x.kind l.attribute)) (rows a) ≡ restricted (by_leaf (λ l. decides_by x.kind l.attribute)) (rows b)
+    unfolding control
+    control_before =
+        attributes_same (decides_by x.kind) a one ∙ (λ i. filter (λ (r : Row). decides_by (first.kind i) r.unit.attribute) (rows a))
+        ∙ ap (λ (t : Traits). t.control) same
+        ∙ (λ i. filter (λ (r : Row). decides_by (sym (first.kind ∙ kinds_before) i) r.unit.attribute) (rows b)) ∙ sym (attributes_same (decides_by x.kind) b two)
+
+    pub control_after : control v.policy x ≡ control v.policy y
+    unfolding control
+    control_after =
+        sym (attributes_same (decides_by x.kind) x three)
+        ∙ kept_same us changed moment a b x y agree first second three four kinds_after (λ l. decides_by x.kind l.attribute) control_before
+        ∙ attributes_same (decides_by x.kind) y four ∙ (λ i. filter (λ (r : Row). decides_by (kinds_after i) r.unit.attribute) (rows y))
+
+    pub access_after : access_of v x ≡ access_of v y
+    access_after =
+        let same_decision : (op : Op) → decide v.policy v.client op x ≡ decide v.policy v.client op y
+        = λ op. fun_ext (λ (l : Leaf). decide_same v.policy v.client op x y l kinds_after control_after) in
+        λ i. record { read = same_decision Read i; modify = same_decision Modify i; delete = same_decision Delete i }
+
+    -- what was seen before is the same
+    rows_after : restricted (may_see v a) (rows x) ≡ restricted (may_see v a) (rows y)
+    rows_after =
+        kept_same us changed moment a b x y agree first second three four kinds_after (sees_leaf v a)
+        (ap (λ (t : Traits). t.rows) same ∙ ap (λ keep. restricted keep (rows b)) (sym (may_see_same v a b same)))
+
+    -- where nothing is opened, a leaf of the kind that is seen afterwards was seen before
+    narrow_leaf : widening x.kind (access_of v a) (access_of v x) ≡ None → (l : Leaf) → HasLeaf x.kind l → sees_leaf v x l ≡ true → sees_leaf v a l ≡ true
+    narrow_leaf nothing l there now =
+        let parts = and_parts (not (is_write_only x.kind l)) (read_decision v x l).allow now in
+        let reads : (read_decision v a l).allow ≡ true = not_wider x.kind (access_of v a) (access_of v x) nothing l there parts.1 in
+        ap₂ ◌&&◌ (ap (λ (k : Kind). not (is_write_only k l)) (sym first.kind) ∙ parts.0) reads
+
+    narrow_rows : widening x.kind (access_of v a) (access_of v x) ≡ None → (k : Kind) → x.kind ≡ k → (rs : List Row) → All (IsSoundRow k) rs
+        → OfEach (Narrows (sees_leaf v a) (sees_leaf v x)) rs
+    narrow_rows nothing k kinds rs own =
+        λ i e l j f m. narrow_leaf nothing (get_or (get_or rs i e).fields j f).leaf (subst (λ (kind : Kind). HasLeaf kind (get_or (get_or rs i e).fields j f).leaf) (sym kinds) ((own i e l).own j f m).1)
+
+    pub traits_after : widening x.kind (access_of v a) (access_of v x) ≡ None → traits v x ≡ traits v y
+    traits_after nothing =
+        let may : may_see v x ≡ may_see v y = λ i. may_be_seen (access_after i).read (kinds_after i) in
+        let rows_now : restricted (may_see v x) (rows x) ≡ restricted (may_see v y) (rows y)
+        = sym (restricted_twice (sees_leaf v a) (sees_leaf v x) (rows x) (narrow_rows nothing x.kind refl (rows x) (sound_part x three.part).own))
+        ∙ ap (restricted (may_see v x)) rows_after
+        ∙ restricted_twice (sees_leaf v a) (sees_leaf v x) (rows y) (narrow_rows nothing y.kind kinds_after (rows y) (sound_part y four.part).own)
+        ∙ ap (λ keep. restricted keep (rows y)) may in
+        λ i. record { kind = kinds_after i; id = ids_after i; rows = rows_now i; control = control_after i }

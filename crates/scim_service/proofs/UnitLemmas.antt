@@ -1,0 +1,85 @@
+-- What a change of some units leaves of two resources that have the same values there.
+use Rattle.std.proofs.Common.{◌≡◌, ◌≢◌, refl, sym, ◌∙◌, ap, subst, ℕ, Bool, true, false, ◌⊎◌, List, [], ◌∷◌, filter, inl, inr}
+use Rattle.std.specs.Prelude.{All}
+use Rattle.std.proofs.lemmas.Bool.{cases_Bool}
+use Rattle.std.proofs.lemmas.List.Elements.{All-head, All-tail, All-cons, All-nil}
+use Rattle.scim_schema.specs.declared.Kind.{Kind}
+use Rattle.scim_schema.specs.declared.Attribute.{Attribute}
+use Rattle.scim_schema.specs.declared.Leaf.{Leaf}
+use Rattle.scim_schema.specs.declared.Unit.{Unit as AttributeUnit}
+use Rattle.scim_schema.specs.Units.{is_same_unit}
+use Rattle.scim_schema.proofs.Facts.{is_same_unit-Decides}
+use Rattle.scim_cell.specs.Content.{Content}
+use Rattle.scim_cell.specs.Rows.{Row, rows, content, values, restricted, AreSound}
+use Rattle.scim_value.specs.Resource.{IsResource}
+use Rattle.scim_value.proofs.Facts.{part_content, restricted_sound, rows_content, sound_part}
+use Rattle.scim_change.specs.Laws.{AgreeAt, IsLeft}
+use Rattle.scim_change.proofs.Facts.{stamp}
+use Rattle.scim_patch.proofs.Facts.{same_content}
+use Rattle.scim_service.proofs.RowLemmas.{by_leaf, values_restricted, attributes_kept}
+
+-- ---- rows that agree unit by unit
+
+-- rows of which the same is kept of each unit
+pub same_restricted : (kind : Kind) (keep : Leaf → Bool) (xs ys : List Row) → AreSound kind xs → AreSound kind ys
+    → ((u : AttributeUnit) → restricted (by_leaf keep) (values u xs) ≡ restricted (by_leaf keep) (values u ys)) → restricted (by_leaf keep) xs ≡ restricted (by_leaf keep) ys
+same_restricted kind keep xs ys first second same =
+    let sound_x = restricted_sound kind (by_leaf keep) xs first in
+    let sound_y = restricted_sound kind (by_leaf keep) ys second in
+    let rows_x = rows_content kind [] (restricted (by_leaf keep) xs) sound_x in
+    let rows_y = rows_content kind [] (restricted (by_leaf keep) ys) sound_y in
+    let by_unit : (u : AttributeUnit) → values u (rows (content kind [] (restricted (by_leaf keep) xs))) ≡ values u (rows (content kind [] (restricted (by_leaf keep) ys)))
+    = λ u. ap (values u) rows_x ∙ values_restricted keep u xs ∙ same u ∙ sym (values_restricted keep u ys) ∙ sym (ap (values u) rows_y) in
+    sym rows_x
+    ∙ ap rows (same_content (content kind [] (restricted (by_leaf keep) xs)) (content kind [] (restricted (by_leaf keep) ys)) (part_content kind [] _ sound_x) (part_content kind [] _ sound_y) refl refl by_unit)
+    ∙ rows_y
+
+-- ---- what a change leaves
+
+-- a unit is one of some, at which the values are the same, or it is none of them
+among : (us : List AttributeUnit) (x y : Content) (u : AttributeUnit) → AgreeAt us x y → (values u (rows x) ≡ values u (rows y)) ⊎ All (λ v. v ≢ u) us
+among [] x y u agree = inr (All-nil (λ v. v ≢ u))
+among (v ∷ us) x y u agree = elim (cases_Bool (is_same_unit v u)) [
+  | inl t ↦ inl (subst (λ w. values w (rows x) ≡ values w (rows y)) ((is_same_unit-Decides v u).0 t) (All-head (λ w. values w (rows x) ≡ values w (rows y)) v us agree))
+  | inr n ↦ elim (among us x y u (All-tail (λ w. values w (rows x) ≡ values w (rows y)) v us agree)) [
+    | inl same ↦ inl same
+    | inr none ↦ inr (All-cons (λ w. w ≢ u) v us (λ e. (let t : is_same_unit v u ≡ true = (is_same_unit-Decides v u).1 e in cc)) none)
+  ]
+]
+
+module _ (us : List AttributeUnit) (changed : Bool) (moment : ℕ) (a b x y : Content) (agree : AgreeAt us x y) (first : IsLeft us changed moment a x) (second : IsLeft us changed moment b y) where
+  -- of each unit both have the same values, or each has its own from before
+  abbrev IsTold : AttributeUnit → Type 0
+  IsTold u = (values u (rows x) ≡ values u (rows y)) ⊎ ((values u (rows x) ≡ values u (rows a)) × (values u (rows y) ≡ values u (rows b)))
+
+  stamped : (c : Bool) → changed ≡ c → IsTold stamp
+  stamped true e = inl (rw e at first.modified ∙ sym (rw e at second.modified))
+  stamped false e = inr (rw e at first.modified, rw e at second.modified)
+
+  told : (u : AttributeUnit) → IsTold u
+  told u = elim (among us x y u agree) [
+    | inl same ↦ inl same
+    | inr none ↦ elim (cases_Bool (is_same_unit stamp u)) [
+      | inl t ↦ subst IsTold ((is_same_unit-Decides stamp u).0 t) (stamped changed refl)
+      | inr n ↦
+          let other : stamp ≢ u = λ e. (let t : is_same_unit stamp u ≡ true = (is_same_unit-Decides stamp u).1 e in cc) in
+          inr (first.stays u (record { none = none; unstamped = other }), second.stays u (record { none = none; unstamped = other }))
+    ]
+  ]
+
+  -- so what a test keeps of both is the same afterwards, where it was the same before
+  pub kept_same : (one : IsResource x) (two : IsResource y) → x.kind ≡ y.kind → (keep : Leaf → Bool)
+      → restricted (by_leaf keep) (rows a) ≡ restricted (by_leaf keep) (rows b) → restricted (by_leaf keep) (rows x) ≡ restricted (by_leaf keep) (rows y)
+  kept_same one two kinds keep before =
+      same_restricted x.kind keep (rows x) (rows y) (sound_part x one.part) (subst (λ k. AreSound k (rows y)) (sym kinds) (sound_part y two.part)) (λ u. by_unit u (told u))
+    where
+      by_unit : (u : AttributeUnit) → IsTold u → restricted (by_leaf keep) (values u (rows x)) ≡ restricted (by_leaf keep) (values u (rows y))
+      by_unit u (inl same) = ap (restricted (by_leaf keep)) same
+      by_unit u (inr own) =
+          ap (restricted (by_leaf keep)) own.0
+          ∙ sym (values_restricted keep u (rows a)) ∙ ap (values u) before ∙ values_restricted keep u (rows b)
+          ∙ sym (ap (restricted (by_leaf keep)) own.1)
+
+-- rows by attribute: the same, said of resources
+pub attributes_same : (test : Attribute → Bool) (a : Content) → IsResource a → restricted (by_leaf (λ l. test l.attribute)) (rows a) ≡ filter (λ (r : Row). test r.unit.attribute) (rows a)
+attributes_same test a one = (let sound = sound_part a one.part in attributes_kept a.kind test (rows a) sound.full sound.own)

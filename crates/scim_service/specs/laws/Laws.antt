@@ -1,0 +1,59 @@
+-- What a client can infer of what it may not see: nothing. Stores that are alike for it answer it alike and stay alike.
+use Rattle.std.specs.Prelude.{◌≡◌, ℕ, true, false, List, filter, All, Contains, None, Some}
+use Rattle.scim_schema.specs.declared.Leaf.{Leaf}
+use Rattle.scim_schema.specs.declared.Unit.{Unit as AttributeUnit}
+use Rattle.scim_schema.specs.Mutability.{is_write_only}
+use Rattle.scim_schema.specs.Table.{HasLeaf}
+use Rattle.scim_schema.specs.Units.{unit_of}
+use Rattle.scim_cell.specs.declared.atoms.Atom.{Atom}
+use Rattle.scim_cell.specs.Content.{Content}
+use Rattle.scim_cell.specs.Rows.{rows, cell_at}
+use Rattle.scim_value.specs.Resource.{IsResource}
+use Rattle.scim_policy.specs.Rules.{Rule}
+use Rattle.scim_change.specs.Laws.{IsApart, Stays}
+use Rattle.scim_policy.specs.Access.{access, widening}
+use Rattle.scim_view.specs.View.{Viewer, may_read}
+use Rattle.scim_shelf.specs.Stores.{Store, IsStore, keep}
+use Rattle.scim_service.specs.declared.requests.Turn.{Turn}
+use Rattle.scim_service.specs.Step.{viewer_at, plan, next_store}
+use Rattle.scim_service.specs.laws.Alike.{IsAlike}
+use Rattle.scim_service.specs.laws.Cells.{IsHiddenAt}
+use Rattle.scim_service.specs.laws.Requests.{IsTurn, IsFree}
+use Rattle.scim_service.specs.laws.Lists.{is_of, run, replies_to, AreTurns, Round, first_list, second_list, AreOthers, IsRound, LeadAlike, IsQuiet, AreQuiet}
+
+-- one request of a client, over two stores that are alike for it: it is answered alike, and they stay alike
+abbrev pub OneRequest : Type 0
+OneRequest =
+    (policy : List Rule) (base : List ℕ) (turn : Turn) (s t : Store)
+    → IsStore base s → IsStore base t → IsAlike (viewer_at policy base turn) s.resources t.resources → IsTurn turn → IsFree s.resources turn → IsFree t.resources turn
+    → ((plan policy base turn s).reply ≡ (plan policy base turn t).reply)
+    × IsAlike (viewer_at policy base turn) (next_store policy base turn s).resources (next_store policy base turn t).resources
+
+-- the same turns of a client in two lists, from two stores that are alike for it, with whatever turns of others in between that lead from what is alike to what is alike: all that it is answered is the same, and the stores are alike in the end
+abbrev pub TwoLists : Type 0
+TwoLists =
+    (v : Viewer) (s t : Store) (rounds : List Round) (first second : List Turn)
+    → IsStore v.base s → IsStore v.base t → IsAlike v s.resources t.resources
+    → All (IsRound v.client) rounds → AreOthers v.client first → AreOthers v.client second
+    → AreTurns v.policy v.base v.client s (first_list rounds first) → AreTurns v.policy v.base v.client t (second_list rounds second)
+    → LeadAlike v s t rounds first second
+    → (replies_to v.policy v.base v.client s (first_list rounds first) ≡ replies_to v.policy v.base v.client t (second_list rounds second))
+    × IsAlike v (run v.policy v.base s (first_list rounds first)).resources (run v.policy v.base t (second_list rounds second)).resources
+
+-- where all that others do is quiet for a client, it is answered as if they had done nothing
+abbrev pub QuietOthers : Type 0
+QuietOthers =
+    (v : Viewer) (store : Store) (turns : List Turn)
+    → IsStore v.base store → AreTurns v.policy v.base v.client store turns → AreTurns v.policy v.base v.client store (filter (is_of v.client) turns) → AreQuiet v store turns
+    → replies_to v.policy v.base v.client store turns ≡ replies_to v.policy v.base v.client store (filter (is_of v.client) turns)
+
+-- what is asked of a store holds after each turn, where it held before
+abbrev pub TurnsLeaveStores : Type 0
+TurnsLeaveStores = (policy : List Rule) (base : List ℕ) (turn : Turn) (store : Store) → IsStore base store → IsTurn turn → IsStore base (next_store policy base turn store)
+
+-- a change of nothing but cells that the viewer may not read, on which neither a decision nor uniqueness rests, is quiet
+abbrev pub HiddenCellsAreQuiet : Type 0
+HiddenCellsAreQuiet =
+    (v : Viewer) (before after : List Content) (old new : Content)
+    → Contains before old → keep new before ≡ after → IsResource old → IsResource new → old.kind ≡ new.kind → old.id ≡ new.id
+    → ((l : Leaf) (k : ℕ) → IsHiddenAt v old new l k) → IsQuiet v before after
