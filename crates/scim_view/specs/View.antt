@@ -1,6 +1,5 @@
 -- What a client sees of a resource.
 use Rattle.std.specs.Prelude.{ℕ, Bool, not, ◌&&◌, List, Option, None, Some, if◌then◌else◌}
-use denote.Enum.Bare.{sameb}
 use Rattle.scim_schema.specs.declared.Kind.{Kind}
 use Rattle.scim_schema.specs.declared.Leaf.{Leaf}
 use Rattle.scim_schema.specs.declared.Attribute.TheVariants.{Id}
