@@ -2,6 +2,7 @@
 #![tactic(auto)]
 
 mod access_calls;
+mod explain_calls;
 mod policy_calls;
 mod query_calls;
 mod view_calls;
@@ -17,6 +18,9 @@ pub fn answer(case: &Case<'_>, call: &str) -> Option<Result<String, CaseFault>> 
         return Some(found);
     }
     if let Some(found) = access_calls::answer(case, call) {
+        return Some(found);
+    }
+    if let Some(found) = explain_calls::answer(case, call) {
         return Some(found);
     }
     if let Some(found) = view_calls::answer(case, call) {

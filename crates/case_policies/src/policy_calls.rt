@@ -1,6 +1,5 @@
 //! The calls of `scim_policy`.
 use case_values::{Case, CaseFault, said, truth};
-use scim_explain::{explain, print};
 use scim_policy::{
     ClientName, Decision, Decisions, Policy, Rule, Target, is_client_name, read_policy,
 };
@@ -15,9 +14,7 @@ pub fn answer(case: &Case<'_>, call: &str) -> Option<Result<String, CaseFault>> 
         "is_client_name" => Some(is_client_name_call(case)),
         "read_policy" => Some(read_policy_call(case)),
         "rule" | "rule_paths" | "rule_targets" => Some(rule_call(case, call)),
-        "decide" | "decisions" | "misfit" | "misfits" | "explain" => {
-            Some(decision_call(case, call))
-        }
+        "decide" | "decisions" | "misfit" | "misfits" => Some(decision_call(case, call)),
         _ => None,
     }
 }
@@ -164,7 +161,6 @@ fn told_of_decision(
         "decide" => decision_of(case, policy, resource),
         "decisions" => decisions_of(case, policy, resource),
         "misfit" => misfit_text(case, policy, resource),
-        "explain" => explanation_text(case, policy, resource),
         _ => misfits_text(case, policy, resource),
     }
 }
@@ -237,16 +233,4 @@ fn misfits_text(
         write!(text, "{misfit:?} ")?;
     }
     Ok(text)
-}
-
-/// Why it is decided so, in lines.
-fn explanation_text(
-    case: &Case<'_>,
-    policy: &Policy,
-    resource: &Resource,
-) -> Result<String, CaseFault> {
-    let leaf = read_leaf(case.text("leaf")?)?;
-    let client = case.text("client")?;
-    let explanation = explain(case.alloc, policy, client, case.op(), resource, leaf)?;
-    Ok(print(case.alloc, &explanation)?)
 }

@@ -1,7 +1,9 @@
 //! The calls of `scim_command`.
 use case_values::{Case, CaseFault, said};
 use clap::ArgMatches;
-use scim_command::{CommandFault, OnceFault, OnceOptions, Setting, command, once};
+use scim_command::{
+    CheckOptions, CommandFault, OnceOptions, RunFault, Setting, check, command, once,
+};
 use scim_samples::{BASE, POLICY, USERS};
 use scim_text::print_moment;
 use serde_json::Value;
@@ -11,6 +13,7 @@ use std::alloc::Global;
 pub fn answer(case: &Case<'_>, call: &str) -> Option<Result<String, CaseFault>> {
     match call {
         "once" => Some(once_call(case)),
+        "check" => Some(check_call(case)),
         "command_line" => Some(command_line(case)),
         "fault_line" => Some(fault_line(case)),
         _ => None,
@@ -37,11 +40,22 @@ fn once_text(case: &Case<'_>, setting: &Setting<'_>) -> Result<String, CaseFault
     }
 }
 
+/// What is written of the policy file behind `before`, and the line of the fault where there is one.
+fn check_call(case: &Case<'_>) -> Result<String, CaseFault> {
+    let policy = case.text_or("policy", POLICY);
+    let is_verbose = case.value.get("verbose").is_some();
+    let mut written = case.text_or("before", "").as_bytes().to_vec(case.alloc)?;
+    match check(case.alloc, policy, is_verbose, &mut written) {
+        Ok(()) => said(case.alloc, text_of(written.as_slice())),
+        Err(fault) => fault_behind(case.alloc, written.as_slice(), &fault),
+    }
+}
+
 fn text_of(written: &[u8]) -> &str {
     str::from_utf8(written).unwrap_or("no UTF-8")
 }
 
-fn fault_behind(alloc: Global, written: &[u8], fault: &OnceFault) -> Result<String, CaseFault> {
+fn fault_behind(alloc: Global, written: &[u8], fault: &RunFault) -> Result<String, CaseFault> {
     let text = text_of(written);
     Ok(format!(in alloc; "{text}{fault}")?)
 }
@@ -70,11 +84,25 @@ fn exit_text(alloc: Global, status: i32) -> Result<String, CaseFault> {
 }
 
 fn matches_text(alloc: Global, matches: &ArgMatches<'_>) -> Result<String, CaseFault> {
-    let Some(("once", matches)) = matches.subcommand() else {
-        return said(alloc, "no command");
-    };
+    match matches.subcommand() {
+        Some(("once", matches)) => once_options(alloc, matches),
+        Some(("check", matches)) => check_options(alloc, matches),
+        _ => said(alloc, "no command"),
+    }
+}
+
+fn once_options(alloc: Global, matches: &ArgMatches<'_>) -> Result<String, CaseFault> {
     match OnceOptions::of(alloc, matches) {
         Ok(options) => options_text(alloc, &options),
+        Err(fault) => line_and_status(alloc, &fault),
+    }
+}
+
+fn check_options(alloc: Global, matches: &ArgMatches<'_>) -> Result<String, CaseFault> {
+    match CheckOptions::of(matches) {
+        Ok(CheckOptions { policy, verbose }) => {
+            Ok(format!(in alloc; "policy {policy}, verbose {verbose}")?)
+        }
         Err(fault) => line_and_status(alloc, &fault),
     }
 }
@@ -105,10 +133,10 @@ fn fault_of(case: &Case<'_>) -> Result<CommandFault, CaseFault> {
         "cannot_read" => Ok(CommandFault::cannot_read(case.alloc, case.text("path")?)),
         "users" => {
             let item = usize::try_from(case.number("item")?).unwrap_or(0);
-            Ok(CommandFault::Once(OnceFault::Users(item)))
+            Ok(CommandFault::Run(RunFault::Users(item)))
         }
-        "input_ended" => Ok(CommandFault::Once(OnceFault::InputEnded)),
-        "no_memory" => Ok(CommandFault::Once(OnceFault::NoMemory)),
+        "input_ended" => Ok(CommandFault::Run(RunFault::InputEnded)),
+        "no_memory" => Ok(CommandFault::Run(RunFault::NoMemory)),
         _ => Err(CaseFault::Missing("fault")),
     }
 }

@@ -3,13 +3,13 @@ use Rattle.scim_text.specs.declared.memory.Failed.{Failed}
 use Rattle.scim_text.specs.declared.memory.Failed.TheVariants as failed
 use Rattle.scim_json.specs.declared.faults.DamagedItem.{DamagedItem}
 use Rattle.scim_policy.specs.declared.faults.PolicyFault.{PolicyFault}
-use Rattle.scim_command.specs.declared.faults.OnceFault.{OnceFault}
-use Rattle.scim_command.specs.declared.faults.OnceFault.TheVariants.{Policy, Users, NoMemory}
+use Rattle.scim_command.specs.declared.faults.RunFault.{RunFault}
+use Rattle.scim_command.specs.declared.faults.RunFault.TheVariants.{Policy, Users, NoMemory}
 
-abbrev pub of_policy : Failed PolicyFault → OnceFault
+abbrev pub of_policy : Failed PolicyFault → RunFault
 of_policy (failed.Because fault) = Policy fault.rule fault.cause
 of_policy failed.NoMemory = NoMemory
 
-abbrev pub of_document : Failed DamagedItem → OnceFault
+abbrev pub of_document : Failed DamagedItem → RunFault
 of_document (failed.Because item) = Users item.0
 of_document failed.NoMemory = NoMemory

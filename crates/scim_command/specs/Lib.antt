@@ -1,4 +1,5 @@
 pub mod Inputs
 pub mod Once
+pub mod Check
 pub mod Faults
 pub mod code

@@ -1,5 +1,5 @@
 //! Why a command wasn't carried out.
-use crate::faults::OnceFault;
+use crate::faults::RunFault;
 use std::alloc::Global;
 use std::fmt;
 
@@ -12,8 +12,8 @@ pub enum CommandFault {
     BadOption,
     /// The file of this path cannot be read.
     CannotRead(String),
-    /// `once` gave up.
-    Once(OnceFault),
+    /// The command gave up.
+    Run(RunFault),
 }
 
 impl CommandFault {
@@ -21,7 +21,7 @@ impl CommandFault {
     pub fn cannot_read(alloc: Global, path: &str) -> CommandFault {
         match String::from_str(alloc, path) {
             Ok(path) => CommandFault::CannotRead(path),
-            Err(_) => CommandFault::Once(OnceFault::NoMemory),
+            Err(_) => CommandFault::Run(RunFault::NoMemory),
         }
     }
 
@@ -29,7 +29,7 @@ impl CommandFault {
     pub fn exit_status(&self) -> u8 {
         match self {
             CommandFault::NotText | CommandFault::BadOption => 2,
-            CommandFault::CannotRead(_) | CommandFault::Once(_) => 1,
+            CommandFault::CannotRead(_) | CommandFault::Run(_) => 1,
         }
     }
 }
@@ -40,7 +40,7 @@ impl fmt::Display for CommandFault {
             CommandFault::NotText => write!(f, "an argument is not in UTF-8"),
             CommandFault::BadOption => write!(f, "bad option"),
             CommandFault::CannotRead(path) => write!(f, "cannot read {}", OneLine(path.as_str())),
-            CommandFault::Once(fault) => write!(f, "{fault}"),
+            CommandFault::Run(fault) => write!(f, "{fault}"),
         }
     }
 }
@@ -63,8 +63,8 @@ impl fmt::Display for OneLine<'_> {
     }
 }
 
-impl From<OnceFault> for CommandFault {
-    fn from(fault: OnceFault) -> CommandFault {
-        CommandFault::Once(fault)
+impl From<RunFault> for CommandFault {
+    fn from(fault: RunFault) -> CommandFault {
+        CommandFault::Run(fault)
     }
 }

@@ -5,9 +5,9 @@ use scim_text::{Failed, NoMemory};
 use std::error::Error;
 use std::fmt;
 
-/// Why `once` wrote no answer.
+/// Why a command gave up. Which of these it may answer, each says.
 #[derive(Clone, Copy, Debug, PartialEq, Eq)]
-pub enum OnceFault {
+pub enum RunFault {
     /// The policy file is faulty: the rule, from 1, or 0 for the file, and why.
     Policy { rule: u32, cause: Cause },
     /// The item of the users file with this number, from 1, is no document of a user or a group or repeats
@@ -24,55 +24,55 @@ pub enum OnceFault {
 }
 
 /// One line for people, as it is written to standard error.
-impl fmt::Display for OnceFault {
+impl fmt::Display for RunFault {
     fn fmt<W: fmt::Write>(&self, f: &mut fmt::Formatter<W>) -> fmt::Result {
         match self {
-            OnceFault::Policy { rule, cause } => write!(f, "policy: rule {rule}: {cause}"),
-            OnceFault::Users(number) => write!(f, "users: item {number}"),
-            OnceFault::InputEnded | OnceFault::InputFailed => write!(f, "input ended early"),
-            OnceFault::Output => write!(f, "output cannot be written"),
-            OnceFault::NoMemory => write!(f, "out of memory"),
+            RunFault::Policy { rule, cause } => write!(f, "policy: rule {rule}: {cause}"),
+            RunFault::Users(number) => write!(f, "users: item {number}"),
+            RunFault::InputEnded | RunFault::InputFailed => write!(f, "input ended early"),
+            RunFault::Output => write!(f, "output cannot be written"),
+            RunFault::NoMemory => write!(f, "out of memory"),
         }
     }
 }
 
-impl Error for OnceFault {}
+impl Error for RunFault {}
 
-impl From<Failed<PolicyFault>> for OnceFault {
+impl From<Failed<PolicyFault>> for RunFault {
     ghost use Rattle.std.specs.Prelude.{◌≡◌};
     ghost use Rattle.scim_command.specs.Faults.{of_policy};
 
     ghost from_gives = { λ e f. f ≡ of_policy e };
 
-    fn from(fault: Failed<PolicyFault>) -> OnceFault {
+    fn from(fault: Failed<PolicyFault>) -> RunFault {
         match fault {
-            Failed::Because(PolicyFault { rule, cause }) => OnceFault::Policy { rule, cause },
-            Failed::NoMemory => OnceFault::NoMemory,
+            Failed::Because(PolicyFault { rule, cause }) => RunFault::Policy { rule, cause },
+            Failed::NoMemory => RunFault::NoMemory,
         }
     }
 }
 
-impl From<Failed<DamagedItem>> for OnceFault {
+impl From<Failed<DamagedItem>> for RunFault {
     ghost use Rattle.std.specs.Prelude.{◌≡◌};
     ghost use Rattle.scim_command.specs.Faults.{of_document};
 
     ghost from_gives = { λ e f. f ≡ of_document e };
 
-    fn from(fault: Failed<DamagedItem>) -> OnceFault {
+    fn from(fault: Failed<DamagedItem>) -> RunFault {
         match fault {
-            Failed::Because(DamagedItem(number)) => OnceFault::Users(number),
-            Failed::NoMemory => OnceFault::NoMemory,
+            Failed::Because(DamagedItem(number)) => RunFault::Users(number),
+            Failed::NoMemory => RunFault::NoMemory,
         }
     }
 }
 
-impl From<NoMemory> for OnceFault {
+impl From<NoMemory> for RunFault {
     ghost use Rattle.std.specs.Prelude.{◌≡◌};
-    ghost use Rattle.scim_command.specs.declared.faults.OnceFault.{OnceFault};
+    ghost use Rattle.scim_command.specs.declared.faults.RunFault.{RunFault};
 
-    ghost from_gives = { λ _ f. f ≡ OnceFault.NoMemory };
+    ghost from_gives = { λ _ f. f ≡ RunFault.NoMemory };
 
-    fn from(_: NoMemory) -> OnceFault {
-        OnceFault::NoMemory
+    fn from(_: NoMemory) -> RunFault {
+        RunFault::NoMemory
     }
 }

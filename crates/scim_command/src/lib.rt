@@ -3,13 +3,16 @@
 #![tactic(auto)]
 
 mod answers;
+mod checks;
 mod command_faults;
 mod faults;
 mod inputs;
 mod options;
 mod run_once;
+mod writing;
 
+pub use checks::check;
 pub use command_faults::CommandFault;
-pub use faults::OnceFault;
-pub use options::{OnceOptions, command};
+pub use faults::RunFault;
+pub use options::{CheckOptions, OnceOptions, command};
 pub use run_once::{Setting, once};

@@ -1,7 +1,7 @@
 //! The command line.
 use crate::command_faults::CommandFault;
-use crate::faults::OnceFault;
-use clap::{Arg, ArgMatches, Command};
+use crate::faults::RunFault;
+use clap::{Arg, ArgAction, ArgMatches, Command};
 use scim_cell::Id;
 use scim_policy::is_client_name;
 use scim_text::{Moment, read_printed_moment};
@@ -15,6 +15,9 @@ const DEFAULT_MOMENT: &str = "1970-01-01T00:00:00Z";
 
 /// The id for what the request creates where nothing else is said.
 const DEFAULT_ID: &str = "00000000-0000-0000-0000-000000000000";
+
+/// What is said of the option for the policy file.
+const POLICY_HELP: &str = "The policy: a JSON file of rules, of which the first that fits decides";
 
 /// The version of the program.
 const VERSION: &str = "0.1.0";
@@ -36,26 +39,36 @@ pub struct OnceOptions<'a> {
     pub first: Id,
 }
 
+/// What `check` is given.
+#[derive(Clone, Copy, Debug)]
+pub struct CheckOptions<'a> {
+    /// The path of the policy file.
+    pub policy: &'a str,
+    /// Whether each rule is said in a sentence as well.
+    pub verbose: bool,
+}
+
 /// The command line that is understood. AllocError where no memory was to be had.
 pub fn command<'a>(alloc: Global) -> Result<Command<'a>, AllocError> {
     let once = once_command(alloc)?;
+    let check = check_command(alloc)?;
     Command::new(alloc, "scimd")
         .version(VERSION)
         .about("A SCIM 2.0 service provider whose access policy is proved to be kept")
         .subcommand_required(true)
         .arg_required_else_help(true)
-        .subcommand(once)
+        .subcommand(once)?
+        .subcommand(check)
 }
 
 fn once_command<'a>(alloc: Global) -> Result<Command<'a>, AllocError> {
-    let policy = "The policy: a JSON file of rules, of which the first that fits decides";
     let users = "The users: a JSON list of resources as they are stored";
     let client = "The client that asks, as the policy names it";
     Command::new(alloc, "once")
         .about(
             "Answer one request from standard input over a users file, and write the reply to standard output",
         )
-        .arg(required(alloc, "policy", "FILE", policy))?
+        .arg(required(alloc, "policy", "FILE", POLICY_HELP))?
         .arg(required(alloc, "users", "FILE", users))?
         .arg(required(alloc, "client", "NAME", client))?
         .arg(with_default(
@@ -79,6 +92,18 @@ fn once_command<'a>(alloc: Global) -> Result<Command<'a>, AllocError> {
             DEFAULT_ID,
             "The id of the resource that the request creates",
         ))
+}
+
+fn check_command<'a>(alloc: Global) -> Result<Command<'a>, AllocError> {
+    Command::new(alloc, "check")
+        .about("Say whether a policy file is well, and which of its rules can never decide")
+        .arg(required(alloc, "policy", "FILE", POLICY_HELP))?
+        .arg(
+            Arg::new(alloc, "verbose")
+                .long("verbose")
+                .help("Say each rule in a sentence as well")
+                .action(ArgAction::SetTrue),
+        )
 }
 
 /// An option that has to be given.
@@ -124,6 +149,16 @@ impl<'a> OnceOptions<'a> {
     }
 }
 
+impl<'a> CheckOptions<'a> {
+    /// The options of `check`.
+    pub fn of(matches: &ArgMatches<'a>) -> Result<CheckOptions<'a>, CommandFault> {
+        Ok(CheckOptions {
+            policy: text_of(matches, "policy")?,
+            verbose: matches.get_flag("verbose"),
+        })
+    }
+}
+
 fn text_of<'a>(matches: &ArgMatches<'a>, name: &str) -> Result<&'a str, CommandFault> {
     matches.get_str(name).ok_or(CommandFault::BadOption)
 }
@@ -132,6 +167,6 @@ fn moment_of(alloc: Global, text: &str) -> Result<Moment, CommandFault> {
     match read_printed_moment(alloc, text) {
         Ok(Some(moment)) => Ok(moment),
         Ok(None) => Err(CommandFault::BadOption),
-        Err(_) => Err(CommandFault::Once(OnceFault::NoMemory)),
+        Err(_) => Err(CommandFault::Run(RunFault::NoMemory)),
     }
 }

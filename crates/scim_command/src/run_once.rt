@@ -6,7 +6,7 @@ ghost use Rattle.scim_policy.specs.File.{policy_of};
 ghost use Rattle.scim_policy.specs.declared.faults.Cause.{Cause};
 ghost use Rattle.scim_shelf.specs.Stores.{Store, IsStore};
 ghost use Rattle.scim_wire.specs.Streams.{AppendsFront};
-ghost use Rattle.scim_command.specs.declared.faults.OnceFault.{OnceFault};
+ghost use Rattle.scim_command.specs.declared.faults.RunFault.{RunFault};
 ghost use Rattle.scim_audit.specs.declared.refusals.Refusal.{Refusal};
 ghost use Rattle.uuid.specs.Parts.{zero_bytes};
 ghost use Rattle.scim_exchange.specs.Replies as replies;
@@ -15,8 +15,9 @@ ghost use Rattle.scim_command.specs.code.Exits.{IsOfFiles, IsOfUsers, IsOfInput,
 ghost use Rattle.scim_command.specs.Once.{Answers, AreSound, IsStoreOf, IsAnswer};
 
 use crate::answers::{refusal_text, reply_text};
-use crate::faults::OnceFault;
+use crate::faults::RunFault;
 use crate::inputs::{InputFault, read_first};
+use crate::writing::write_or_fault;
 use scim_audit::Refusal;
 use scim_cell::{Id, Text};
 use scim_exchange::Arrival;
@@ -25,7 +26,6 @@ use scim_policy::read_policy;
 use scim_service::Service;
 use scim_shelf::{MemoryShelf, Shelf};
 use scim_text::{Failed, Moment, NoMemory};
-use scim_wire::write_text;
 use std::alloc::Global;
 use std::io::{Read, Write};
 use uuid::Uuid;
@@ -86,25 +86,25 @@ pub fn once<R: Read, W: Write>(
     setting: &Setting<'_>,
     reader: &mut R,
     writer: &mut W,
-) -> Result<(), OnceFault>
+) -> Result<(), RunFault>
     ensures answered { OnOk result (IfSome (R.remaining reader.old) (λ input. (output : List ℕ)
         × Answers setting.now input output
         × Appends (W.contents writer.old) (W.contents writer.new) output)) }
-    ensures policy { (rule : ℕ) (cause : Cause) → result ≡ Err (OnceFault.Policy rule cause)
+    ensures policy { (rule : ℕ) (cause : Cause) → result ≡ Err (RunFault.Policy rule cause)
         → policy_of setting.now.policy.now ≡ Err (record { rule = rule; cause = cause }) }
-    ensures users { (n : ℕ) → result ≡ Err (OnceFault.Users n)
+    ensures users { (n : ℕ) → result ≡ Err (RunFault.Users n)
         → IsOk (policy_of setting.now.policy.now) × IsDamagedAt setting.now.base.now setting.now.users.now n }
-    ensures ended { result ≡ Err OnceFault.InputEnded
+    ensures ended { result ≡ Err RunFault.InputEnded
         → AreSound setting.now
         × IfSome (R.remaining reader.old) IsUnended }
-    ensures failed { result ≡ Err OnceFault.InputFailed
+    ensures failed { result ≡ Err RunFault.InputFailed
         → AreSound setting.now }
-    ensures output { result ≡ Err OnceFault.Output
+    ensures output { result ≡ Err RunFault.Output
         → AreSound setting.now
         × IfSome (R.remaining reader.old) (λ input. (output : List ℕ)
         × Answers setting.now input output
         × AppendsFront (W.contents writer.old) (W.contents writer.new) output) }
-    ensures silent { IfErr result (λ f. f ≢ OnceFault.Output → writer.new ≡ writer.old) }
+    ensures silent { IfErr result (λ f. f ≢ RunFault.Output → writer.new ≡ writer.old) }
 {
     let mut service = service_over(alloc, setting)?;
     let store = refusal_text(alloc, Refusal::Store, false)?;
@@ -121,15 +121,15 @@ pub fn once<R: Read, W: Write>(
 ///
 /// Policy, where the policy file is faulty; else Users, where the users file is damaged; NoMemory where none
 /// was to be had.
-fn service_over(alloc: Global, setting: &Setting<'_>) -> Result<Service<MemoryShelf>, OnceFault>
+fn service_over(alloc: Global, setting: &Setting<'_>) -> Result<Service<MemoryShelf>, RunFault>
     ensures service { IfOk result (λ service. (store : Store)
         × IsStoreOf setting.now.base.now setting.now.users.now store
         × ⟦<MemoryShelf as Shelf>⟧.stands service.shelf store
         × (policy_of setting.now.policy.now ≡ Ok service.policy)
         × (service.base ≡ setting.now.base.now)) }
-    ensures policy { (rule : ℕ) (cause : Cause) → result ≡ Err (OnceFault.Policy rule cause)
+    ensures policy { (rule : ℕ) (cause : Cause) → result ≡ Err (RunFault.Policy rule cause)
         → policy_of setting.now.policy.now ≡ Err (record { rule = rule; cause = cause }) }
-    ensures users { (n : ℕ) → result ≡ Err (OnceFault.Users n)
+    ensures users { (n : ℕ) → result ≡ Err (RunFault.Users n)
         → IsOk (policy_of setting.now.policy.now) × IsDamagedAt setting.now.base.now setting.now.users.now n }
     ensures fault { IfErr result IsOfFiles }
 {
@@ -148,19 +148,19 @@ fn reply_to<R: Read>(
     service: &mut Service<MemoryShelf>,
     arrival: &Arrival<'_>,
     reader: &mut R,
-) -> Result<Result<String, NoMemory>, OnceFault>
+) -> Result<Result<String, NoMemory>, RunFault>
     ensures answer { (store : Store) → ⟦<MemoryShelf as Shelf>⟧.stands service.old.shelf store → IsStore service.old.base store
         → IfOk result (λ reply. IfSome (R.remaining reader.old) (λ input.
         IsAnswer service.old.policy service.old.base arrival.now store input (text_or_store reply))) }
-    ensures ended { result ≡ Err OnceFault.InputEnded → IfSome (R.remaining reader.old) IsUnended }
+    ensures ended { result ≡ Err RunFault.InputEnded → IfSome (R.remaining reader.old) IsUnended }
     ensures fault { IfErr result IsOfInput }
 {
     match read_first(alloc, reader) {
         Ok(Ok(message)) => Ok(reply_text(alloc, service, arrival, &message)),
         Ok(Err(refusal)) => Ok(refusal_text(alloc, refusal, true)),
         Err(Failed::NoMemory) => Ok(Err(NoMemory)),
-        Err(Failed::Because(InputFault::Ended)) => Err(OnceFault::InputEnded),
-        Err(Failed::Because(InputFault::ReadFailed)) => Err(OnceFault::InputFailed),
+        Err(Failed::Because(InputFault::Ended)) => Err(RunFault::InputEnded),
+        Err(Failed::Because(InputFault::ReadFailed)) => Err(RunFault::InputFailed),
     }
 }
 
@@ -171,12 +171,12 @@ fn write_reply<W: Write>(
     reply: Result<String, NoMemory>,
     store: &str,
     writer: &mut W,
-) -> Result<(), OnceFault>
+) -> Result<(), RunFault>
     ensures whole { store.now ≡ replies.refusal_text Refusal.Store false
         → OnOk result (Appends (W.contents writer.old) (W.contents writer.new) (text_or_store reply)) }
     ensures front { store.now ≡ replies.refusal_text Refusal.Store false
         → OnErr result (AppendsFront (W.contents writer.old) (W.contents writer.new) (text_or_store reply)) }
-    ensures fault { IfErr result (λ f. f ≡ OnceFault.Output) }
+    ensures fault { IfErr result (λ f. f ≡ RunFault.Output) }
 {
     match reply {
         Ok(text) => write_or_fault(text.as_str(), writer),
@@ -184,25 +184,13 @@ fn write_reply<W: Write>(
     }
 }
 
-/// Writes the text. Output, where a write fails: then a front of it has been written, and nothing else.
-fn write_or_fault<W: Write>(text: &str, writer: &mut W) -> Result<(), OnceFault>
-    ensures whole { OnOk result (Appends (W.contents writer.old) (W.contents writer.new) text.now) }
-    ensures front { OnErr result (AppendsFront (W.contents writer.old) (W.contents writer.new) text.now) }
-    ensures fault { IfErr result (λ f. f ≡ OnceFault.Output) }
-{
-    match write_text(text, writer) {
-        Ok(()) => Ok(()),
-        Err(_) => Err(OnceFault::Output),
-    }
-}
-
 /// A shelf of the resources of a users file.
 ///
 /// Users, where it is damaged; NoMemory where none was to be had.
-fn read_shelf(alloc: Global, base: &str, text: &str) -> Result<MemoryShelf, OnceFault>
+fn read_shelf(alloc: Global, base: &str, text: &str) -> Result<MemoryShelf, RunFault>
     ensures shelf { IfOk result (λ shelf. (store : Store)
         × IsStoreOf base.now text.now store × ⟦<MemoryShelf as Shelf>⟧.stands shelf store) }
-    ensures damaged { (n : ℕ) → result ≡ Err (OnceFault.Users n) → IsDamagedAt base.now text.now n }
+    ensures damaged { (n : ℕ) → result ≡ Err (RunFault.Users n) → IsDamagedAt base.now text.now n }
     ensures fault { IfErr result IsOfUsers }
 {
     let resources = read_documents(alloc, base, text)?;

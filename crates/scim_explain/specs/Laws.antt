@@ -1,11 +1,13 @@
--- What explanations tell, for any policy, client, operation, resource and leaf.
-use Rattle.std.specs.Prelude.{◌≡◌, ◌==◌, ◌-◌, ℕ, false, List, All, length, map, take, Some, if◌then◌else◌}
+-- What explanations tell, for any policy, client, operation, resource and leaf; and that idle rules are idle.
+use Rattle.std.specs.Prelude.{◌≡◌, ◌≢◌, true, ◌==◌, ◌-◌, ℕ, false, List, All, length, map, take, Some, if◌then◌else◌}
 use Rattle.scim_schema.specs.declared.Op.{Op}
 use Rattle.scim_schema.specs.declared.Leaf.{Leaf}
 use Rattle.scim_cell.specs.Content.{Content}
 use Rattle.scim_policy.specs.Rules.{Rule}
-use Rattle.scim_policy.specs.Decide.{fits, misfit_of}
+use Rattle.scim_policy.specs.Decide.{fits, misfit_of, decide}
+use Rattle.scim_explain.specs.declared.idle.IdleRule.{IdleRule}
 use Rattle.scim_explain.specs.Explain.{Explanation, explained}
+use Rattle.scim_explain.specs.Idle.{covers_rule, idle_rules}
 
 -- the rules that an explanation tells of: those before the deciding one, or all where that is 0
 abbrev pub earlier : List Rule → Explanation → List Rule
@@ -28,3 +30,12 @@ abbrev pub NoEarlierRuleFits : Type 0
 NoEarlierRuleFits =
     (policy : List Rule) (client : List ℕ) (op : Op) (c : Content) (l : Leaf)
     → All (λ r. fits client op c l r ≡ false) (earlier policy (explained policy client op c l))
+
+-- a rule that covers all that another does fits wherever the other fits
+abbrev pub CoveringRulesFit : Type 0
+CoveringRulesFit = (e r : Rule) (client : List ℕ) (op : Op) (c : Content) (l : Leaf) → covers_rule e r ≡ true → fits client op c l r ≡ true → fits client op c l e ≡ true
+
+-- no idle rule of a policy decides
+abbrev pub IdleRulesNeverDecide : Type 0
+IdleRulesNeverDecide =
+    (policy : List Rule) (client : List ℕ) (op : Op) (c : Content) (l : Leaf) → All (λ (idle : IdleRule). (decide policy client op c l).rule ≢ idle.rule) (idle_rules policy)

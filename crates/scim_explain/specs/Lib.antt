@@ -1,3 +1,7 @@
 pub mod Explain
+pub mod Idle
 pub mod Laws
+pub mod Lists
+pub mod Sentences
+pub mod Tables
 pub mod Texts

@@ -1,9 +1,8 @@
 -- The text of an explanation.
-use Rattle.std.specs.Prelude.{ℕ, List, ◌++◌, codes, decimal, if◌then◌else◌}
+use Rattle.std.specs.Prelude.{ℕ, Bool, List, ◌++◌, codes, decimal, if◌then◌else◌}
 use Rattle.std.specs.List.{flat_map, enumerate_from}
 use Rattle.scim_policy.specs.declared.misfits.Misfit.{Misfit}
 use Rattle.scim_policy.specs.declared.misfits.Misfit.TheVariants as misfit
-use Rattle.scim_policy.specs.declared.rules.Decision.{Decision}
 use Rattle.scim_explain.specs.Explain.{Explanation}
 
 -- the word for what of a rule doesn't fit, in the words of a policy file where it has one
@@ -14,9 +13,9 @@ misfit_word misfit.Kind = codes "type"
 misfit_word misfit.Path = codes "path"
 misfit_word misfit.Target = codes "target"
 
--- the word for what is decided
-abbrev pub decision_word : Decision → List ℕ
-decision_word d = if d.allow then codes "allow" else codes "deny"
+-- the word for whether something is allowed
+abbrev pub effect_word : Bool → List ℕ
+effect_word allow = if allow then codes "allow" else codes "deny"
 
 -- the line that says a word of a rule, with a line feed at its end
 abbrev pub rule_line : ℕ → List ℕ → List ℕ
@@ -28,4 +27,4 @@ misfit_lines first misfits = flat_map (λ (numbered : ℕ × Misfit). rule_line 
 
 -- a line for each misfit, and one for the decision
 abbrev pub explanation_text : Explanation → List ℕ
-explanation_text e = misfit_lines 1 e.misfits ++ rule_line e.decision.rule (decision_word e.decision)
+explanation_text e = misfit_lines 1 e.misfits ++ rule_line e.decision.rule (effect_word e.decision.allow)

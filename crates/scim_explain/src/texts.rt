@@ -3,7 +3,7 @@ ghost use Rattle.std.specs.Prelude.{◌≡◌, IfOk, string_bytes};
 ghost use Rattle.scim_explain.specs.Texts as spec;
 
 use crate::explanations::Explanation;
-use scim_policy::{Decision, Misfit};
+use scim_policy::Misfit;
 use scim_text::NoMemory;
 use std::alloc::Global;
 
@@ -20,15 +20,15 @@ fn misfit_word(misfit: Misfit) -> &'static str
     }
 }
 
-/// The word for what is decided.
-fn decision_word(decision: Decision) -> &'static str
-    ensures { result.now ≡ spec.decision_word decision }
+/// The word for whether something is allowed.
+pub(crate) fn effect_word(allow: bool) -> &'static str
+    ensures { result.now ≡ spec.effect_word allow }
 {
-    if decision.allow { "allow" } else { "deny" }
+    if allow { "allow" } else { "deny" }
 }
 
 /// The line that says a word of a rule.
-fn rule_line(alloc: Global, number: usize, word: &str) -> Result<String, NoMemory>
+pub(crate) fn rule_line(alloc: Global, number: usize, word: &str) -> Result<String, NoMemory>
     ensures { IfOk result (λ line. string_bytes line ≡ spec.rule_line number word.now) }
 {
     Ok(format!(in alloc; "rule {number}: {word}\n")?)
@@ -56,7 +56,7 @@ pub fn print(alloc: Global, explanation: &Explanation) -> Result<String, NoMemor
 {
     let mut text = misfit_lines(alloc, explanation.misfits())?;
     let decision = explanation.decision();
-    let line = rule_line(alloc, decision.rule as usize, decision_word(decision))?;
+    let line = rule_line(alloc, decision.rule as usize, effect_word(decision.allow))?;
     text.push_str(line.as_str())?;
     Ok(text)
 }

@@ -1,6 +1,6 @@
 //! What `once` does where a read or a write fails.
 use crate::streams::{Stutter, Trickle};
-use scim_command::{OnceFault, Setting, once};
+use scim_command::{RunFault, Setting, once};
 use scim_samples::{BASE, POLICY};
 use std::alloc::Global;
 use std::io::{ErrorKind, Read};
@@ -15,7 +15,7 @@ const REPLY: &str =
     "HTTP/1.1 404 Not Found\r\nContent-Type: application/scim+json\r\nContent-Length: 105\r\n\r\n{\"detail\":\"Resource not found.\",\"schemas\":[\"urn:ietf:params:scim:api:messages:2.0:Error\"],\"status\":\"404\"}";
 
 /// What comes of a request over a users file without users.
-fn answer<R: Read>(alloc: Global, reader: &mut R, writer: &mut Stutter) -> Result<(), OnceFault> {
+fn answer<R: Read>(alloc: Global, reader: &mut R, writer: &mut Stutter) -> Result<(), RunFault> {
     let setting = Setting::new(POLICY, "[]", "hr", BASE);
     once(alloc, &setting, reader, writer)
 }
@@ -39,7 +39,7 @@ fn nothing_is_written_after_a_write_that_failed(rt: HostRuntime) {
     for failing in [0, 1, 20, 188] {
         let mut writer = Stutter::new(rt.alloc(), 1, failing, ErrorKind::Other);
         let done = answer(rt.alloc(), &mut REQUEST.as_bytes(), &mut writer);
-        let told = done == Err(OnceFault::Output);
+        let told = done == Err(RunFault::Output);
         assert!(rt; told && took(&writer, failing as usize), "write {failing}");
     }
 }
@@ -60,7 +60,7 @@ fn an_interrupted_write_is_tried_again(rt: HostRuntime) {
 fn a_writer_that_takes_nothing_is_a_failed_one(rt: HostRuntime) {
     let mut writer = Stutter::new(rt.alloc(), 0, u32::MAX, ErrorKind::Other);
     let done = answer(rt.alloc(), &mut REQUEST.as_bytes(), &mut writer);
-    assert!(rt; done == Err(OnceFault::Output) && took(&writer, 0));
+    assert!(rt; done == Err(RunFault::Output) && took(&writer, 0));
 }
 
 #[test]
@@ -83,8 +83,8 @@ fn reads_that_fail_and_that_end_are_told_apart(rt: HostRuntime) {
         let mut writer = Stutter::new(rt.alloc(), 1_000, u32::MAX, ErrorKind::Other);
         let failed = answer(rt.alloc(), &mut reader, &mut writer);
         let ended = answer(rt.alloc(), &mut text.as_bytes(), &mut writer);
-        assert!(rt; failed == Err(OnceFault::InputFailed), "after {text:?}");
-        assert!(rt; ended == Err(OnceFault::InputEnded), "after {text:?}");
+        assert!(rt; failed == Err(RunFault::InputFailed), "after {text:?}");
+        assert!(rt; ended == Err(RunFault::InputEnded), "after {text:?}");
         assert!(rt; took(&writer, 0), "after {text:?}");
     }
 }
@@ -92,10 +92,10 @@ fn reads_that_fail_and_that_end_are_told_apart(rt: HostRuntime) {
 #[test]
 fn faults_say_why(rt: HostRuntime) -> Result<(), Fail> {
     for (fault, told) in [
-        (OnceFault::InputEnded, "input ended early"),
-        (OnceFault::InputFailed, "input ended early"),
-        (OnceFault::Output, "output cannot be written"),
-        (OnceFault::NoMemory, "out of memory"),
+        (RunFault::InputEnded, "input ended early"),
+        (RunFault::InputFailed, "input ended early"),
+        (RunFault::Output, "output cannot be written"),
+        (RunFault::NoMemory, "out of memory"),
     ] {
         assert_eq!(rt; format!(in rt.alloc(); "{fault}")?.as_str(), told);
     }

@@ -1,18 +1,13 @@
 -- One request of a client, over two stores that are alike for it.
-use Rattle.std.proofs.Common.{◌∙◌, ap, sym, List}
+use Rattle.std.proofs.Common.{List}
 use Rattle.std.specs.Prelude.{All}
 use Rattle.std.proofs.lemmas.List.Elements.{All-weaker}
-use Rattle.scim_schema.specs.Mutability.{is_write_only}
-use Rattle.scim_schema.specs.Units.{unit_of}
 use Rattle.scim_cell.specs.Content.{Content}
-use Rattle.scim_cell.specs.Rows.{atom_at}
-use Rattle.scim_policy.specs.Access.{access}
 use Rattle.scim_value.specs.Resource.{IsResource, HasBase}
 use Rattle.scim_view.specs.View.{Viewer}
 use Rattle.scim_service.specs.Step.{viewer_at}
 use Rattle.scim_service.specs.laws.Alike.{IsAlike}
 use Rattle.scim_service.specs.laws.Laws.{OneRequest}
-use Rattle.scim_view.proofs.Facts.{not_wider}
 use Rattle.scim_service.proofs.StoreLemmas.{controls_same, seen_same, traits_from}
 use Rattle.scim_service.proofs.RequestLemmas.{AreLike, planned_same}
 

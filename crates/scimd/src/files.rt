@@ -1,5 +1,5 @@
 //! The files that a command is given.
-use scim_command::{CommandFault, OnceFault, OnceOptions, Setting};
+use scim_command::{CommandFault, OnceOptions, RunFault, Setting};
 use scim_policy::{Cause, read_policy};
 use std::alloc::Global;
 use std::fs;
@@ -34,20 +34,29 @@ pub(crate) fn read_texts(
     policy: &str,
     users: &str,
 ) -> Result<Texts, CommandFault> {
-    let not_text = OnceFault::Policy {
-        rule: 0,
-        cause: Cause::Json,
-    };
-    let policy = read_text(rt, alloc, policy, not_text)?;
-    match read_text(rt, alloc, users, OnceFault::Users(0)) {
+    let policy = read_policy_text(rt, alloc, policy)?;
+    match read_text(rt, alloc, users, RunFault::Users(0)) {
         Ok(users) => Ok(Texts { policy, users }),
         Err(fault) => {
             if let Err(earlier) = read_policy(alloc, policy.as_str()) {
-                return Err(CommandFault::Once(earlier.into()));
+                return Err(CommandFault::Run(earlier.into()));
             }
             Err(fault)
         }
     }
+}
+
+/// The text of the policy file at this path.
+pub(crate) fn read_policy_text(
+    rt: &(impl Files + AllocGlobal),
+    alloc: Global,
+    path: &str,
+) -> Result<String, CommandFault> {
+    let not_text = RunFault::Policy {
+        rule: 0,
+        cause: Cause::Json,
+    };
+    read_text(rt, alloc, path, not_text)
 }
 
 /// The text of the file at this path; `not_text` where it isn't UTF-8.
@@ -55,10 +64,10 @@ fn read_text(
     rt: &(impl Files + AllocGlobal),
     alloc: Global,
     path: &str,
-    not_text: OnceFault,
+    not_text: RunFault,
 ) -> Result<String, CommandFault> {
     let Ok(bytes) = fs::read(rt, path) else {
         return Err(CommandFault::cannot_read(alloc, path));
     };
-    String::from_utf8(bytes).map_err(|_| CommandFault::Once(not_text))
+    String::from_utf8(bytes).map_err(|_| CommandFault::Run(not_text))
 }

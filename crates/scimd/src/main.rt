@@ -7,7 +7,7 @@ mod files;
 
 use anyhow::Result;
 use clap::{ArgMatches, Error};
-use scim_command::{CommandFault, OnceFault, OnceOptions, command, once};
+use scim_command::{CheckOptions, CommandFault, OnceOptions, RunFault, check, command, once};
 use std::env;
 use std::io::ErrorKind;
 use std::process::ExitCode;
@@ -52,12 +52,13 @@ fn show(rt: &HostRuntime, error: &Error) -> Result<ExitCode> {
 fn run_matches(rt: &HostRuntime, matches: &ArgMatches<'_>) -> Result<ExitCode> {
     let done = match matches.subcommand() {
         Some(("once", matches)) => run_once(rt, matches),
+        Some(("check", matches)) => run_check(rt, matches),
         _ => Err(CommandFault::BadOption),
     };
     match done {
         Ok(()) => Ok(ExitCode::SUCCESS),
         // Where standard output fails there may be nobody who reads.
-        Err(CommandFault::Once(OnceFault::Output)) => Ok(ExitCode::FAILURE),
+        Err(CommandFault::Run(RunFault::Output)) => Ok(ExitCode::FAILURE),
         Err(fault) => tell(rt, &fault),
     }
 }
@@ -75,5 +76,18 @@ fn run_once(rt: &HostRuntime, matches: &ArgMatches<'_>) -> Result<(), CommandFau
     let texts = files::read_texts(rt, alloc, options.policy, options.users)?;
     let setting = texts.setting(&options);
     once(alloc, &setting, &mut rt.stdin(), &mut rt.stdout())?;
+    Ok(())
+}
+
+/// `check`: says what a policy file says.
+fn run_check(rt: &HostRuntime, matches: &ArgMatches<'_>) -> Result<(), CommandFault> {
+    let options = CheckOptions::of(matches)?;
+    let policy = files::read_policy_text(rt, rt.alloc(), options.policy)?;
+    check(
+        rt.alloc(),
+        policy.as_str(),
+        options.verbose,
+        &mut rt.stdout(),
+    )?;
     Ok(())
 }

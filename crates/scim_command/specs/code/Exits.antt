@@ -2,19 +2,19 @@
 use Rattle.std.specs.Prelude.{ℕ, false, List, Result, Ok, Err, String, string_bytes}
 use Rattle.std.specs.declared.alloc.Global.{Global}
 use Rattle.scim_text.specs.declared.memory.NoMemory.{NoMemory}
-use Rattle.scim_command.specs.declared.faults.OnceFault.{OnceFault}
-use Rattle.scim_command.specs.declared.faults.OnceFault.TheVariants.{Policy, Users, InputEnded, InputFailed, NoMemory as WantOfMemory}
+use Rattle.scim_command.specs.declared.faults.RunFault.{RunFault}
+use Rattle.scim_command.specs.declared.faults.RunFault.TheVariants.{Policy, Users, InputEnded, InputFailed, NoMemory as WantOfMemory}
 use Rattle.scim_audit.specs.declared.refusals.Refusal.TheVariants.{Store}
 use Rattle.scim_exchange.specs.Replies.{refusal_text}
 
 -- a fault of the users file, or want of memory
-abbrev pub IsOfUsers : OnceFault → Type 0
+abbrev pub IsOfUsers : RunFault → Type 0
 IsOfUsers (Users n) = Unit {0}
 IsOfUsers WantOfMemory = Unit {0}
 IsOfUsers _ = ⊥
 
 -- a fault of the input
-abbrev pub IsOfInput : OnceFault → Type 0
+abbrev pub IsOfInput : RunFault → Type 0
 IsOfInput InputEnded = Unit {0}
 IsOfInput InputFailed = Unit {0}
 IsOfInput _ = ⊥
@@ -25,6 +25,12 @@ text_or_store (Ok t) = string_bytes t
 text_or_store (Err e) = refusal_text Store false
 
 -- a fault of a file, or want of memory
-abbrev pub IsOfFiles : OnceFault → Type 0
+abbrev pub IsOfFiles : RunFault → Type 0
 IsOfFiles (Policy rule cause) = Unit {0}
 IsOfFiles f = IsOfUsers f
+
+-- a fault of the policy file, or want of memory
+abbrev pub IsOfPolicy : RunFault → Type 0
+IsOfPolicy (Policy rule cause) = Unit {0}
+IsOfPolicy WantOfMemory = Unit {0}
+IsOfPolicy _ = ⊥

@@ -1,18 +1,10 @@
 -- What a client can infer of what it may not see: nothing. Stores that are alike for it answer it alike and stay alike.
-use Rattle.std.specs.Prelude.{◌≡◌, ℕ, true, false, List, filter, All, Contains, None, Some}
+use Rattle.std.specs.Prelude.{◌≡◌, ℕ, List, filter, All, Contains}
 use Rattle.scim_schema.specs.declared.Leaf.{Leaf}
-use Rattle.scim_schema.specs.declared.Unit.{Unit as AttributeUnit}
-use Rattle.scim_schema.specs.Mutability.{is_write_only}
-use Rattle.scim_schema.specs.Table.{HasLeaf}
-use Rattle.scim_schema.specs.Units.{unit_of}
-use Rattle.scim_cell.specs.declared.atoms.Atom.{Atom}
 use Rattle.scim_cell.specs.Content.{Content}
-use Rattle.scim_cell.specs.Rows.{rows, cell_at}
 use Rattle.scim_value.specs.Resource.{IsResource}
 use Rattle.scim_policy.specs.Rules.{Rule}
-use Rattle.scim_change.specs.Laws.{IsApart, Stays}
-use Rattle.scim_policy.specs.Access.{access, widening}
-use Rattle.scim_view.specs.View.{Viewer, may_read}
+use Rattle.scim_view.specs.View.{Viewer}
 use Rattle.scim_shelf.specs.Stores.{Store, IsStore, keep}
 use Rattle.scim_service.specs.declared.requests.Turn.{Turn}
 use Rattle.scim_service.specs.Step.{viewer_at, plan, next_store}

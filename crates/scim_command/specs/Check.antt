@@ -1,0 +1,13 @@
+-- What `check` writes of a policy file.
+use Rattle.std.specs.Prelude.{Bool, ℕ, List, [], ◌++◌, length, codes, decimal, if◌then◌else◌}
+use Rattle.scim_policy.specs.Rules.{Rule}
+use Rattle.scim_explain.specs.Idle.{idle_rules, idle_lines}
+use Rattle.scim_explain.specs.Sentences.{rule_sentences}
+
+-- the rules in sentences, where they are asked for
+abbrev pub sentences_if : Bool → List Rule → List ℕ
+sentences_if verbose rules = if verbose then rule_sentences rules else []
+
+-- how many rules there are, their sentences where they are asked for, and which can never decide
+abbrev pub check_text : Bool → List Rule → List ℕ
+check_text verbose rules = codes "ok, " ++ decimal (length rules) ++ codes " rules\n" ++ sentences_if verbose rules ++ idle_lines (idle_rules rules)

@@ -1,0 +1,77 @@
+//! `check`: what a policy file says.
+ghost use Rattle.std.specs.Prelude.{◌≡◌, ◌≢◌, ℕ, List, Ok, Err, IfOk, IfErr, OnOk, string_bytes};
+ghost use Rattle.std.specs.Io.KnownBytes.{Appends};
+ghost use Rattle.scim_policy.specs.File.{policy_of};
+ghost use Rattle.scim_policy.specs.Rules.{Rule};
+ghost use Rattle.scim_policy.specs.declared.faults.Cause.{Cause};
+ghost use Rattle.scim_wire.specs.Streams.{AppendsFront};
+ghost use Rattle.scim_command.specs.Check as spec;
+ghost use Rattle.scim_command.specs.declared.faults.RunFault.{RunFault};
+ghost use Rattle.scim_command.specs.code.Exits.{IsOfPolicy};
+
+use crate::faults::RunFault;
+use crate::writing::write_or_fault;
+use scim_explain::{idle_rules, print_idle_rules, rule_sentences};
+use scim_policy::{Policy, read_policy};
+use scim_text::NoMemory;
+use std::alloc::Global;
+use std::io::Write;
+
+/// Reads a policy file, and writes in lines that it is well and how many rules it has, and which of them can never
+/// decide; where `verbose` is set also each rule in a sentence, before these.
+///
+/// Policy, where the file is faulty, and NoMemory, where none was to be had: these write nothing. Output, where a write
+/// fails: then a front of the lines has been written, perhaps none or all of them, and nothing else.
+pub fn check<W: Write>(
+    alloc: Global,
+    policy: &str,
+    verbose: bool,
+    writer: &mut W,
+) -> Result<(), RunFault>
+    ensures told { OnOk result ((rules : List Rule) × (policy_of policy.now ≡ Ok rules)
+        × Appends (W.contents writer.old) (W.contents writer.new) (spec.check_text verbose rules)) }
+    ensures policy { (rule : ℕ) (cause : Cause) → result ≡ Err (RunFault.Policy rule cause)
+        → policy_of policy.now ≡ Err (record { rule = rule; cause = cause }) }
+    ensures output { result ≡ Err RunFault.Output → (rules : List Rule) × (policy_of policy.now ≡ Ok rules)
+        × AppendsFront (W.contents writer.old) (W.contents writer.new) (spec.check_text verbose rules) }
+    ensures silent { IfErr result (λ f. f ≢ RunFault.Output → writer.new ≡ writer.old) }
+{
+    let text = check_text(alloc, policy, verbose)?;
+    write_or_fault(text.as_str(), writer)
+}
+
+/// What is told of a policy file.
+///
+/// Policy, where it is faulty; NoMemory where none was to be had.
+fn check_text(alloc: Global, policy: &str, verbose: bool) -> Result<String, RunFault>
+    ensures text { IfOk result (λ text. (rules : List Rule) × (policy_of policy.now ≡ Ok rules)
+        × (string_bytes text ≡ spec.check_text verbose rules)) }
+    ensures policy { (rule : ℕ) (cause : Cause) → result ≡ Err (RunFault.Policy rule cause)
+        → policy_of policy.now ≡ Err (record { rule = rule; cause = cause }) }
+    ensures fault { IfErr result IsOfPolicy }
+{
+    let policy = read_policy(alloc, policy)?;
+    Ok(policy_text(alloc, &policy, verbose)?)
+}
+
+/// What is told of a policy. NoMemory where none was to be had.
+fn policy_text(alloc: Global, policy: &Policy, verbose: bool) -> Result<String, NoMemory>
+    ensures { IfOk result (λ text. string_bytes text ≡ spec.check_text verbose policy.now) }
+{
+    let count = policy.rule_count();
+    let idle = idle_rules(alloc, policy)?;
+    let idle = print_idle_rules(alloc, idle.as_slice())?;
+    let sentences = sentences_if(alloc, policy, verbose)?;
+    Ok(format!(in alloc; "ok, {count} rules\n{sentences}{idle}")?)
+}
+
+/// The rules in sentences, or nothing where they aren't asked for. NoMemory where none was to be had.
+fn sentences_if(alloc: Global, policy: &Policy, verbose: bool) -> Result<String, NoMemory>
+    ensures { IfOk result (λ text. string_bytes text ≡ spec.sentences_if verbose policy.now) }
+{
+    if verbose {
+        rule_sentences(alloc, policy)
+    } else {
+        Ok(String::new(alloc))
+    }
+}

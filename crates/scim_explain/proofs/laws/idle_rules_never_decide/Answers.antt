@@ -1,0 +1,9 @@
+use Rattle.scim_explain.proofs.CoverLemmas as cover
+use Rattle.scim_explain.proofs.IdleLemmas as idle
+use Rattle.scim_explain.proofs.laws.idle_rules_never_decide.Goals as goal
+
+pub returns-clause-covered : goal.returns-clause-covered
+returns-clause-covered c = cover.covering_fits
+
+pub returns-clause-never : goal.returns-clause-never
+returns-clause-never c = idle.never_deciding

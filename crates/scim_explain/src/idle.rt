@@ -1,0 +1,168 @@
+//! Rules that can never decide.
+ghost use Rattle.std.specs.Prelude.{◌≡◌, ◌<◌, ◌+◌, IfOk, length, position, string_bytes};
+ghost use Rattle.std.specs.List.{list_any, list_all};
+ghost use denote.Enum.Bare.{sameb};
+ghost use Rattle.scim_schema.specs.contracts.Kind.{the_type as the_kind};
+ghost use Rattle.scim_schema.specs.contracts.Op.{the_type as the_op};
+ghost use Rattle.scim_explain.specs.Idle as spec;
+
+use crate::texts::rule_line;
+use scim_policy::{ClientName, Policy, PolicyPath, Rule};
+use scim_schema::{Kind, Op};
+use scim_text::NoMemory;
+use std::alloc::Global;
+
+/// A rule that can never decide, since a rule before it has no target and covers all that it covers.
+#[derive(Clone, Copy, Debug, PartialEq, Eq)]
+pub struct IdleRule {
+    /// Its number, from 1.
+    pub rule: u32,
+    /// The number of the first rule that covers all that it covers.
+    pub covered_by: u32,
+}
+
+/// The rules of the policy that can never decide, in order of their numbers: those of which some earlier rule
+/// without a target covers the clients, the operations, the types, and on each type the paths. Only what is
+/// certain is told: a rule that two others cover together, or whose target never holds, isn't.
+///
+/// Each rule is compared with those before it, which is quadratic; there are at most 1,000.
+///
+/// The only error is [`NoMemory`].
+pub fn idle_rules(alloc: Global, policy: &Policy) -> Result<Vec<IdleRule>, NoMemory>
+    ensures { IfOk result (λ idle. idle.items ≡ spec.idle_rules policy.now) }
+{
+    let rules = policy.rules();
+    let mut idle = Vec::new(alloc);
+    for (index, rule) in rules.iter().enumerate() {
+        if let Some(found) = idle_behind(&rules[..index], rule) {
+            idle.push(found)?;
+        }
+    }
+    Ok(idle)
+}
+
+/// That a rule is idle behind all that are before it.
+fn idle_behind(earlier: &[Rule], rule: &Rule) -> Option<IdleRule>
+    requires { length earlier.now < 1000 }
+    ensures { result ≡ spec.idle_behind earlier.now (length earlier.now + 1) rule.now }
+{
+    let place = first_covering(earlier, rule)?;
+    Some(IdleRule {
+        rule: earlier.len() as u32 + 1,
+        covered_by: place as u32 + 1,
+    })
+}
+
+/// The place of the first rule that covers all that another does.
+fn first_covering(rules: &[Rule], rule: &Rule) -> Option<usize>
+    ensures { result ≡ position (λ e. spec.covers_rule e rule.now) rules.now }
+{
+    rules.iter().position(|earlier| covers_rule(earlier, rule))
+}
+
+/// Whether a rule has no target and covers all that another does.
+fn covers_rule(earlier: &Rule, rule: &Rule) -> bool
+    ensures { result ≡ spec.covers_rule earlier.now rule.now }
+{
+    earlier.targets().is_empty()
+        && covers_clients(earlier.clients(), rule.clients())
+        && covers_ops(earlier.ops(), rule.ops())
+        && covers_kinds(earlier.kinds(), rule.kinds())
+        && covers_on_kinds(earlier, rule)
+}
+
+/// Whether each client name is covered by one of others.
+fn covers_clients(others: &[ClientName], names: &[ClientName]) -> bool
+    ensures { result ≡ spec.are_covered spec.covers_client others.now names.now }
+{
+    names.iter().all(|name| covers_name(others, name))
+}
+
+/// Whether one of these client names covers another.
+fn covers_name(others: &[ClientName], name: &ClientName) -> bool
+    ensures { result ≡ list_any (λ other. spec.covers_client other name.now) others.now }
+{
+    others.iter().any(|other| covers_client(other, name))
+}
+
+/// Whether a client name is for all for whom another is.
+fn covers_client(name: &ClientName, other: &ClientName) -> bool
+    ensures { result ≡ spec.covers_client name.now other.now }
+{
+    match (name, other) {
+        (ClientName::Everyone, _) => true,
+        (ClientName::Named(_), ClientName::Everyone) => false,
+        (ClientName::Named(name), ClientName::Named(other)) => name.as_str() == other.as_str(),
+    }
+}
+
+/// Whether each operation is among others.
+fn covers_ops(others: &[Op], ops: &[Op]) -> bool
+    ensures { result ≡ spec.are_covered (sameb the_op) others.now ops.now }
+{
+    ops.iter().all(|op| others.contains(op))
+}
+
+/// Whether each kind is among others.
+fn covers_kinds(others: &[Kind], kinds: &[Kind]) -> bool
+    ensures { result ≡ spec.are_covered (sameb the_kind) others.now kinds.now }
+{
+    kinds.iter().all(|kind| others.contains(kind))
+}
+
+/// Whether a rule covers all that another does of each of its kinds.
+fn covers_on_kinds(earlier: &Rule, rule: &Rule) -> bool
+    ensures { result ≡ list_all (spec.covers_on_kind earlier.now rule.now) rule.now.kinds }
+{
+    rule.kinds().iter().all(|kind| covers_paths(earlier.paths_on(*kind), rule.paths_on(*kind)))
+}
+
+/// Whether each path is covered by one of others.
+fn covers_paths(others: &[PolicyPath], paths: &[PolicyPath]) -> bool
+    ensures { result ≡ spec.are_covered spec.covers_path others.now paths.now }
+{
+    paths.iter().all(|path| is_covered(others, *path))
+}
+
+/// Whether one of these paths covers another.
+fn is_covered(others: &[PolicyPath], path: PolicyPath) -> bool
+    ensures { result ≡ list_any (λ other. spec.covers_path other path) others.now }
+{
+    others.iter().any(|other| covers_path(*other, path))
+}
+
+/// Whether a path covers all that another covers.
+fn covers_path(path: PolicyPath, other: PolicyPath) -> bool
+    ensures { result ≡ spec.covers_path path other }
+{
+    match (path, other) {
+        (PolicyPath::Everything, _) => true,
+        (PolicyPath::Attribute(own), PolicyPath::Attribute(attribute)) => own == attribute,
+        (PolicyPath::Attribute(own), PolicyPath::SubAttribute(attribute, _)) => own == attribute,
+        (PolicyPath::SubAttribute(..), PolicyPath::SubAttribute(..)) => path == other,
+        _ => false,
+    }
+}
+
+/// Idle rules in lines, each with a line feed at its end: `rule M: never decides, see rule N`.
+///
+/// The only error is [`NoMemory`].
+pub fn print_idle_rules(alloc: Global, idle: &[IdleRule]) -> Result<String, NoMemory>
+    ensures { IfOk result (λ text. string_bytes text ≡ spec.idle_lines idle.now) }
+{
+    let mut text = String::new(alloc);
+    for rule in idle {
+        let line = idle_line(alloc, *rule)?;
+        text.push_str(line.as_str())?;
+    }
+    Ok(text)
+}
+
+/// The line of an idle rule.
+fn idle_line(alloc: Global, idle: IdleRule) -> Result<String, NoMemory>
+    ensures { IfOk result (λ line. string_bytes line ≡ spec.idle_line idle) }
+{
+    let earlier = idle.covered_by;
+    let word = format!(in alloc; "never decides, see rule {earlier}")?;
+    rule_line(alloc, idle.rule as usize, word.as_str())
+}

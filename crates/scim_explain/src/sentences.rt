@@ -1,0 +1,138 @@
+//! The rules of a policy, each in a sentence.
+ghost use Rattle.std.specs.Prelude.{◌≡◌, IfOk, map, string_bytes};
+ghost use Rattle.scim_schema.specs.Names.{op_name};
+ghost use Rattle.scim_explain.specs.Lists.{listed as listed_words};
+ghost use Rattle.scim_explain.specs.Sentences as spec;
+
+use crate::lists::{joined, listed};
+use crate::texts::{effect_word, rule_line};
+use scim_audit::leaf_path;
+use scim_policy::{ClientName, Policy, PolicyPath, Rule};
+use scim_schema::{Kind, Leaf, Op};
+use scim_text::NoMemory;
+use std::alloc::Global;
+
+/// The rules of the policy in lines, each with a line feed at its end: `rule N: `, and whether it allows or
+/// denies whom to do what, and with what of which resources, as `rule 3: allow mail to read User: id and
+/// emails`. Of a target it says that there is one.
+///
+/// The only error is [`NoMemory`].
+pub fn rule_sentences(alloc: Global, policy: &Policy) -> Result<String, NoMemory>
+    ensures { IfOk result (λ text. string_bytes text ≡ spec.rule_sentences policy.now) }
+{
+    let rules = policy.rules();
+    let mut text = String::new(alloc);
+    for (index, rule) in rules.iter().enumerate() {
+        let line = sentence_line(alloc, index + 1, rule)?;
+        text.push_str(line.as_str())?;
+    }
+    Ok(text)
+}
+
+/// The line of a rule.
+fn sentence_line(alloc: Global, number: usize, rule: &Rule) -> Result<String, NoMemory>
+    ensures { IfOk result (λ line. string_bytes line ≡ spec.sentence_line number rule.now) }
+{
+    let sentence = sentence(alloc, rule)?;
+    rule_line(alloc, number, sentence.as_str())
+}
+
+/// What a rule says.
+fn sentence(alloc: Global, rule: &Rule) -> Result<String, NoMemory>
+    ensures { IfOk result (λ text. string_bytes text ≡ spec.sentence rule.now) }
+{
+    let effect = effect_word(rule.allows());
+    let clients = clients_text(alloc, rule.clients())?;
+    let ops = ops_text(alloc, rule.ops())?;
+    let kinds = kinds_text(alloc, rule)?;
+    Ok(format!(in alloc; "{effect} {clients} to {ops} {kinds}")?)
+}
+
+/// The clients that a rule is for.
+fn clients_text(alloc: Global, clients: &[ClientName]) -> Result<String, NoMemory>
+    ensures { IfOk result (λ text. string_bytes text ≡ listed_words (map spec.client_word clients.now)) }
+{
+    let mut words = Vec::new(alloc);
+    for client in clients {
+        words.push(String::from_str(alloc, client_word(client))?)?;
+    }
+    listed(alloc, words.as_slice())
+}
+
+/// The words for whom a rule is for.
+fn client_word(client: &ClientName) -> &str
+    ensures { result.now ≡ spec.client_word client.now }
+{
+    match client {
+        ClientName::Everyone => "any client",
+        ClientName::Named(name) => name.as_str(),
+    }
+}
+
+/// The operations that a rule is for.
+fn ops_text(alloc: Global, ops: &[Op]) -> Result<String, NoMemory>
+    ensures { IfOk result (λ text. string_bytes text ≡ listed_words (map op_name ops.now)) }
+{
+    let mut words = Vec::new(alloc);
+    for op in ops {
+        words.push(String::from_str(alloc, op.name())?)?;
+    }
+    listed(alloc, words.as_slice())
+}
+
+/// What a rule covers of each of its kinds.
+fn kinds_text(alloc: Global, rule: &Rule) -> Result<String, NoMemory>
+    ensures { IfOk result (λ text. string_bytes text ≡ spec.kind_clauses rule.now) }
+{
+    let kinds = rule.kinds();
+    let mut clauses = Vec::new(alloc);
+    for kind in kinds {
+        clauses.push(kind_clause(alloc, rule, *kind)?)?;
+    }
+    joined(alloc, clauses.as_slice(), "; ", "; ")
+}
+
+/// What a rule covers of resources of a kind.
+fn kind_clause(alloc: Global, rule: &Rule, kind: Kind) -> Result<String, NoMemory>
+    ensures { IfOk result (λ text. string_bytes text ≡ spec.kind_clause rule.now kind) }
+{
+    let name = kind.name();
+    let target = target_words(rule);
+    let paths = paths_text(alloc, rule.paths_on(kind))?;
+    Ok(format!(in alloc; "{name}{target}: {paths}")?)
+}
+
+/// What is said of a target.
+fn target_words(rule: &Rule) -> &'static str
+    ensures { result.now ≡ spec.target_words rule.now }
+{
+    if rule.targets().is_empty() {
+        ""
+    } else {
+        " where its target holds"
+    }
+}
+
+/// What paths cover.
+fn paths_text(alloc: Global, paths: &[PolicyPath]) -> Result<String, NoMemory>
+    ensures { IfOk result (λ text. string_bytes text ≡ listed_words (map spec.path_word paths.now)) }
+{
+    let mut words = Vec::new(alloc);
+    for path in paths {
+        words.push(path_word(alloc, *path)?)?;
+    }
+    listed(alloc, words.as_slice())
+}
+
+/// The word for what a path covers.
+fn path_word(alloc: Global, path: PolicyPath) -> Result<String, NoMemory>
+    ensures { IfOk result (λ text. string_bytes text ≡ spec.path_word path) }
+{
+    match path {
+        PolicyPath::Everything => Ok(String::from_str(alloc, "everything")?),
+        PolicyPath::Attribute(attribute) => leaf_path(alloc, Leaf::simple(attribute)),
+        PolicyPath::SubAttribute(attribute, sub_attribute) => {
+            leaf_path(alloc, Leaf::of(attribute, sub_attribute))
+        }
+    }
+}

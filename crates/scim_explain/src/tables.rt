@@ -1,0 +1,52 @@
+//! What a policy decides of a whole resource.
+ghost use Rattle.std.specs.Prelude.{◌≡◌, IfOk, string_bytes};
+ghost use Rattle.scim_policy.specs.Table.{decision};
+ghost use Rattle.scim_explain.specs.Tables as spec;
+
+use crate::texts::effect_word;
+use scim_audit::leaf_path;
+use scim_policy::{Decision, Decisions, Policy};
+use scim_schema::{Leaf, Op, leaves};
+use scim_text::NoMemory;
+use scim_value::Resource;
+use std::alloc::Global;
+
+/// What the policy decides of the client's operation on the resource, in lines, each with a line feed at its
+/// end: for each leaf of the resource's kind, in order, its path as policies name it, and the rule that
+/// decides or 0, as `userName rule 3 allow`. The policy is asked once, and not for each leaf.
+///
+/// The only error is [`NoMemory`].
+pub fn table(
+    alloc: Global,
+    policy: &Policy,
+    client: &str,
+    op: Op,
+    resource: &Resource,
+) -> Result<String, NoMemory>
+    ensures { IfOk result (λ text. string_bytes text ≡ spec.table policy.now client.now op resource.now) }
+{
+    let decisions = policy.decisions(alloc, client, op, resource)?;
+    decision_lines(alloc, &decisions, leaves(resource.kind()))
+}
+
+/// The lines of some leaves.
+fn decision_lines(alloc: Global, decisions: &Decisions, leaves: &[Leaf]) -> Result<String, NoMemory>
+    ensures { IfOk result (λ text. string_bytes text ≡ spec.decision_lines (decision decisions.now) leaves.now) }
+{
+    let mut text = String::new(alloc);
+    for leaf in leaves {
+        let line = decision_line(alloc, *leaf, decisions.of(*leaf))?;
+        text.push_str(line.as_str())?;
+    }
+    Ok(text)
+}
+
+/// The line of a leaf.
+fn decision_line(alloc: Global, leaf: Leaf, decision: Decision) -> Result<String, NoMemory>
+    ensures { IfOk result (λ line. string_bytes line ≡ spec.decision_line leaf decision) }
+{
+    let path = leaf_path(alloc, leaf)?;
+    let word = effect_word(decision.allow);
+    let rule = decision.rule;
+    Ok(format!(in alloc; "{path} rule {rule} {word}\n")?)
+}
