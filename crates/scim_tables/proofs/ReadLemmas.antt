@@ -1,0 +1,110 @@
+-- What the queries tell of the tables.
+use Rattle.std.proofs.Common.{◌≡◌, ℕ, pos, List, [], ◌∷◌, map, filter, Option, IsTrue, refl, sym, subst}
+use Rattle.std.specs.Prelude.{IsPermutation}
+use Rattle.std.proofs.lemmas.List.Sorted.{IsPermutation-map, IsPermutation-trans}
+use Rattle.sqlite_trees.proofs.ListLemmas.{map-map}
+use Rattle.sqlite.specs.declared.types.Value.TheVariants.{Int, Text}
+use Rattle.sqlite.specs.Order.{Row}
+use Rattle.sqlite.specs.Query.{Query}
+use Rattle.sqlite.specs.Term.{col}
+use Rattle.sqlite.specs.State.{State}
+use Rattle.scim_tables.specs.Tables.{store_schema}
+use Rattle.scim_tables.specs.Lists.{Lists, has_text, has_texts, pair, triple, entry}
+use Rattle.scim_tables.specs.Reading.{TellsKeys, key_alone, shown_settings, group_alone, Rests, HasTables, Holds, Tells, Finds, IsTextOfFirst, shown, owner_first, group_first, is_resource}
+use Rattle.scim_tables.specs.code.Asks.{IsAsk, IsAnswered}
+use Rattle.scim_tables.specs.code.Queries.{is_column, up}
+use Rattle.scim_tables.proofs.AskLemmas.{keys_of_tree, resource_keys_text, asks_resource_keys, name_keys_text, asks_name_keys, member_keys_text, asks_member_keys, settings_text, settings, asks_settings, groups_text, groups, asks_groups, resources_text, resources, asks_resources, names_text, names, asks_names, members_text, members, asks_members, all_audit_text, all_audit, asks_audit, document_text, document, asks_document, owner_text, owner, asks_owner}
+use Rattle.scim_tables.proofs.AnswerLemmas.{passing, answered_columns, found_first, unchanged_rests}
+use Rattle.scim_tables.proofs.KeyLemmas.{keys_told}
+use Rattle.scim_tables.proofs.OrderLemmas.{told_in_order, told_where}
+use Rattle.scim_tables.proofs.TestLemmas.{passes_text, passes_resource, passes_key}
+use Rattle.scim_tables.proofs.TextLemmas.{key_tests, resource_tests}
+
+-- the query is answered
+abbrev pub Answered : List ℕ → Row → State → State → List Row → Type 0
+Answered text params old new rows = (q : Query) → IsAsk text q → old.now.schema ≡ store_schema → IsAnswered q params old new rows
+
+module _ (old new : State) (rows : List Row) (opened : IsTrue old.is_open) where
+  -- ---- in order
+
+  pub settings_told : Answered settings_text [] old new rows → HasTables old → Tells [] (shown_settings old.now) old new rows
+  settings_told answers has =
+      let it = answers settings asks_settings (has opened) in
+      told_in_order 0 (col 1 1 ∷ col 1 2 ∷ []) [] [] old.now.trees rows pair old new refl (λ r. tt) (λ r. refl) it.unchanged it.answer
+
+  pub resources_told : Answered resources_text [] old new rows → HasTables old → Tells (0 ∷ []) (shown old.now).resources old new rows
+  resources_told answers has =
+      let it = answers resources asks_resources (has opened) in
+      told_in_order 2 (col 1 1 ∷ col 1 2 ∷ col 1 3 ∷ []) ((col 1 1, up) ∷ []) (0 ∷ []) old.now.trees rows triple old new refl (λ r. (refl, tt)) (λ r. refl) it.unchanged it.answer
+
+  pub names_told : Answered names_text [] old new rows → HasTables old → Tells (0 ∷ 1 ∷ 2 ∷ []) (map owner_first (shown old.now).taken) old new rows
+  names_told answers has =
+      let it = answers names asks_names (has opened) in
+      subst (λ values. Tells (0 ∷ 1 ∷ 2 ∷ []) values old new rows) (sym (map-map owner_first triple (old.now.trees 4)))
+      (told_in_order 4 (col 1 3 ∷ col 1 1 ∷ col 1 2 ∷ []) ((col 1 3, up) ∷ (col 1 1, up) ∷ (col 1 2, up) ∷ []) (0 ∷ 1 ∷ 2 ∷ []) old.now.trees rows (λ r. owner_first (triple r)) old new refl (λ r. (refl, (refl, (refl, tt)))) (λ r. refl) it.unchanged it.answer)
+
+  pub members_told : Answered members_text [] old new rows → HasTables old → Tells (0 ∷ 1 ∷ []) (map group_first (shown old.now).member) old new rows
+  members_told answers has =
+      let it = answers members asks_members (has opened) in
+      subst (λ values. Tells (0 ∷ 1 ∷ []) values old new rows) (sym (map-map group_first pair (old.now.trees 6)))
+      (told_in_order 6 (col 1 2 ∷ col 1 1 ∷ []) ((col 1 2, up) ∷ (col 1 1, up) ∷ []) (0 ∷ 1 ∷ []) old.now.trees rows (λ r. group_first (pair r)) old new refl (λ r. (refl, (refl, tt))) (λ r. refl) it.unchanged it.answer)
+
+  pub audit_told : Answered all_audit_text [] old new rows → HasTables old → Tells (0 ∷ []) (shown old.now).audit old new rows
+  audit_told answers has =
+      let it = answers all_audit asks_audit (has opened) in
+      told_in_order 8 (col 1 0 ∷ col 1 2 ∷ col 1 3 ∷ col 1 4 ∷ col 1 5 ∷ col 1 6 ∷ col 1 7 ∷ col 1 8 ∷ col 1 9 ∷ col 1 10 ∷ []) ((col 1 0, up) ∷ []) (0 ∷ []) old.now.trees rows entry old new refl (λ r. (refl, tt)) (λ r. refl) it.unchanged it.answer
+
+  -- ---- the keys of a table
+
+  pub resource_keys_told : Answered resource_keys_text [] old new rows → HasTables old → TellsKeys (old.now.trees 2) old new rows
+  resource_keys_told answers has =
+      let it = answers (keys_of_tree 2) asks_resource_keys (has opened) in
+      keys_told (old.now.trees 2) old new rows (told_in_order 2 (col 1 0 ∷ []) ((col 1 0, up) ∷ []) (0 ∷ []) old.now.trees rows key_alone old new refl (λ r. (refl, tt)) (λ r. refl) it.unchanged it.answer)
+
+  pub name_keys_told : Answered name_keys_text [] old new rows → HasTables old → TellsKeys (old.now.trees 4) old new rows
+  name_keys_told answers has =
+      let it = answers (keys_of_tree 4) asks_name_keys (has opened) in
+      keys_told (old.now.trees 4) old new rows (told_in_order 4 (col 1 0 ∷ []) ((col 1 0, up) ∷ []) (0 ∷ []) old.now.trees rows key_alone old new refl (λ r. (refl, tt)) (λ r. refl) it.unchanged it.answer)
+
+  pub member_keys_told : Answered member_keys_text [] old new rows → HasTables old → TellsKeys (old.now.trees 6) old new rows
+  member_keys_told answers has =
+      let it = answers (keys_of_tree 6) asks_member_keys (has opened) in
+      keys_told (old.now.trees 6) old new rows (told_in_order 6 (col 1 0 ∷ []) ((col 1 0, up) ∷ []) (0 ∷ []) old.now.trees rows key_alone old new refl (λ r. (refl, tt)) (λ r. refl) it.unchanged it.answer)
+
+  -- ---- by a key
+
+  pub document_rests : (id : List ℕ) (kind : ℕ) → Answered document_text (Text id ∷ Int (pos kind) ∷ []) old new rows → (lists : Lists) → Holds old lists → Rests old new
+  document_rests id kind answers lists holds = unchanged_rests old new (answers document asks_document (holds opened).schema).unchanged
+
+  pub document_found : (id : List ℕ) (kind : ℕ) (found : Option (List ℕ)) → Answered document_text (Text id ∷ Int (pos kind) ∷ []) old new rows → IsTextOfFirst 0 rows found
+      → (lists : Lists) → Holds old lists → Finds 2 (filter (is_resource id kind) lists.resources) old new found
+  document_found id kind found answers first lists holds =
+      let are = holds opened in
+      let it = answers document asks_document are.schema in
+      found_first 2 _ rows found old new it.unchanged
+      (answered_columns 2 resource_tests (col 1 3 ∷ []) [] old.now.trees (Text id ∷ Int (pos kind) ∷ []) rows lists.resources triple (is_resource id kind) _ (passes_resource id kind (col 1 3 ∷ [])) (λ r. refl) are.resources.same it.answer) first
+
+  pub owner_rests : (attribute folded : List ℕ) → Answered owner_text (Text attribute ∷ Text folded ∷ []) old new rows → (lists : Lists) → Holds old lists → Rests old new
+  owner_rests attribute folded answers lists holds = unchanged_rests old new (answers owner asks_owner (holds opened).schema).unchanged
+
+  pub owner_found : (attribute folded : List ℕ) (found : Option (List ℕ)) → Answered owner_text (Text attribute ∷ Text folded ∷ []) old new rows → IsTextOfFirst 0 rows found
+      → (lists : Lists) → Holds old lists → Finds 2 (filter (has_texts attribute folded) lists.taken) old new found
+  owner_found attribute folded found answers first lists holds =
+      let are = holds opened in
+      let it = answers owner asks_owner are.schema in
+      found_first 2 _ rows found old new it.unchanged
+      (answered_columns 4 key_tests (col 1 3 ∷ []) [] old.now.trees (Text attribute ∷ Text folded ∷ []) rows lists.taken triple (has_texts attribute folded) _ (passes_key 4 attribute folded (col 1 3 ∷ [])) (λ r. refl) are.taken.same it.answer) first
+
+  -- ---- in order, of those that pass
+
+  pub groups_told : (value : List ℕ) → Answered groups_text (Text value ∷ []) old new rows → (lists : Lists) → Holds old lists → Tells (0 ∷ []) (map group_alone (filter (has_text 0 value) lists.member)) old new rows
+  groups_told value answers lists holds =
+      let are = holds opened in
+      let it = answers groups asks_groups are.schema in
+      let test = λ (r : Row). has_text 0 value (pair r) in
+      let told = told_where 6 (is_column 1 0 ∷ []) (col 1 2 ∷ []) ((col 1 2, up) ∷ []) (0 ∷ []) old.now.trees (Text value ∷ []) rows test (λ r. group_alone (pair r)) old new refl (λ r. (refl, tt)) (λ r. refl) (passes_text 6 value) it.unchanged it.answer in
+      record {
+        unchanged = told.unchanged;
+        same = IsPermutation-trans _ _ _ (IsPermutation-map group_alone _ _ (passing pair (has_text 0 value) (old.now.trees 6) lists.member are.member.same)) (subst (λ xs. IsPermutation xs rows) (sym (map-map group_alone pair (filter test (old.now.trees 6)))) told.same);
+        order = told.order;
+      }

@@ -1,0 +1,6 @@
+use Rattle.sqlite.specs.Held.{state}
+use Rattle.scim_tables.proofs.OpeningLemmas.{notes_version_inside}
+use Rattle.scim_tables.proofs.opening.insert_version.Goals as goal
+
+pub returns-clause-went : goal.returns-clause-went
+returns-clause-went g c clean inside = notes_version_inside (state g.S.Store c.args.tx.now.conn.now) (state g.S.Store c.execute.new.self.conn.now) c.execute.result (c.execute.ensures.runs clean inside)

@@ -1,0 +1,73 @@
+-- The five tables of a database file, in version 1.
+use Rattle.std.specs.Prelude.{true, false, Bool, [], ◌∷◌, Some, None, codes, List, ℕ}
+use Rattle.sqlite.specs.Collation.TheVariants.{Binary}
+use Rattle.sqlite.specs.declared.types.Value.TheVariants.{Null}
+use Rattle.sqlite.specs.Table.{Table}
+use Rattle.sqlite.specs.Schema.{Schema}
+use Rattle.sqlite.specs.Kind.{Kind}
+use Rattle.sqlite_schema.specs.declared.schema.Column.{Column}
+use Rattle.sqlite.specs.Kind.TheVariants.{Integer, Text}
+use Rattle.sqlite.specs.Change.{created}
+
+-- no table, index or view
+abbrev pub no_schema : Schema
+no_schema = record { tables = []; indexes = []; views = [] }
+
+-- a column of a kind, perhaps NOT NULL, with no other rule
+abbrev pub column : List ℕ → Kind → Bool → Column
+column name kind not_null = record { name = name; kind = kind; is_strict = false; not_null = not_null; default = Null; collation = Binary }
+
+-- A table with these columns, a primary key of the columns at these places, counted from 1, and no other rule. Its tree is told where it is created.
+abbrev pub table : List ℕ → List Column → List ℕ → Table
+table name columns primary = record {
+  name = name;
+  tree = 0;
+  columns = columns;
+  key = None;
+  primary = primary;
+  uniques = primary ∷ [];
+  orders = (record { digits = 0 }) ∷ [];
+  checks = [];
+  references = [];
+  computed = [];
+  stamps = record { places = []; terms = []; formats = [] };
+  is_counted = false;
+}
+
+-- settings of the file: the one row has the version of its tables
+abbrev pub setting_table : Table
+setting_table = table (codes "setting") (column (codes "name") Text false ∷ column (codes "number") Integer true ∷ []) (1 ∷ [])
+
+-- resources, each with its kind as a number and its document
+abbrev pub resource_table : Table
+resource_table = table (codes "resource") (column (codes "id") Text false ∷ column (codes "kind") Integer true ∷ column (codes "document") Text true ∷ []) (1 ∷ [])
+
+-- unique names that are taken, each with the id of its owner
+abbrev pub taken_table : Table
+taken_table = table (codes "taken") (column (codes "attribute") Text false ∷ column (codes "folded") Text false ∷ column (codes "id") Text false ∷ []) (1 ∷ 2 ∷ [])
+
+-- members of groups
+abbrev pub member_table : Table
+member_table = table (codes "member") (column (codes "value") Text false ∷ column (codes "group_id") Text false ∷ []) (1 ∷ 2 ∷ [])
+
+-- the audit, whose number is the rowid
+abbrev pub audit_table : Table
+audit_table = record {
+  name = codes "audit";
+  tree = 0;
+  columns = column (codes "number") Integer false ∷ column (codes "moment") Integer false ∷ column (codes "client") Text false ∷ column (codes "op") Integer false ∷ column (codes "kind") Integer false
+      ∷ column (codes "id") Text false ∷ column (codes "decided") Integer false ∷ column (codes "rule") Integer false ∷ column (codes "leaf") Text false ∷ column (codes "refusal") Integer false ∷ [];
+  key = Some 0;
+  primary = 0 ∷ [];
+  uniques = [];
+  orders = [];
+  checks = [];
+  references = [];
+  computed = [];
+  stamps = record { places = []; terms = []; formats = [] };
+  is_counted = false;
+}
+
+-- The five tables, in this order, and nothing else. They have the trees 0, 2, 4, 6 and 8; each but the last has an index in the tree behind its own.
+abbrev pub store_schema : Schema
+store_schema = created (created (created (created (created no_schema setting_table) resource_table) taken_table) member_table) audit_table
