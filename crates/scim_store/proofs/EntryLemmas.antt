@@ -1,0 +1,214 @@
+-- The rows of the resources of a store, where one of them is replaced.
+use Rattle.std.proofs.Common.{◌≡◌, ◌≢◌, ℕ, zero, suc, ◌<◌, length, refl, sym, ◌∙◌, ap, subst, Bool, true, false, not, ◌&&◌, ◌||◌, cond, List, [], ◌∷◌, ◌++◌, map, filter, get_or, arith}
+use Rattle.std.specs.Prelude.{All, AllPairs, Contains, Option, None, Some, IsPermutation}
+use Rattle.std.specs.List.{flat_map, list_any}
+use Rattle.std.specs.Ordering.{nat_cmp, is_eq}
+use Rattle.std.specs.Cmp.Lexicographic.{slice_cmp}
+use Rattle.std.proofs.lemmas.Cmp.{tied_itself, nat_list_cmp_total}
+use Rattle.std.proofs.lemmas.List.{append_assoc}
+use Rattle.std.proofs.lemmas.List.Elements.{All-nil, All-cons, All-head, All-tail, All-append, All-map, All-weaker, All-contains_itself, recursion_from_All, filter-append, Contains-get_or}
+use Rattle.std.proofs.lemmas.List.Folds.{list_any_at}
+use Rattle.std.proofs.lemmas.List.Kept.{AllPairs-cons, AllPairs-filter}
+use Rattle.std.proofs.lemmas.List.Sorted.{IsPermutation-trans, IsPermutation-append_right}
+use Rattle.std.proofs.lemmas.Grind.{flat_map-append}
+use Rattle.std.proofs.lemmas.Map.Lookups.{exact_bytes}
+use Rattle.std.proofs.lemmas.Map.Text.{is_eq-slice_cmp}
+use Rattle.std.proofs.lemmas.Slice.Eq.{bytes_eq-Decides}
+use Rattle.std.specs.Str.{bytes_eq}
+use Rattle.sqlite_trees.proofs.ListLemmas.{IsPermutation-same, IsPermutation-filter, IsPermutation-flat_map, filter_all}
+use Rattle.sqlite.specs.Order.{Row}
+use Rattle.scim_schema.specs.declared.Kind.{Kind}
+use Rattle.scim_schema.specs.declared.Kind.TheVariants.{User, Group}
+use Rattle.scim_schema.specs.declared.Leaf.{Leaf}
+use Rattle.scim_schema.specs.declared.Attribute.TheVariants.{UserName}
+use Rattle.scim_schema.specs.Names.{attribute_name}
+use Rattle.scim_schema.specs.Units.{simple}
+use Rattle.scim_schema.specs.UniqueLeaves.{unique_leaves}
+use Rattle.scim_schema.proofs.Facts.{and_first, and_second}
+use Rattle.scim_cell.specs.declared.atoms.Atom.{Atom}
+use Rattle.scim_cell.specs.declared.atoms.Atom.TheVariants.{Text, Truth, Moment}
+use Rattle.scim_cell.specs.Content.{Content}
+use Rattle.scim_cell.specs.Ids.{IsId, id_text}
+use Rattle.scim_cell.proofs.Facts.{id_text-injective}
+use Rattle.scim_value.specs.declared.uniqueness.UniqueName.{UniqueName}
+use Rattle.scim_value.specs.Resource.{first_at}
+use Rattle.scim_value.specs.Uniqueness.{Name, name_of, name_at, unique_names, AreApart}
+use Rattle.scim_shelf.proofs.PlaceLemmas.{by_order}
+use Rattle.scim_shelf.proofs.NameLemmas.{by_bool}
+use Rattle.scim_tables.specs.Lists.{has_text, has_texts}
+use Rattle.scim_store.specs.Stands.{Entry, is_among, resource_row, name_row, name_rows, member_row}
+use Rattle.scim_store.specs.Edits.{is_name, is_member}
+
+-- ---- rows of one kind
+
+rest_stays : (f : Entry → List Row) (stays : Row → Bool) (rest : List Entry) → All (λ e. All (λ r. stays r ≡ true) (f e)) rest → filter stays (flat_map f rest) ≡ flat_map f rest
+rest_stays f stays [] all = refl
+rest_stays f stays (e ∷ rest) all =
+    filter-append stays (f e) (flat_map f rest)
+    ∙ ap (λ (l : List Row). l ++ filter stays (flat_map f rest)) (filter_all stays (f e) (recursion_from_All (λ r. stays r ≡ true) (f e) (All-head (λ x. All (λ r. stays r ≡ true) (f x)) e rest all)))
+    ∙ ap (λ (l : List Row). f e ++ l) (rest_stays f stays rest (All-tail (λ x. All (λ r. stays r ≡ true) (f x)) e rest all))
+
+-- what comes and what stays of the rows are those of the resources of which one is replaced
+pub replaced : (f : Entry → List Row) (stays : Row → Bool) (es one rest news all : List Entry) (come : List Row)
+    → IsPermutation es (one ++ rest) → All (λ e. All (λ r. stays r ≡ true) (f e)) rest → come ++ filter stays (flat_map f one) ≡ flat_map f news → IsPermutation (news ++ rest) all
+    → IsPermutation (come ++ filter stays (flat_map f es)) (flat_map f all)
+replaced f stays es one rest news all come from keep new into =
+    let left : filter stays (flat_map f (one ++ rest)) ≡ filter stays (flat_map f one) ++ flat_map f rest =
+    ap (filter stays) (flat_map-append f one rest) ∙ filter-append stays (flat_map f one) (flat_map f rest) ∙ ap (λ (l : List Row). filter stays (flat_map f one) ++ l) (rest_stays f stays rest keep) in
+    let moved : IsPermutation (come ++ filter stays (flat_map f es)) (come ++ filter stays (flat_map f (one ++ rest))) =
+    IsPermutation-append_right come _ _ (IsPermutation-filter stays _ _ (IsPermutation-flat_map f _ _ from)) in
+    let whole : come ++ filter stays (flat_map f (one ++ rest)) ≡ flat_map f (news ++ rest) =
+    ap (λ (l : List Row). come ++ l) left ∙ sym (append_assoc come (filter stays (flat_map f one)) (flat_map f rest)) ∙ ap (λ (l : List Row). l ++ flat_map f rest) new ∙ sym (flat_map-append f news rest) in
+    IsPermutation-trans _ _ _ moved (IsPermutation-trans _ _ _ (IsPermutation-same _ _ whole) (IsPermutation-flat_map f _ _ into))
+
+-- ---- ids
+
+pub tied : (t : List ℕ) → is_eq (slice_cmp nat_cmp t t) ≡ true
+tied t = ap is_eq (tied_itself nat_list_cmp_total t)
+
+pub ids_apart : (x id : List ℕ) → IsId x → IsId id → x ≢ id → is_eq (slice_cmp nat_cmp (id_text x) (id_text id)) ≡ false
+ids_apart x id one two differ =
+    by_order (slice_cmp nat_cmp (id_text x) (id_text id))
+    (λ h. ap is_eq h)
+    (λ h. absurd (differ (id_text-injective x id one two (exact_bytes (id_text x) (id_text id) h))))
+    (λ h. ap is_eq h)
+
+-- ---- rows of resources
+
+pub each_one : (f : Entry → Row) (es : List Entry) → map f es ≡ flat_map (λ e. f e ∷ []) es
+each_one f [] = refl
+each_one f (e ∷ es) = ap (λ (l : List Row). f e ∷ l) (each_one f es)
+
+pub resource_goes : (id : List ℕ) (e : Entry) → e.content.id ≡ id → not (has_text 0 (id_text id) (resource_row e)) ≡ false
+resource_goes id e same = ap not (ap (λ (x : List ℕ). is_eq (slice_cmp nat_cmp (id_text x) (id_text id))) same ∙ tied (id_text id))
+
+pub resource_stays : (id : List ℕ) (e : Entry) → IsId e.content.id → IsId id → e.content.id ≢ id → not (has_text 0 (id_text id) (resource_row e)) ≡ true
+resource_stays id e one two differ = ap not (ids_apart e.content.id id one two differ)
+
+-- ---- unique names
+
+unique_leaf : (kind : Kind) → All (λ (l : Leaf). l ≡ simple UserName) (unique_leaves kind)
+unfolding unique_leaves
+unique_leaf User = All-cons (λ (l : Leaf). l ≡ simple UserName) (simple UserName) [] refl (All-nil _)
+unique_leaf Group = All-nil _
+
+name_is_at : (kind : Kind) (l : Leaf) (o : Option Atom) → l ≡ simple UserName → All (λ (n : Name). n.leaf ≡ simple UserName) (name_at kind l o)
+name_is_at kind l None h = All-nil _
+name_is_at kind l (Some (Text t)) h = All-cons (λ (n : Name). n.leaf ≡ simple UserName) _ [] h (All-nil _)
+name_is_at kind l (Some (Truth b)) h = All-nil _
+name_is_at kind l (Some (Moment m)) h = All-nil _
+
+names_at : (c : Content) (ls : List Leaf) → All (λ (l : Leaf). l ≡ simple UserName) ls → All (λ (n : Name). n.leaf ≡ simple UserName) (flat_map (λ l. name_at c.kind l (first_at l c)) ls)
+names_at c [] all = All-nil _
+names_at c (l ∷ ls) all = All-append (λ (n : Name). n.leaf ≡ simple UserName) _ _ (name_is_at c.kind l (first_at l c) (All-head (λ (x : Leaf). x ≡ simple UserName) l ls all)) (names_at c ls (All-tail (λ (x : Leaf). x ≡ simple UserName) l ls all))
+
+-- the one unique name of a user is its `userName`, and a group has none
+user_names : (c : Content) → All (λ (n : Name). n.leaf ≡ simple UserName) (unique_names c)
+user_names c = names_at c (unique_leaves c.kind) (unique_leaf c.kind)
+
+-- whether a row is that of a name
+abbrev has_name_row : Row → Name → Bool
+has_name_row row n = has_texts (attribute_name n.leaf.attribute) n.text row
+
+pub is_name_of : (names : List UniqueName) (row : Row) → is_name names row ≡ list_any (has_name_row row) (map name_of names)
+is_name_of [] row = refl
+is_name_of (n ∷ names) row = ap (λ b. has_name_row row (name_of n) || b) (is_name_of names row)
+
+-- the names of the resource go
+pub names_go : (id : List ℕ) (gone : List UniqueName) (ns : List Name) → map name_of gone ≡ ns → All (λ r. not (is_name gone r) ≡ false) (map (name_row id) ns)
+names_go id gone ns is =
+    All-map (λ r. not (is_name gone r) ≡ false) (name_row id) ns (λ k d low.
+    (let n = get_or ns k d in
+    let here : has_name_row (name_row id n) n ≡ true = rw (tied (attribute_name n.leaf.attribute), tied n.text) refl in
+    ap not (is_name_of gone (name_row id n) ∙ ap (list_any (has_name_row (name_row id n))) is ∙ list_any_at (has_name_row (name_row id n)) ns k d low here)))
+
+no_name : (id : List ℕ) (n : Name) (ms : List Name) → n.leaf ≡ simple UserName → All (λ (m : Name). m.leaf ≡ simple UserName) ms → All (λ m. m ≢ n) ms → list_any (has_name_row (name_row id n)) ms ≡ false
+no_name id n [] is are apart = refl
+no_name id n (m ∷ ms) is are apart =
+    by_bool (has_name_row (name_row id n) m)
+    (λ t.
+    (let text : n.text ≡ m.text = (bytes_eq-Decides n.text m.text).0 (sym (is_eq-slice_cmp n.text m.text) ∙ and_second (has_text 0 (attribute_name m.leaf.attribute) (name_row id n)) (has_text 1 m.text (name_row id n)) t) in
+    let leaf : m.leaf ≡ n.leaf = All-head (λ (x : Name). x.leaf ≡ simple UserName) m ms are ∙ sym is in
+    absurd (All-head (λ x. x ≢ n) m ms apart (λ i. record { leaf = leaf i; text = sym text i }))))
+    (λ f. rw f (no_name id n ms is (All-tail (λ (x : Name). x.leaf ≡ simple UserName) m ms are) (All-tail (λ x. x ≢ n) m ms apart)))
+
+-- the names of a resource that is apart stay
+pub names_stay : (gone : List UniqueName) (old : Content) (d : Entry) → map name_of gone ≡ unique_names old → AreApart old d.content → All (λ r. not (is_name gone r) ≡ true) (name_rows d)
+names_stay gone old d is apart =
+    All-map (λ r. not (is_name gone r) ≡ true) (name_row d.content.id) (unique_names d.content) (λ k e low.
+    (let n = get_or (unique_names d.content) k e in
+    let there : Contains (unique_names d.content) n = Contains-get_or (unique_names d.content) k e low in
+    let differ : All (λ m. m ≢ n) (unique_names old) =
+    All-weaker (Contains (unique_names old)) (λ m. m ≢ n) (λ m here same. apart.names n (subst (Contains (unique_names old)) same here) there) (unique_names old) (All-contains_itself (unique_names old)) in
+    ap not (is_name_of gone (name_row d.content.id n) ∙ ap (list_any (has_name_row (name_row d.content.id n))) is ∙ no_name d.content.id n (unique_names old) (user_names d.content k e low) (user_names old) differ)))
+
+-- ---- members
+
+or_false : (b : Bool) → (b || false) ≡ b
+or_false true = refl
+or_false false = refl
+
+and_true : (b : Bool) → (b && true) ≡ b
+and_true true = refl
+and_true false = refl
+
+and_false : (b : Bool) → (b && false) ≡ false
+and_false true = refl
+and_false false = refl
+
+pub own_member : (id : List ℕ) (values : List (List ℕ)) (v : List ℕ) → is_member (id_text id) values (member_row id v) ≡ is_among v values
+own_member id [] v = refl
+own_member id (w ∷ values) v =
+    let one : has_texts w (id_text id) (member_row id v) ≡ bytes_eq v w = ap (λ b. is_eq (slice_cmp nat_cmp v w) && b) (tied (id_text id)) ∙ and_true _ ∙ is_eq-slice_cmp v w in
+    (λ i. one i || own_member id values v i)
+
+pub other_member : (x id : List ℕ) (values : List (List ℕ)) (v : List ℕ) → is_eq (slice_cmp nat_cmp (id_text x) (id_text id)) ≡ false → is_member (id_text id) values (member_row x v) ≡ false
+other_member x id [] v apart = refl
+other_member x id (w ∷ values) v apart =
+    let one : has_texts w (id_text id) (member_row x v) ≡ false = ap (λ b. is_eq (slice_cmp nat_cmp v w) && b) apart ∙ and_false _ in
+    (λ i. one i || other_member x id values v apart i)
+
+-- the values that stay where some go
+abbrev pub staying : List (List ℕ) → List (List ℕ) → List (List ℕ)
+staying gone values = filter (λ v. not (is_among v gone)) values
+
+pub among_staying : (v : List ℕ) (gone values : List (List ℕ)) → is_among v (staying gone values) ≡ (is_among v values && not (is_among v gone))
+among_staying v gone [] = refl
+among_staying v gone (w ∷ values) = go (bytes_eq v w) (is_among w gone) refl refl (among_staying v gone values)
+  where
+    same_gone : bytes_eq v w ≡ true → is_among v gone ≡ is_among w gone
+    same_gone t = ap (λ x. is_among x gone) ((bytes_eq-Decides v w).0 t)
+
+    go : (a b : Bool) → bytes_eq v w ≡ a → is_among w gone ≡ b → is_among v (staying gone values) ≡ (is_among v values && not (is_among v gone))
+        → is_among v (cond (not b) (w ∷ staying gone values) (staying gone values)) ≡ ((a || is_among v values) && not (is_among v gone))
+    go true true e g rest = rest ∙ (let at : is_among v gone ≡ true = same_gone e ∙ g in rw at (and_false _))
+    go true false e g rest = (let at : is_among v gone ≡ false = same_gone e ∙ g in rw (e, at) refl)
+    go false true e g rest = rest
+    go false false e g rest = rw e rest
+
+-- no value is among none
+pub none_among : (values : List (List ℕ)) → ((v : List ℕ) → is_among v values ≡ false) → values ≡ []
+none_among [] none = refl
+none_among (v ∷ values) none = (let here : bytes_eq v v ≡ true = (bytes_eq-Decides v v).1 refl in let no : (bytes_eq v v || is_among v values) ≡ false = none v in let c : true ≡ false = (rw here at no) in cc)
+
+-- a value of a list is among them
+at_among : (values : List (List ℕ)) (k : ℕ) (d : List ℕ) → k < length values → is_among (get_or values k d) values ≡ true
+at_among values k d low = list_any_at (bytes_eq (get_or values k d)) values k d low ((bytes_eq-Decides (get_or values k d) (get_or values k d)).1 refl)
+
+append_pairs : (R : List ℕ → List ℕ → Type 0) (xs ys : List (List ℕ)) → AllPairs R xs → AllPairs R ys → All (λ x. All (R x) ys) xs → AllPairs R (xs ++ ys)
+append_pairs R [] ys one two across = two
+append_pairs R (x ∷ xs) ys one two across =
+    AllPairs-cons R x (xs ++ ys)
+    (All-append (R x) xs ys (λ k d h. one zero (suc k) d (omega arith) (omega arith)) (All-head (λ y. All (R y) ys) x xs across))
+    (append_pairs R xs ys (λ i j d h k. one (suc i) (suc j) d (omega arith) (omega arith)) two (All-tail (λ y. All (R y) ys) x xs across))
+
+-- the values that come and those that stay are each there once
+pub once_more : (come gone values : List (List ℕ)) → AllPairs (λ v w. v ≢ w) come → AllPairs (λ v w. v ≢ w) values → ((v : List ℕ) → is_among v come ≡ true → is_among v values ≡ false) → AllPairs (λ v w. v ≢ w) (come ++ staying gone values)
+once_more come gone values one two new =
+    append_pairs (λ v w. v ≢ w) come (staying gone values) one (AllPairs-filter (λ v w. v ≢ w) (λ v. not (is_among v gone)) values two)
+    (λ k d low j e under same.
+    (let x = get_or come k d in
+    let out : is_among x values ≡ false = new x (at_among come k d low) in
+    let in' : is_among x (staying gone values) ≡ true = ap (λ y. is_among y (staying gone values)) same ∙ at_among (staying gone values) j e under in
+    let left : (is_among x values && not (is_among x gone)) ≡ true = sym (among_staying x gone values) ∙ in' in
+    let c : true ≡ false = sym (and_first (is_among x values) (not (is_among x gone)) left) ∙ out in cc))

@@ -1,0 +1,299 @@
+-- What the tables stand for after a change.
+use Rattle.std.proofs.Common.{◌≡◌, ◌≢◌, ℕ, ◌+◌, refl, sym, ◌∙◌, ap, subst, subst₂, get_or, Bool, true, false, not, ◌&&◌, ◌||◌, List, [], ◌∷◌, ◌++◌, map, filter, length, arith}
+use Rattle.std.specs.Prelude.{All, AllPairs, Option, None, Some, IsPermutation, string_bytes}
+use Rattle.std.specs.Option.{option_map, option_to_list}
+use Rattle.std.specs.List.{flat_map, list_any}
+use Rattle.std.specs.Ordering.{nat_cmp, is_lt, is_gt}
+use Rattle.std.specs.Cmp.Lexicographic.{slice_cmp}
+use Rattle.std.proofs.lemmas.List.{append-nil, map-append}
+use Rattle.std.proofs.lemmas.List.Elements.{All-nil, All-cons, All-head, All-append, All-filter, All-map, All-weaker, filter_passes, recursion_from_All}
+use Rattle.std.proofs.lemmas.List.Folds.{list_any-append}
+use Rattle.std.proofs.lemmas.List.Sorted.{IsPermutation-refl, IsPermutation-cons, IsPermutation-middle, IsPermutation-trans, IsPermutation-sym}
+use Rattle.sqlite_trees.proofs.ListLemmas.{IsPermutation-same, filter-map, filter_none, map-map}
+use Rattle.sqlite.specs.Order.{Row}
+use Rattle.sqlite.specs.Effect.{Database}
+use Rattle.scim_cell.specs.Content.{Content}
+use Rattle.scim_cell.specs.Ids.{IsId, id_text}
+use Rattle.scim_schema.specs.Names.{attribute_name}
+use Rattle.std.specs.Str.{bytes_eq}
+use Rattle.scim_value.specs.declared.uniqueness.UniqueName.{UniqueName}
+use Rattle.scim_value.specs.Uniqueness.{AreApart, name_of, unique_names}
+use Rattle.scim_value.specs.Members.{lists_value}
+use Rattle.scim_audit.specs.declared.rows.AuditRow.{AuditRow}
+use Rattle.scim_shelf.specs.declared.changes.Change.{Change}
+use Rattle.scim_shelf.specs.declared.changes.Change.TheVariants.{Nothing, Keep, Remove}
+use Rattle.scim_shelf.specs.Stores.{Store, AreKeyed, CanKeep, below, above, after}
+use Rattle.scim_shelf.proofs.StoreLemmas.{keep_keyed, without_keyed}
+use Rattle.scim_tables.specs.Lists.{Lists, Are, has_text, has_texts, resource_values}
+use Rattle.scim_tables.specs.Audit.{audit_values}
+use Rattle.scim_tables.specs.declared.audit.AuditColumns.{AuditColumns}
+use Rattle.scim_store.specs.declared.edits.Edits.{Edits}
+use Rattle.scim_store.specs.Audit.{kind_number, audit_row, audit_rows}
+use Rattle.scim_store.specs.Stands.{Entry, StandsFor, IsEntry, AreMembers, is_among, lists_of, resource_row, name_row, name_rows, member_row, member_rows}
+use Rattle.scim_store.specs.Edits.{is_name, is_member, rows_of_names, rows_of_members, rows_of_document, edited, edited_by, with_row, of_id, names_in, lists_in, Replaces, AreEdits, Writes}
+use Rattle.scim_store.proofs.RowLemmas.{reordered}
+use Rattle.scim_store.proofs.PlaceLemmas.{own, lower, upper, others, split, found, own_id, other_own, own_apart, others_all}
+use Rattle.scim_store.proofs.EntryLemmas.{replaced, each_one, resource_goes, resource_stays, names_go, names_stay, is_name_of, own_member, other_member, ids_apart, staying, among_staying, none_among, once_more}
+
+abbrev content : Entry → Content
+content e = e.content
+
+-- the values that are listed, where there is a resource
+abbrev members_in : Option Entry → List (List ℕ)
+members_in None = []
+members_in (Some e) = e.members
+
+members_listed : (base : List ℕ) (o : Option Entry) → All (IsEntry base) (option_to_list o) → (v : List ℕ) → is_among v (members_in o) ≡ lists_in v (option_map content o)
+members_listed base None sound v = refl
+members_listed base (Some e) sound v = (All-head (IsEntry base) e [] sound).members.listed v
+
+no_pairs : AllPairs (λ (v w : List ℕ). v ≢ w) []
+no_pairs = λ i j d h k. absurd (omega (arith, k))
+
+members_once : (base : List ℕ) (o : Option Entry) → All (IsEntry base) (option_to_list o) → AllPairs (λ v w. v ≢ w) (members_in o)
+members_once base None sound = no_pairs
+members_once base (Some e) sound = (All-head (IsEntry base) e [] sound).members.once
+
+-- the resource has the id, where there is one
+abbrev HasId : List ℕ → Option Content → Type 0
+HasId id None = Unit {0}
+HasId id (Some c) = c.id ≡ id
+
+-- ---- what is left of the old rows
+
+resource_left : (id : List ℕ) (o : Option Entry) → All (λ x. own id x ≡ true) (option_to_list o) → filter (λ r. not (has_text 0 (id_text id) r)) (flat_map (λ x. resource_row x ∷ []) (option_to_list o)) ≡ []
+resource_left id None own_o = refl
+resource_left id (Some x) own_o = filter_none (λ r. not (has_text 0 (id_text id) r)) (resource_row x ∷ []) (resource_goes id x (own_id id x (All-head (λ y. own id y ≡ true) x [] own_o)), tt)
+
+names_left : (gone : List UniqueName) (o : Option Entry) → map name_of gone ≡ names_in (option_map content o) → filter (λ r. not (is_name gone r)) (flat_map name_rows (option_to_list o)) ≡ []
+names_left gone None is = refl
+names_left gone (Some x) is =
+    ap (filter (λ r. not (is_name gone r))) (append-nil (name_rows x))
+    ∙ filter_none (λ r. not (is_name gone r)) (name_rows x) (recursion_from_All (λ r. not (is_name gone r) ≡ false) (name_rows x) (names_go x.content.id gone (unique_names x.content) is))
+
+members_left : (id : List ℕ) (gone : List (List ℕ)) (o : Option Entry) → All (λ x. own id x ≡ true) (option_to_list o)
+    → filter (λ r. not (is_member (id_text id) gone r)) (flat_map member_rows (option_to_list o)) ≡ map (member_row id) (staying gone (members_in o))
+members_left id gone None own_o = refl
+members_left id gone (Some x) own_o =
+    ap (filter (λ r. not (is_member (id_text id) gone r))) (append-nil (member_rows x) ∙ ap (λ y. map (member_row y) x.members) (own_id id x (All-head (λ y. own id y ≡ true) x [] own_o)))
+    ∙ filter-map (λ r. not (is_member (id_text id) gone r)) (member_row id) x.members
+    ∙ ap (map (member_row id)) (λ i. filter (λ v. not (own_member id gone v i)) x.members)
+
+-- ---- what comes
+
+-- the resource that comes, with its rows
+record IsNew (base : List ℕ) (id : List ℕ) (c : Option Content) (e : Edits) (values : List (List ℕ)) : Type 0 where
+  entry : Option Entry
+  is : option_map content entry ≡ c
+  sound : All (IsEntry base) (option_to_list entry)
+  resources : rows_of_document e ≡ flat_map (λ x. resource_row x ∷ []) (option_to_list entry)
+  names : rows_of_names e.id e.names_come.items ≡ flat_map name_rows (option_to_list entry)
+  members : rows_of_members e.id e.members_come.items ++ map (member_row id) values ≡ flat_map member_rows (option_to_list entry)
+
+-- a value is listed after the edits just where the new resource lists it
+listed_new : (new old : Bool) → ((new && not old) || (old && not (old && not new))) ≡ new
+listed_new true true = refl
+listed_new true false = refl
+listed_new false true = refl
+listed_new false false = refl
+
+none_left : (old : Bool) → (old && not (old && not false)) ≡ false
+none_left true = refl
+none_left false = refl
+
+new_only : (new old : Bool) → (new && not old) ≡ true → old ≡ false
+new_only true true h = cc
+new_only true false h = refl
+new_only false old h = cc
+
+-- the row of a document that is there
+document_rows : {X : Type 0} (bytes : X → List ℕ) (o : Option X) (id : List ℕ) (kind : ℕ) (text : List ℕ) → option_map bytes o ≡ Some text → option_to_list (option_map (λ d. resource_values id kind (bytes d)) o) ≡ resource_values id kind text ∷ []
+document_rows bytes None id kind text h = cc
+document_rows bytes (Some d) id kind text h = ap (λ t. resource_values id kind t ∷ []) (some_one h)
+  where
+    some_one : Some (bytes d) ≡ Some text → bytes d ≡ text
+    some_one h = cc
+
+module _ (base : List ℕ) (id : List ℕ) (old : Option Content) (e : Edits) (o : Option Entry) (was : old ≡ option_map content o) (sound_o : All (IsEntry base) (option_to_list o)) where
+  -- whether a value was listed
+  was_listed : (v : List ℕ) → is_among v (members_in o) ≡ lists_in v old
+  was_listed v = members_listed base o sound_o v ∙ ap (lists_in v) (sym was)
+
+  -- whether a value stays
+  stays_listed : (c : Option Content) → Replaces base id old c e → (v : List ℕ) → is_among v (staying e.members_gone.items (members_in o)) ≡ (lists_in v old && not (lists_in v old && not (lists_in v c)))
+  stays_listed c replaces v = among_staying v e.members_gone.items (members_in o) ∙ (λ i. was_listed v i && not (replaces.members_gone v i))
+
+  names_come_rows : (c : Option Content) → Replaces base id old c e → rows_of_names e.id e.names_come.items ≡ map (name_row id) (names_in c)
+  names_come_rows c replaces =
+      ap (λ t. rows_of_names t e.names_come.items) replaces.text
+      ∙ sym (map-map (name_row id) name_of e.names_come.items)
+      ∙ ap (map (name_row id)) replaces.names_come
+
+  new_members : (c : Content) → Replaces base id old (Some c) e → AreMembers c (e.members_come.items ++ staying e.members_gone.items (members_in o))
+  new_members c replaces = record {
+    once = once_more e.members_come.items e.members_gone.items (members_in o) replaces.once (members_once base o sound_o) (λ v h. was_listed v ∙ new_only (lists_value v c) (lists_in v old) (sym (replaces.members_come v) ∙ h));
+    listed = λ v. list_any-append (bytes_eq v) e.members_come.items (staying e.members_gone.items (members_in o)) ∙ (λ i. replaces.members_come v i || stays_listed (Some c) replaces v i) ∙ listed_new (lists_value v c) (lists_in v old);
+  }
+
+  new_entry : (c : Option Content) → HasId id c → Replaces base id old c e → IsNew base id c e (staying e.members_gone.items (members_in o))
+  new_entry None has replaces =
+      let come : e.members_come.items ≡ [] = none_among e.members_come.items replaces.members_come in
+      let stay : staying e.members_gone.items (members_in o) ≡ [] = none_among (staying e.members_gone.items (members_in o)) (λ v. stays_listed None replaces v ∙ none_left (lists_in v old)) in
+      record {
+        entry = None;
+        is = refl;
+        sound = All-nil (IsEntry base);
+        resources = ap (λ d. option_to_list (option_map (λ t. resource_values e.id (kind_number e.kind) (string_bytes t)) d)) replaces.document;
+        names = names_come_rows None replaces;
+        members = λ i. rows_of_members e.id (come i) ++ map (member_row id) (stay i);
+      }
+  new_entry (Some c) has replaces =
+      let stay : List (List ℕ) = staying e.members_gone.items (members_in o) in
+      let written = replaces.document in
+      let entry : Entry = record { content = c; document = written.1; members = e.members_come.items ++ stay } in
+      let text : e.id ≡ id_text c.id = replaces.text ∙ ap id_text (sym has) in
+      record {
+        entry = Some entry;
+        is = refl;
+        sound = All-cons (IsEntry base) entry [] (record { document = written.3; members = new_members c replaces }) (All-nil (IsEntry base));
+        resources = document_rows string_bytes e.document e.id (kind_number e.kind) written.1 written.2 ∙ (λ i. resource_values (text i) (kind_number (written.0 i)) written.1 ∷ []);
+        names = names_come_rows (Some c) replaces ∙ ap (λ x. map (name_row x) (unique_names c)) (sym has) ∙ sym (append-nil (name_rows entry));
+        members = ap (λ t. rows_of_members t e.members_come.items ++ map (member_row id) stay) replaces.text ∙ sym (map-append (member_row id) e.members_come.items stay) ∙ ap (λ x. map (member_row x) (e.members_come.items ++ stay)) (sym has) ∙ sym (append-nil (member_rows entry));
+      }
+
+-- ---- the others stay
+
+none_named : (gone : List UniqueName) (rows : List Row) → map name_of gone ≡ [] → All (λ r. not (is_name gone r) ≡ true) rows
+none_named gone rows is = λ k d low. ap not (is_name_of gone (get_or rows k d) ∙ ap (list_any (λ n. has_texts (attribute_name n.leaf.attribute) n.text (get_or rows k d))) is)
+
+others_names : (gone : List UniqueName) (id : List ℕ) (es : List Entry) (o : Option Entry) → AreKeyed (map content es) → filter (own id) es ≡ option_to_list o → map name_of gone ≡ names_in (option_map content o)
+    → All (λ d. All (λ r. not (is_name gone r) ≡ true) (name_rows d)) (others id es)
+others_names gone id es None keyed only is = others_all (λ d. All (λ r. not (is_name gone r) ≡ true) (name_rows d)) id es (λ k d low _. none_named gone (name_rows (get_or es k d)) is)
+others_names gone id es (Some x) keyed only is =
+    others_all (λ d. All (λ r. not (is_name gone r) ≡ true) (name_rows d)) id es
+    (All-weaker (λ d. own id d ≡ false → AreApart x.content d.content) (λ d. own id d ≡ false → All (λ r. not (is_name gone r) ≡ true) (name_rows d)) (λ d apart other. names_stay gone x.content d is (apart other)) es (own_apart id x es keyed only))
+
+others_resources : (base id : List ℕ) (es : List Entry) → IsId id → All (IsEntry base) es → All (λ d. All (λ r. not (has_text 0 (id_text id) r) ≡ true) (resource_row d ∷ [])) (others id es)
+others_resources base id es is_id sound =
+    others_all (λ d. All (λ r. not (has_text 0 (id_text id) r) ≡ true) (resource_row d ∷ [])) id es
+    (All-weaker (IsEntry base) (λ d. own id d ≡ false → All (λ r. not (has_text 0 (id_text id) r) ≡ true) (resource_row d ∷ []))
+    (λ d s other. All-cons (λ r. not (has_text 0 (id_text id) r) ≡ true) (resource_row d) [] (resource_stays id d s.document.0.0.identified.0 is_id (other_own id d other)) (All-nil (λ r. not (has_text 0 (id_text id) r) ≡ true))) es sound)
+
+others_members : (base id : List ℕ) (gone : List (List ℕ)) (es : List Entry) → IsId id → All (IsEntry base) es → All (λ d. All (λ r. not (is_member (id_text id) gone r) ≡ true) (member_rows d)) (others id es)
+others_members base id gone es is_id sound =
+    others_all (λ d. All (λ r. not (is_member (id_text id) gone r) ≡ true) (member_rows d)) id es
+    (All-weaker (IsEntry base) (λ d. own id d ≡ false → All (λ r. not (is_member (id_text id) gone r) ≡ true) (member_rows d))
+    (λ d s other. All-map (λ r. not (is_member (id_text id) gone r) ≡ true) (member_row d.content.id) d.members (λ k v low. ap not (other_member d.content.id id gone (get_or d.members k v) (ids_apart d.content.id id s.document.0.0.identified.0 is_id (other_own id d other))))) es sound)
+
+-- ---- a resource is replaced
+
+into_place : (lows highs : List Entry) (n : Option Entry) → IsPermutation (option_to_list n ++ (lows ++ highs)) (lows ++ (option_to_list n ++ highs))
+into_place lows highs None = IsPermutation-refl (lows ++ highs)
+into_place lows highs (Some x) = IsPermutation-sym _ _ (IsPermutation-middle lows x highs)
+
+contents_of : (n : Option Entry) → map content (option_to_list n) ≡ option_to_list (option_map content n)
+contents_of None = refl
+contents_of (Some x) = refl
+
+-- the resources with another in the place of an id, or none
+abbrev put_in : List ℕ → Option Content → List Content → List Content
+put_in id c cs = below id cs ++ (option_to_list c ++ above id cs)
+
+-- the resources after the edits, whose rows are the edited ones in some order
+record AreReplaced (base : List ℕ) (es : List Entry) (id : List ℕ) (c : Option Content) (e : Edits) (audit : List AuditRow) : Type 0 where
+  entries : List Entry
+  contents : map content entries ≡ put_in id c (map content es)
+  sound : All (IsEntry base) entries
+  resources : IsPermutation (edited e (lists_of es audit)).resources (map resource_row entries)
+  taken : IsPermutation (edited e (lists_of es audit)).taken (flat_map name_rows entries)
+  member : IsPermutation (edited e (lists_of es audit)).member (flat_map member_rows entries)
+
+are_replaced : (base : List ℕ) (es : List Entry) (id : List ℕ) (c : Option Content) (e : Edits) (audit : List AuditRow) → AreKeyed (map content es) → All (IsEntry base) es → HasId id c → Replaces base id (of_id id (map content es)) c e
+    → AreReplaced base es id c e audit
+are_replaced base es id c e audit keyed sound has replaces =
+    let f = found id es keyed in
+    let o : Option Entry = f.entry in
+    let lows : List Entry = filter (lower id) es in
+    let highs : List Entry = filter (upper id) es in
+    let sound_o : All (IsEntry base) (option_to_list o) = subst (All (IsEntry base)) f.only (All-filter (own id) (IsEntry base) es sound) in
+    let own_o : All (λ x. own id x ≡ true) (option_to_list o) = subst (All (λ x. own id x ≡ true)) f.only (filter_passes (own id) es) in
+    let from : IsPermutation es (option_to_list o ++ others id es) = subst (λ (l : List Entry). IsPermutation es (l ++ others id es)) f.only (split id es) in
+    let new = new_entry base id (of_id id (map content es)) e o f.is sound_o c has replaces in
+    let entries : List Entry = lows ++ (option_to_list new.entry ++ highs) in
+    let into : IsPermutation (option_to_list new.entry ++ others id es) entries = into_place lows highs new.entry in
+    let named : map name_of e.names_gone.items ≡ names_in (option_map content o) = replaces.names_gone ∙ ap names_in f.is in
+    let all : All (IsEntry base) entries =
+    All-append (IsEntry base) lows (option_to_list new.entry ++ highs) (All-filter (lower id) (IsEntry base) es sound) (All-append (IsEntry base) (option_to_list new.entry) highs new.sound (All-filter (upper id) (IsEntry base) es sound)) in
+    let goes : filter (λ r. not (has_text 0 e.id r)) (flat_map (λ x. resource_row x ∷ []) (option_to_list o)) ≡ [] = subst (λ (t : List ℕ). filter (λ r. not (has_text 0 t r)) (flat_map (λ x. resource_row x ∷ []) (option_to_list o)) ≡ []) (sym replaces.text) (resource_left id o own_o) in
+    let leave : filter (λ r. not (is_member e.id e.members_gone.items r)) (flat_map member_rows (option_to_list o)) ≡ map (member_row id) (staying e.members_gone.items (members_in o)) =
+    subst (λ (t : List ℕ). filter (λ r. not (is_member t e.members_gone.items r)) (flat_map member_rows (option_to_list o)) ≡ map (member_row id) (staying e.members_gone.items (members_in o))) (sym replaces.text) (members_left id e.members_gone.items o own_o) in
+    let resources_stay = subst (λ (t : List ℕ). All (λ d. All (λ r. not (has_text 0 t r) ≡ true) (resource_row d ∷ [])) (others id es)) (sym replaces.text) (others_resources base id es replaces.is_id sound) in
+    let members_stay = subst (λ (t : List ℕ). All (λ d. All (λ r. not (is_member t e.members_gone.items r) ≡ true) (member_rows d)) (others id es)) (sym replaces.text) (others_members base id e.members_gone.items es replaces.is_id sound) in
+    let one = replaced (λ x. resource_row x ∷ []) (λ r. not (has_text 0 e.id r)) es (option_to_list o) (others id es) (option_to_list new.entry) entries (rows_of_document e) from resources_stay (ap (λ (l : List Row). rows_of_document e ++ l) goes ∙ append-nil (rows_of_document e) ∙ new.resources) into in
+    let two = replaced name_rows (λ r. not (is_name e.names_gone.items r)) es (option_to_list o) (others id es) (option_to_list new.entry) entries (rows_of_names e.id e.names_come.items) from (others_names e.names_gone.items id es o keyed f.only named)
+    (ap (λ (l : List Row). rows_of_names e.id e.names_come.items ++ l) (names_left e.names_gone.items o named) ∙ append-nil (rows_of_names e.id e.names_come.items) ∙ new.names) into in
+    let three = replaced member_rows (λ r. not (is_member e.id e.members_gone.items r)) es (option_to_list o) (others id es) (option_to_list new.entry) entries (rows_of_members e.id e.members_come.items) from members_stay
+    (ap (λ (l : List Row). rows_of_members e.id e.members_come.items ++ l) leave ∙ new.members) into in
+    record {
+      entries = entries;
+      contents =
+          map-append content lows (option_to_list new.entry ++ highs)
+          ∙ (λ i. sym (filter-map (λ (x : Content). is_lt (slice_cmp nat_cmp x.id id)) content es) i ++ map-append content (option_to_list new.entry) highs i)
+          ∙ (λ i. below id (map content es) ++ ((contents_of new.entry ∙ ap option_to_list new.is) i ++ sym (filter-map (λ (x : Content). is_gt (slice_cmp nat_cmp x.id id)) content es) i));
+      sound = all;
+      resources = subst₂ (λ (xs ys : List Row). IsPermutation (rows_of_document e ++ filter (λ r. not (has_text 0 e.id r)) xs) ys) (sym (each_one resource_row es)) (sym (each_one resource_row entries)) one;
+      taken = two;
+      member = three;
+    }
+
+-- ---- the audit
+
+-- a row with the next number
+last_row : (k : ℕ) (rows : List AuditRow) (n : ℕ) (row : AuditRow) → n ≡ k + length rows → IsPermutation (audit_row n row ∷ audit_rows k rows) (audit_rows k (rows ++ row ∷ []))
+last_row k [] n row e = IsPermutation-same _ _ (let same : n ≡ k = omega (arith, e) in ap (λ m. audit_row m row ∷ []) same)
+last_row k (b ∷ more) n row e =
+    IsPermutation-trans _ _ _ (IsPermutation-middle (audit_row n row ∷ []) (audit_row k b) (audit_rows (k + 1) more))
+    (IsPermutation-cons _ _ _ (last_row (k + 1) more n row (omega (arith, e))))
+
+pub next_row : (store : Store) (row : AuditRow) (v : Row) → v ≡ audit_row (length store.audit + 1) row → IsPermutation (v ∷ audit_rows 1 store.audit) (audit_rows 1 (store.audit ++ row ∷ []))
+next_row store row v told = subst (λ (r : Row). IsPermutation (r ∷ audit_rows 1 store.audit) (audit_rows 1 (store.audit ++ row ∷ []))) (sym told) (last_row 1 store.audit (length store.audit + 1) row (omega arith))
+
+-- ---- a whole change
+
+module _ (base : List ℕ) (new : Database) (store : Store) (row : AuditRow) (v : Row) (told : v ≡ audit_row (length store.audit + 1) row) (es : List Entry) (are : map content es ≡ store.resources) (sound : All (IsEntry base) es) (keyed : AreKeyed store.resources) where
+  stands_same : Are new (with_row v (lists_of es store.audit)) → StandsFor base new (after Nothing row store)
+  stands_same tables = record {
+    entries = es;
+    resources = are;
+    sound = sound;
+    keyed = keyed;
+    tables = reordered new _ _ tables (IsPermutation-refl _) (IsPermutation-refl _) (IsPermutation-refl _) (next_row store row v told);
+  }
+
+  stands_replaced : (id : List ℕ) (c : Option Content) (e : Edits) (change : Change) → HasId id c → Replaces base id (of_id id store.resources) c e → (after change row store).resources ≡ put_in id c store.resources → AreKeyed (put_in id c store.resources)
+      → Are new (with_row v (edited e (lists_of es store.audit))) → StandsFor base new (after change row store)
+  stands_replaced id c e change has replaces is sorted tables =
+      let all = are_replaced base es id c e store.audit (subst AreKeyed (sym are) keyed) sound has (subst (λ (cs : List Content). Replaces base id (of_id id cs) c e) (sym are) replaces) in
+      record {
+        entries = all.entries;
+        resources = all.contents ∙ ap (put_in id c) are ∙ sym is;
+        sound = all.sound;
+        keyed = subst AreKeyed (sym is) sorted;
+        tables = reordered new _ _ tables all.resources all.taken all.member (next_row store row v told);
+      }
+
+-- the edits of a change and its row of the audit make of tables that stand for a store those that stand for the store after it
+writes_all : (edits : Option Edits) (columns : AuditColumns) (old new : Database) → ((lists : Lists) → Are old lists → Are new (with_row (audit_values columns) (edited_by edits lists)))
+    → (base : List ℕ) (store : Store) (change : Change) (row : AuditRow) → StandsFor base old store → CanKeep store change → AreEdits base store.resources change edits → audit_values columns ≡ audit_row (length store.audit + 1) row
+    → StandsFor base new (after change row store)
+writes_all None columns old new did base store Nothing row stands can are told = stands_same base new store row (audit_values columns) told stands.entries stands.resources stands.sound stands.keyed (did _ stands.tables)
+writes_all (Some e) columns old new did base store Nothing row stands can are told = cc
+writes_all None columns old new did base store (Keep c) row stands can are told = absurd are
+writes_all (Some e) columns old new did base store (Keep c) row stands can are told =
+    stands_replaced base new store row (audit_values columns) told stands.entries stands.resources stands.sound stands.keyed c.id (Some c) e (Keep c) refl are refl (keep_keyed c store.resources stands.keyed can.names) (did _ stands.tables)
+writes_all None columns old new did base store (Remove kind id) row stands can are told = absurd are
+writes_all (Some e) columns old new did base store (Remove kind id) row stands can are told =
+    stands_replaced base new store row (audit_values columns) told stands.entries stands.resources stands.sound stands.keyed id None e (Remove kind id) tt are refl (without_keyed id store.resources stands.keyed) (did _ stands.tables)
+
+pub writes : (edits : Option Edits) (columns : AuditColumns) (old new : Database) → ((lists : Lists) → Are old lists → Are new (with_row (audit_values columns) (edited_by edits lists))) → Writes edits columns old new
+writes edits columns old new did = record { stands = writes_all edits columns old new did }

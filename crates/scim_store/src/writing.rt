@@ -1,0 +1,212 @@
+//! A change of the store, written in one transaction.
+
+ghost use Rattle.std.specs.Prelude.{◌≡◌, ◌≤◌, ◌++◌, false, OnOk, OnErr};
+ghost use Rattle.sqlite.specs.State.{HasCleanDisk, Survives};
+ghost use Rattle.sqlite.specs.Held.{state};
+ghost use Rattle.scim_tables.specs.Audit.{last_number, audit_values};
+ghost use Rattle.scim_tables.specs.Lists.{Lists, Are, without, has_text};
+ghost use Rattle.scim_tables.specs.Steps.{Goes, Keeps, Became, Undoes, Leaves};
+ghost use Rattle.scim_store.specs.Edits.{is_name, is_member, rows_of_names, rows_of_members, rows_of_document, edited, edited_by, with_row, Writes};
+
+use crate::columns::kind_number;
+use crate::edits::Edits;
+use scim_cell::Text;
+use scim_tables::{
+    AuditColumns, delete_member, delete_name, delete_resource, insert_audit, insert_member,
+    insert_name, insert_resource,
+};
+use scim_value::UniqueName;
+use sqlite::{Alter, Connection, Error, Transaction};
+
+/// Takes out names.
+fn delete_names<S: Alter>(tx: &mut Transaction<'_, S>, names: &[UniqueName]) -> Result<(), Error>
+    ensures same_reference { tx.new.conn.ghost_name ≡ tx.old.conn.ghost_name }
+    ensures went { Goes (state S.Store tx.old.conn.now) (state S.Store tx.new.conn.now) result (λ old new.
+        (lists : Lists) → Are old lists → Are new (record lists { taken = without (is_name names.now) lists.taken })) }
+    ensures kept { Keeps (state S.Store tx.old.conn.now) (state S.Store tx.new.conn.now) }
+    ensures survives { Survives (state S.Store tx.old.conn.now) (state S.Store tx.new.conn.now) (λ _. ⊥) }
+{
+    for name in names {
+        delete_name(tx, name.leaf.attribute.name(), name.text.as_str())?;
+    }
+    Ok(())
+}
+
+/// Puts in names with their owner.
+fn insert_names<S: Alter>(
+    tx: &mut Transaction<'_, S>,
+    id: &str,
+    names: &[UniqueName],
+) -> Result<(), Error>
+    ensures same_reference { tx.new.conn.ghost_name ≡ tx.old.conn.ghost_name }
+    ensures went { Goes (state S.Store tx.old.conn.now) (state S.Store tx.new.conn.now) result (λ old new.
+        (lists : Lists) → Are old lists → Are new (record lists { taken = rows_of_names id.now names.now ++ lists.taken })) }
+    ensures kept { Keeps (state S.Store tx.old.conn.now) (state S.Store tx.new.conn.now) }
+    ensures survives { Survives (state S.Store tx.old.conn.now) (state S.Store tx.new.conn.now) (λ _. ⊥) }
+{
+    for name in names {
+        insert_name(tx, name.leaf.attribute.name(), name.text.as_str(), id)?;
+    }
+    Ok(())
+}
+
+/// Takes out members of a group.
+fn delete_members<S: Alter>(
+    tx: &mut Transaction<'_, S>,
+    group_id: &str,
+    values: &[Text],
+) -> Result<(), Error>
+    ensures same_reference { tx.new.conn.ghost_name ≡ tx.old.conn.ghost_name }
+    ensures went { Goes (state S.Store tx.old.conn.now) (state S.Store tx.new.conn.now) result (λ old new.
+        (lists : Lists) → Are old lists → Are new (record lists { member = without (is_member group_id.now values.now) lists.member })) }
+    ensures kept { Keeps (state S.Store tx.old.conn.now) (state S.Store tx.new.conn.now) }
+    ensures survives { Survives (state S.Store tx.old.conn.now) (state S.Store tx.new.conn.now) (λ _. ⊥) }
+{
+    for value in values {
+        delete_member(tx, value.as_str(), group_id)?;
+    }
+    Ok(())
+}
+
+/// Puts in members of a group.
+fn insert_members<S: Alter>(
+    tx: &mut Transaction<'_, S>,
+    group_id: &str,
+    values: &[Text],
+) -> Result<(), Error>
+    ensures same_reference { tx.new.conn.ghost_name ≡ tx.old.conn.ghost_name }
+    ensures went { Goes (state S.Store tx.old.conn.now) (state S.Store tx.new.conn.now) result (λ old new.
+        (lists : Lists) → Are old lists → Are new (record lists { member = rows_of_members group_id.now values.now ++ lists.member })) }
+    ensures kept { Keeps (state S.Store tx.old.conn.now) (state S.Store tx.new.conn.now) }
+    ensures survives { Survives (state S.Store tx.old.conn.now) (state S.Store tx.new.conn.now) (λ _. ⊥) }
+{
+    for value in values {
+        insert_member(tx, value.as_str(), group_id)?;
+    }
+    Ok(())
+}
+
+/// Puts in the row of the resource, if there is a document.
+fn put_resource<S: Alter>(tx: &mut Transaction<'_, S>, edits: &Edits) -> Result<(), Error>
+    ensures same_reference { tx.new.conn.ghost_name ≡ tx.old.conn.ghost_name }
+    ensures went { Goes (state S.Store tx.old.conn.now) (state S.Store tx.new.conn.now) result (λ old new.
+        (lists : Lists) → Are old lists → Are new (record lists { resources = rows_of_document edits.now ++ lists.resources })) }
+    ensures kept { Keeps (state S.Store tx.old.conn.now) (state S.Store tx.new.conn.now) }
+    ensures survives { Survives (state S.Store tx.old.conn.now) (state S.Store tx.new.conn.now) (λ _. ⊥) }
+{
+    match &edits.document {
+        Some(document) => {
+            insert_resource(
+                tx,
+                edits.id.as_str(),
+                kind_number(edits.kind),
+                document.as_str(),
+            )?;
+            Ok(())
+        }
+        None => Ok(()),
+    }
+}
+
+/// Takes out what goes.
+fn take_rows<S: Alter>(tx: &mut Transaction<'_, S>, edits: &Edits) -> Result<(), Error>
+    ensures same_reference { tx.new.conn.ghost_name ≡ tx.old.conn.ghost_name }
+    ensures went { Goes (state S.Store tx.old.conn.now) (state S.Store tx.new.conn.now) result (λ old new.
+        (lists : Lists) → Are old lists → Are new (record lists {
+          resources = without (has_text 0 edits.now.id) lists.resources;
+          taken = without (is_name edits.now.names_gone.items) lists.taken;
+          member = without (is_member edits.now.id edits.now.members_gone.items) lists.member;
+        })) }
+    ensures kept { Keeps (state S.Store tx.old.conn.now) (state S.Store tx.new.conn.now) }
+    ensures survives { Survives (state S.Store tx.old.conn.now) (state S.Store tx.new.conn.now) (λ _. ⊥) }
+{
+    delete_names(tx, edits.names_gone.as_slice())?;
+    delete_members(tx, edits.id.as_str(), edits.members_gone.as_slice())?;
+    delete_resource(tx, edits.id.as_str())?;
+    Ok(())
+}
+
+/// Puts in what comes.
+fn put_rows<S: Alter>(tx: &mut Transaction<'_, S>, edits: &Edits) -> Result<(), Error>
+    ensures same_reference { tx.new.conn.ghost_name ≡ tx.old.conn.ghost_name }
+    ensures went { Goes (state S.Store tx.old.conn.now) (state S.Store tx.new.conn.now) result (λ old new.
+        (lists : Lists) → Are old lists → Are new (record lists {
+          resources = rows_of_document edits.now ++ lists.resources;
+          taken = rows_of_names edits.now.id edits.now.names_come.items ++ lists.taken;
+          member = rows_of_members edits.now.id edits.now.members_come.items ++ lists.member;
+        })) }
+    ensures kept { Keeps (state S.Store tx.old.conn.now) (state S.Store tx.new.conn.now) }
+    ensures survives { Survives (state S.Store tx.old.conn.now) (state S.Store tx.new.conn.now) (λ _. ⊥) }
+{
+    put_resource(tx, edits)?;
+    insert_names(tx, edits.id.as_str(), edits.names_come.as_slice())?;
+    insert_members(tx, edits.id.as_str(), edits.members_come.as_slice())
+}
+
+/// Takes out what goes, and puts in what comes.
+fn edit_rows<S: Alter>(tx: &mut Transaction<'_, S>, edits: &Edits) -> Result<(), Error>
+    ensures same_reference { tx.new.conn.ghost_name ≡ tx.old.conn.ghost_name }
+    ensures went { Goes (state S.Store tx.old.conn.now) (state S.Store tx.new.conn.now) result (λ old new.
+        (lists : Lists) → Are old lists → Are new (edited edits.now lists)) }
+    ensures kept { Keeps (state S.Store tx.old.conn.now) (state S.Store tx.new.conn.now) }
+    ensures survives { Survives (state S.Store tx.old.conn.now) (state S.Store tx.new.conn.now) (λ _. ⊥) }
+{
+    take_rows(tx, edits)?;
+    put_rows(tx, edits)
+}
+
+/// Makes the edits, if there are any.
+fn edit_if_any<S: Alter>(tx: &mut Transaction<'_, S>, edits: &Option<Edits>) -> Result<(), Error>
+    ensures same_reference { tx.new.conn.ghost_name ≡ tx.old.conn.ghost_name }
+    ensures went { Goes (state S.Store tx.old.conn.now) (state S.Store tx.new.conn.now) result (λ old new.
+        (lists : Lists) → Are old lists → Are new (edited_by edits.now lists)) }
+    ensures kept { Keeps (state S.Store tx.old.conn.now) (state S.Store tx.new.conn.now) }
+    ensures survives { Survives (state S.Store tx.old.conn.now) (state S.Store tx.new.conn.now) (λ _. ⊥) }
+{
+    match edits {
+        Some(edits) => edit_rows(tx, edits),
+        None => Ok(()),
+    }
+}
+
+/// Makes the edits and adds the row of the audit.
+fn write_rows<S: Alter>(
+    tx: &mut Transaction<'_, S>,
+    edits: &Option<Edits>,
+    columns: &AuditColumns<'_>,
+) -> Result<(), Error>
+    requires number { columns.now.number ≤ last_number }
+    requires moment { columns.now.moment ≤ last_number }
+    ensures same_reference { tx.new.conn.ghost_name ≡ tx.old.conn.ghost_name }
+    ensures went { Goes (state S.Store tx.old.conn.now) (state S.Store tx.new.conn.now) result (λ old new. Writes edits.now columns.now old new) }
+    ensures kept { Keeps (state S.Store tx.old.conn.now) (state S.Store tx.new.conn.now) }
+    ensures survives { Survives (state S.Store tx.old.conn.now) (state S.Store tx.new.conn.now) (λ _. ⊥) }
+{
+    edit_if_any(tx, edits)?;
+    insert_audit(tx, columns)?;
+    Ok(())
+}
+
+/// Makes the edits of a change, if it has any, and adds its row to the audit, in one transaction.
+///
+/// The error is the one that the database gave: a constraint where what comes is there, or what the disk or the memory
+/// did. Then nothing is changed, or the connection is shut.
+pub fn write_change<S: Alter>(
+    conn: &mut Connection<S>,
+    edits: &Option<Edits>,
+    columns: &AuditColumns<'_>,
+) -> Result<(), Error>
+    requires idle { conn.old.in_transaction ≡ false }
+    requires number { columns.now.number ≤ last_number }
+    requires moment { columns.now.moment ≤ last_number }
+    ensures idle { conn.new.in_transaction ≡ false }
+    ensures made { HasCleanDisk (state S.Store conn.new) → OnOk result (Became (state S.Store conn.old) (state S.Store conn.new) (Writes edits.now columns.now)) }
+    ensures undone { HasCleanDisk (state S.Store conn.new) → OnErr result (Undoes (state S.Store conn.old) (state S.Store conn.new)) }
+
+    // A crash leaves what it could leave before, or the tables with the change and its row of the audit.
+    ensures crash { Survives (state S.Store conn.old) (state S.Store conn.new) (Leaves (Writes edits.now columns.now) (state S.Store conn.old).now) }
+{
+    let mut tx = conn.transaction();
+    write_rows(&mut tx, edits, columns)?;
+    tx.commit()
+}
