@@ -19,18 +19,21 @@ use Rattle.scim_query.specs.declared.queries.Query.{Query}
 use Rattle.scim_shelf.specs.declared.changes.Change.TheVariants.{Nothing}
 use Rattle.scim_service.specs.declared.requests.Turn.{Turn}
 use Rattle.scim_service.specs.declared.replies.Reply.TheVariants.{Shown}
-use Rattle.scim_service.specs.Step.{row_of, allowed, resource_text, got, list_text, view_of_kind, listed, sought, at_seen}
+use Rattle.scim_service.specs.Step.{row_of, allowed, resource_text, got, list_text, view_of_kind, listed, at_seen}
 
-pub got_is : (v : Viewer) (turn : Turn) (cs : List Content) (wanted : Wanted) (c : Content) (groups : List Content) (text : List ℕ) (row : AuditRow) (d : Decision)
-    → text ≡ resource_text v groups wanted c → with_groups v groups c ≡ with_groups v (of_kind Group cs) c → row ≡ allowed turn d.rule
-    → d ≡ read_decision v c (simple Id) → d.allow ≡ true → Some c ≡ sought turn cs
-    → record { reply = Shown text; change = Nothing; row = row } ≡ at_seen v turn (got v turn cs wanted) (sought turn cs)
-unfolding got resource_text
-got_is v turn cs wanted c groups text row d text_is groups_are row_is decides allows found =
+-- a resource that is seen the same with two lists of groups is told the same
+pub text_with : (v : Viewer) (gs hs : List Content) (wanted : Wanted) (c : Content) → with_groups v gs c ≡ with_groups v hs c → resource_text v gs wanted c ≡ resource_text v hs wanted c
+unfolding resource_text
+text_with v gs hs wanted c same = ap (λ (w : Content). compact_text (part_data (shown wanted w))) same
+
+pub got_is : (v : Viewer) (turn : Turn) (cs : List Content) (wanted : Wanted) (c : Content) (text : List ℕ) (row : AuditRow) (d : Decision)
+    → text ≡ resource_text v (of_kind Group cs) wanted c → row ≡ allowed turn d.rule → d ≡ read_decision v c (simple Id) → d.allow ≡ true
+    → record { reply = Shown text; change = Nothing; row = row } ≡ at_seen v turn (got v turn cs wanted) (Some c)
+unfolding got
+got_is v turn cs wanted c text row d text_is row_is decides allows =
     let seen : (read_decision v c (simple Id)).allow ≡ true = ap (λ (e : Decision). e.allow) (sym decides) ∙ allows in
-    let told = text_is ∙ ap (λ (w : Content). compact_text (part_data (shown wanted w))) groups_are in
     let noted = row_is ∙ ap (λ (e : Decision). allowed turn e.rule) decides in
-    rw (← found) (rw seen (λ i. record { reply = Shown (told i); change = Nothing; row = noted i }))
+    rw seen (λ i. record { reply = Shown (text_is i); change = Nothing; row = noted i })
 
 pub listed_is : (v : Viewer) (turn : Turn) (cs : List Content) (query : Query) (text : List ℕ) (row : AuditRow)
     → text ≡ list_text query (view_of_kind v turn cs) → row ≡ row_of turn None decided.Allow None None None

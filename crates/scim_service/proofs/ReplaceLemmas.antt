@@ -15,7 +15,7 @@ use Rattle.scim_schema.specs.Mutability.{is_fixed}
 use Rattle.scim_schema.specs.Units.{simple, units}
 use Rattle.scim_cell.specs.Content.{Content}
 use Rattle.scim_cell.specs.Rows.{rows}
-use Rattle.scim_audit.specs.declared.refusals.Refusal.TheVariants.{Taken}
+use Rattle.scim_audit.specs.declared.refusals.Refusal.TheVariants.{Taken, Widens}
 use Rattle.scim_change.specs.Agreement.{agrees}
 use Rattle.scim_body.specs.Drafts.{Draft, gives}
 use Rattle.scim_change.specs.Replace.{changes, replaced}
@@ -28,7 +28,7 @@ use Rattle.scim_shelf.specs.Stores.{Store, IsStore, is_at, is_taken, without}
 use Rattle.scim_service.specs.declared.requests.Turn.{Turn}
 use Rattle.scim_service.specs.declared.plans.Plan.{Plan}
 use Rattle.scim_service.specs.code.Questions.{is_in_question}
-use Rattle.scim_service.specs.Step.{refused, access_to, unit_denied, first_unit_denied, widened, kept_text, kept_with, changed_if_free, is_writable, written, written_if_allowed, replacing, sought, at_seen}
+use Rattle.scim_service.specs.Step.{refused, denied, access_to, unit_denied, first_unit_denied, kept_text, kept_with, changed_if_free, is_writable, written, written_if_allowed, replacing, sought, at_seen}
 
 -- a unit that isn't in question isn't denied
 unit_passes : (a : Access) (d : Draft) (seen : Content) (u : AttributeUnit) → is_in_question a d u ≡ false → unit_denied a d seen u ≡ None
@@ -78,7 +78,7 @@ module _ (v : Viewer) (turn : Turn) (cs : List Content) (wanted : Wanted) (a : A
   pub taken_is : is_taken (without c.id cs) c ≡ true → refused turn Taken ≡ changed_if_free v turn cs wanted a changed c
   taken_is t = rw t refl
 
-  pub widened_is : (op : Op) (l : Leaf) (d : Decision) → is_taken (without c.id cs) c ≡ false → widening c.kind a (access_to v c) ≡ Some (op, l, d) → widened turn l d ≡ changed_if_free v turn cs wanted a changed c
+  pub widened_is : (op : Op) (l : Leaf) (d : Decision) → is_taken (without c.id cs) c ≡ false → widening c.kind a (access_to v c) ≡ Some (op, l, d) → denied turn d l Widens ≡ changed_if_free v turn cs wanted a changed c
   widened_is op l d free wide = rw (free, wide) refl
 
   pub changed_is : (rule : ℕ) (text : Option (List ℕ)) → is_taken (without c.id cs) c ≡ false → widening c.kind a (access_to v c) ≡ None
@@ -111,23 +111,3 @@ module _ (v : Viewer) (turn : Turn) (cs : List Content) (d : Draft) (wanted : Wa
 pub seen_is : (v : Viewer) (turn : Turn) (cs : List Content) (next : Content → Plan) (c : Content) (plan : Plan)
     → plan ≡ next c → (read_decision v c (simple Id)).allow ≡ true → Some c ≡ sought turn cs → plan ≡ at_seen v turn next (sought turn cs)
 seen_is v turn cs next c plan made allows found = rw (← found) (rw allows made)
-
--- what holds of an answer under a condition
-pub IfOk-when : {X F : Type 0} (A : Type 0) (P : X → Type 0) (r : Result X F) → (A → IfOk r P) → IfOk r (λ x. A → P x)
-IfOk-when A P (Ok x) holds = holds
-IfOk-when A P (Err e) holds = tt
-
--- the one that is sought is below the base
-pub sought_base : (base : List ℕ) (turn : Turn) (store : Store) (c : Content) → IsStore base store → Some c ≡ sought turn store.resources → HasBase base c
-sought_base base turn store c is found = by_id turn.request.id found
-  where
-    in_all : (kind : Kind) (id : List ℕ) (ds : List Content) → All (λ d. IsResource d × HasBase base d) ds → Some c ≡ find (is_at kind id) ds → HasBase base c
-    in_all kind id [] all e = cc
-    in_all kind id (d ∷ ds) all e = elim (cases_Bool (is_at kind id d)) [
-      | inl t ↦ (let same : Some c ≡ Some d = rw t at e in let one : c ≡ d = cc in subst (λ (x : Content). HasBase base x) (sym one) (All-head (λ x. IsResource x × HasBase base x) d ds all).1)
-      | inr f ↦ in_all kind id ds (All-tail (λ x. IsResource x × HasBase base x) d ds all) (rw f at e)
-    ]
-
-    by_id : (id : Option (List ℕ)) → Some c ≡ option_and_then (λ (i : List ℕ). find (is_at turn.request.kind i) store.resources) id → HasBase base c
-    by_id None e = cc
-    by_id (Some id) e = in_all turn.request.kind id store.resources is.sound e

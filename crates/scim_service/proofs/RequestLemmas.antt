@@ -47,7 +47,7 @@ use Rattle.scim_service.specs.declared.requests.Ask.{Ask}
 use Rattle.scim_service.specs.declared.requests.Ask.TheVariants.{Get, Search, Create, Replace, Patch as PatchOne, Remove}
 use Rattle.scim_service.specs.declared.requests.Turn.{Turn}
 use Rattle.scim_service.specs.declared.replies.Reply.TheVariants.{Shown, Created, Refused}
-use Rattle.scim_service.specs.Step.{refused, absent, hidden, denied, widened, resource_text, got, list_text, listed, delete_decision, removed, new_resource, first_denied, kept_text, made_if_free, made_if_allowed, is_for, creating, access_to, first_unit_denied, is_writable, writable, shown_or_done, changed_if_narrow, changed_if_free, changed_if_complete, written_if_allowed, replacing, first_forbidden, step_refusal, patched_with, patched_if_allowed, patching, sought, at_seen, planned}
+use Rattle.scim_service.specs.Step.{refused, absent, hidden, denied, resource_text, got, list_text, listed, delete_decision, removed, new_resource, first_denied, kept_text, made_if_free, made_if_allowed, is_for, creating, access_to, first_unit_denied, is_writable, writable, shown_or_done, changed_if_narrow, changed_if_free, changed_if_complete, written_if_allowed, replacing, first_forbidden, step_refusal, patched_with, patched_if_allowed, patching, sought, at_seen, planned}
 use Rattle.scim_service.specs.laws.Alike.{is_in_use}
 use Rattle.scim_service.specs.laws.Requests.{IsAsk, FindsFree}
 use Rattle.scim_service.proofs.KeepLemmas.{Plan, found_holds}
@@ -168,7 +168,7 @@ module _ (v : Viewer) (turn : Turn) (s t : List Content) (like : AreLike v s t) 
       (others : (name : Name) → is_in_use (without x.id s) name ≡ is_in_use (without y.id t) name) where
     narrow_same : (o p : Option (Op × Leaf × Decision)) → o ≡ p → (o ≡ None → traits v x ≡ traits v y)
         → AreAnswers v s t (changed_if_narrow v turn s wanted (access_to v a) changed x o) (changed_if_narrow v turn t wanted (access_to v b) changed y p)
-    unfolding widened
+    unfolding denied
     narrow_same None None e same =
         let kept = keep_like v turn s t like x y (same refl) names others in
         let text = kept_text_same v s t x y kept (same refl) wanted in

@@ -1,17 +1,18 @@
 -- What a plan may change.
 use Rattle.std.proofs.Common.{◌≡◌, refl, sym, ap, ◌∙◌, subst, subst₂, ℕ, Bool, true, List, false, inl, inr}
-use Rattle.std.specs.Prelude.{find, option_and_then, Option, None, Some, Result, Ok, Err}
+use Rattle.std.specs.Prelude.{⊤, find, option_and_then, Option, None, Some, Result, Ok, Err}
 use Rattle.std.proofs.lemmas.Bool.{cases_Bool}
 use Rattle.scim_schema.specs.declared.Kind.{Kind}
 use Rattle.scim_schema.specs.declared.Op.{Op}
 use Rattle.scim_schema.specs.declared.Leaf.{Leaf}
 use Rattle.scim_schema.specs.declared.Unit.{Unit as AttributeUnit}
-use denote.Enum.Bare.{sameb}
+use denote.Enum.Bare.{sameb, same_true}
 use Rattle.scim_schema.specs.contracts.Kind.{the_type as the_kind}
 use Rattle.scim_schema.specs.declared.Attribute.TheVariants.{Id}
 use Rattle.scim_schema.specs.Units.{simple, units}
 use Rattle.scim_cell.specs.Content.{Content}
 use Rattle.scim_cell.specs.Rows.{Row, rows, content}
+use Rattle.scim_value.specs.Resource.{IsResource, HasBase}
 use Rattle.scim_audit.specs.declared.refusals.Refusal.{Refusal}
 use Rattle.scim_audit.specs.declared.rows.AuditRow.{AuditRow}
 use Rattle.scim_body.specs.Drafts.{Draft, lacks_required}
@@ -25,14 +26,13 @@ use Rattle.scim_view.specs.declared.projection.Wanted.{Wanted}
 use Rattle.scim_view.specs.View.{Viewer, read_decision, visible}
 use Rattle.scim_shelf.specs.declared.changes.Change.{Change}
 use Rattle.scim_shelf.specs.declared.changes.Change.TheVariants.{Nothing, Keep, Remove as TakeOut}
-use Rattle.scim_shelf.specs.Stores.{Store, IsStore, AreKeyed, AreOf, CanKeep, is_at, is_taken, is_used, without, after}
+use Rattle.scim_shelf.specs.Stores.{Store, IsStore, AreKeyed, AreOf, CanKeep, HasPlace, is_at, is_taken, is_used, without, after}
 use Rattle.scim_shelf.proofs.Facts.{changed_place, found_own, free_place, IsStore-keep, IsStore-without}
 use Rattle.scim_service.specs.declared.requests.Ask.{Ask}
 use Rattle.scim_service.specs.declared.requests.Ask.TheVariants.{Get, Search, Create, Replace, Patch as PatchOne, Remove}
 use Rattle.scim_service.specs.declared.requests.Turn.{Turn}
 use Rattle.scim_service.specs.declared.plans.Plan.{Plan}
-use Rattle.scim_service.specs.Answers.{KeepsSound}
-use Rattle.scim_service.specs.Step.{refused, absent, hidden, denied, got, listed, delete_decision, removed, new_resource, first_denied, made_if_free, made_if_allowed, is_for, creating, access_to, first_unit_denied, writable, widened, changed_if_narrow, changed_if_free, changed_if_complete, written_if_allowed, replacing, first_forbidden, patched_with, patched_if_allowed, patching, sought, at_seen, planned}
+use Rattle.scim_service.specs.Step.{refused, absent, hidden, denied, got, listed, delete_decision, removed, new_resource, first_denied, made_if_free, made_if_allowed, is_for, creating, access_to, first_unit_denied, writable, changed_if_narrow, changed_if_free, changed_if_complete, written_if_allowed, replacing, first_forbidden, patched_with, patched_if_allowed, patching, sought, at_seen, planned}
 
 -- what a resource becomes is of its kind, and has its id, where it is replaced
 pub replaced_kind : (d : Draft) (us : List AttributeUnit) (moment : ℕ) (c x : Content) → replaced d us moment c ≡ Some x → (x.kind ≡ c.kind) × (x.id ≡ c.id)
@@ -64,8 +64,7 @@ patched_kind p moment c x changed e = by_steps (all_stepped p.kind p.steps (Ok (
     by_steps (Err fault) h = cc
     by_steps (Ok rs) h = (let same : finished p moment c rs ≡ x = ap (left_by c) h in subst (λ (y : Content). (y.kind ≡ c.kind) × (y.id ≡ c.id)) same (finished_kind rs))
 
-module _ (P : Change → Type 0) (none : P Nothing) (out : (kind : Kind) (id : List ℕ) → P (TakeOut kind id)) (v : Viewer) (turn : Turn) (cs : List Content)
-    (new : (c : Content) → is_taken cs c ≡ false → is_used cs c.id ≡ false → P (Keep c)) where
+module _ (P : Change → Type 0) (none : P Nothing) (out : (kind : Kind) (id : List ℕ) → P (TakeOut kind id)) (v : Viewer) (turn : Turn) (cs : List Content) where
   at_seen_change : (plan : Content → Plan) (o : Option Content) → ((c : Content) → Some c ≡ o → P (plan c).change) → P (at_seen v turn plan o).change
   unfolding absent hidden
   at_seen_change plan None each = none
@@ -75,27 +74,32 @@ module _ (P : Change → Type 0) (none : P Nothing) (out : (kind : Kind) (id : L
   unfolding removed denied
   removed_change c = elim (cases_Bool (delete_decision v c).allow) [ inl t ↦ rw t (out c.kind c.id) | inr f ↦ rw f none ]
 
-  free_change : (wanted : Wanted) (c : Content) → P (made_if_free v turn cs wanted c).change
+  free_change : (wanted : Wanted) (c : Content) → (is_taken cs c ≡ false → is_used cs c.id ≡ false → P (Keep c)) → P (made_if_free v turn cs wanted c).change
   unfolding refused
-  free_change wanted c = elim (cases_Bool (is_taken cs c)) [
+  free_change wanted c keeps = elim (cases_Bool (is_taken cs c)) [
     | inl t ↦ rw t none
-    | inr f ↦ elim (cases_Bool (is_used cs c.id)) [ inl u ↦ rw (f, u) none | inr g ↦ rw (f, g) (new c f g) ]
+    | inr f ↦ elim (cases_Bool (is_used cs c.id)) [ inl u ↦ rw (f, u) none | inr g ↦ rw (f, g) (keeps f g) ]
   ]
 
-  allowed_change : (wanted : Wanted) (c : Content) (o : Option Leaf) → P (made_if_allowed v turn cs wanted c o).change
+  allowed_change : (wanted : Wanted) (c : Content) (o : Option Leaf) → (is_taken cs c ≡ false → is_used cs c.id ≡ false → P (Keep c)) → P (made_if_allowed v turn cs wanted c o).change
   unfolding denied
-  allowed_change wanted c None = free_change wanted c
-  allowed_change wanted c (Some l) = none
+  allowed_change wanted c None keeps = free_change wanted c keeps
+  allowed_change wanted c (Some l) keeps = none
 
-  creating_change : (d : Draft) (wanted : Wanted) → P (creating v turn cs d wanted).change
+  -- what a plan may keep: what a draft makes, whose names and id no other has
+  abbrev KeepsMade : Draft → Type 0
+  KeepsMade d =
+      is_for turn d ≡ true → is_taken cs (new_resource v turn d) ≡ false → is_used cs (new_resource v turn d).id ≡ false → P (Keep (new_resource v turn d))
+
+  creating_change : (d : Draft) (wanted : Wanted) → KeepsMade d → P (creating v turn cs d wanted).change
   unfolding creating refused
-  creating_change d wanted = elim (cases_Bool (is_for turn d)) [
-    | inl t ↦ rw t (allowed_change wanted (new_resource v turn d) (first_denied v d (new_resource v turn d)))
+  creating_change d wanted keeps = elim (cases_Bool (is_for turn d)) [
+    | inl t ↦ rw t (allowed_change wanted (new_resource v turn d) (first_denied v d (new_resource v turn d)) (keeps t))
     | inr f ↦ rw f none
   ]
 
   narrow_change : (wanted : Wanted) (a : Access) (changed : Bool) (c : Content) (o : Option (Op × Leaf × Decision)) → P (Keep c) → P (changed_if_narrow v turn cs wanted a changed c o).change
-  unfolding widened
+  unfolding denied
   narrow_change wanted a true c None keeps = keeps
   narrow_change wanted a false c None keeps = none
   narrow_change wanted a changed c (Some (op, l, d)) keeps = none
@@ -113,17 +117,21 @@ module _ (P : Change → Type 0) (none : P Nothing) (out : (kind : Kind) (id : L
   written_change d wanted c us None keeps = none
   written_change d wanted c us (Some x) keeps = changed_change wanted (access_to v c) (changes d us (rows c)) x (keeps x refl)
 
-  replacing_change : (d : Draft) (wanted : Wanted) (c : Content) → ((us : List AttributeUnit) (x : Content) → replaced d us turn.moment c ≡ Some x → is_taken (without x.id cs) x ≡ false → P (Keep x))
-      → P (replacing v turn cs d wanted c).change
+  -- what the units of a draft that may be written make of a resource of its kind, whose names no other has
+  abbrev KeepsReplaced : Draft → Content → Type 0
+  KeepsReplaced d c =
+      (x : Content) → d.kind ≡ c.kind → replaced d (writable c.kind (access_to v c)) turn.moment c ≡ Some x → is_taken (without x.id cs) x ≡ false → P (Keep x)
+
+  replacing_change : (d : Draft) (wanted : Wanted) (c : Content) → KeepsReplaced d c → P (replacing v turn cs d wanted c).change
   unfolding replacing refused denied
   replacing_change d wanted c keeps = elim (cases_Bool (sameb the_kind d.kind c.kind)) [
-    | inl t ↦ rw t (by_denial (first_unit_denied (access_to v c) d (visible v c) (units d.kind)))
+    | inl t ↦ rw t (by_denial (same_true the_kind tt d.kind c.kind t) (first_unit_denied (access_to v c) d (visible v c) (units d.kind)))
     | inr f ↦ rw f none
   ]
     where
-      by_denial : (o : Option (Leaf × Decision)) → P (written_if_allowed v turn cs d wanted c o).change
-      by_denial None = written_change d wanted c (writable c.kind (access_to v c)) (replaced d (writable c.kind (access_to v c)) turn.moment c) (keeps (writable c.kind (access_to v c)))
-      by_denial (Some (l, decision)) = none
+      by_denial : d.kind ≡ c.kind → (o : Option (Leaf × Decision)) → P (written_if_allowed v turn cs d wanted c o).change
+      by_denial kinds None = written_change d wanted c (writable c.kind (access_to v c)) (replaced d (writable c.kind (access_to v c)) turn.moment c) (λ x. keeps x kinds)
+      by_denial kinds (Some (l, decision)) = none
 
   patched_change : (wanted : Wanted) (c : Content) (r : Result (Content × Bool) StepFault)
       → ((x : Content) (changed : Bool) → r ≡ Ok (x, changed) → is_taken (without x.id cs) x ≡ false → P (Keep x)) → P (patched_with v turn cs wanted c r).change
@@ -131,31 +139,39 @@ module _ (P : Change → Type 0) (none : P Nothing) (out : (kind : Kind) (id : L
   patched_change wanted c (Err e) keeps = none
   patched_change wanted c (Ok (x, changed)) keeps = changed_change wanted (access_to v c) changed x (keeps x changed refl)
 
-  patching_change : (p : Patch) (wanted : Wanted) (c : Content) → ((x : Content) (changed : Bool) → applied p turn.moment c ≡ Ok (x, changed) → is_taken (without x.id cs) x ≡ false → P (Keep x))
-      → P (patching v turn cs p wanted c).change
+  -- what the steps of a patch make of a resource of its kind, whose names no other has
+  abbrev KeepsPatched : Patch → Content → Type 0
+  KeepsPatched p c = (x : Content) (changed : Bool) → p.kind ≡ c.kind → applied p turn.moment c ≡ Ok (x, changed) → is_taken (without x.id cs) x ≡ false → P (Keep x)
+
+  patching_change : (p : Patch) (wanted : Wanted) (c : Content) → KeepsPatched p c → P (patching v turn cs p wanted c).change
   unfolding patching refused denied
   patching_change p wanted c keeps = elim (cases_Bool (sameb the_kind p.kind c.kind)) [
-    | inl t ↦ rw t (by_denial (first_forbidden p.kind (access_to v c) (touched p)))
+    | inl t ↦ rw t (by_denial (same_true the_kind tt p.kind c.kind t) (first_forbidden p.kind (access_to v c) (touched p)))
     | inr f ↦ rw f none
   ]
     where
-      by_denial : (o : Option (Leaf × Decision)) → P (patched_if_allowed v turn cs p wanted c o).change
-      by_denial None = patched_change wanted c (applied p turn.moment c) keeps
-      by_denial (Some (l, decision)) = none
+      by_denial : p.kind ≡ c.kind → (o : Option (Leaf × Decision)) → P (patched_if_allowed v turn cs p wanted c o).change
+      by_denial kinds None = patched_change wanted c (applied p turn.moment c) (λ x changed. keeps x changed kinds)
+      by_denial kinds (Some (l, decision)) = none
 
-  -- a plan changes nothing, takes a resource out, keeps one whose names and id no other has, or keeps what became of the one that is sought, whose names no other has
-  pub planned_change : ((c x : Content) → Some c ≡ sought turn cs → (x.kind ≡ c.kind) × (x.id ≡ c.id) → is_taken (without x.id cs) x ≡ false → P (Keep x))
-      → (ask : Result Ask Refusal) → P (planned v turn cs ask).change
+  -- whatever is asked of the resource that is sought
+  abbrev pub Keeps : Result Ask Refusal → Type 0
+  Keeps (Ok (Create draft wanted)) = KeepsMade draft
+  Keeps (Ok (Replace draft wanted)) = (c : Content) → Some c ≡ sought turn cs → KeepsReplaced draft c
+  Keeps (Ok (PatchOne patch wanted)) = (c : Content) → Some c ≡ sought turn cs → KeepsPatched (patch_of patch) c
+  Keeps _ = ⊤
+
+  -- a plan changes nothing, takes a resource out, or keeps what it may
+  pub planned_change : (ask : Result Ask Refusal) → Keeps ask → P (planned v turn cs ask).change
   unfolding refused got listed
-  planned_change become (Err refusal) = none
-  planned_change become (Ok (Get wanted)) = at_seen_change (got v turn cs wanted) (sought turn cs) (λ c found. none)
-  planned_change become (Ok (Search query)) = none
-  planned_change become (Ok (Create draft wanted)) = creating_change draft wanted
-  planned_change become (Ok (Replace draft wanted)) = at_seen_change (replacing v turn cs draft wanted) (sought turn cs)
-      (λ c found. replacing_change draft wanted c (λ us x e f. become c x found (replaced_kind draft us turn.moment c x e) f))
-  planned_change become (Ok (PatchOne patch wanted)) = at_seen_change (patching v turn cs (patch_of patch) wanted) (sought turn cs)
-      (λ c found. patching_change (patch_of patch) wanted c (λ x changed e f. become c x found (patched_kind (patch_of patch) turn.moment c x changed e) f))
-  planned_change become (Ok Remove) = at_seen_change (removed v turn) (sought turn cs) (λ c found. removed_change c)
+  planned_change (Err refusal) keeps = none
+  planned_change (Ok (Get wanted)) keeps = at_seen_change (got v turn cs wanted) (sought turn cs) (λ c found. none)
+  planned_change (Ok (Search query)) keeps = none
+  planned_change (Ok (Create draft wanted)) keeps = creating_change draft wanted keeps
+  planned_change (Ok (Replace draft wanted)) keeps = at_seen_change (replacing v turn cs draft wanted) (sought turn cs) (λ c found. replacing_change draft wanted c (keeps c found))
+  planned_change (Ok (PatchOne patch wanted)) keeps =
+      at_seen_change (patching v turn cs (patch_of patch) wanted) (sought turn cs) (λ c found. patching_change (patch_of patch) wanted c (keeps c found))
+  planned_change (Ok Remove) keeps = at_seen_change (removed v turn) (sought turn cs) (λ c found. removed_change c)
 
 -- the one that is sought is the one of its kind and id
 pub sought_own : (turn : Turn) (cs : List Content) (c : Content) → AreKeyed cs → Some c ≡ sought turn cs → AreOf c.kind c.id cs
@@ -165,10 +181,29 @@ sought_own turn cs c keyed found = by_id turn.request.id found
     by_id None e = cc
     by_id (Some id) e = found_own turn.request.kind id cs c keyed e
 
+-- what becomes of a resource in its place has a place
+place_of : (turn : Turn) (cs : List Content) (c x : Content) → AreKeyed cs → Some c ≡ sought turn cs → (x.kind ≡ c.kind) × (x.id ≡ c.id) → is_taken (without x.id cs) x ≡ false → HasPlace cs x
+place_of turn cs c x keyed found same free =
+    changed_place cs x (subst₂ (λ (k : Kind) (i : List ℕ). AreOf k i cs) (sym same.0) (sym same.1) (sought_own turn cs c keyed found)) free
+
 -- a plan's change may be made
 pub can_keep : (v : Viewer) (turn : Turn) (store : Store) (ask : Result Ask Refusal) → AreKeyed store.resources → CanKeep store (planned v turn store.resources ask).change
-can_keep v turn store ask keyed = planned_change (CanKeep store) tt (λ kind id. tt) v turn store.resources (λ c free fresh. free_place store.resources c free fresh)
-    (λ c x found same free. changed_place store.resources x (subst₂ (λ (k : Kind) (i : List ℕ). AreOf k i store.resources) (sym same.0) (sym same.1) (sought_own turn store.resources c keyed found)) free) ask
+can_keep v turn store ask keyed = planned_change (CanKeep store) tt (λ kind id. tt) v turn store.resources ask (keeps ask)
+  where
+    keeps : (ask : Result Ask Refusal) → Keeps (CanKeep store) tt (λ kind id. tt) v turn store.resources ask
+    keeps (Ok (Create draft wanted)) = λ own free fresh. free_place store.resources (new_resource v turn draft) free fresh
+    keeps (Ok (Replace draft wanted)) = λ c found x kinds e free.
+        place_of turn store.resources c x keyed found (replaced_kind draft (writable c.kind (access_to v c)) turn.moment c x e) free
+    keeps (Ok (PatchOne patch wanted)) = λ c found x changed kinds e free. place_of turn store.resources c x keyed found (patched_kind (patch_of patch) turn.moment c x changed e) free
+    keeps (Ok (Get wanted)) = tt
+    keeps (Ok (Search query)) = tt
+    keeps (Ok Remove) = tt
+    keeps (Err refusal) = tt
+
+-- what a change keeps is a resource below the base
+abbrev pub KeepsSound : List ℕ → Change → Type 0
+KeepsSound base (Keep c) = IsResource c × HasBase base c
+KeepsSound base _ = ⊤
 
 -- a store stays one where a change may be made and what it keeps is sound
 pub stays_store : (base : List ℕ) (store : Store) (change : Change) (row : AuditRow) → IsStore base store → KeepsSound base change → CanKeep store change → IsStore base (after change row store)

@@ -4,12 +4,9 @@ use Rattle.std.specs.List.{FoldsTo}
 use Rattle.scim_text.specs.declared.memory.Failed.{Failed}
 use Rattle.scim_text.specs.declared.memory.Failed.TheVariants.{Because}
 use Rattle.scim_audit.specs.declared.refusals.Refusal.TheVariants.{Store as NoStore}
-use Rattle.scim_value.specs.Resource.{IsResource, HasBase}
 use Rattle.scim_policy.specs.Rules.{Rule}
 use Rattle.scim_shelf.specs.declared.faults.ShelfFault.{ShelfFault}
 use Rattle.scim_shelf.specs.declared.faults.ShelfFault.TheVariants.{Device, Full}
-use Rattle.scim_shelf.specs.declared.changes.Change.{Change}
-use Rattle.scim_shelf.specs.declared.changes.Change.TheVariants.{Keep}
 use Rattle.scim_shelf.specs.Stores.{Store, last_number}
 use Rattle.scim_service.specs.declared.requests.Turn.{Turn}
 use Rattle.scim_service.specs.declared.replies.Reply.{Reply}
@@ -20,11 +17,6 @@ use Rattle.scim_service.specs.Step.{plan, next_store}
 pub record IsCause (before now : ℕ) (store : Store) (fault : Failed ShelfFault) : Type 0 where
   pub device : fault ≡ Because Device → (before < now) ⊎ (before ≡ 18446744073709551615)
   pub full : fault ≡ Because Full → length store.audit ≡ last_number
-
--- what a change keeps is a resource below the base
-abbrev pub KeepsSound : List ℕ → Change → Type 0
-KeepsSound base (Keep c) = IsResource c × HasBase base c
-KeepsSound base _ = ⊤
 
 -- the turn is answered as it is planned, and done
 abbrev pub IsDone : List Rule → List ℕ → Turn → Store → Reply → Store → Type 0

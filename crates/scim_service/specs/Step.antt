@@ -88,9 +88,9 @@ absent turn = refused_as turn decided.Absent None None NotFound
 unfoldable pub hidden : Turn → Decision → Plan
 hidden turn d = refused_as turn decided.Hidden (Some d.rule) (Some (simple Id)) NotFound
 
--- since this decision denies it at a leaf
-unfoldable pub denied : Turn → Decision → Leaf → Plan
-denied turn d l = refused_as turn decided.Deny (Some d.rule) (Some l) Denied
+-- since of this decision at a leaf, which denies it, or would open something to the client that was denied it
+unfoldable pub denied : Turn → Decision → Leaf → Refusal → Plan
+denied turn d l refusal = refused_as turn decided.Deny (Some d.rule) (Some l) refusal
 
 -- ---- what is done
 
@@ -124,7 +124,7 @@ unfoldable pub removed : Viewer → Turn → Content → Plan
 removed v turn c =
     if (delete_decision v c).allow
     then record { reply = Done; change = TakeOut c.kind c.id; row = allowed turn (delete_decision v c).rule }
-    else denied turn (delete_decision v c) (simple Id)
+    else denied turn (delete_decision v c) (simple Id) Denied
 
 -- ---- what is made
 
@@ -167,7 +167,7 @@ made_if_free v turn cs wanted c =
 -- and the policy's leave
 abbrev pub made_if_allowed : Viewer → Turn → List Content → Wanted → Content → Option Leaf → Plan
 made_if_allowed v turn cs wanted c None = made_if_free v turn cs wanted c
-made_if_allowed v turn cs wanted c (Some l) = denied turn (create_decision v c l) l
+made_if_allowed v turn cs wanted c (Some l) = denied turn (create_decision v c l) l Denied
 
 -- whether the draft is of the request's kind, and was read to make a resource
 abbrev pub is_for : Turn → Draft → Bool
@@ -200,10 +200,6 @@ is_writable kind a u = not (is_fixed kind u) && is_none (forbidding kind a u)
 abbrev pub writable : Kind → Access → List AttributeUnit
 writable kind a = filter (is_writable kind a) (units kind)
 
--- since a rule would let the client do at a leaf what it may not do there before
-unfoldable pub widened : Turn → Leaf → Decision → Plan
-widened turn l d = refused_as turn decided.Deny (Some d.rule) (Some l) Widens
-
 -- what is shown, or that it is done where there is nothing to show
 abbrev pub shown_or_done : Option (List ℕ) → Reply
 shown_or_done None = Done
@@ -221,10 +217,10 @@ kept_with turn rule changed c text = record { reply = shown_or_done text; change
 abbrev pub changed_with : Viewer → Turn → List Content → Wanted → Access → Bool → Content → Plan
 changed_with v turn cs wanted a changed c = kept_with turn (a.read (simple Id)).rule changed c (kept_text v cs wanted c)
 
--- unless it would open something to the client
+-- unless a rule would let the client do at a leaf what it may not do there before
 abbrev pub changed_if_narrow : Viewer → Turn → List Content → Wanted → Access → Bool → Content → Option (Op × Leaf × Decision) → Plan
 changed_if_narrow v turn cs wanted a changed c None = changed_with v turn cs wanted a changed c
-changed_if_narrow v turn cs wanted a changed c (Some (op, l, d)) = widened turn l d
+changed_if_narrow v turn cs wanted a changed c (Some (op, l, d)) = denied turn d l Widens
 
 -- and unless another resource has a unique name of it, be it seen or not
 abbrev pub changed_if_free : Viewer → Turn → List Content → Wanted → Access → Bool → Content → Plan
@@ -242,7 +238,7 @@ written v turn cs d wanted c us = changed_if_complete v turn cs wanted (access_t
 
 -- unless the body gives one that may not be written something else than is seen there
 abbrev pub written_if_allowed : Viewer → Turn → List Content → Draft → Wanted → Content → Option (Leaf × Decision) → Plan
-written_if_allowed v turn cs d wanted c (Some (l, decision)) = denied turn decision l
+written_if_allowed v turn cs d wanted c (Some (l, decision)) = denied turn decision l Denied
 written_if_allowed v turn cs d wanted c None = written v turn cs d wanted c (writable c.kind (access_to v c))
 
 unfoldable pub replacing : Viewer → Turn → List Content → Draft → Wanted → Content → Plan
@@ -271,7 +267,7 @@ patched_with v turn cs wanted c (Ok (x, changed)) = changed_if_free v turn cs wa
 
 -- unless one is about a unit that may not be written, they are applied to the resource as it is kept, whatever of it is seen
 abbrev pub patched_if_allowed : Viewer → Turn → List Content → Patch → Wanted → Content → Option (Leaf × Decision) → Plan
-patched_if_allowed v turn cs p wanted c (Some (l, d)) = denied turn d l
+patched_if_allowed v turn cs p wanted c (Some (l, d)) = denied turn d l Denied
 patched_if_allowed v turn cs p wanted c None = patched_with v turn cs wanted c (applied p turn.moment c)
 
 unfoldable pub patching : Viewer → Turn → List Content → Patch → Wanted → Content → Plan

@@ -1,48 +1,27 @@
 //! What is to be done where a resource is changed.
-ghost use Rattle.std.specs.Prelude.{◌≡◌, ◌≢◌, ℕ, List, IfOk, Err};
-ghost use Rattle.scim_text.specs.declared.memory.Failed.{Failed};
+ghost use Rattle.std.specs.Prelude.{◌≡◌, ℕ, List, IfOk};
 ghost use Rattle.scim_schema.specs.declared.Attribute.{Attribute};
 ghost use Rattle.scim_schema.specs.Units.{simple};
-ghost use Rattle.scim_value.specs.Resource.{HasBase};
 ghost use Rattle.scim_policy.specs.Table.{access_in};
 ghost use Rattle.scim_view.specs.View.{viewer_of};
-ghost use Rattle.scim_shelf.specs.declared.changes.Change.{Change};
-ghost use Rattle.scim_shelf.specs.declared.faults.ShelfFault.{ShelfFault};
-ghost use Rattle.scim_shelf.specs.Shelves.{Counts, KeepsStore, Answers};
+ghost use Rattle.scim_shelf.specs.Shelves.{Answers, OnlyReads};
 ghost use Rattle.scim_shelf.specs.Stores.{IsStore, AreOf};
-ghost use Rattle.scim_service.specs.Answers.{KeepsSound};
 ghost use Rattle.scim_service.specs.Step as spec;
 
 use crate::names::has_taken_name;
-use crate::plans::{Plan, allowed, kept_text, refused, refused_as};
+use crate::plans::{Plan, allowed, denied, kept_text, refused};
 use crate::replies::Reply;
 use crate::requests::Turn;
-use scim_audit::{Decided, Refusal};
+use scim_audit::Refusal;
 use scim_cell::Text;
 use scim_change::Changed;
-use scim_policy::{Decision, Rights};
+use scim_policy::Rights;
 use scim_schema::{Attribute, Leaf};
 use scim_shelf::{Change, Shelf, ShelfFault};
 use scim_text::{Failed, NoMemory};
 use scim_value::Resource;
 use scim_view::{Viewer, Wanted};
 use std::alloc::Global;
-
-/// The change would open to the client what this decision allows at the leaf.
-#[tactic(auto, unfolding(crate::specs::Step::widened))]
-fn widened(alloc: Global, turn: &Turn, leaf: Leaf, decision: Decision) -> Result<Plan, NoMemory>
-    ensures plan { IfOk result (λ plan. plan ≡ spec.widened turn.now leaf decision) }
-    ensures change { IfOk result (λ plan. plan.change ≡ Change.Nothing) }
-{
-    refused_as(
-        alloc,
-        turn,
-        Decided::Deny,
-        Some(decision.rule),
-        Some(leaf),
-        Refusal::Widens,
-    )
-}
 
 /// What is shown, or that it is done where there is nothing to show.
 fn shown_or_done(text: Option<Text>) -> Reply
@@ -63,8 +42,7 @@ fn changed_with(
     changed: Changed,
     text: Option<Text>,
 ) -> Result<Plan, NoMemory>
-    ensures plan { IfOk result (λ plan. plan ≡ spec.kept_with turn.now rule changed.changed changed.resource text) }
-    ensures sound { (base : List ℕ) → HasBase base changed.resource → IfOk result (λ plan. KeepsSound base plan.change) }
+    ensures { IfOk result (λ plan. plan ≡ spec.kept_with turn.now rule changed.changed changed.resource text) }
 {
     let Changed { resource, changed } = changed;
     let row = allowed(alloc, turn, rule)?;
@@ -94,11 +72,7 @@ pub(crate) fn plan_changed<S: Shelf>(
     ensures plan { IfOk result (Answers S.stands S.is_honest shelf.old shelf.new (λ store plan. (base : List ℕ) → IsStore base store
         → AreOf changed.resource.kind changed.resource.id store.resources
         → plan ≡ spec.changed_if_free (viewer_of viewer.now) turn.now store.resources wanted.now (access_in rights.now) changed.changed changed.resource)) }
-    ensures sound { HasBase viewer.now.base.now changed.resource → IfOk result (λ plan. KeepsSound viewer.now.base.now plan.change) }
-    ensures store { KeepsStore S.stands shelf.old shelf.new }
-    ensures honest { S.is_honest shelf.new → S.is_honest shelf.old }
-    ensures counts { Counts (S.failures shelf.old) (S.failures shelf.new) result }
-    ensures not_full { result ≢ Err (Failed.Because ShelfFault.Full) }
+    ensures read { OnlyReads S.stands S.is_honest S.failures shelf.old shelf.new result }
 {
     let resource = &changed.resource;
     if has_taken_name(alloc, shelf, &Some(resource.id()), resource)? {
@@ -106,7 +80,7 @@ pub(crate) fn plan_changed<S: Shelf>(
     }
     let after = viewer.policy.rights(alloc, viewer.client, resource)?;
     if let Some((_, leaf, decision)) = rights.widening(resource.kind(), &after) {
-        return Ok(widened(alloc, turn, leaf, decision)?);
+        return Ok(denied(alloc, turn, decision, leaf, Refusal::Widens)?);
     }
     let text = kept_text(alloc, viewer, shelf, after.read(), resource, wanted)?;
     let rule = rights.read().of(Leaf::simple(Attribute::Id)).rule;

@@ -1,17 +1,13 @@
 //! What is to be done for a request to make a resource (RFC 7644 section 3.3).
-ghost use Rattle.std.specs.Prelude.{◌≡◌, ◌≢◌, ◌&&◌, ℕ, List, not, find, IfOk, Err};
-ghost use Rattle.scim_text.specs.declared.memory.Failed.{Failed};
+ghost use Rattle.std.specs.Prelude.{◌≡◌, ◌&&◌, ℕ, List, not, find, IfOk};
 ghost use Rattle.scim_schema.specs.declared.Attribute.{Attribute};
 ghost use Rattle.scim_schema.specs.declared.Leaf.{Leaf};
 ghost use Rattle.scim_schema.specs.Table.{leaves};
 ghost use Rattle.scim_schema.specs.Units.{simple};
-ghost use Rattle.scim_value.specs.Resource.{HasBase};
 ghost use Rattle.scim_policy.specs.Table.{decision};
 ghost use Rattle.scim_view.specs.View.{viewer_of};
-ghost use Rattle.scim_shelf.specs.declared.faults.ShelfFault.{ShelfFault};
-ghost use Rattle.scim_shelf.specs.Shelves.{Counts, KeepsStore, Answers};
+ghost use Rattle.scim_shelf.specs.Shelves.{Answers, OnlyReads};
 ghost use Rattle.scim_shelf.specs.Stores.{IsStore, is_used};
-ghost use Rattle.scim_service.specs.Answers.{KeepsSound};
 ghost use Rattle.scim_service.specs.Step as spec;
 
 use crate::names::has_taken_name;
@@ -66,10 +62,7 @@ fn first_denied(decisions: &Decisions, draft: &Draft) -> Option<Leaf>
 /// Whether a resource, of whatever kind, has the id.
 fn has_used_id<S: Shelf>(alloc: Global, shelf: &mut S, id: Id) -> Result<bool, Failed<ShelfFault>>
     ensures answer { IfOk result (Answers S.stands S.is_honest shelf.old shelf.new (λ store b. b ≡ is_used store.resources id)) }
-    ensures store { KeepsStore S.stands shelf.old shelf.new }
-    ensures honest { S.is_honest shelf.new → S.is_honest shelf.old }
-    ensures counts { Counts (S.failures shelf.old) (S.failures shelf.new) result }
-    ensures not_full { result ≢ Err (Failed.Because ShelfFault.Full) }
+    ensures read { OnlyReads S.stands S.is_honest S.failures shelf.old shelf.new result }
 {
     let user = shelf.by_id(alloc, Kind::User, id)?;
     if user.is_some() {
@@ -89,9 +82,7 @@ fn made(
     rule: u32,
     text: Option<Text>,
 ) -> Result<Plan, NoMemory>
-    requires { HasBase viewer.now.base.now resource }
-    ensures plan { IfOk result (λ plan. plan ≡ spec.made_with (viewer_of viewer.now) turn.now resource rule text) }
-    ensures sound { IfOk result (λ plan. KeepsSound viewer.now.base.now plan.change) }
+    ensures { IfOk result (λ plan. plan ≡ spec.made_with (viewer_of viewer.now) turn.now resource rule text) }
 {
     let id = resource.id();
     let place = location(alloc, viewer.base, resource.kind(), id)?;
@@ -119,15 +110,10 @@ fn plan_if_free<S: Shelf>(
     rule: u32,
     wanted: &Wanted,
 ) -> Result<Plan, Failed<ShelfFault>>
-    requires base { HasBase viewer.now.base.now resource }
-    requires rule { rule ≡ (spec.create_decision (viewer_of viewer.now) resource (simple Attribute.Id)).rule }
+    requires { rule ≡ (spec.create_decision (viewer_of viewer.now) resource (simple Attribute.Id)).rule }
     ensures plan { IfOk result (Answers S.stands S.is_honest shelf.old shelf.new (λ store plan. (base : List ℕ) → IsStore base store
         → plan ≡ spec.made_if_free (viewer_of viewer.now) turn.now store.resources wanted.now resource)) }
-    ensures sound { IfOk result (λ plan. KeepsSound viewer.now.base.now plan.change) }
-    ensures store { KeepsStore S.stands shelf.old shelf.new }
-    ensures honest { S.is_honest shelf.new → S.is_honest shelf.old }
-    ensures counts { Counts (S.failures shelf.old) (S.failures shelf.new) result }
-    ensures not_full { result ≢ Err (Failed.Because ShelfFault.Full) }
+    ensures read { OnlyReads S.stands S.is_honest S.failures shelf.old shelf.new result }
 {
     if has_taken_name(alloc, shelf, &None, &resource)? {
         return Ok(refused(alloc, turn, Refusal::Taken)?);
@@ -152,11 +138,7 @@ pub(crate) fn plan_create<S: Shelf>(
 ) -> Result<Plan, Failed<ShelfFault>>
     ensures plan { IfOk result (Answers S.stands S.is_honest shelf.old shelf.new (λ store plan. (base : List ℕ) → IsStore base store
         → plan ≡ spec.creating (viewer_of viewer.now) turn.now store.resources draft.now wanted.now)) }
-    ensures sound { IfOk result (λ plan. KeepsSound viewer.now.base.now plan.change) }
-    ensures store { KeepsStore S.stands shelf.old shelf.new }
-    ensures honest { S.is_honest shelf.new → S.is_honest shelf.old }
-    ensures counts { Counts (S.failures shelf.old) (S.failures shelf.new) result }
-    ensures not_full { result ≢ Err (Failed.Because ShelfFault.Full) }
+    ensures read { OnlyReads S.stands S.is_honest S.failures shelf.old shelf.new result }
 {
     if !is_for(turn, draft) {
         return Ok(refused(alloc, turn, Refusal::MessageValue)?);
@@ -164,7 +146,7 @@ pub(crate) fn plan_create<S: Shelf>(
     let resource = create(alloc, draft, turn.fresh, turn.moment, viewer.base)?;
     let decisions = create_decisions(alloc, viewer, &resource)?;
     if let Some(leaf) = first_denied(&decisions, draft) {
-        return Ok(denied(alloc, turn, decisions.of(leaf), leaf)?);
+        return Ok(denied(alloc, turn, decisions.of(leaf), leaf, Refusal::Denied)?);
     }
     let rule = decisions.of(Leaf::simple(Attribute::Id)).rule;
     plan_if_free(alloc, viewer, shelf, turn, resource, rule, wanted)

@@ -1,10 +1,8 @@
 //! Unique names that are taken (RFC 7643 section 2.2).
-ghost use Rattle.std.specs.Prelude.{◌≡◌, ◌≢◌, ℕ, List, map, IfOk, Err};
+ghost use Rattle.std.specs.Prelude.{◌≡◌, ℕ, List, map, IfOk};
 ghost use Rattle.std.specs.List.{list_any};
-ghost use Rattle.scim_text.specs.declared.memory.Failed.{Failed};
 ghost use Rattle.scim_value.specs.Uniqueness.{name_of};
-ghost use Rattle.scim_shelf.specs.declared.faults.ShelfFault.{ShelfFault};
-ghost use Rattle.scim_shelf.specs.Shelves.{Counts, KeepsStore, Answers};
+ghost use Rattle.scim_shelf.specs.Shelves.{Answers, OnlyReads};
 ghost use Rattle.scim_shelf.specs.Stores.{IsStore, has_name, is_taken};
 ghost use Rattle.scim_service.specs.code.Others as spec;
 
@@ -36,10 +34,7 @@ fn any_taken<S: Shelf>(
 ) -> Result<bool, Failed<ShelfFault>>
     ensures answer { IfOk result (Answers S.stands S.is_honest shelf.old shelf.new (λ store b. (base : List ℕ) → IsStore base store
         → b ≡ list_any (λ n. list_any (has_name n) (spec.beside own.now store.resources)) (map name_of names.now))) }
-    ensures store { KeepsStore S.stands shelf.old shelf.new }
-    ensures honest { S.is_honest shelf.new → S.is_honest shelf.old }
-    ensures counts { Counts (S.failures shelf.old) (S.failures shelf.new) result }
-    ensures not_full { result ≢ Err (Failed.Because ShelfFault.Full) }
+    ensures read { OnlyReads S.stands S.is_honest S.failures shelf.old shelf.new result }
 {
     match names {
         [] => Ok(false),
@@ -62,10 +57,7 @@ pub(crate) fn has_taken_name<S: Shelf>(
 ) -> Result<bool, Failed<ShelfFault>>
     ensures answer { IfOk result (Answers S.stands S.is_honest shelf.old shelf.new (λ store b. (base : List ℕ) → IsStore base store
         → b ≡ is_taken (spec.beside own.now store.resources) new.now)) }
-    ensures store { KeepsStore S.stands shelf.old shelf.new }
-    ensures honest { S.is_honest shelf.new → S.is_honest shelf.old }
-    ensures counts { Counts (S.failures shelf.old) (S.failures shelf.new) result }
-    ensures not_full { result ≢ Err (Failed.Because ShelfFault.Full) }
+    ensures read { OnlyReads S.stands S.is_honest S.failures shelf.old shelf.new result }
 {
     let names = unique_names(alloc, new)?;
     any_taken(alloc, shelf, own, names.as_slice())

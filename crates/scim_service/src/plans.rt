@@ -1,6 +1,5 @@
 //! What is to be done for a turn: told by reads alone, before anything is changed.
-ghost use Rattle.std.specs.Prelude.{◌≡◌, ◌≢◌, ℕ, List, IfOk, Err};
-ghost use Rattle.scim_text.specs.declared.memory.Failed.{Failed};
+ghost use Rattle.std.specs.Prelude.{◌≡◌, ℕ, List, Some, IfOk};
 ghost use Rattle.scim_schema.specs.declared.Kind.{Kind};
 ghost use Rattle.scim_schema.specs.declared.Leaf.{Leaf};
 ghost use Rattle.scim_cell.specs.Content.{Content};
@@ -11,11 +10,8 @@ ghost use Rattle.scim_view.specs.View.{viewer_of};
 ghost use Rattle.scim_view.specs.Groups.{with_groups, views};
 ghost use Rattle.scim_view.specs.Indexes.{IsIndexOf};
 ghost use Rattle.scim_query.specs.Pages.{IsPage};
-ghost use Rattle.scim_shelf.specs.declared.changes.Change.{Change};
-ghost use Rattle.scim_shelf.specs.declared.faults.ShelfFault.{ShelfFault};
-ghost use Rattle.scim_shelf.specs.Shelves.{Counts, KeepsStore, Answers};
+ghost use Rattle.scim_shelf.specs.Shelves.{Answers, OnlyReads};
 ghost use Rattle.scim_shelf.specs.Stores.{IsStore, AreOf};
-ghost use Rattle.scim_service.specs.Answers.{KeepsSound};
 ghost use Rattle.scim_service.specs.Step as spec;
 
 use crate::creations::plan_create;
@@ -83,8 +79,7 @@ pub(crate) fn refused_as(
     leaf: Option<Leaf>,
     refusal: Refusal,
 ) -> Result<Plan, NoMemory>
-    ensures plan { IfOk result (λ plan. plan ≡ spec.refused_as turn.now decided rule leaf refusal) }
-    ensures change { IfOk result (λ plan. plan.change ≡ Change.Nothing) }
+    ensures { IfOk result (λ plan. plan ≡ spec.refused_as turn.now decided rule leaf refusal) }
 {
     let finding = Finding {
         decided,
@@ -101,24 +96,21 @@ pub(crate) fn refused_as(
 
 #[tactic(auto, unfolding(crate::specs::Step::refused))]
 pub(crate) fn refused(alloc: Global, turn: &Turn, refusal: Refusal) -> Result<Plan, NoMemory>
-    ensures plan { IfOk result (λ plan. plan ≡ spec.refused turn.now refusal) }
-    ensures change { IfOk result (λ plan. plan.change ≡ Change.Nothing) }
+    ensures { IfOk result (λ plan. plan ≡ spec.refused turn.now refusal) }
 {
     refused_as(alloc, turn, Decided::Refused, None, None, refusal)
 }
 
 #[tactic(auto, unfolding(crate::specs::Step::absent))]
 pub(crate) fn absent(alloc: Global, turn: &Turn) -> Result<Plan, NoMemory>
-    ensures plan { IfOk result (λ plan. plan ≡ spec.absent turn.now) }
-    ensures change { IfOk result (λ plan. plan.change ≡ Change.Nothing) }
+    ensures { IfOk result (λ plan. plan ≡ spec.absent turn.now) }
 {
     refused_as(alloc, turn, Decided::Absent, None, None, Refusal::NotFound)
 }
 
 #[tactic(auto, unfolding(crate::specs::Step::hidden))]
 pub(crate) fn hidden(alloc: Global, turn: &Turn, decision: Decision) -> Result<Plan, NoMemory>
-    ensures plan { IfOk result (λ plan. plan ≡ spec.hidden turn.now decision) }
-    ensures change { IfOk result (λ plan. plan.change ≡ Change.Nothing) }
+    ensures { IfOk result (λ plan. plan ≡ spec.hidden turn.now decision) }
 {
     let id = Leaf::simple(Attribute::Id);
     refused_as(
@@ -137,9 +129,9 @@ pub(crate) fn denied(
     turn: &Turn,
     decision: Decision,
     leaf: Leaf,
+    refusal: Refusal,
 ) -> Result<Plan, NoMemory>
-    ensures plan { IfOk result (λ plan. plan ≡ spec.denied turn.now decision leaf) }
-    ensures change { IfOk result (λ plan. plan.change ≡ Change.Nothing) }
+    ensures { IfOk result (λ plan. plan ≡ spec.denied turn.now decision leaf refusal) }
 {
     refused_as(
         alloc,
@@ -147,7 +139,7 @@ pub(crate) fn denied(
         Decided::Deny,
         Some(decision.rule),
         Some(leaf),
-        Refusal::Denied,
+        refusal,
     )
 }
 
@@ -170,10 +162,7 @@ pub(crate) fn found<S: Shelf>(
     turn: &Turn,
 ) -> Result<Option<Resource>, Failed<ShelfFault>>
     ensures answer { IfOk result (Answers S.stands S.is_honest shelf.old shelf.new (λ store o. o ≡ spec.sought turn.now store.resources)) }
-    ensures store { KeepsStore S.stands shelf.old shelf.new }
-    ensures honest { S.is_honest shelf.new → S.is_honest shelf.old }
-    ensures counts { Counts (S.failures shelf.old) (S.failures shelf.new) result }
-    ensures not_full { result ≢ Err (Failed.Because ShelfFault.Full) }
+    ensures read { OnlyReads S.stands S.is_honest S.failures shelf.old shelf.new result }
 {
     match turn.request.id {
         Some(id) => shelf.by_id(alloc, turn.request.kind, id),
@@ -189,10 +178,7 @@ pub(crate) fn groups_beside<S: Shelf>(
 ) -> Result<Vec<Resource>, Failed<ShelfFault>>
     ensures answer { IfOk result (Answers S.stands S.is_honest shelf.old shelf.new (λ store groups. (v : view.Viewer) (base : List ℕ)
         → IsStore base store → with_groups v groups.items resource.now ≡ with_groups v (of_kind Kind.Group store.resources) resource.now)) }
-    ensures store { KeepsStore S.stands shelf.old shelf.new }
-    ensures honest { S.is_honest shelf.new → S.is_honest shelf.old }
-    ensures counts { Counts (S.failures shelf.old) (S.failures shelf.new) result }
-    ensures not_full { result ≢ Err (Failed.Because ShelfFault.Full) }
+    ensures read { OnlyReads S.stands S.is_honest S.failures shelf.old shelf.new result }
 {
     match resource.kind() {
         Kind::User => {
@@ -221,6 +207,31 @@ pub(crate) fn resource_text(
     Ok(Text::new(to_json(alloc, &shown)?))
 }
 
+/// The JSON of a resource as the client sees it, where these are the decisions on reading it: of what is wanted.
+fn seen_text<S: Shelf>(
+    alloc: Global,
+    viewer: &Viewer<'_>,
+    shelf: &mut S,
+    decisions: &Decisions,
+    resource: &Resource,
+    wanted: &Wanted,
+) -> Result<Text, Failed<ShelfFault>>
+    requires { (l : Leaf) → decision decisions.now l ≡ view.read_decision (viewer_of viewer.now) resource.now l }
+    ensures text { IfOk result (Answers S.stands S.is_honest shelf.old shelf.new (λ store text. (base : List ℕ) → IsStore base store
+        → text ≡ spec.resource_text (viewer_of viewer.now) (of_kind Kind.Group store.resources) wanted.now resource.now)) }
+    ensures read { OnlyReads S.stands S.is_honest S.failures shelf.old shelf.new result }
+{
+    let groups = groups_beside(alloc, shelf, resource)?;
+    Ok(resource_text(
+        alloc,
+        viewer,
+        decisions,
+        groups.as_slice(),
+        resource,
+        wanted,
+    )?)
+}
+
 /// What the client is shown of a resource that is kept, by these decisions on reading it: nothing, where it
 /// doesn't see it.
 pub(crate) fn kept_text<S: Shelf>(
@@ -235,29 +246,45 @@ pub(crate) fn kept_text<S: Shelf>(
     ensures text { IfOk result (Answers S.stands S.is_honest shelf.old shelf.new (λ store text. (base : List ℕ) → IsStore base store
         → AreOf resource.now.kind resource.now.id store.resources
         → text ≡ spec.kept_text (viewer_of viewer.now) store.resources wanted.now resource.now)) }
-    ensures store { KeepsStore S.stands shelf.old shelf.new }
-    ensures honest { S.is_honest shelf.new → S.is_honest shelf.old }
-    ensures counts { Counts (S.failures shelf.old) (S.failures shelf.new) result }
-    ensures not_full { result ≢ Err (Failed.Because ShelfFault.Full) }
+    ensures read { OnlyReads S.stands S.is_honest S.failures shelf.old shelf.new result }
 {
     let seen = decisions.of(Leaf::simple(Attribute::Id));
     if !seen.allow {
         return Ok(None);
     }
-    let groups = groups_beside(alloc, shelf, resource)?;
-    let text = resource_text(
-        alloc,
-        viewer,
-        decisions,
-        groups.as_slice(),
-        resource,
-        wanted,
-    )?;
+    let text = seen_text(alloc, viewer, shelf, decisions, resource, wanted)?;
     Ok(Some(text))
 }
 
-/// What is to be done for a request to show the resource that it names.
+/// What is to be done for a request to show this resource.
 #[tactic(auto, unfolding(crate::specs::Step::got))]
+fn plan_show<S: Shelf>(
+    alloc: Global,
+    viewer: &Viewer<'_>,
+    shelf: &mut S,
+    turn: &Turn,
+    wanted: &Wanted,
+    resource: &Resource,
+) -> Result<Plan, Failed<ShelfFault>>
+    ensures plan { IfOk result (Answers S.stands S.is_honest shelf.old shelf.new (λ store plan. (base : List ℕ) → IsStore base store
+        → plan ≡ spec.at_seen (viewer_of viewer.now) turn.now
+        (spec.got (viewer_of viewer.now) turn.now store.resources wanted.now) (Some resource.now))) }
+    ensures read { OnlyReads S.stands S.is_honest S.failures shelf.old shelf.new result }
+{
+    let decisions = viewer.decisions(alloc, resource)?;
+    let seen = decisions.of(Leaf::simple(Attribute::Id));
+    if !seen.allow {
+        return Ok(hidden(alloc, turn, seen)?);
+    }
+    let text = seen_text(alloc, viewer, shelf, &decisions, resource, wanted)?;
+    Ok(Plan {
+        reply: Reply::Shown(text),
+        change: Change::Nothing,
+        row: allowed(alloc, turn, seen.rule)?,
+    })
+}
+
+/// What is to be done for a request to show the resource that it names.
 fn plan_get<S: Shelf>(
     alloc: Global,
     viewer: &Viewer<'_>,
@@ -268,34 +295,12 @@ fn plan_get<S: Shelf>(
     ensures plan { IfOk result (Answers S.stands S.is_honest shelf.old shelf.new (λ store plan. (base : List ℕ) → IsStore base store
         → plan ≡ spec.at_seen (viewer_of viewer.now) turn.now
         (spec.got (viewer_of viewer.now) turn.now store.resources wanted.now) (spec.sought turn.now store.resources))) }
-    ensures sound { IfOk result (λ plan. KeepsSound viewer.now.base.now plan.change) }
-    ensures store { KeepsStore S.stands shelf.old shelf.new }
-    ensures honest { S.is_honest shelf.new → S.is_honest shelf.old }
-    ensures counts { Counts (S.failures shelf.old) (S.failures shelf.new) result }
-    ensures not_full { result ≢ Err (Failed.Because ShelfFault.Full) }
+    ensures read { OnlyReads S.stands S.is_honest S.failures shelf.old shelf.new result }
 {
     let Some(resource) = found(alloc, shelf, turn)? else {
         return Ok(absent(alloc, turn)?);
     };
-    let decisions = viewer.decisions(alloc, &resource)?;
-    let seen = decisions.of(Leaf::simple(Attribute::Id));
-    if !seen.allow {
-        return Ok(hidden(alloc, turn, seen)?);
-    }
-    let groups = groups_beside(alloc, shelf, &resource)?;
-    let text = resource_text(
-        alloc,
-        viewer,
-        &decisions,
-        groups.as_slice(),
-        &resource,
-        wanted,
-    )?;
-    Ok(Plan {
-        reply: Reply::Shown(text),
-        change: Change::Nothing,
-        row: allowed(alloc, turn, seen.rule)?,
-    })
+    plan_show(alloc, viewer, shelf, turn, wanted, &resource)
 }
 
 /// What is to be done for a request to remove a resource that the client sees.
@@ -306,21 +311,40 @@ fn removed(
     turn: &Turn,
     resource: &Resource,
 ) -> Result<Plan, NoMemory>
-    ensures plan { IfOk result (λ plan. plan ≡ spec.removed (viewer_of viewer.now) turn.now resource.now) }
-    ensures sound { IfOk result (λ plan. KeepsSound viewer.now.base.now plan.change) }
+    ensures { IfOk result (λ plan. plan ≡ spec.removed (viewer_of viewer.now) turn.now resource.now) }
 {
     let id = Leaf::simple(Attribute::Id);
     let decision = viewer
         .policy
         .decide(alloc, viewer.client, Op::Delete, resource, id)?;
     if !decision.allow {
-        return denied(alloc, turn, decision, id);
+        return denied(alloc, turn, decision, id, Refusal::Denied);
     }
     Ok(Plan {
         reply: Reply::Done,
         change: Change::Remove(resource.kind(), resource.id()),
         row: allowed(alloc, turn, decision.rule)?,
     })
+}
+
+/// What is to be done for a request to remove this resource.
+fn removed_if_seen(
+    alloc: Global,
+    viewer: &Viewer<'_>,
+    turn: &Turn,
+    resource: &Resource,
+) -> Result<Plan, NoMemory>
+    ensures { IfOk result (λ plan. plan
+        ≡ spec.at_seen (viewer_of viewer.now) turn.now (spec.removed (viewer_of viewer.now) turn.now) (Some resource.now)) }
+{
+    let id = Leaf::simple(Attribute::Id);
+    let seen = viewer
+        .policy
+        .decide(alloc, viewer.client, Op::Read, resource, id)?;
+    if !seen.allow {
+        return hidden(alloc, turn, seen);
+    }
+    removed(alloc, viewer, turn, resource)
 }
 
 /// What is to be done for a request to remove the resource that it names.
@@ -332,23 +356,12 @@ fn plan_remove<S: Shelf>(
 ) -> Result<Plan, Failed<ShelfFault>>
     ensures plan { IfOk result (Answers S.stands S.is_honest shelf.old shelf.new (λ store plan.
         plan ≡ spec.at_seen (viewer_of viewer.now) turn.now (spec.removed (viewer_of viewer.now) turn.now) (spec.sought turn.now store.resources))) }
-    ensures sound { IfOk result (λ plan. KeepsSound viewer.now.base.now plan.change) }
-    ensures store { KeepsStore S.stands shelf.old shelf.new }
-    ensures honest { S.is_honest shelf.new → S.is_honest shelf.old }
-    ensures counts { Counts (S.failures shelf.old) (S.failures shelf.new) result }
-    ensures not_full { result ≢ Err (Failed.Because ShelfFault.Full) }
+    ensures read { OnlyReads S.stands S.is_honest S.failures shelf.old shelf.new result }
 {
     let Some(resource) = found(alloc, shelf, turn)? else {
         return Ok(absent(alloc, turn)?);
     };
-    let id = Leaf::simple(Attribute::Id);
-    let seen = viewer
-        .policy
-        .decide(alloc, viewer.client, Op::Read, &resource, id)?;
-    if !seen.allow {
-        return Ok(hidden(alloc, turn, seen)?);
-    }
-    Ok(removed(alloc, viewer, turn, &resource)?)
+    Ok(removed_if_seen(alloc, viewer, turn, &resource)?)
 }
 
 /// The groups that the client sees, by their members.
@@ -359,10 +372,7 @@ fn seen_groups<S: Shelf>(
 ) -> Result<GroupIndex, Failed<ShelfFault>>
     ensures index { IfOk result (Answers S.stands S.is_honest shelf.old shelf.new (λ store index.
         IsIndexOf (viewer_of viewer.now) (of_kind Kind.Group store.resources) index)) }
-    ensures store { KeepsStore S.stands shelf.old shelf.new }
-    ensures honest { S.is_honest shelf.new → S.is_honest shelf.old }
-    ensures counts { Counts (S.failures shelf.old) (S.failures shelf.new) result }
-    ensures not_full { result ≢ Err (Failed.Because ShelfFault.Full) }
+    ensures read { OnlyReads S.stands S.is_honest S.failures shelf.old shelf.new result }
 {
     let mut groups = GroupVisitor::new(alloc, viewer);
     shelf.each(alloc, Kind::Group, &mut groups)?;
@@ -381,10 +391,7 @@ fn groups_for<S: Shelf>(
         × IsIndexOf (viewer_of viewer.now) groups index
         × (views (viewer_of viewer.now) groups (of_kind kind store.resources)
         ≡ views (viewer_of viewer.now) (of_kind Kind.Group store.resources) (of_kind kind store.resources)))) }
-    ensures store { KeepsStore S.stands shelf.old shelf.new }
-    ensures honest { S.is_honest shelf.new → S.is_honest shelf.old }
-    ensures counts { Counts (S.failures shelf.old) (S.failures shelf.new) result }
-    ensures not_full { result ≢ Err (Failed.Because ShelfFault.Full) }
+    ensures read { OnlyReads S.stands S.is_honest S.failures shelf.old shelf.new result }
 {
     match kind {
         Kind::User => seen_groups(alloc, viewer, shelf),
@@ -405,10 +412,7 @@ fn page<S: Shelf>(
     ensures page { IfOk result (Answers S.stands S.is_honest shelf.old shelf.new (λ store page. (groups : List Content) (base : List ℕ)
         → IsIndexOf (viewer_of viewer.now) groups index.now → IsStore base store
         → IsPage (views (viewer_of viewer.now) groups (of_kind kind store.resources)) query.now page)) }
-    ensures store { KeepsStore S.stands shelf.old shelf.new }
-    ensures honest { S.is_honest shelf.new → S.is_honest shelf.old }
-    ensures counts { Counts (S.failures shelf.old) (S.failures shelf.new) result }
-    ensures not_full { result ≢ Err (Failed.Because ShelfFault.Full) }
+    ensures read { OnlyReads S.stands S.is_honest S.failures shelf.old shelf.new result }
 {
     let mut search = SearchVisitor::new(alloc, viewer, index, query);
     shelf.each(alloc, kind, &mut search)?;
@@ -435,11 +439,7 @@ fn plan_search<S: Shelf>(
 ) -> Result<Plan, Failed<ShelfFault>>
     ensures plan { IfOk result (Answers S.stands S.is_honest shelf.old shelf.new (λ store plan. (base : List ℕ) → IsStore base store
         → plan ≡ spec.listed (viewer_of viewer.now) turn.now store.resources query.now)) }
-    ensures sound { IfOk result (λ plan. KeepsSound viewer.now.base.now plan.change) }
-    ensures store { KeepsStore S.stands shelf.old shelf.new }
-    ensures honest { S.is_honest shelf.new → S.is_honest shelf.old }
-    ensures counts { Counts (S.failures shelf.old) (S.failures shelf.new) result }
-    ensures not_full { result ≢ Err (Failed.Because ShelfFault.Full) }
+    ensures read { OnlyReads S.stands S.is_honest S.failures shelf.old shelf.new result }
 {
     let index = groups_for(alloc, viewer, shelf, turn.request.kind)?;
     let found = page(alloc, viewer, shelf, turn.request.kind, &index, query)?;
@@ -466,12 +466,7 @@ pub(crate) fn planned<S: Shelf>(
 ) -> Result<Plan, Failed<ShelfFault>>
     ensures plan { IfOk result (Answers S.stands S.is_honest shelf.old shelf.new (λ store plan. (base : List ℕ) → IsStore base store
         → plan ≡ spec.planned (viewer_of viewer.now) turn.now store.resources turn.now.request.ask)) }
-    ensures sound { IfOk result (Answers S.stands S.is_honest shelf.old shelf.new (λ store plan. IsStore viewer.now.base.now store
-        → KeepsSound viewer.now.base.now plan.change)) }
-    ensures store { KeepsStore S.stands shelf.old shelf.new }
-    ensures honest { S.is_honest shelf.new → S.is_honest shelf.old }
-    ensures counts { Counts (S.failures shelf.old) (S.failures shelf.new) result }
-    ensures not_full { result ≢ Err (Failed.Because ShelfFault.Full) }
+    ensures read { OnlyReads S.stands S.is_honest S.failures shelf.old shelf.new result }
 {
     match &turn.request.ask {
         Ok(Ask::Get(wanted)) => plan_get(alloc, viewer, shelf, turn, wanted),

@@ -1,15 +1,11 @@
 //! What is to be done for a request to replace a resource (RFC 7644 section 3.5.1).
-ghost use Rattle.std.specs.Prelude.{◌≡◌, ◌≢◌, ℕ, List, filter, None, IfOk, Err};
+ghost use Rattle.std.specs.Prelude.{◌≡◌, ℕ, List, filter, None, IfOk};
 ghost use Rattle.std.specs.List.{list_any};
-ghost use Rattle.scim_text.specs.declared.memory.Failed.{Failed};
 ghost use Rattle.scim_schema.specs.Units.{units};
-ghost use Rattle.scim_value.specs.Resource.{HasBase};
 ghost use Rattle.scim_policy.specs.Table.{access_in};
 ghost use Rattle.scim_view.specs.View.{viewer_of, visible};
-ghost use Rattle.scim_shelf.specs.declared.faults.ShelfFault.{ShelfFault};
-ghost use Rattle.scim_shelf.specs.Shelves.{Counts, KeepsStore, Answers};
+ghost use Rattle.scim_shelf.specs.Shelves.{Answers, OnlyReads};
 ghost use Rattle.scim_shelf.specs.Stores.{IsStore, AreOf};
-ghost use Rattle.scim_service.specs.Answers.{KeepsSound};
 ghost use Rattle.scim_service.specs.Step as spec;
 ghost use Rattle.scim_service.specs.code.Questions.{is_in_question};
 
@@ -146,11 +142,7 @@ fn plan_allowed<S: Shelf>(
     ensures plan { IfOk result (Answers S.stands S.is_honest shelf.old shelf.new (λ store plan. (base : List ℕ) → IsStore base store
         → AreOf resource.kind resource.id store.resources
         → plan ≡ spec.written_if_allowed (viewer_of viewer.now) turn.now store.resources draft.now wanted.now resource None)) }
-    ensures sound { HasBase viewer.now.base.now resource → IfOk result (λ plan. KeepsSound viewer.now.base.now plan.change) }
-    ensures store { KeepsStore S.stands shelf.old shelf.new }
-    ensures honest { S.is_honest shelf.new → S.is_honest shelf.old }
-    ensures counts { Counts (S.failures shelf.old) (S.failures shelf.new) result }
-    ensures not_full { result ≢ Err (Failed.Because ShelfFault.Full) }
+    ensures read { OnlyReads S.stands S.is_honest S.failures shelf.old shelf.new result }
 {
     let kind = resource.kind();
     let writable = writable_of(alloc, rights, kind, units(kind))?;
@@ -177,17 +169,13 @@ fn plan_seen<S: Shelf>(
     ensures plan { IfOk result (Answers S.stands S.is_honest shelf.old shelf.new (λ store plan. (base : List ℕ) → IsStore base store
         → AreOf resource.kind resource.id store.resources
         → plan ≡ spec.replacing (viewer_of viewer.now) turn.now store.resources draft.now wanted.now resource)) }
-    ensures sound { HasBase viewer.now.base.now resource → IfOk result (λ plan. KeepsSound viewer.now.base.now plan.change) }
-    ensures store { KeepsStore S.stands shelf.old shelf.new }
-    ensures honest { S.is_honest shelf.new → S.is_honest shelf.old }
-    ensures counts { Counts (S.failures shelf.old) (S.failures shelf.new) result }
-    ensures not_full { result ≢ Err (Failed.Because ShelfFault.Full) }
+    ensures read { OnlyReads S.stands S.is_honest S.failures shelf.old shelf.new result }
 {
     if draft.kind() != resource.kind() {
         return Ok(refused(alloc, turn, Refusal::MessageValue)?);
     }
     match first_unit_denied(alloc, viewer, rights, draft, &resource)? {
-        Some((leaf, decision)) => Ok(denied(alloc, turn, decision, leaf)?),
+        Some((leaf, decision)) => Ok(denied(alloc, turn, decision, leaf, Refusal::Denied)?),
         None => plan_allowed(alloc, viewer, shelf, turn, draft, wanted, rights, resource),
     }
 }
@@ -204,12 +192,7 @@ pub(crate) fn plan_replace<S: Shelf>(
     ensures plan { IfOk result (Answers S.stands S.is_honest shelf.old shelf.new (λ store plan. (base : List ℕ) → IsStore base store
         → plan ≡ spec.at_seen (viewer_of viewer.now) turn.now
         (spec.replacing (viewer_of viewer.now) turn.now store.resources draft.now wanted.now) (spec.sought turn.now store.resources))) }
-    ensures sound { IfOk result (Answers S.stands S.is_honest shelf.old shelf.new (λ store plan. IsStore viewer.now.base.now store
-        → KeepsSound viewer.now.base.now plan.change)) }
-    ensures store { KeepsStore S.stands shelf.old shelf.new }
-    ensures honest { S.is_honest shelf.new → S.is_honest shelf.old }
-    ensures counts { Counts (S.failures shelf.old) (S.failures shelf.new) result }
-    ensures not_full { result ≢ Err (Failed.Because ShelfFault.Full) }
+    ensures read { OnlyReads S.stands S.is_honest S.failures shelf.old shelf.new result }
 {
     let Some(resource) = found(alloc, shelf, turn)? else {
         return Ok(absent(alloc, turn)?);

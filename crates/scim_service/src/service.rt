@@ -8,6 +8,7 @@ ghost use Rattle.scim_shelf.specs.Stores.{Store, IsStore, after, last_number};
 ghost use Rattle.scim_service.specs.Step as spec;
 ghost use Rattle.scim_service.specs.Answers.{IsCause, Answered, Runs};
 
+use crate::laws::turn_is_sound;
 use crate::plans::{Plan, planned};
 use crate::replies::Reply;
 use crate::requests::Turn;
@@ -48,6 +49,7 @@ fn answer_or_fault<S: Shelf>(
     ensures counts { Counts (S.failures shelf.old) (S.failures shelf.new) result }
     ensures full { result ≡ Err (Failed.Because ShelfFault.Full) → (store : Store) → S.stands shelf.old store → length store.audit ≡ last_number }
 {
+    turn_is_sound(turn);
     let Plan { reply, change, row } = planned(alloc, viewer, shelf, turn)?;
     shelf.commit(alloc, change, row)?;
     Ok(reply)

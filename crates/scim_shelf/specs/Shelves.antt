@@ -1,9 +1,9 @@
 -- What the calls of a shelf say.
-use Rattle.std.specs.Prelude.{◌≡◌, ◌<◌, ◌≤◌, ◌⊎◌, ℕ, Result, Err}
+use Rattle.std.specs.Prelude.{◌≡◌, ◌≢◌, ◌<◌, ◌≤◌, ◌⊎◌, ℕ, Result, Err}
 use Rattle.scim_text.specs.declared.memory.Failed.{Failed}
 use Rattle.scim_text.specs.declared.memory.Failed.TheVariants.{Because}
 use Rattle.scim_shelf.specs.declared.faults.ShelfFault.{ShelfFault}
-use Rattle.scim_shelf.specs.declared.faults.ShelfFault.TheVariants.{Device}
+use Rattle.scim_shelf.specs.declared.faults.ShelfFault.TheVariants.{Device, Full}
 use Rattle.scim_shelf.specs.Stores.{Store}
 
 -- The count of failures never falls, and `Device` is told only where it rose. At its end a failure counts as one by which it rose.
@@ -14,6 +14,14 @@ pub record Counts {T : Type 0} (before now : ℕ) (result : Result T (Failed She
 -- what a shelf stood for, it stands for
 abbrev pub KeepsStore : {H : Type 0} → (H → Store → Type 0) → H → H → Type 0
 KeepsStore Stands old new = (store : Store) → Stands old store → Stands new store
+
+-- What a call that only reads leaves: the shelf stands for what it stood for, is honest only if it was, counts failures, and is never full.
+pub record OnlyReads {H T : Type 0} (Stands : H → Store → Type 0) (IsHonest : H → Type 0) (failures : H → ℕ)
+    (old new : H) (result : Result T (Failed ShelfFault)) : Type 0 where
+  pub store : KeepsStore Stands old new
+  pub honest : IsHonest new → IsHonest old
+  pub counts : Counts (failures old) (failures new) result
+  pub not_full : result ≢ Err (Because Full)
 
 -- an answer is that of the store, if the shelf is honest after the call
 abbrev pub Answers : {H T : Type 0} → (H → Store → Type 0) → (H → Type 0) → H → H → (Store → T → Type 0) → T → Type 0

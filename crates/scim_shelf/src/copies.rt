@@ -1,9 +1,7 @@
 //! All resources of a kind, copied off a shelf.
-ghost use Rattle.std.specs.Prelude.{◌≡◌, ◌≢◌, IfOk, Err};
-ghost use Rattle.scim_text.specs.declared.memory.Failed.{Failed};
+ghost use Rattle.std.specs.Prelude.{◌≡◌, IfOk};
 ghost use Rattle.scim_cell.specs.Kinds.{of_kind};
-ghost use Rattle.scim_shelf.specs.declared.faults.ShelfFault.{ShelfFault};
-ghost use Rattle.scim_shelf.specs.Shelves.{Counts, KeepsStore, Answers};
+ghost use Rattle.scim_shelf.specs.Shelves.{Answers, OnlyReads};
 
 use crate::faults::ShelfFault;
 use crate::shelf::{Shelf, Visitor};
@@ -39,10 +37,7 @@ pub fn all_of<S: Shelf>(
     kind: Kind,
 ) -> Result<Vec<Resource>, Failed<ShelfFault>>
     ensures answer { IfOk result (Answers S.stands S.is_honest shelf.old shelf.new (λ store all. all.items ≡ of_kind kind store.resources)) }
-    ensures store { KeepsStore S.stands shelf.old shelf.new }
-    ensures honest { S.is_honest shelf.new → S.is_honest shelf.old }
-    ensures counts { Counts (S.failures shelf.old) (S.failures shelf.new) result }
-    ensures not_full { result ≢ Err (Failed.Because ShelfFault.Full) }
+    ensures read { OnlyReads S.stands S.is_honest S.failures shelf.old shelf.new result }
 {
     let mut copies = Copies {
         resources: Vec::new(alloc),

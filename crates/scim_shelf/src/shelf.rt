@@ -1,12 +1,12 @@
 //! What a service asks of the place where it keeps its resources and the rows of its audit.
-ghost use Rattle.std.specs.Prelude.{◌≡◌, ◌≢◌, ℕ, List, IfOk, OnOk, OnErr, Err, length, find, filter};
+ghost use Rattle.std.specs.Prelude.{◌≡◌, ℕ, List, IfOk, OnOk, OnErr, Err, length, find, filter};
 ghost use Rattle.std.specs.List.{FoldsTo};
 ghost use Rattle.scim_text.specs.declared.memory.Failed.{Failed};
 ghost use Rattle.scim_cell.specs.Kinds.{of_kind};
 ghost use Rattle.scim_value.specs.Uniqueness.{name_of};
 ghost use Rattle.scim_shelf.specs.declared.faults.ShelfFault.{ShelfFault};
 ghost use Rattle.scim_shelf.specs.Stores.{Store, AreKeyed, CanKeep, is_at, has_name, is_group_with, after, last_number};
-ghost use Rattle.scim_shelf.specs.Shelves.{Counts, KeepsStore, Answers};
+ghost use Rattle.scim_shelf.specs.Shelves.{Counts, KeepsStore, Answers, OnlyReads};
 
 use crate::changes::Change;
 use crate::faults::ShelfFault;
@@ -55,10 +55,7 @@ pub trait Shelf {
         id: Id,
     ) -> Result<Option<Resource>, Failed<ShelfFault>>
         ensures answer { IfOk result (Answers stands is_honest self.old self.new (λ store found. found ≡ find (is_at kind id) store.resources)) }
-        ensures store { KeepsStore stands self.old self.new }
-        ensures honest { is_honest self.new → is_honest self.old }
-        ensures counts { Counts (failures self.old) (failures self.new) result }
-        ensures not_full { result ≢ Err (Failed.Because ShelfFault.Full) };
+        ensures read { OnlyReads stands is_honest failures self.old self.new result };
 
     /// The resource that has the unique name; None where no resource has it (RFC 7643 section 2.2, uniqueness).
     ///
@@ -69,10 +66,7 @@ pub trait Shelf {
         name: &UniqueName,
     ) -> Result<Option<Resource>, Failed<ShelfFault>>
         ensures answer { IfOk result (Answers stands is_honest self.old self.new (λ store found. found ≡ find (has_name (name_of name.now)) store.resources)) }
-        ensures store { KeepsStore stands self.old self.new }
-        ensures honest { is_honest self.new → is_honest self.old }
-        ensures counts { Counts (failures self.old) (failures self.new) result }
-        ensures not_full { result ≢ Err (Failed.Because ShelfFault.Full) };
+        ensures read { OnlyReads stands is_honest failures self.old self.new result };
 
     /// The groups that list the value among their members, in order of id (RFC 7643 section 4.2).
     ///
@@ -83,10 +77,7 @@ pub trait Shelf {
         value: &str,
     ) -> Result<Vec<Resource>, Failed<ShelfFault>>
         ensures answer { IfOk result (Answers stands is_honest self.old self.new (λ store found. found.items ≡ filter (is_group_with value.now) store.resources)) }
-        ensures store { KeepsStore stands self.old self.new }
-        ensures honest { is_honest self.new → is_honest self.old }
-        ensures counts { Counts (failures self.old) (failures self.new) result }
-        ensures not_full { result ≢ Err (Failed.Because ShelfFault.Full) };
+        ensures read { OnlyReads stands is_honest failures self.old self.new result };
 
     /// Shows the visitor the resources of the kind, in order of id.
     ///
@@ -99,10 +90,7 @@ pub trait Shelf {
     ) -> Result<(), Failed<ShelfFault>>
         ensures answer { OnOk result ((store : Store) → stands self.old store → is_honest self.new
             → FoldsTo V.takes visitor.old (of_kind kind store.resources) visitor.new) }
-        ensures store { KeepsStore stands self.old self.new }
-        ensures honest { is_honest self.new → is_honest self.old }
-        ensures counts { Counts (failures self.old) (failures self.new) result }
-        ensures not_full { result ≢ Err (Failed.Because ShelfFault.Full) };
+        ensures read { OnlyReads stands is_honest failures self.old self.new result };
 
     /// Makes the change and adds the row to the audit, numbered one above the last; the first has number 1.
     ///

@@ -18,7 +18,7 @@ returns-then-branch-clause-plan g c store stands honest base is own_kind =
     let own = c.args.changed.resource in
     let taken : is_taken (without own.id cs) own ≡ true
     = ap (λ (id : List ℕ). is_taken (without id cs) own) (sym c.id.ensures) ∙ sym (c.in_ok-has_taken_name.ensures.answer store stands honest base is) ∙ c.if-branch.true in
-    c.in_ok-refused.ensures.plan ∙ taken_is (viewer_of c.args.viewer.now) c.args.turn.now cs c.args.wanted.now (access_in c.args.rights.now) c.args.changed.changed own taken
+    c.in_ok-refused.ensures ∙ taken_is (viewer_of c.args.viewer.now) c.args.turn.now cs c.args.wanted.now (access_in c.args.rights.now) c.args.changed.changed own taken
 
 pub returns-in-Some-clause-plan : goal.returns-in-Some-clause-plan
 returns-in-Some-clause-plan g c store stands honest base is own_kind =
@@ -30,7 +30,7 @@ returns-in-Some-clause-plan g c store stands honest base is own_kind =
     = ap (λ (id : List ℕ). is_taken (without id cs) own) (sym c.id.ensures) ∙ sym (c.in_ok-has_taken_name.ensures.answer store stands honest base is) ∙ c.if-branch.false in
     let opens : widening own.kind before (access_to viewer own) ≡ Some (c.in-Some.field-0-0, c.in-Some.leaf, c.in-Some.decision)
     = sym (c.widening.ensures ∙ (λ i. widening (c.kind.ensures i) before (c.in_ok-after.ensures i))) ∙ c.in-Some.is in
-    c.in_ok-widened.ensures.plan
+    c.in_ok-denied.ensures
     ∙ widened_is viewer c.args.turn.now cs c.args.wanted.now before c.args.changed.changed own c.in-Some.field-0-0 c.in-Some.leaf c.in-Some.decision free opens
 
 pub returns-clause-plan : goal.returns-clause-plan
@@ -40,12 +40,12 @@ returns-clause-plan g c store stands honest base is own_kind =
     let viewer = viewer_of c.args.viewer.now in
     let rights = c.args.rights.now in
     let before = access_in rights in
-    let earlier = c.in_ok-text.ensures.honest honest in
+    let earlier = c.in_ok-text.ensures.read.honest honest in
     let free : is_taken (without own.id cs) own ≡ false
     = ap (λ (id : List ℕ). is_taken (without id cs) own) (sym c.id.ensures) ∙ sym (c.in_ok-has_taken_name.ensures.answer store stands earlier base is) ∙ c.if-branch.false in
     let narrow : widening own.kind before (access_to viewer own) ≡ None
     = sym (c.widening.ensures ∙ (λ i. widening (c.kind.ensures i) before (c.in_ok-after.ensures i))) ∙ none_found c.widening.result c.in_default.not-Some in
     let rule = ap (λ (d : Decision). d.rule) (c.of-rule.ensures ∙ ap (decision c.read-2.result.now) c.simple.ensures ∙ c.read-2.ensures (simple Id)) in
-    let text = c.in_ok-text.ensures.text store (c.in_ok-has_taken_name.ensures.store store stands) honest base is own_kind in
-    c.in_ok-changed_with.ensures.plan
+    let text = c.in_ok-text.ensures.text store (c.in_ok-has_taken_name.ensures.read.store store stands) honest base is own_kind in
+    c.in_ok-changed_with.ensures
     ∙ changed_is viewer c.args.turn.now cs c.args.wanted.now before c.args.changed.changed own c.of-rule.result.rule c.in_ok-text.text free narrow rule text

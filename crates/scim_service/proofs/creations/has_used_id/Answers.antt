@@ -8,7 +8,7 @@ returns-then-is_some-clause-answer g c store stands honest =
 
 pub returns-clause-answer : goal.returns-clause-answer
 returns-clause-answer g c store stands honest =
-    let earlier = c.in_ok-group.ensures.honest honest in
+    let earlier = c.in_ok-group.ensures.read.honest honest in
     c.is_some-2.ensures
     ∙ used_by_group c.args.id store.resources c.in_ok-user.user c.in_ok-group.group (c.in_ok-user.ensures.answer store stands earlier)
-    (sym c.is_some.ensures ∙ c.if-is_some.false) (c.in_ok-group.ensures.answer store (c.in_ok-user.ensures.store store stands) honest)
+    (sym c.is_some.ensures ∙ c.if-is_some.false) (c.in_ok-group.ensures.answer store (c.in_ok-user.ensures.read.store store stands) honest)

@@ -26,12 +26,12 @@ returns-else-is_another-clause-answer g t c =
     let split : names ≡ name ∷ drop 1 names = first_and_rest names name c.in-len1-up.len_at_least c.name-item.is in
     IfOk-weaker c.any_taken.result _ _
     (λ b answer store stands honest base is.
-    (let earlier = c.any_taken.ensures.honest honest in
+    (let earlier = c.any_taken.ensures.read.honest honest in
     let others = beside c.args.own.now store.resources in
     let free : list_any (has_name (name_of name)) others ≡ false
     = sym (owner_other c.args.own.now (name_of name) store.resources c.in_ok-owner-in-len1-up.owner is.keyed (c.in_ok-owner-in-len1-up.ensures.answer store stands earlier)) ∙ sym c.is_another.ensures ∙ c.if-is_another.false in
     taken_later (name_of name) (map name_of (drop 1 names)) others b free
-    (answer store (c.in_ok-owner-in-len1-up.ensures.store store stands) honest base is
+    (answer store (c.in_ok-owner-in-len1-up.ensures.read.store store stands) honest base is
     ∙ ap (λ (ns : List UniqueName). list_any (λ (m : Name). list_any (has_name m) others) (map name_of ns)) (rest_whole names))
     ∙ ap (λ (ns : List UniqueName). list_any (λ (m : Name). list_any (has_name m) others) (map name_of ns)) (sym split)))
     c.any_taken.ensures.answer

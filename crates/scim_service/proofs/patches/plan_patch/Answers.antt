@@ -2,16 +2,13 @@ use Rattle.std.proofs.Common.{◌≡◌, true, sym, ◌∙◌, ap}
 use Rattle.std.proofs.lemmas.Result.{IfOk-weaker}
 use Rattle.scim_schema.specs.declared.Attribute.TheVariants.{Id}
 use Rattle.scim_schema.specs.Units.{simple}
-use Rattle.scim_value.specs.Resource.{HasBase}
 use Rattle.scim_patch.specs.Kept.{patch_of}
 use Rattle.scim_policy.specs.declared.rules.Decision.{Decision}
 use Rattle.scim_policy.specs.Access.{Access}
 use Rattle.scim_policy.specs.Table.{decision}
 use Rattle.scim_view.specs.View.{viewer_of, read_decision}
-use Rattle.scim_service.specs.declared.plans.Plan.{Plan}
-use Rattle.scim_service.specs.Answers.{KeepsSound}
 use Rattle.scim_service.specs.Step.{patching}
-use Rattle.scim_service.proofs.ReplaceLemmas.{IfOk-when, seen_is, sought_base}
+use Rattle.scim_service.proofs.ReplaceLemmas.{seen_is}
 use Rattle.scim_service.proofs.StepLemmas.{sought_own}
 use Rattle.scim_service.proofs.patches.plan_patch.Goals as goal
 
@@ -25,16 +22,7 @@ returns-clause-plan g c =
     let allows : (read_decision viewer own (simple Id)).allow ≡ true = ap (λ (d : Decision). d.allow) (sym decides) ∙ c.if-not-seen.false in
     IfOk-weaker c.plan_seen.result _ _
     (λ plan answer store stands honest base is.
-    (let found = sym c.in-Some.is ∙ c.in_ok-resource.ensures.answer store stands (c.plan_seen.ensures.honest honest) in
-    let made = answer store (c.in_ok-resource.ensures.store store stands) honest base is (sought_own turn store.resources own is.keyed found) in
+    (let found = sym c.in-Some.is ∙ c.in_ok-resource.ensures.answer store stands (c.plan_seen.ensures.read.honest honest) in
+    let made = answer store (c.in_ok-resource.ensures.read.store store stands) honest base is (sought_own turn store.resources own is.keyed found) in
     seen_is viewer turn store.resources (patching viewer turn store.resources (patch_of c.args.patch.now) c.args.wanted.now) own plan made allows found))
     c.plan_seen.ensures.plan
-
-pub returns-clause-sound : goal.returns-clause-sound
-returns-clause-sound g c =
-    let base = c.args.viewer.now.base.now in
-    let own = c.in-Some.resource in
-    IfOk-weaker c.plan_seen.result _ _
-    (λ plan sound store stands honest is.
-    sound (sought_base base c.args.turn.now store own is (sym c.in-Some.is ∙ c.in_ok-resource.ensures.answer store stands (c.plan_seen.ensures.honest honest))))
-    (IfOk-when (HasBase base own) (λ (plan : Plan). KeepsSound base plan.change) c.plan_seen.result c.plan_seen.ensures.sound)

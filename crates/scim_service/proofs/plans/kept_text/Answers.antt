@@ -1,10 +1,10 @@
-use Rattle.std.proofs.Common.{◌∙◌, ap, List}
+use Rattle.std.proofs.Common.{◌∙◌, ap}
+use Rattle.scim_schema.specs.declared.Kind.TheVariants.{Group}
 use Rattle.scim_schema.specs.declared.Attribute.TheVariants.{Id}
 use Rattle.scim_schema.specs.Units.{simple}
-use Rattle.scim_cell.specs.Content.{Content}
+use Rattle.scim_cell.specs.Kinds.{of_kind}
 use Rattle.scim_policy.specs.Table.{decision}
 use Rattle.scim_view.specs.View.{viewer_of}
-use Rattle.scim_service.specs.Step.{resource_text}
 use Rattle.scim_service.proofs.CreationLemmas.{not_false, kept_groups, text_seen}
 use Rattle.scim_service.proofs.plans.kept_text.Goals as goal
 
@@ -13,6 +13,5 @@ returns-clause-text g c store stands honest base is own_kind =
     let viewer = viewer_of c.args.viewer.now in
     let own = c.args.resource.now in
     let decides = c.of-seen.ensures ∙ ap (decision c.args.decisions.now) c.simple.ensures ∙ c.requires (simple Id) in
-    let groups = c.in_ok-groups.ensures.answer store stands honest viewer base is ∙ kept_groups viewer base store own is own_kind in
-    let text = c.in_ok-text.ensures ∙ ap (λ (gs : List Content). resource_text viewer gs c.args.wanted.now own) c.as_slice.ensures.value in
-    text_seen viewer store.resources c.args.wanted.now own c.in_ok-groups.groups.items c.in_ok-text.text c.of-seen.result text groups decides (not_false c.of-seen.result.allow c.if-not-seen.false)
+    text_seen viewer store.resources c.args.wanted.now own (of_kind Group store.resources) c.in_ok-text.text c.of-seen.result
+    (c.in_ok-text.ensures.text store stands honest base is) (kept_groups viewer base store own is own_kind) decides (not_false c.of-seen.result.allow c.if-not-seen.false)
