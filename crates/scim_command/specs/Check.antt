@@ -3,6 +3,8 @@ use Rattle.std.specs.Prelude.{Bool, ℕ, List, [], ◌++◌, length, codes, deci
 use Rattle.scim_policy.specs.Rules.{Rule}
 use Rattle.scim_explain.specs.Idle.{idle_rules, idle_lines}
 use Rattle.scim_explain.specs.Sentences.{rule_sentences}
+use Rattle.scim_command.specs.declared.faults.RunFault.{RunFault}
+use Rattle.scim_command.specs.declared.faults.RunFault.TheVariants.{Policy, Output, NoMemory}
 
 -- the rules in sentences, where they are asked for
 abbrev pub sentences_if : Bool → List Rule → List ℕ
@@ -11,3 +13,10 @@ sentences_if verbose rules = if verbose then rule_sentences rules else []
 -- how many rules there are, their sentences where they are asked for, and which can never decide
 abbrev pub check_text : Bool → List Rule → List ℕ
 check_text verbose rules = codes "ok, " ++ decimal (length rules) ++ codes " rules\n" ++ sentences_if verbose rules ++ idle_lines (idle_rules rules)
+
+-- what `check` may answer in place of it: that the policy file is faulty, that the lines can't be written, or want of memory
+abbrev pub IsCheckFault : RunFault → Type 0
+IsCheckFault (Policy rule cause) = Unit {0}
+IsCheckFault Output = Unit {0}
+IsCheckFault NoMemory = Unit {0}
+IsCheckFault _ = ⊥

@@ -35,6 +35,7 @@ pub fn check<W: Write>(
     ensures output { result ≡ Err RunFault.Output → (rules : List Rule) × (policy_of policy.now ≡ Ok rules)
         × AppendsFront (W.contents writer.old) (W.contents writer.new) (spec.check_text verbose rules) }
     ensures silent { IfErr result (λ f. f ≢ RunFault.Output → writer.new ≡ writer.old) }
+    ensures faults { IfErr result spec.IsCheckFault }
 {
     let text = check_text(alloc, policy, verbose)?;
     write_or_fault(text.as_str(), writer)
