@@ -1,12 +1,12 @@
 -- The rows of the resources of a store, where one of them is replaced.
-use Rattle.std.proofs.Common.{◌≡◌, ◌≢◌, ℕ, zero, suc, ◌<◌, length, refl, sym, ◌∙◌, ap, subst, Bool, true, false, not, ◌&&◌, ◌||◌, cond, List, [], ◌∷◌, ◌++◌, map, filter, get_or, arith}
-use Rattle.std.specs.Prelude.{All, AllPairs, Contains, Option, None, Some, IsPermutation}
-use Rattle.std.specs.List.{flat_map, list_any}
+use Rattle.std.proofs.Common.{◌≡◌, ◌≢◌, ℕ, zero, suc, ◌<◌, length, refl, sym, ◌∙◌, ap, Bool, true, false, not, ◌&&◌, ◌||◌, cond, List, [], ◌∷◌, ◌++◌, map, filter, get_or, arith}
+use Rattle.std.specs.Prelude.{All, AllPairs, IsPermutation}
+use Rattle.std.specs.List.{flat_map}
 use Rattle.std.specs.Ordering.{nat_cmp, is_eq}
 use Rattle.std.specs.Cmp.Lexicographic.{slice_cmp}
 use Rattle.std.proofs.lemmas.Cmp.{tied_itself, nat_list_cmp_total}
 use Rattle.std.proofs.lemmas.List.{append_assoc}
-use Rattle.std.proofs.lemmas.List.Elements.{All-nil, All-cons, All-head, All-tail, All-append, All-map, All-weaker, All-contains_itself, recursion_from_All, filter-append, Contains-get_or}
+use Rattle.std.proofs.lemmas.List.Elements.{All-head, All-tail, All-append, recursion_from_All, filter-append}
 use Rattle.std.proofs.lemmas.List.Folds.{list_any_at}
 use Rattle.std.proofs.lemmas.List.Kept.{AllPairs-cons, AllPairs-filter}
 use Rattle.std.proofs.lemmas.List.Sorted.{IsPermutation-trans, IsPermutation-append_right}
@@ -17,27 +17,13 @@ use Rattle.std.proofs.lemmas.Slice.Eq.{bytes_eq-Decides}
 use Rattle.std.specs.Str.{bytes_eq}
 use Rattle.sqlite_trees.proofs.ListLemmas.{IsPermutation-same, IsPermutation-filter, IsPermutation-flat_map, filter_all}
 use Rattle.sqlite.specs.Order.{Row}
-use Rattle.scim_schema.specs.declared.Kind.{Kind}
-use Rattle.scim_schema.specs.declared.Kind.TheVariants.{User, Group}
-use Rattle.scim_schema.specs.declared.Leaf.{Leaf}
-use Rattle.scim_schema.specs.declared.Attribute.TheVariants.{UserName}
-use Rattle.scim_schema.specs.Names.{attribute_name}
-use Rattle.scim_schema.specs.Units.{simple}
-use Rattle.scim_schema.specs.UniqueLeaves.{unique_leaves}
-use Rattle.scim_schema.proofs.Facts.{and_first, and_second}
-use Rattle.scim_cell.specs.declared.atoms.Atom.{Atom}
-use Rattle.scim_cell.specs.declared.atoms.Atom.TheVariants.{Text, Truth, Moment}
-use Rattle.scim_cell.specs.Content.{Content}
+use Rattle.scim_schema.proofs.Facts.{and_first}
 use Rattle.scim_cell.specs.Ids.{IsId, id_text}
 use Rattle.scim_cell.proofs.Facts.{id_text-injective}
-use Rattle.scim_value.specs.declared.uniqueness.UniqueName.{UniqueName}
-use Rattle.scim_value.specs.Resource.{first_at}
-use Rattle.scim_value.specs.Uniqueness.{Name, name_of, name_at, unique_names, AreApart}
 use Rattle.scim_shelf.proofs.PlaceLemmas.{by_order}
-use Rattle.scim_shelf.proofs.NameLemmas.{by_bool}
 use Rattle.scim_tables.specs.Lists.{has_text, has_texts}
-use Rattle.scim_store.specs.Stands.{Entry, is_among, resource_row, name_row, name_rows, member_row}
-use Rattle.scim_store.specs.Edits.{is_name, is_member}
+use Rattle.scim_store.specs.Stands.{Entry, is_among, resource_row, member_row}
+use Rattle.scim_store.specs.Edits.{is_member}
 
 -- ---- rows of one kind
 
@@ -84,63 +70,6 @@ resource_goes id e same = ap not (ap (λ (x : List ℕ). is_eq (slice_cmp nat_cm
 
 pub resource_stays : (id : List ℕ) (e : Entry) → IsId e.content.id → IsId id → e.content.id ≢ id → not (has_text 0 (id_text id) (resource_row e)) ≡ true
 resource_stays id e one two differ = ap not (ids_apart e.content.id id one two differ)
-
--- ---- unique names
-
-unique_leaf : (kind : Kind) → All (λ (l : Leaf). l ≡ simple UserName) (unique_leaves kind)
-unfolding unique_leaves
-unique_leaf User = All-cons (λ (l : Leaf). l ≡ simple UserName) (simple UserName) [] refl (All-nil _)
-unique_leaf Group = All-nil _
-
-name_is_at : (kind : Kind) (l : Leaf) (o : Option Atom) → l ≡ simple UserName → All (λ (n : Name). n.leaf ≡ simple UserName) (name_at kind l o)
-name_is_at kind l None h = All-nil _
-name_is_at kind l (Some (Text t)) h = All-cons (λ (n : Name). n.leaf ≡ simple UserName) _ [] h (All-nil _)
-name_is_at kind l (Some (Truth b)) h = All-nil _
-name_is_at kind l (Some (Moment m)) h = All-nil _
-
-names_at : (c : Content) (ls : List Leaf) → All (λ (l : Leaf). l ≡ simple UserName) ls → All (λ (n : Name). n.leaf ≡ simple UserName) (flat_map (λ l. name_at c.kind l (first_at l c)) ls)
-names_at c [] all = All-nil _
-names_at c (l ∷ ls) all = All-append (λ (n : Name). n.leaf ≡ simple UserName) _ _ (name_is_at c.kind l (first_at l c) (All-head (λ (x : Leaf). x ≡ simple UserName) l ls all)) (names_at c ls (All-tail (λ (x : Leaf). x ≡ simple UserName) l ls all))
-
--- the one unique name of a user is its `userName`, and a group has none
-user_names : (c : Content) → All (λ (n : Name). n.leaf ≡ simple UserName) (unique_names c)
-user_names c = names_at c (unique_leaves c.kind) (unique_leaf c.kind)
-
--- whether a row is that of a name
-abbrev has_name_row : Row → Name → Bool
-has_name_row row n = has_texts (attribute_name n.leaf.attribute) n.text row
-
-pub is_name_of : (names : List UniqueName) (row : Row) → is_name names row ≡ list_any (has_name_row row) (map name_of names)
-is_name_of [] row = refl
-is_name_of (n ∷ names) row = ap (λ b. has_name_row row (name_of n) || b) (is_name_of names row)
-
--- the names of the resource go
-pub names_go : (id : List ℕ) (gone : List UniqueName) (ns : List Name) → map name_of gone ≡ ns → All (λ r. not (is_name gone r) ≡ false) (map (name_row id) ns)
-names_go id gone ns is =
-    All-map (λ r. not (is_name gone r) ≡ false) (name_row id) ns (λ k d low.
-    (let n = get_or ns k d in
-    let here : has_name_row (name_row id n) n ≡ true = rw (tied (attribute_name n.leaf.attribute), tied n.text) refl in
-    ap not (is_name_of gone (name_row id n) ∙ ap (list_any (has_name_row (name_row id n))) is ∙ list_any_at (has_name_row (name_row id n)) ns k d low here)))
-
-no_name : (id : List ℕ) (n : Name) (ms : List Name) → n.leaf ≡ simple UserName → All (λ (m : Name). m.leaf ≡ simple UserName) ms → All (λ m. m ≢ n) ms → list_any (has_name_row (name_row id n)) ms ≡ false
-no_name id n [] is are apart = refl
-no_name id n (m ∷ ms) is are apart =
-    by_bool (has_name_row (name_row id n) m)
-    (λ t.
-    (let text : n.text ≡ m.text = (bytes_eq-Decides n.text m.text).0 (sym (is_eq-slice_cmp n.text m.text) ∙ and_second (has_text 0 (attribute_name m.leaf.attribute) (name_row id n)) (has_text 1 m.text (name_row id n)) t) in
-    let leaf : m.leaf ≡ n.leaf = All-head (λ (x : Name). x.leaf ≡ simple UserName) m ms are ∙ sym is in
-    absurd (All-head (λ x. x ≢ n) m ms apart (λ i. record { leaf = leaf i; text = sym text i }))))
-    (λ f. rw f (no_name id n ms is (All-tail (λ (x : Name). x.leaf ≡ simple UserName) m ms are) (All-tail (λ x. x ≢ n) m ms apart)))
-
--- the names of a resource that is apart stay
-pub names_stay : (gone : List UniqueName) (old : Content) (d : Entry) → map name_of gone ≡ unique_names old → AreApart old d.content → All (λ r. not (is_name gone r) ≡ true) (name_rows d)
-names_stay gone old d is apart =
-    All-map (λ r. not (is_name gone r) ≡ true) (name_row d.content.id) (unique_names d.content) (λ k e low.
-    (let n = get_or (unique_names d.content) k e in
-    let there : Contains (unique_names d.content) n = Contains-get_or (unique_names d.content) k e low in
-    let differ : All (λ m. m ≢ n) (unique_names old) =
-    All-weaker (Contains (unique_names old)) (λ m. m ≢ n) (λ m here same. apart.names n (subst (Contains (unique_names old)) same here) there) (unique_names old) (All-contains_itself (unique_names old)) in
-    ap not (is_name_of gone (name_row d.content.id n) ∙ ap (list_any (has_name_row (name_row d.content.id n))) is ∙ no_name d.content.id n (unique_names old) (user_names d.content k e low) (user_names old) differ)))
 
 -- ---- members
 

@@ -1,5 +1,5 @@
 -- The row of a resource, found by its id and kind.
-use Rattle.std.proofs.Common.{◌≡◌, ℕ, refl, sym, ◌∙◌, ap, subst, Bool, true, false, ◌&&◌, List, [], ◌∷◌, map, filter}
+use Rattle.std.proofs.Common.{◌≡◌, ℕ, refl, sym, ◌∙◌, ap, subst, subst₂, ◌⊎◌, Bool, true, false, ◌&&◌, List, [], ◌∷◌, map, filter}
 use Rattle.std.specs.Prelude.{All, find, Option, None, Some, IsPermutation, pos}
 use Rattle.std.specs.Option.{option_map, option_to_list}
 use Rattle.std.specs.Ordering.{nat_cmp, is_eq}
@@ -12,7 +12,8 @@ use Rattle.sqlite_trees.proofs.ListLemmas.{filter-map, filter-filter, filter_sam
 use Rattle.sqlite.proofs.Callers.{one_permutation}
 use Rattle.sqlite.specs.declared.types.Value.TheVariants.{Int, Text}
 use Rattle.sqlite.specs.Order.{Row, value_cmp}
-use Rattle.sqlite.specs.State.{State}
+use Rattle.sqlite.specs.Effect.{Database}
+use Rattle.sqlite.specs.State.{State, IsUnchanged}
 use denote.Enum.Bare.{sameb}
 use Rattle.scim_schema.specs.declared.Kind.{Kind}
 use Rattle.scim_schema.specs.declared.Kind.TheVariants.{User, Group}
@@ -27,12 +28,13 @@ use Rattle.scim_json.specs.PartData.{stored_data}
 use Rattle.scim_json.proofs.Back.{documents_are_apart}
 use Rattle.scim_shelf.specs.Stores.{Store, AreKeyed, is_at}
 use Rattle.scim_shelf.proofs.NameLemmas.{by_bool}
-use Rattle.scim_tables.specs.Lists.{Lists}
+use Rattle.scim_tables.specs.Lists.{Lists, has_text}
 use Rattle.scim_tables.specs.Reading.{Rests, Holds, Finds, IsTextOfFirst, is_resource}
 use Rattle.scim_tables.specs.Lists.{no_rows}
 use Rattle.scim_store.specs.Audit.{kind_number}
-use Rattle.scim_store.specs.Stands.{Entry, IsEntry, lists_of, resource_row}
-use Rattle.scim_store.specs.Finding.{StandsIn, Reads, FindsById}
+use Rattle.scim_store.specs.Stands.{StandsFor, Entry, IsEntry, lists_of, resource_row}
+use Rattle.scim_store.specs.Edits.{of_id}
+use Rattle.scim_store.specs.Finding.{StandsIn, Reads, FindsById, FindsOld}
 use Rattle.scim_store.proofs.PlaceLemmas.{own, found, own_same}
 use Rattle.scim_store.proofs.EntryLemmas.{tied, ids_apart}
 
@@ -97,6 +99,16 @@ unfolding first
 first_one None = refl
 first_one (Some e) = refl
 
+-- what is read of the document of a resource is the resource
+pub read_entry : (base : List ℕ) (e : Entry) (r : Option Content) → IsEntry base e → Reads base (Some e.document) r → r ≡ Some e.content
+read_entry base e None entry h = absurd h
+read_entry base e (Some c) entry h =
+    let written : stored_data c ≡ stored_data e.content = data_one (stored_data c) (stored_data e.content) (sym h.1 ∙ entry.document.1) in
+    ap (λ x. Some x) (documents_are_apart base (stored_data c) c e.content (h.0, refl) (entry.document.0, written))
+  where
+    data_one : (a b : Data) → Some a ≡ Some b → a ≡ b
+    data_one a b h = cc
+
 -- what is read of the row that is found is the resource
 reads_the : (base : List ℕ) (h : Option Entry) (ordered : List Row) (document : Option (List ℕ)) (r : Option Content) → All (IsEntry base) (option_to_list h) → IsPermutation (map resource_row (option_to_list h)) ordered
     → IsTextOfFirst 2 ordered document → Reads base document r → r ≡ option_map (λ (e : Entry). e.content) h
@@ -112,7 +124,7 @@ reads_the base (Some e) ordered document r sound same told reads =
     let row : ordered ≡ resource_row e ∷ [] = one_permutation (resource_row e) ordered same in
     let text = subst (λ (rows : List Row). IsTextOfFirst 2 rows document) row told in
     let is : document ≡ Some e.document = text.1 ∙ ap (λ t. Some t) (text_one text.0 text.2) in
-    read_some r (subst (λ (d : Option (List ℕ)). Reads base d r) is reads)
+    read_entry base e r (All-head (IsEntry base) e [] sound) (subst (λ (d : Option (List ℕ)). Reads base d r) is reads)
   where
     text_one : (t : List ℕ) → Text e.document ≡ Text t → t ≡ e.document
     text_one t h = cc
@@ -127,6 +139,18 @@ reads_the base (Some e) ordered document r sound same told reads =
         data_one : (a b : Data) → Some a ≡ Some b → a ≡ b
         data_one a b h = cc
 
+-- what is found of the id alone is the resource of it, whatever its kind
+found_old : (base : List ℕ) (es : List Entry) (id : List ℕ) (old new : State) (document : Option (List ℕ)) (r : Option Content) → AreKeyed (map (λ (e : Entry). e.content) es) → All (IsEntry base) es → IsId id
+    → Finds 2 (filter (has_text 0 (id_text id)) (map resource_row es)) old new document → Reads base document r → r ≡ of_id id (map (λ (e : Entry). e.content) es)
+found_old base es id old new document r keyed sound is_id finds reads =
+    let f = found id es keyed in
+    let each = All-weaker (IsEntry base) (λ e. has_text 0 (id_text id) (resource_row e) ≡ own id e) (λ e s. same_id e.content.id id s.document.0.0.identified.0 is_id ∙ own_same id e) es sound in
+    let values : filter (has_text 0 (id_text id)) (map resource_row es) ≡ map resource_row (option_to_list f.entry) =
+    filter-map (has_text 0 (id_text id)) resource_row es
+    ∙ ap (map resource_row) (filter_same (λ e. has_text 0 (id_text id) (resource_row e)) (own id) es (recursion_from_All (λ e. has_text 0 (id_text id) (resource_row e) ≡ own id e) es each) ∙ f.only) in
+    let sound_f : All (IsEntry base) (option_to_list f.entry) = subst (All (IsEntry base)) f.only (All-filter (own id) (IsEntry base) es sound) in
+    reads_the base f.entry finds.ordered document r sound_f (subst (λ (xs : List Row). IsPermutation xs finds.ordered) values finds.same) finds.first reads ∙ sym f.is
+
 found_the : (base : List ℕ) (es : List Entry) (kind : Kind) (id : List ℕ) (old new : State) (document : Option (List ℕ)) (r : Option Content) → AreKeyed (map (λ (e : Entry). e.content) es) → All (IsEntry base) es → IsId id
     → Finds 2 (filter (is_resource (id_text id) (kind_number kind)) (map resource_row es)) old new document → Reads base document r → r ≡ find (is_at kind id) (map (λ (e : Entry). e.content) es)
 found_the base es kind id old new document r keyed sound is_id finds reads =
@@ -140,7 +164,7 @@ found_the base es kind id old new document r keyed sound is_id finds reads =
     ∙ sym (find_first (is_at kind id) (map (λ (e : Entry). e.content) es) ∙ ap first (filter-map (is_at kind id) (λ (e : Entry). e.content) es ∙ ap (map (λ (e : Entry). e.content)) o.only) ∙ first_one o.entry)
 
 -- a shut connection holds any rows
-shut_holds : (s : State) (lists : Lists) → s.is_open ≡ false → Holds s lists
+pub shut_holds : (s : State) (lists : Lists) → s.is_open ≡ false → Holds s lists
 shut_holds s lists shut opened = (let c : true ≡ false = sym opened ∙ shut in cc)
 
 pub finds_by_id : (base : List ℕ) (kind : Kind) (id : List ℕ) (old new : State) (document : Option (List ℕ)) (r : Option Content) → IsId id
@@ -156,8 +180,33 @@ finds_by_id base kind id old new document r is_id finds reads store stands =
     }))
     (λ f. (let c : true ≡ false = sym (finds no_rows (shut_holds old no_rows f)).unchanged.0.was_open ∙ f in cc))
 
+pub finds_old : (base : List ℕ) (id : List ℕ) (old new : State) (document : Option (List ℕ)) (r : Option Content) → IsId id
+    → ((lists : Lists) → Holds old lists → Finds 2 (filter (has_text 0 (id_text id)) lists.resources) old new document) → Reads base document r → (store : Store) → StandsIn base old store → FindsOld id store old new r
+finds_old base id old new document r is_id finds reads store stands =
+    by_bool old.is_open
+    (λ t.
+    (let s = stands t in
+    let it = finds (lists_of s.entries store.audit) (λ _. s.tables) in
+    record {
+      is = found_old base s.entries id old new document r (subst AreKeyed (sym s.resources) s.keyed) s.sound is_id it reads ∙ ap (of_id id) s.resources;
+      unchanged = it.unchanged;
+    }))
+    (λ f. (let c : true ≡ false = sym (finds no_rows (shut_holds old no_rows f)).unchanged.0.was_open ∙ f in cc))
+
 pub rests_where : (base : List ℕ) (old new : State) → ((lists : Lists) → Holds old lists → Rests old new) → (store : Store) → StandsIn base old store → Rests old new
 rests_where base old new rests store stands =
     by_bool old.is_open
     (λ t. (let s = stands t in rests (lists_of s.entries store.audit) (λ _. s.tables)))
     (λ f. rests no_rows (shut_holds old no_rows f))
+
+-- where nothing is changed, the tables stand for what they stood for
+pub stands_still : (base : List ℕ) (old new : State) (store : Store) → IsUnchanged old new → StandsIn base old store → StandsIn base new store
+stands_still base old new store same stands opened = subst (λ (db : Database). StandsFor base db store) (sym same.0.now_is) (stands same.0.was_open)
+
+-- where a look fails after one that changed nothing
+pub rests_then : (old mid new : State) → IsUnchanged old mid → Rests mid new → Rests old new
+rests_then old mid new same rests = record {
+  was_open = λ opened. same.0.was_open;
+  now = λ opened. subst₂ (λ (now committed : Database). (new.now ≡ now) ⊎ (new.now ≡ committed)) same.0.now_is same.0.committed_is (rests.now opened);
+  committed = λ opened. rests.committed opened ∙ same.0.committed_is;
+}

@@ -1,6 +1,15 @@
 pub mod RowLemmas
 pub mod PlaceLemmas
 pub mod EntryLemmas
+pub mod NameLemmas
+pub mod ValueLemmas
 pub mod StandLemmas
 pub mod FindLemmas
+pub mod LookLemmas
+pub mod NumberLemmas
+pub mod CommitLemmas
 pub mod BeginLemmas
+pub mod OwnerLemmas
+pub mod GroupLemmas
+pub mod WalkLemmas
+pub mod NoneLemmas

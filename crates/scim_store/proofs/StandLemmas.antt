@@ -2,11 +2,11 @@
 use Rattle.std.proofs.Common.{◌≡◌, ◌≢◌, ℕ, ◌+◌, refl, sym, ◌∙◌, ap, subst, subst₂, get_or, Bool, true, false, not, ◌&&◌, ◌||◌, List, [], ◌∷◌, ◌++◌, map, filter, length, arith}
 use Rattle.std.specs.Prelude.{All, AllPairs, Option, None, Some, IsPermutation, string_bytes}
 use Rattle.std.specs.Option.{option_map, option_to_list}
-use Rattle.std.specs.List.{flat_map, list_any}
+use Rattle.std.specs.List.{flat_map}
 use Rattle.std.specs.Ordering.{nat_cmp, is_lt, is_gt}
 use Rattle.std.specs.Cmp.Lexicographic.{slice_cmp}
 use Rattle.std.proofs.lemmas.List.{append-nil, map-append}
-use Rattle.std.proofs.lemmas.List.Elements.{All-nil, All-cons, All-head, All-append, All-filter, All-map, All-weaker, filter_passes, recursion_from_All}
+use Rattle.std.proofs.lemmas.List.Elements.{All-nil, All-cons, All-head, All-append, All-filter, All-map, All-weaker, filter_passes}
 use Rattle.std.proofs.lemmas.List.Folds.{list_any-append}
 use Rattle.std.proofs.lemmas.List.Sorted.{IsPermutation-refl, IsPermutation-cons, IsPermutation-middle, IsPermutation-trans, IsPermutation-sym}
 use Rattle.sqlite_trees.proofs.ListLemmas.{IsPermutation-same, filter-map, filter_none, map-map}
@@ -14,26 +14,26 @@ use Rattle.sqlite.specs.Order.{Row}
 use Rattle.sqlite.specs.Effect.{Database}
 use Rattle.scim_cell.specs.Content.{Content}
 use Rattle.scim_cell.specs.Ids.{IsId, id_text}
-use Rattle.scim_schema.specs.Names.{attribute_name}
 use Rattle.std.specs.Str.{bytes_eq}
 use Rattle.scim_value.specs.declared.uniqueness.UniqueName.{UniqueName}
-use Rattle.scim_value.specs.Uniqueness.{AreApart, name_of, unique_names}
+use Rattle.scim_value.specs.Uniqueness.{Name, AreApart, name_of, unique_names}
 use Rattle.scim_value.specs.Members.{lists_value}
 use Rattle.scim_audit.specs.declared.rows.AuditRow.{AuditRow}
 use Rattle.scim_shelf.specs.declared.changes.Change.{Change}
 use Rattle.scim_shelf.specs.declared.changes.Change.TheVariants.{Nothing, Keep, Remove}
 use Rattle.scim_shelf.specs.Stores.{Store, AreKeyed, CanKeep, below, above, after}
 use Rattle.scim_shelf.proofs.StoreLemmas.{keep_keyed, without_keyed}
-use Rattle.scim_tables.specs.Lists.{Lists, Are, has_text, has_texts, resource_values}
+use Rattle.scim_tables.specs.Lists.{Lists, Are, has_text, resource_values}
 use Rattle.scim_tables.specs.Audit.{audit_values}
 use Rattle.scim_tables.specs.declared.audit.AuditColumns.{AuditColumns}
 use Rattle.scim_store.specs.declared.edits.Edits.{Edits}
 use Rattle.scim_store.specs.Audit.{kind_number, audit_row, audit_rows}
 use Rattle.scim_store.specs.Stands.{Entry, StandsFor, IsEntry, AreMembers, is_among, lists_of, resource_row, name_row, name_rows, member_row, member_rows}
-use Rattle.scim_store.specs.Edits.{is_name, is_member, rows_of_names, rows_of_members, rows_of_document, edited, edited_by, with_row, of_id, names_in, lists_in, Replaces, AreEdits, Writes}
+use Rattle.scim_store.specs.Edits.{is_name, is_member, rows_of_names, rows_of_members, rows_of_document, edited, edited_by, with_row, of_id, names_in, names_beyond, lists_in, Replaces, AreEdits, Writes}
 use Rattle.scim_store.proofs.RowLemmas.{reordered}
 use Rattle.scim_store.proofs.PlaceLemmas.{own, lower, upper, others, split, found, own_id, other_own, own_apart, others_all}
-use Rattle.scim_store.proofs.EntryLemmas.{replaced, each_one, resource_goes, resource_stays, names_go, names_stay, is_name_of, own_member, other_member, ids_apart, staying, among_staying, none_among, once_more}
+use Rattle.scim_store.proofs.EntryLemmas.{replaced, each_one, resource_goes, resource_stays, own_member, other_member, ids_apart, staying, among_staying, none_among, once_more}
+use Rattle.scim_store.proofs.NameLemmas.{names_kept, names_stay, none_named, swapped}
 
 abbrev content : Entry → Content
 content e = e.content
@@ -65,11 +65,16 @@ resource_left : (id : List ℕ) (o : Option Entry) → All (λ x. own id x ≡ t
 resource_left id None own_o = refl
 resource_left id (Some x) own_o = filter_none (λ r. not (has_text 0 (id_text id) r)) (resource_row x ∷ []) (resource_goes id x (own_id id x (All-head (λ y. own id y ≡ true) x [] own_o)), tt)
 
-names_left : (gone : List UniqueName) (o : Option Entry) → map name_of gone ≡ names_in (option_map content o) → filter (λ r. not (is_name gone r)) (flat_map name_rows (option_to_list o)) ≡ []
-names_left gone None is = refl
-names_left gone (Some x) is =
-    ap (filter (λ r. not (is_name gone r))) (append-nil (name_rows x))
-    ∙ filter_none (λ r. not (is_name gone r)) (name_rows x) (recursion_from_All (λ r. not (is_name gone r) ≡ false) (name_rows x) (names_go x.content.id gone (unique_names x.content) is))
+-- the names that stay where some go
+abbrev names_staying : List Name → Option Content → List Name
+names_staying new old = names_beyond (names_beyond new (names_in old)) (names_in old)
+
+names_left : (id : List ℕ) (gone : List UniqueName) (new : List Name) (o : Option Entry) → All (λ x. own id x ≡ true) (option_to_list o) → map name_of gone ≡ names_beyond new (names_in (option_map content o))
+    → filter (λ r. not (is_name gone r)) (flat_map name_rows (option_to_list o)) ≡ map (name_row id) (names_staying new (option_map content o))
+names_left id gone new None own_o is = refl
+names_left id gone new (Some x) own_o is =
+    ap (filter (λ r. not (is_name gone r))) (append-nil (name_rows x) ∙ ap (λ y. map (name_row y) (unique_names x.content)) (own_id id x (All-head (λ y. own id y ≡ true) x [] own_o)))
+    ∙ names_kept id gone new (Some x.content) is
 
 members_left : (id : List ℕ) (gone : List (List ℕ)) (o : Option Entry) → All (λ x. own id x ≡ true) (option_to_list o)
     → filter (λ r. not (is_member (id_text id) gone r)) (flat_map member_rows (option_to_list o)) ≡ map (member_row id) (staying gone (members_in o))
@@ -82,12 +87,12 @@ members_left id gone (Some x) own_o =
 -- ---- what comes
 
 -- the resource that comes, with its rows
-record IsNew (base : List ℕ) (id : List ℕ) (c : Option Content) (e : Edits) (values : List (List ℕ)) : Type 0 where
+record IsNew (base : List ℕ) (id : List ℕ) (c : Option Content) (e : Edits) (named : List Name) (values : List (List ℕ)) : Type 0 where
   entry : Option Entry
   is : option_map content entry ≡ c
   sound : All (IsEntry base) (option_to_list entry)
   resources : rows_of_document e ≡ flat_map (λ x. resource_row x ∷ []) (option_to_list entry)
-  names : rows_of_names e.id e.names_come.items ≡ flat_map name_rows (option_to_list entry)
+  names : rows_of_names e.id e.names_come.items ++ map (name_row id) named ≡ flat_map name_rows (option_to_list entry)
   members : rows_of_members e.id e.members_come.items ++ map (member_row id) values ≡ flat_map member_rows (option_to_list entry)
 
 -- a value is listed after the edits just where the new resource lists it
@@ -123,11 +128,15 @@ module _ (base : List ℕ) (id : List ℕ) (old : Option Content) (e : Edits) (o
   stays_listed : (c : Option Content) → Replaces base id old c e → (v : List ℕ) → is_among v (staying e.members_gone.items (members_in o)) ≡ (lists_in v old && not (lists_in v old && not (lists_in v c)))
   stays_listed c replaces v = among_staying v e.members_gone.items (members_in o) ∙ (λ i. was_listed v i && not (replaces.members_gone v i))
 
-  names_come_rows : (c : Option Content) → Replaces base id old c e → rows_of_names e.id e.names_come.items ≡ map (name_row id) (names_in c)
-  names_come_rows c replaces =
+  new_names : (c : Option Content) → Replaces base id old c e → rows_of_names e.id e.names_come.items ++ map (name_row id) (names_staying (names_in c) old) ≡ map (name_row id) (names_in c)
+  new_names c replaces =
+      let come : rows_of_names e.id e.names_come.items ≡ map (name_row id) (names_beyond (names_in old) (names_in c)) =
       ap (λ t. rows_of_names t e.names_come.items) replaces.text
       ∙ sym (map-map (name_row id) name_of e.names_come.items)
-      ∙ ap (map (name_row id)) replaces.names_come
+      ∙ ap (map (name_row id)) replaces.names_come in
+      (λ i. come i ++ map (name_row id) (names_staying (names_in c) old))
+      ∙ sym (map-append (name_row id) (names_beyond (names_in old) (names_in c)) (names_staying (names_in c) old))
+      ∙ ap (map (name_row id)) (swapped old c)
 
   new_members : (c : Content) → Replaces base id old (Some c) e → AreMembers c (e.members_come.items ++ staying e.members_gone.items (members_in o))
   new_members c replaces = record {
@@ -135,7 +144,7 @@ module _ (base : List ℕ) (id : List ℕ) (old : Option Content) (e : Edits) (o
     listed = λ v. list_any-append (bytes_eq v) e.members_come.items (staying e.members_gone.items (members_in o)) ∙ (λ i. replaces.members_come v i || stays_listed (Some c) replaces v i) ∙ listed_new (lists_value v c) (lists_in v old);
   }
 
-  new_entry : (c : Option Content) → HasId id c → Replaces base id old c e → IsNew base id c e (staying e.members_gone.items (members_in o))
+  new_entry : (c : Option Content) → HasId id c → Replaces base id old c e → IsNew base id c e (names_staying (names_in c) old) (staying e.members_gone.items (members_in o))
   new_entry None has replaces =
       let come : e.members_come.items ≡ [] = none_among e.members_come.items replaces.members_come in
       let stay : staying e.members_gone.items (members_in o) ≡ [] = none_among (staying e.members_gone.items (members_in o)) (λ v. stays_listed None replaces v ∙ none_left (lists_in v old)) in
@@ -144,7 +153,7 @@ module _ (base : List ℕ) (id : List ℕ) (old : Option Content) (e : Edits) (o
         is = refl;
         sound = All-nil (IsEntry base);
         resources = ap (λ d. option_to_list (option_map (λ t. resource_values e.id (kind_number e.kind) (string_bytes t)) d)) replaces.document;
-        names = names_come_rows None replaces;
+        names = new_names None replaces;
         members = λ i. rows_of_members e.id (come i) ++ map (member_row id) (stay i);
       }
   new_entry (Some c) has replaces =
@@ -157,21 +166,18 @@ module _ (base : List ℕ) (id : List ℕ) (old : Option Content) (e : Edits) (o
         is = refl;
         sound = All-cons (IsEntry base) entry [] (record { document = written.3; members = new_members c replaces }) (All-nil (IsEntry base));
         resources = document_rows string_bytes e.document e.id (kind_number e.kind) written.1 written.2 ∙ (λ i. resource_values (text i) (kind_number (written.0 i)) written.1 ∷ []);
-        names = names_come_rows (Some c) replaces ∙ ap (λ x. map (name_row x) (unique_names c)) (sym has) ∙ sym (append-nil (name_rows entry));
+        names = new_names (Some c) replaces ∙ ap (λ x. map (name_row x) (unique_names c)) (sym has) ∙ sym (append-nil (name_rows entry));
         members = ap (λ t. rows_of_members t e.members_come.items ++ map (member_row id) stay) replaces.text ∙ sym (map-append (member_row id) e.members_come.items stay) ∙ ap (λ x. map (member_row x) (e.members_come.items ++ stay)) (sym has) ∙ sym (append-nil (member_rows entry));
       }
 
 -- ---- the others stay
 
-none_named : (gone : List UniqueName) (rows : List Row) → map name_of gone ≡ [] → All (λ r. not (is_name gone r) ≡ true) rows
-none_named gone rows is = λ k d low. ap not (is_name_of gone (get_or rows k d) ∙ ap (list_any (λ n. has_texts (attribute_name n.leaf.attribute) n.text (get_or rows k d))) is)
-
-others_names : (gone : List UniqueName) (id : List ℕ) (es : List Entry) (o : Option Entry) → AreKeyed (map content es) → filter (own id) es ≡ option_to_list o → map name_of gone ≡ names_in (option_map content o)
+others_names : (gone : List UniqueName) (new : List Name) (id : List ℕ) (es : List Entry) (o : Option Entry) → AreKeyed (map content es) → filter (own id) es ≡ option_to_list o → map name_of gone ≡ names_beyond new (names_in (option_map content o))
     → All (λ d. All (λ r. not (is_name gone r) ≡ true) (name_rows d)) (others id es)
-others_names gone id es None keyed only is = others_all (λ d. All (λ r. not (is_name gone r) ≡ true) (name_rows d)) id es (λ k d low _. none_named gone (name_rows (get_or es k d)) is)
-others_names gone id es (Some x) keyed only is =
+others_names gone new id es None keyed only is = others_all (λ d. All (λ r. not (is_name gone r) ≡ true) (name_rows d)) id es (λ k d low _. none_named gone (name_rows (get_or es k d)) is)
+others_names gone new id es (Some x) keyed only is =
     others_all (λ d. All (λ r. not (is_name gone r) ≡ true) (name_rows d)) id es
-    (All-weaker (λ d. own id d ≡ false → AreApart x.content d.content) (λ d. own id d ≡ false → All (λ r. not (is_name gone r) ≡ true) (name_rows d)) (λ d apart other. names_stay gone x.content d is (apart other)) es (own_apart id x es keyed only))
+    (All-weaker (λ d. own id d ≡ false → AreApart x.content d.content) (λ d. own id d ≡ false → All (λ r. not (is_name gone r) ≡ true) (name_rows d)) (λ d apart other. names_stay gone new x.content d is (apart other)) es (own_apart id x es keyed only))
 
 others_resources : (base id : List ℕ) (es : List Entry) → IsId id → All (IsEntry base) es → All (λ d. All (λ r. not (has_text 0 (id_text id) r) ≡ true) (resource_row d ∷ [])) (others id es)
 others_resources base id es is_id sound =
@@ -221,7 +227,9 @@ are_replaced base es id c e audit keyed sound has replaces =
     let new = new_entry base id (of_id id (map content es)) e o f.is sound_o c has replaces in
     let entries : List Entry = lows ++ (option_to_list new.entry ++ highs) in
     let into : IsPermutation (option_to_list new.entry ++ others id es) entries = into_place lows highs new.entry in
-    let named : map name_of e.names_gone.items ≡ names_in (option_map content o) = replaces.names_gone ∙ ap names_in f.is in
+    let named : map name_of e.names_gone.items ≡ names_beyond (names_in c) (names_in (option_map content o)) = replaces.names_gone ∙ ap (λ (x : Option Content). names_beyond (names_in c) (names_in x)) f.is in
+    let remain : filter (λ r. not (is_name e.names_gone.items r)) (flat_map name_rows (option_to_list o)) ≡ map (name_row id) (names_staying (names_in c) (of_id id (map content es))) =
+    names_left id e.names_gone.items (names_in c) o own_o named ∙ ap (λ (x : Option Content). map (name_row id) (names_staying (names_in c) x)) (sym f.is) in
     let all : All (IsEntry base) entries =
     All-append (IsEntry base) lows (option_to_list new.entry ++ highs) (All-filter (lower id) (IsEntry base) es sound) (All-append (IsEntry base) (option_to_list new.entry) highs new.sound (All-filter (upper id) (IsEntry base) es sound)) in
     let goes : filter (λ r. not (has_text 0 e.id r)) (flat_map (λ x. resource_row x ∷ []) (option_to_list o)) ≡ [] = subst (λ (t : List ℕ). filter (λ r. not (has_text 0 t r)) (flat_map (λ x. resource_row x ∷ []) (option_to_list o)) ≡ []) (sym replaces.text) (resource_left id o own_o) in
@@ -230,8 +238,8 @@ are_replaced base es id c e audit keyed sound has replaces =
     let resources_stay = subst (λ (t : List ℕ). All (λ d. All (λ r. not (has_text 0 t r) ≡ true) (resource_row d ∷ [])) (others id es)) (sym replaces.text) (others_resources base id es replaces.is_id sound) in
     let members_stay = subst (λ (t : List ℕ). All (λ d. All (λ r. not (is_member t e.members_gone.items r) ≡ true) (member_rows d)) (others id es)) (sym replaces.text) (others_members base id e.members_gone.items es replaces.is_id sound) in
     let one = replaced (λ x. resource_row x ∷ []) (λ r. not (has_text 0 e.id r)) es (option_to_list o) (others id es) (option_to_list new.entry) entries (rows_of_document e) from resources_stay (ap (λ (l : List Row). rows_of_document e ++ l) goes ∙ append-nil (rows_of_document e) ∙ new.resources) into in
-    let two = replaced name_rows (λ r. not (is_name e.names_gone.items r)) es (option_to_list o) (others id es) (option_to_list new.entry) entries (rows_of_names e.id e.names_come.items) from (others_names e.names_gone.items id es o keyed f.only named)
-    (ap (λ (l : List Row). rows_of_names e.id e.names_come.items ++ l) (names_left e.names_gone.items o named) ∙ append-nil (rows_of_names e.id e.names_come.items) ∙ new.names) into in
+    let two = replaced name_rows (λ r. not (is_name e.names_gone.items r)) es (option_to_list o) (others id es) (option_to_list new.entry) entries (rows_of_names e.id e.names_come.items) from (others_names e.names_gone.items (names_in c) id es o keyed f.only named)
+    (ap (λ (l : List Row). rows_of_names e.id e.names_come.items ++ l) remain ∙ new.names) into in
     let three = replaced member_rows (λ r. not (is_member e.id e.members_gone.items r)) es (option_to_list o) (others id es) (option_to_list new.entry) entries (rows_of_members e.id e.members_come.items) from members_stay
     (ap (λ (l : List Row). rows_of_members e.id e.members_come.items ++ l) leave ∙ new.members) into in
     record {

@@ -1,5 +1,5 @@
 -- The rows of the audit, as the table `audit` has them.
-use Rattle.std.specs.Prelude.{◌≡◌, ℕ, ◌+◌, ◌-◌, List, [], ◌∷◌, string_bytes}
+use Rattle.std.specs.Prelude.{◌≡◌, ℕ, ◌+◌, ◌-◌, List, [], ◌∷◌}
 use Rattle.std.specs.Option.{option_map}
 use Rattle.sqlite.specs.declared.types.Value.TheVariants.{Text}
 use Rattle.sqlite.specs.Order.{Row}
@@ -56,4 +56,4 @@ audit_rows n (row ∷ rows) = audit_row n row ∷ audit_rows (n + 1) rows
 -- the texts of a row's id and leaf
 pub record AreTexts (texts : AuditTexts) (row : AuditRow) : Type 0 where
   pub id : texts.id ≡ option_map id_text row.id
-  pub leaf : option_map string_bytes texts.leaf ≡ option_map leaf_path row.leaf
+  pub leaf : texts.leaf ≡ option_map leaf_path row.leaf

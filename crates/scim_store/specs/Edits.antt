@@ -1,5 +1,5 @@
 -- How a change of a store edits the rows of the tables.
-use Rattle.std.specs.Prelude.{◌≡◌, ◌≢◌, ℕ, ◌+◌, Bool, false, ◌&&◌, not, List, [], ◌∷◌, ◌++◌, length, map, find, AllPairs, Option, None, Some, string_bytes}
+use Rattle.std.specs.Prelude.{◌≡◌, ◌≢◌, ℕ, ◌+◌, Bool, false, ◌&&◌, not, List, [], ◌∷◌, ◌++◌, length, map, find, filter, AllPairs, Option, None, Some, string_bytes, ⊤}
 use Rattle.std.specs.Option.{option_map, option_to_list}
 use Rattle.std.specs.List.{list_any}
 use Rattle.sqlite.specs.Order.{Row}
@@ -10,12 +10,13 @@ use Rattle.scim_cell.specs.Ids.{IsId, id_text}
 use Rattle.scim_cell.specs.Equality.{is_same_id}
 use Rattle.scim_value.specs.declared.uniqueness.UniqueName.{UniqueName}
 use Rattle.scim_value.specs.Members.{lists_value}
+use Rattle.scim_value.specs.Resource.{HasBase}
 use Rattle.scim_value.specs.Uniqueness.{Name, name_of, unique_names}
 use Rattle.scim_json.specs.Stored.{IsDocumentText}
 use Rattle.scim_audit.specs.declared.rows.AuditRow.{AuditRow}
 use Rattle.scim_shelf.specs.declared.changes.Change.{Change}
 use Rattle.scim_shelf.specs.declared.changes.Change.TheVariants.{Nothing, Keep, Remove}
-use Rattle.scim_shelf.specs.Stores.{Store, CanKeep, after}
+use Rattle.scim_shelf.specs.Stores.{Store, CanKeep, after, is_same_name}
 use Rattle.scim_tables.specs.Lists.{Lists, without, has_text, has_texts, resource_values, name_values, member_values}
 use Rattle.scim_tables.specs.Audit.{audit_values}
 use Rattle.scim_tables.specs.declared.audit.AuditColumns.{AuditColumns}
@@ -69,6 +70,10 @@ abbrev pub names_in : Option Content → List Name
 names_in None = []
 names_in (Some c) = unique_names c
 
+-- those of some names that aren't among others
+abbrev pub names_beyond : List Name → List Name → List Name
+names_beyond others names = filter (λ n. not (list_any (is_same_name n) others)) names
+
 -- whether a resource, if there is one, lists a value among its members
 abbrev pub lists_in : List ℕ → Option Content → Bool
 lists_in value None = false
@@ -79,13 +84,13 @@ abbrev pub IsWritten : List ℕ → Option Content → Edits → Type 0
 IsWritten base None e = e.document ≡ None
 IsWritten base (Some c) e = (e.kind ≡ c.kind) × (text : List ℕ) × (option_map string_bytes e.document ≡ Some text) × IsDocumentText base text c
 
--- The edits make of the rows of the old resource of an id those of the new one, where there is one. All old names go and all new ones come; of the
--- members those go that are listed no more, and those come, each once, that weren't listed.
+-- The edits make of the rows of the old resource of an id those of the new one, where there is one. Of the names those go that it has no more, and
+-- those come that it hadn't; of the members those go that are listed no more, and those come, each once, that weren't listed.
 pub record Replaces (base : List ℕ) (id : List ℕ) (old new : Option Content) (e : Edits) : Type 0 where
   pub is_id : IsId id
   pub text : e.id ≡ id_text id
-  pub names_gone : map name_of e.names_gone.items ≡ names_in old
-  pub names_come : map name_of e.names_come.items ≡ names_in new
+  pub names_gone : map name_of e.names_gone.items ≡ names_beyond (names_in new) (names_in old)
+  pub names_come : map name_of e.names_come.items ≡ names_beyond (names_in old) (names_in new)
   pub members_gone : (value : List ℕ) → is_among value e.members_gone.items ≡ (lists_in value old && not (lists_in value new))
   pub members_come : (value : List ℕ) → is_among value e.members_come.items ≡ (lists_in value new && not (lists_in value old))
   pub once : AllPairs (λ v w. v ≢ w) e.members_come.items
@@ -98,6 +103,17 @@ AreEdits base cs (Keep c) None = ⊥
 AreEdits base cs (Keep c) (Some e) = Replaces base c.id (of_id c.id cs) (Some c) e
 AreEdits base cs (Remove kind id) None = ⊥
 AreEdits base cs (Remove kind id) (Some e) = Replaces base id (of_id id cs) None e
+
+-- this is what there is of the id of a change, whatever its kind
+abbrev pub IsOld : List Content → Change → Option Content → Type 0
+IsOld cs Nothing old = ⊤
+IsOld cs (Keep c) old = of_id c.id cs ≡ old
+IsOld cs (Remove kind id) old = of_id id cs ≡ old
+
+-- a resource that is kept stands below the base
+abbrev pub KeepsBelow : List ℕ → Change → Type 0
+KeepsBelow base (Keep c) = HasBase base c
+KeepsBelow base _ = ⊤
 
 -- what the tables stood for, they stand for after each change that these are the edits and the row of the audit of
 pub record Writes (edits : Option Edits) (columns : AuditColumns) (old new : Database) : Type 0 where

@@ -1,5 +1,5 @@
 //! The rows of the audit as columns.
-ghost use Rattle.std.specs.Prelude.{◌≡◌, ◌≤◌, IfOk, option_map, string_bytes};
+ghost use Rattle.std.specs.Prelude.{◌≡◌, ◌≤◌, IfOk, option_map};
 ghost use Rattle.std.specs.Option.{option_copied};
 ghost use Rattle.scim_cell.specs.Ids.{id_text};
 ghost use Rattle.scim_audit.specs.Rows as rows;
@@ -17,7 +17,7 @@ use std::alloc::Global;
 #[derive(Debug, Drop)]
 pub struct AuditTexts {
     id: Option<Text>,
-    leaf: Option<String>,
+    leaf: Option<Text>,
 }
 
 /// The text of an id, where there is one. NoMemory where none was to be had.
@@ -31,11 +31,11 @@ fn id_of(alloc: Global, id: Option<Id>) -> Result<Option<Text>, NoMemory>
 }
 
 /// The path of a leaf, where there is one. NoMemory where none was to be had.
-fn leaf_of(alloc: Global, leaf: Option<Leaf>) -> Result<Option<String>, NoMemory>
-    ensures { IfOk result (λ text. option_map string_bytes text ≡ option_map rows.leaf_path leaf) }
+fn leaf_of(alloc: Global, leaf: Option<Leaf>) -> Result<Option<Text>, NoMemory>
+    ensures { IfOk result (λ text. text ≡ option_map rows.leaf_path leaf) }
 {
     match leaf {
-        Some(leaf) => Ok(Some(leaf_path(alloc, leaf)?)),
+        Some(leaf) => Ok(Some(Text::new(leaf_path(alloc, leaf)?))),
         None => Ok(None),
     }
 }
@@ -108,16 +108,6 @@ fn text_in(text: &Option<Text>) -> Option<&str>
     }
 }
 
-/// The path, where there is one.
-fn path_in(path: &Option<String>) -> Option<&str>
-    ensures { option_copied result ≡ option_map string_bytes path.now }
-{
-    match path {
-        Some(path) => Some(path.as_str()),
-        None => None,
-    }
-}
-
 /// The columns of a row of the audit with its number. The texts are the row's.
 pub fn columns_of<'a>(number: u64, row: &'a AuditRow, texts: &'a AuditTexts) -> AuditColumns<'a>
     requires { spec.AreTexts texts.now row.now }
@@ -134,7 +124,7 @@ pub fn columns_of<'a>(number: u64, row: &'a AuditRow, texts: &'a AuditTexts) -> 
         id: text_in(&texts.id),
         decided: decided_number(row.decided),
         rule: row.rule,
-        leaf: path_in(&texts.leaf),
+        leaf: text_in(&texts.leaf),
         refusal: refusal_number(row.refusal),
     }
 }

@@ -13,9 +13,9 @@ pub struct Edits {
     pub kind: Kind,
     /// Its new document; None where the resource goes.
     pub document: Option<String>,
-    /// The unique names that it had.
+    /// The unique names that it had, and hasn't any more.
     pub names_gone: Vec<UniqueName>,
-    /// The unique names that it has.
+    /// The unique names that it has, and hadn't before.
     pub names_come: Vec<UniqueName>,
     /// The values that it listed among its members, and doesn't any more.
     pub members_gone: Vec<Text>,

@@ -12,15 +12,16 @@ use Rattle.sqlite.specs.Tree.{Trees}
 use Rattle.sqlite.specs.Term.{Term, eval_all}
 use Rattle.sqlite.specs.Program.{overlay}
 use Rattle.sqlite.specs.Query.{Query, IsAnswer}
-use Rattle.sqlite.specs.State.{State, Shown, ShowsRows, FailsToQuery, FailsToShow, IsNotRun, IsUnchanged, IsRolledBack}
+use Rattle.sqlite.specs.State.{State, Survives, CommitsShowing, Shown, ShowsRows, FailsToQuery, FailsToShow, IsNotRun, IsUnchanged, IsRolledBack}
 use Rattle.sqlite.specs.Listing.{understood}
 use Rattle.sqlite.specs.Given.{IsPlain}
 use Rattle.sqlite_resolve.specs.declared.compiled.Compiled.{Compiled}
 use Rattle.sqlite_resolve.specs.declared.error.CompileError.{CompileError}
-use Rattle.sqlite.proofs.Callers.{reads_as, command_of}
+use Rattle.sqlite.proofs.Callers.{reads_as, command_of, never_commits}
+use Rattle.sqlite.proofs.StateLemmas.{survives_weaker}
 use Rattle.sqlite_value.specs.declared.keys.Key.{Key}
 use Rattle.scim_tables.specs.Tables.{store_schema}
-use Rattle.scim_tables.specs.Reading.{Rests, Finds, IsTextOfFirst}
+use Rattle.scim_tables.specs.Reading.{Rests, Spares, Finds, IsTextOfFirst}
 use Rattle.scim_tables.specs.code.Asks.{asked, IsAsk, IsAnswered}
 use Rattle.scim_tables.specs.code.Queries.{one_table}
 use Rattle.scim_tables.proofs.QueryLemmas.{selected, passes, no_lets}
@@ -43,6 +44,11 @@ failed_rests sql params old new e (inr h) = go (timed params h.0.formats h.1.now
     go full None k = unchanged_rests old new k.3
     go full (Some what) (inl k) = unchanged_rests old new k.1
     go full (Some what) (inr k) = undone_rests old new k.3
+
+-- ---- a query commits nothing
+
+pub asks_spare : (sql : List ℕ) (params : Row) (old new : State) (q : Query) → IsAsk sql q → Survives old new (CommitsShowing sql params old) → Spares old new
+asks_spare sql params old new q is = survives_weaker old new _ _ (λ _ db shown has. never_commits sql params old db (subst (λ s. IsPlain (understood s sql)) (sym has) is.plain) shown)
 
 -- ---- an answer
 

@@ -6,7 +6,7 @@ use Rattle.sqlite.specs.Listing.{understood}
 use Rattle.sqlite_tied.specs.Compute.{everything}
 use Rattle.scim_tables.specs.code.Asks.{IsAsk}
 use Rattle.scim_tables.specs.code.Queries.{one_table, is_column, up}
-use Rattle.scim_tables.proofs.TextLemmas.{key_tests, resource_tests}
+use Rattle.scim_tables.proofs.TextLemmas.{key_tests, resource_tests, between_tests}
 
 -- ---- in order
 
@@ -70,6 +70,13 @@ asks_audit = record {
 abbrev pub keys_of_tree : ℕ → Query
 keys_of_tree tree = one_table tree [] (col 1 0 ∷ []) ((col 1 0, up) ∷ [])
 
+abbrev pub setting_keys_text : List ℕ
+setting_keys_text = codes "SELECT rowid FROM setting ORDER BY rowid"
+
+pub asks_setting_keys : IsAsk setting_keys_text (keys_of_tree 0)
+unfolding understood everything
+asks_setting_keys = record { names = codes "rowid" ∷ []; command = refl; plain = (refl, refl); unlisted = refl }
+
 abbrev pub resource_keys_text : List ℕ
 resource_keys_text = codes "SELECT rowid FROM resource ORDER BY rowid"
 
@@ -122,3 +129,18 @@ groups = one_table 6 (is_column 1 0 ∷ []) (col 1 2 ∷ []) ((col 1 2, up) ∷ 
 pub asks_groups : IsAsk groups_text groups
 unfolding understood everything
 asks_groups = record { names = codes "group_id" ∷ []; command = refl; plain = (refl, refl); unlisted = refl }
+
+abbrev pub between_text : List ℕ
+between_text = codes "SELECT number, moment, client, op, kind, id, decided, rule, leaf, refusal FROM audit WHERE number >= ?1 AND number < ?2 ORDER BY number"
+
+abbrev pub between : Query
+between = one_table 8 between_tests (col 1 0 ∷ col 1 2 ∷ col 1 3 ∷ col 1 4 ∷ col 1 5 ∷ col 1 6 ∷ col 1 7 ∷ col 1 8 ∷ col 1 9 ∷ col 1 10 ∷ []) ((col 1 0, up) ∷ [])
+
+pub asks_between : IsAsk between_text between
+unfolding understood everything
+asks_between = record {
+  names = codes "number" ∷ codes "moment" ∷ codes "client" ∷ codes "op" ∷ codes "kind" ∷ codes "id" ∷ codes "decided" ∷ codes "rule" ∷ codes "leaf" ∷ codes "refusal" ∷ [];
+  command = refl;
+  plain = (refl, refl);
+  unlisted = refl;
+}

@@ -16,3 +16,4 @@ pub mod OrderLemmas
 pub mod ReadLemmas
 pub mod KeyLemmas
 pub mod RiseLemmas
+pub mod WholeLemmas

@@ -1,5 +1,5 @@
 -- Answers in order of their columns.
-use Rattle.std.proofs.Common.{◌≡◌, ℕ, suc, List, [], ◌∷◌, map, filter, Bool, true, false, refl, sym, ap, subst, ◌∙◌, arith, add-one}
+use Rattle.std.proofs.Common.{◌≡◌, ℕ, zero, suc, List, [], ◌∷◌, map, filter, Bool, true, false, refl, sym, ap, subst, ◌∙◌, arith, add-one}
 use Rattle.std.specs.Prelude.{IsPermutation, IsSorted}
 use Rattle.std.specs.List.{AllByRecursion}
 use Rattle.std.specs.Cmp.{IsTotalOrder}
@@ -9,6 +9,7 @@ use Rattle.std.specs.declared.cmp.Ordering.TheVariants.{Less, Equal}
 use Rattle.std.proofs.lemmas.Cmp.{on_total, then_total}
 use Rattle.std.proofs.lemmas.List.Elements.{recursion_from_All}
 use Rattle.std.proofs.lemmas.List.Sorted.{sorted_far, ranks_by, IsPermutation-map}
+use Rattle.sqlite_keyed.proofs.SortLemmas.{sorted_unique}
 use Rattle.sqlite_value.proofs.OrderLemmas.{value_cmp_total}
 use Rattle.sqlite_trees.proofs.ListLemmas.{map-map, filter_all, all-permutation, all_of, all-map}
 use Rattle.sqlite_value.specs.declared.keys.Key.{Key}
@@ -29,6 +30,16 @@ module _ {X : Type 0} (cmp : X → X → Ordering) (o : IsTotalOrder cmp) where
     recursion_from_All _ ys (λ j d low. sorted_far (λ a b. is_lt (cmp a b)) (ranks_by o (λ x. x)) (y ∷ ys) h 0 (suc j) d (omega arith) (omega arith)),
     low_from_sorted ys (λ k d low high. rw add-one (rw add-one at (h (suc k) d (omega arith) (omega arith)))),
   )
+
+-- and the other way round
+sorted_from_low : {X : Type 0} (cmp : X → X → Ordering) (ys : List X) → IsAscending (λ a b. is_lt (cmp b a) ≡ false) ys → IsSorted cmp ys
+sorted_from_low cmp [] h = λ k d p q. absurd (omega (arith, q))
+sorted_from_low cmp (y ∷ []) h = λ k d p q. absurd (omega (arith, q))
+sorted_from_low cmp (y ∷ z ∷ ys) h = at (sorted_from_low cmp (z ∷ ys) h.1)
+  where
+    at : IsSorted cmp (z ∷ ys) → IsSorted cmp (y ∷ z ∷ ys)
+    at rest zero d p q = h.0.0
+    at rest (suc k) d p q = rw add-one (rw add-one at (rest k d (omega arith) (omega arith)))
 
 no_order : IsTotalOrder {K = Row} (λ a b. Equal)
 no_order = record { antisymm = λ x y. refl; trans = λ x y z h k. absurd (let e : Equal ≡ Less = h in cc); congr = λ x y z h. refl }
@@ -86,3 +97,7 @@ pub told_in_order : (t : ℕ) (project : List Term) (order : List (Term × Key))
 told_in_order t project order places trees rows shows old new by at outs unchanged a =
     subst (λ xs. Tells places (map shows xs) old new rows) (filter_all (λ r. true) (trees t) (all_true (trees t)))
     (told_where t [] project order places trees [] rows (λ r. true) shows old new by at outs (λ r. refl) unchanged a)
+
+-- rows that are told in order are the values, where these rise
+pub told_rising : (places : List ℕ) (values rows : List Row) (old new : State) → IsAscending (λ a b. columns_cmp places a b ≡ Less) values → Tells places values old new rows → rows ≡ values
+told_rising places values rows old new rise told = sorted_unique (columns_cmp places) (columns_total places) values rows rise told.same (sorted_from_low (columns_cmp places) rows told.order)

@@ -1,8 +1,8 @@
 -- What the queries tell of the tables.
-use Rattle.std.proofs.Common.{◌≡◌, ℕ, pos, List, [], ◌∷◌, map, filter, Option, IsTrue, refl, sym, subst}
+use Rattle.std.proofs.Common.{◌≡◌, ℕ, ℤ, pos, List, [], ◌∷◌, map, filter, Option, IsTrue, refl, sym, subst}
 use Rattle.std.specs.Prelude.{IsPermutation}
 use Rattle.std.proofs.lemmas.List.Sorted.{IsPermutation-map, IsPermutation-trans}
-use Rattle.sqlite_trees.proofs.ListLemmas.{map-map}
+use Rattle.sqlite_trees.proofs.ListLemmas.{map-map, filter-map}
 use Rattle.sqlite.specs.declared.types.Value.TheVariants.{Int, Text}
 use Rattle.sqlite.specs.Order.{Row}
 use Rattle.sqlite.specs.Query.{Query}
@@ -10,15 +10,15 @@ use Rattle.sqlite.specs.Term.{col}
 use Rattle.sqlite.specs.State.{State}
 use Rattle.scim_tables.specs.Tables.{store_schema}
 use Rattle.scim_tables.specs.Lists.{Lists, has_text, has_texts, pair, triple, entry}
-use Rattle.scim_tables.specs.Reading.{TellsKeys, key_alone, shown_settings, group_alone, Rests, HasTables, Holds, Tells, Finds, IsTextOfFirst, shown, owner_first, group_first, is_resource}
+use Rattle.scim_tables.specs.Reading.{TellsKeys, key_alone, shown_settings, group_alone, Rests, HasTables, Holds, Tells, Finds, IsTextOfFirst, shown, owner_first, group_first, is_resource, is_between}
 use Rattle.scim_tables.specs.code.Asks.{IsAsk, IsAnswered}
 use Rattle.scim_tables.specs.code.Queries.{is_column, up}
-use Rattle.scim_tables.proofs.AskLemmas.{keys_of_tree, resource_keys_text, asks_resource_keys, name_keys_text, asks_name_keys, member_keys_text, asks_member_keys, settings_text, settings, asks_settings, groups_text, groups, asks_groups, resources_text, resources, asks_resources, names_text, names, asks_names, members_text, members, asks_members, all_audit_text, all_audit, asks_audit, document_text, document, asks_document, owner_text, owner, asks_owner}
+use Rattle.scim_tables.proofs.AskLemmas.{keys_of_tree, setting_keys_text, asks_setting_keys, resource_keys_text, asks_resource_keys, name_keys_text, asks_name_keys, member_keys_text, asks_member_keys, settings_text, settings, asks_settings, groups_text, groups, asks_groups, resources_text, resources, asks_resources, names_text, names, asks_names, members_text, members, asks_members, all_audit_text, all_audit, asks_audit, document_text, document, asks_document, owner_text, owner, asks_owner, between_text, between, asks_between}
 use Rattle.scim_tables.proofs.AnswerLemmas.{passing, answered_columns, found_first, unchanged_rests}
 use Rattle.scim_tables.proofs.KeyLemmas.{keys_told}
 use Rattle.scim_tables.proofs.OrderLemmas.{told_in_order, told_where}
-use Rattle.scim_tables.proofs.TestLemmas.{passes_text, passes_resource, passes_key}
-use Rattle.scim_tables.proofs.TextLemmas.{key_tests, resource_tests}
+use Rattle.scim_tables.proofs.TestLemmas.{passes_text, passes_resource, passes_key, passes_between}
+use Rattle.scim_tables.proofs.TextLemmas.{key_tests, resource_tests, between_tests}
 
 -- the query is answered
 abbrev pub Answered : List ℕ → Row → State → State → List Row → Type 0
@@ -55,6 +55,11 @@ module _ (old new : State) (rows : List Row) (opened : IsTrue old.is_open) where
       told_in_order 8 (col 1 0 ∷ col 1 2 ∷ col 1 3 ∷ col 1 4 ∷ col 1 5 ∷ col 1 6 ∷ col 1 7 ∷ col 1 8 ∷ col 1 9 ∷ col 1 10 ∷ []) ((col 1 0, up) ∷ []) (0 ∷ []) old.now.trees rows entry old new refl (λ r. (refl, tt)) (λ r. refl) it.unchanged it.answer
 
   -- ---- the keys of a table
+
+  pub setting_keys_told : Answered setting_keys_text [] old new rows → HasTables old → TellsKeys (old.now.trees 0) old new rows
+  setting_keys_told answers has =
+      let it = answers (keys_of_tree 0) asks_setting_keys (has opened) in
+      keys_told (old.now.trees 0) old new rows (told_in_order 0 (col 1 0 ∷ []) ((col 1 0, up) ∷ []) (0 ∷ []) old.now.trees rows key_alone old new refl (λ r. (refl, tt)) (λ r. refl) it.unchanged it.answer)
 
   pub resource_keys_told : Answered resource_keys_text [] old new rows → HasTables old → TellsKeys (old.now.trees 2) old new rows
   resource_keys_told answers has =
@@ -108,3 +113,10 @@ module _ (old new : State) (rows : List Row) (opened : IsTrue old.is_open) where
         same = IsPermutation-trans _ _ _ (IsPermutation-map group_alone _ _ (passing pair (has_text 0 value) (old.now.trees 6) lists.member are.member.same)) (subst (λ xs. IsPermutation xs rows) (sym (map-map group_alone pair (filter test (old.now.trees 6)))) told.same);
         order = told.order;
       }
+
+  pub between_told : (first end : ℤ) → Answered between_text (Int first ∷ Int end ∷ []) old new rows → HasTables old → Tells (0 ∷ []) (filter (is_between first end) (shown old.now).audit) old new rows
+  between_told first end answers has =
+      let it = answers between asks_between (has opened) in
+      let shows = col 1 0 ∷ col 1 2 ∷ col 1 3 ∷ col 1 4 ∷ col 1 5 ∷ col 1 6 ∷ col 1 7 ∷ col 1 8 ∷ col 1 9 ∷ col 1 10 ∷ [] in
+      subst (λ values. Tells (0 ∷ []) values old new rows) (sym (filter-map (is_between first end) entry (old.now.trees 8)))
+      (told_where 8 between_tests shows ((col 1 0, up) ∷ []) (0 ∷ []) old.now.trees (Int first ∷ Int end ∷ []) rows (λ r. is_between first end (entry r)) entry old new refl (λ r. (refl, tt)) (λ r. refl) (passes_between first end shows) it.unchanged it.answer)

@@ -1,23 +1,23 @@
 -- What a test of a column tells.
 use Rattle.std.proofs.Common.{◌≡◌, ℕ, ℤ, pos, List, [], ◌∷◌, ◌&&◌, not, filter, Bool, true, false, Some, refl, ◌∙◌}
-use Rattle.std.specs.Ordering.{is_eq, nat_cmp}
+use Rattle.std.specs.Ordering.{is_eq, is_lt, is_ge, nat_cmp}
 use Rattle.std.specs.Cmp.Lexicographic.{slice_cmp}
 use Rattle.sqlite.specs.declared.types.Value.{Value}
 use Rattle.sqlite.specs.declared.types.Value.TheVariants.{Null, Int, Real, Text, Blob}
 use Rattle.sqlite_sql.specs.declared.ops.BinaryOp.TheVariants as by
-use Rattle.sqlite_sql.specs.declared.ops.CompareOp.TheVariants.{Eq}
+use Rattle.sqlite_sql.specs.declared.ops.CompareOp.TheVariants.{Eq, Ge, Lt}
 use Rattle.sqlite.specs.Collation.TheVariants.{Binary}
 use Rattle.sqlite.specs.Ops.{unary, binary, is_true, from_truth}
 use Rattle.sqlite_sql.specs.declared.ops.UnaryOp.TheVariants.{ToNumeric}
 use Rattle.sqlite.specs.Order.{Row, column, value_cmp}
 use Rattle.sqlite.specs.Term.{Term, col}
 use Rattle.sqlite.specs.Effect.{Database}
-use Rattle.scim_tables.specs.Lists.{is_text, has_texts, triple}
-use Rattle.scim_tables.specs.Reading.{is_resource}
+use Rattle.scim_tables.specs.Lists.{is_text, has_texts, triple, entry}
+use Rattle.scim_tables.specs.Reading.{is_resource, is_between}
 use Rattle.scim_tables.specs.code.Changes.{Takes}
 use Rattle.scim_tables.specs.code.Queries.{is_column}
 use Rattle.scim_tables.proofs.QueryLemmas.{passes}
-use Rattle.scim_tables.proofs.TextLemmas.{key_tests, resource_tests}
+use Rattle.scim_tables.proofs.TextLemmas.{key_tests, resource_tests, between_tests}
 
 text_order : (a b : List ℕ) → value_cmp (Text a) (Text b) ≡ slice_cmp nat_cmp a b
 unfolding value_cmp lib.Ieee.is_nan lib.Ieee.lt
@@ -26,6 +26,10 @@ text_order a b = refl
 before_numbers : (n : ℤ) → false ≡ is_eq (value_cmp Null (Int n))
 unfolding value_cmp lib.Ieee.is_nan lib.Ieee.lt
 before_numbers n = refl
+
+below_numbers : (first end : ℤ) → false ≡ (is_ge (value_cmp Null (Int first)) && is_lt (value_cmp Null (Int end)))
+unfolding value_cmp lib.Ieee.is_nan lib.Ieee.lt
+below_numbers first end = refl
 
 told : (b : Bool) → is_true (from_truth (Some b)) ≡ b
 told true = refl
@@ -77,6 +81,20 @@ passes_resource id kind project r = both _ _ ∙ (λ i. is_the_text (column r 1)
 -- a key of two texts is tested, in a query
 pub passes_key : (tree : ℕ) (first second : List ℕ) (project : List Term) (r : Row) → passes tree key_tests project [] (Text first ∷ Text second ∷ []) r ≡ has_texts first second (triple r)
 passes_key tree first second project r = both _ _ ∙ (λ i. is_the_text (column r 1) first i && is_the_text (column r 2) second i)
+
+-- a value is compared with two numbers
+between_told : (v : Value) (first end : ℤ) → (is_true (binary (by.Compare Ge Binary) v (Int first)) && is_true (binary (by.Compare Lt Binary) v (Int end))) ≡ (is_ge (value_cmp v (Int first)) && is_lt (value_cmp v (Int end)))
+unfolding binary
+between_told Null first end = below_numbers first end
+between_told (Int m) first end = (λ i. told (is_ge (value_cmp (Int m) (Int first))) i && told (is_lt (value_cmp (Int m) (Int end))) i)
+between_told (Real x) first end = (λ i. told (is_ge (value_cmp (Real x) (Int first))) i && told (is_lt (value_cmp (Real x) (Int end))) i)
+between_told (Text t) first end = (λ i. told (is_ge (value_cmp (Text t) (Int first))) i && told (is_lt (value_cmp (Text t) (Int end))) i)
+between_told (Blob b) first end = (λ i. told (is_ge (value_cmp (Blob b) (Int first))) i && told (is_lt (value_cmp (Blob b) (Int end))) i)
+
+-- the number of a row of the audit is tested
+pub passes_between : (first end : ℤ) (project : List Term) (r : Row) → passes 8 between_tests project [] (Int first ∷ Int end ∷ []) r ≡ is_between first end (entry r)
+passes_between first end project r =
+    both _ _ ∙ between_told (column r 0) first end
 
 -- two tests that tell the same
 pub takes_same : (tree : ℕ) (p q : Row → Bool) (old new : Database) → ((r : Row) → p r ≡ q r) → Takes tree p old new → Takes tree q old new

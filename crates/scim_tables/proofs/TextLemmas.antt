@@ -4,7 +4,7 @@ use Rattle.sqlite.specs.declared.types.Value.TheVariants.{Null}
 use Rattle.sqlite.specs.Term.{Term, lit, col, op1, op2}
 use Rattle.sqlite.specs.Collation.TheVariants.{Binary}
 use Rattle.sqlite_sql.specs.declared.ops.BinaryOp.TheVariants as by
-use Rattle.sqlite_sql.specs.declared.ops.CompareOp.TheVariants.{Eq}
+use Rattle.sqlite_sql.specs.declared.ops.CompareOp.TheVariants.{Eq, Ge, Lt}
 use Rattle.sqlite_sql.specs.declared.ops.UnaryOp.TheVariants.{ToNumeric}
 use Rattle.sqlite.specs.Listing.{understood}
 use Rattle.sqlite_tied.specs.Compute.{everything}
@@ -78,3 +78,7 @@ audit_terms = col 0 0 ∷ lit Null ∷ col 0 1 ∷ col 0 2 ∷ col 0 3 ∷ col 0
 pub inserts_audit : IsInsert insert_audit_text 4 audit_terms 11
 unfolding understood everything
 inserts_audit = record { command = refl; plain = (refl, refl) }
+
+-- the rowid is one parameter or above it, and below another
+abbrev pub between_tests : List Term
+between_tests = op2 (by.Compare Ge Binary) (col 1 0) (col 0 0) ∷ op2 (by.Compare Lt Binary) (col 1 0) (col 0 1) ∷ []

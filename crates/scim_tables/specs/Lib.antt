@@ -4,4 +4,5 @@ pub mod Audit
 pub mod Steps
 pub mod Opening
 pub mod Reading
+pub mod Whole
 pub mod code

@@ -1,12 +1,12 @@
 -- What a query tells of the tables.
-use Rattle.std.specs.Prelude.{◌≡◌, ◌⊎◌, ℕ, pos, Bool, false, true, ◌&&◌, IsTrue, List, [], ◌∷◌, map, Option, Some, None, IsPermutation}
-use Rattle.std.specs.Ordering.{is_eq, is_lt, ordering_then}
+use Rattle.std.specs.Prelude.{◌≡◌, ◌≢◌, ◌⊎◌, ℕ, ℤ, pos, Bool, false, true, ◌&&◌, IsTrue, List, [], ◌∷◌, map, Option, Some, None, IsPermutation}
+use Rattle.std.specs.Ordering.{is_eq, is_lt, is_ge, ordering_then}
 use Rattle.std.specs.declared.cmp.Ordering.{Ordering}
 use Rattle.std.specs.declared.cmp.Ordering.TheVariants.{Less, Equal}
 use Rattle.sqlite.specs.declared.types.Value.TheVariants.{Int, Text}
 use Rattle.sqlite.specs.Effect.{Database}
 use Rattle.sqlite.specs.Order.{Row, column, value_cmp}
-use Rattle.sqlite.specs.State.{State, IsUnchanged}
+use Rattle.sqlite.specs.State.{State, IsUnchanged, Survives}
 use Rattle.std.specs.List.{AllByRecursion}
 use Rattle.sqlite.specs.Tree.{IsAscending, rowid}
 use Rattle.sqlite.specs.View.{is_int}
@@ -22,6 +22,10 @@ pub record Rests (old new : State) : Type 0 where
 -- where the connection is open, its database has the five tables and nothing else
 abbrev pub HasTables : State → Type 0
 HasTables s = IsTrue s.is_open → s.now.schema ≡ store_schema
+
+-- under the schema of the five tables, a crash leaves no more than it could before
+abbrev pub Spares : State → State → Type 0
+Spares old new = Survives old new (λ _. old.now.schema ≢ store_schema)
 
 -- where the connection is open, its tables hold these rows
 abbrev pub Holds : State → Lists → Type 0
@@ -65,6 +69,10 @@ pub record Tells (places : List ℕ) (values : List Row) (old new : State) (rows
 -- whether a row has the id at its first place and the kind at its second
 abbrev pub is_resource : List ℕ → ℕ → Row → Bool
 is_resource id kind row = has_text 0 id row && is_eq (value_cmp (column row 1) (Int (pos kind)))
+
+-- whether the number at a row's first place is the first one or above it, and below the end
+abbrev pub is_between : ℤ → ℤ → Row → Bool
+is_between first end row = is_ge (value_cmp (column row 0) (Int first)) && is_lt (value_cmp (column row 0) (Int end))
 
 -- the text that the first row has at a place, if there is a row
 abbrev pub IsTextOfFirst : ℕ → List Row → Option (List ℕ) → Type 0

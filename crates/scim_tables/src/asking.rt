@@ -7,7 +7,7 @@ ghost use Rattle.sqlite.specs.Held.{state};
 ghost use Rattle.sqlite.specs.Values.{bound};
 ghost use Rattle.scim_tables.specs.Tables.{store_schema};
 ghost use Rattle.scim_tables.specs.Lists.{Lists, has_text, has_texts};
-ghost use Rattle.scim_tables.specs.Reading.{Rests, HasTables, Holds, Tells, Finds, IsTextOfFirst, shown, shown_settings, owner_first, group_first, group_alone, is_resource};
+ghost use Rattle.scim_tables.specs.Reading.{Rests, Spares, HasTables, Holds, Tells, Finds, IsTextOfFirst, shown, shown_settings, owner_first, group_first, group_alone, is_resource, is_between};
 ghost use Rattle.scim_tables.specs.code.Asks.{IsAsk, IsAnswered};
 
 use sqlite::types::ValueRef;
@@ -21,6 +21,7 @@ pub(crate) fn ask<S: Alter>(
 ) -> Result<Vec<Row>, Error>
     ensures mode { conn.old.in_transaction ≡ false → conn.new.in_transaction ≡ false }
     ensures clean { doubt (state S.Store conn.old).is_clean ≤ doubt (state S.Store conn.new).is_clean }
+    ensures spares { (q : _) → IsAsk sql.now q → Spares (state S.Store conn.old) (state S.Store conn.new) }
     ensures was_open { HasCleanDisk (state S.Store conn.new) → OnOk result (IsTrue (state S.Store conn.old).is_open) }
     ensures read { HasCleanDisk (state S.Store conn.new) → IfOk result (λ rows. (q : _) → IsAsk sql.now q → (state S.Store conn.old).now.schema ≡ store_schema
         → IsAnswered q (bound params.now) (state S.Store conn.old) (state S.Store conn.new) rows.items) }
@@ -89,6 +90,7 @@ pub fn find_owner<S: Alter>(
 pub fn read_resources<S: Alter>(conn: &mut Connection<S>) -> Result<Vec<Row>, Error>
     ensures mode { conn.old.in_transaction ≡ false → conn.new.in_transaction ≡ false }
     ensures clean { doubt (state S.Store conn.old).is_clean ≤ doubt (state S.Store conn.new).is_clean }
+    ensures spares { Spares (state S.Store conn.old) (state S.Store conn.new) }
     ensures read { HasCleanDisk (state S.Store conn.new) → IfOk result (λ rows. HasTables (state S.Store conn.old)
         → Tells (0 ∷ []) (shown (state S.Store conn.old).now).resources (state S.Store conn.old) (state S.Store conn.new) rows.items) }
     ensures rests { HasCleanDisk (state S.Store conn.new) → OnErr result (Rests (state S.Store conn.old) (state S.Store conn.new)) }
@@ -105,6 +107,7 @@ pub fn read_resources<S: Alter>(conn: &mut Connection<S>) -> Result<Vec<Row>, Er
 pub fn read_names<S: Alter>(conn: &mut Connection<S>) -> Result<Vec<Row>, Error>
     ensures mode { conn.old.in_transaction ≡ false → conn.new.in_transaction ≡ false }
     ensures clean { doubt (state S.Store conn.old).is_clean ≤ doubt (state S.Store conn.new).is_clean }
+    ensures spares { Spares (state S.Store conn.old) (state S.Store conn.new) }
     ensures read { HasCleanDisk (state S.Store conn.new) → IfOk result (λ rows. HasTables (state S.Store conn.old)
         → Tells (0 ∷ 1 ∷ 2 ∷ []) (map owner_first (shown (state S.Store conn.old).now).taken) (state S.Store conn.old) (state S.Store conn.new) rows.items) }
     ensures rests { HasCleanDisk (state S.Store conn.new) → OnErr result (Rests (state S.Store conn.old) (state S.Store conn.new)) }
@@ -121,6 +124,7 @@ pub fn read_names<S: Alter>(conn: &mut Connection<S>) -> Result<Vec<Row>, Error>
 pub fn read_members<S: Alter>(conn: &mut Connection<S>) -> Result<Vec<Row>, Error>
     ensures mode { conn.old.in_transaction ≡ false → conn.new.in_transaction ≡ false }
     ensures clean { doubt (state S.Store conn.old).is_clean ≤ doubt (state S.Store conn.new).is_clean }
+    ensures spares { Spares (state S.Store conn.old) (state S.Store conn.new) }
     ensures read { HasCleanDisk (state S.Store conn.new) → IfOk result (λ rows. HasTables (state S.Store conn.old)
         → Tells (0 ∷ 1 ∷ []) (map group_first (shown (state S.Store conn.old).now).member) (state S.Store conn.old) (state S.Store conn.new) rows.items) }
     ensures rests { HasCleanDisk (state S.Store conn.new) → OnErr result (Rests (state S.Store conn.old) (state S.Store conn.new)) }
@@ -137,6 +141,7 @@ pub fn read_members<S: Alter>(conn: &mut Connection<S>) -> Result<Vec<Row>, Erro
 pub fn read_audit<S: Alter>(conn: &mut Connection<S>) -> Result<Vec<Row>, Error>
     ensures mode { conn.old.in_transaction ≡ false → conn.new.in_transaction ≡ false }
     ensures clean { doubt (state S.Store conn.old).is_clean ≤ doubt (state S.Store conn.new).is_clean }
+    ensures spares { Spares (state S.Store conn.old) (state S.Store conn.new) }
     ensures read { HasCleanDisk (state S.Store conn.new) → IfOk result (λ rows. HasTables (state S.Store conn.old)
         → Tells (0 ∷ []) (shown (state S.Store conn.old).now).audit (state S.Store conn.old) (state S.Store conn.new) rows.items) }
     ensures rests { HasCleanDisk (state S.Store conn.new) → OnErr result (Rests (state S.Store conn.old) (state S.Store conn.new)) }
@@ -153,6 +158,7 @@ pub fn read_audit<S: Alter>(conn: &mut Connection<S>) -> Result<Vec<Row>, Error>
 pub fn read_settings<S: Alter>(conn: &mut Connection<S>) -> Result<Vec<Row>, Error>
     ensures mode { conn.old.in_transaction ≡ false → conn.new.in_transaction ≡ false }
     ensures clean { doubt (state S.Store conn.old).is_clean ≤ doubt (state S.Store conn.new).is_clean }
+    ensures spares { Spares (state S.Store conn.old) (state S.Store conn.new) }
     ensures read { HasCleanDisk (state S.Store conn.new) → IfOk result (λ rows. HasTables (state S.Store conn.old)
         → Tells [] (shown_settings (state S.Store conn.old).now) (state S.Store conn.old) (state S.Store conn.new) rows.items) }
     ensures rests { HasCleanDisk (state S.Store conn.new) → OnErr result (Rests (state S.Store conn.old) (state S.Store conn.new)) }
@@ -173,5 +179,25 @@ pub fn read_groups<S: Alter>(conn: &mut Connection<S>, value: &str) -> Result<Ve
         conn,
         "SELECT group_id FROM member WHERE value = ?1 ORDER BY group_id",
         params![value],
+    )
+}
+
+/// The rows of the audit that are numbered from the first number on and before the end, in order, whatever they are.
+/// The error is the one that the database gave; the connection is then shut, or as it was or as the last commit left it.
+pub fn read_audit_between<S: Alter>(
+    conn: &mut Connection<S>,
+    first: i64,
+    end: i64,
+) -> Result<Vec<Row>, Error>
+    ensures mode { conn.old.in_transaction ≡ false → conn.new.in_transaction ≡ false }
+    ensures clean { doubt (state S.Store conn.old).is_clean ≤ doubt (state S.Store conn.new).is_clean }
+    ensures read { HasCleanDisk (state S.Store conn.new) → IfOk result (λ rows. HasTables (state S.Store conn.old)
+        → Tells (0 ∷ []) (filter (is_between first end) (shown (state S.Store conn.old).now).audit) (state S.Store conn.old) (state S.Store conn.new) rows.items) }
+    ensures rests { HasCleanDisk (state S.Store conn.new) → OnErr result (Rests (state S.Store conn.old) (state S.Store conn.new)) }
+{
+    ask(
+        conn,
+        "SELECT number, moment, client, op, kind, id, decided, rule, leaf, refusal FROM audit WHERE number >= ?1 AND number < ?2 ORDER BY number",
+        params![first, end],
     )
 }

@@ -1,7 +1,7 @@
 use Rattle.sqlite.specs.Held.{state}
 use Rattle.sqlite.specs.Values.{bound}
 use Rattle.scim_tables.proofs.StepLemmas.{if_then, on_ok, on_err}
-use Rattle.scim_tables.proofs.AnswerLemmas.{shown_open, failed_rests, answered}
+use Rattle.scim_tables.proofs.AnswerLemmas.{asks_spare, shown_open, failed_rests, answered}
 use Rattle.scim_tables.proofs.asking.ask.Goals as goal
 
 pub returns-clause-was_open : goal.returns-clause-was_open
@@ -15,3 +15,6 @@ returns-clause-read g c clean =
 pub returns-clause-rests : goal.returns-clause-rests
 returns-clause-rests g c clean =
     on_err c.query_all.result _ _ (λ e fails. failed_rests c.args.sql.now (bound c.args.params.now) (state g.S.Store c.args.conn.now) (state g.S.Store c.query_all.new.self) e fails) (c.query_all.ensures.err clean)
+
+pub returns-clause-spares : goal.returns-clause-spares
+returns-clause-spares g c = λ q is. asks_spare c.args.sql.now (bound c.args.params.now) (state g.S.Store c.args.conn.now) (state g.S.Store c.query_all.new.self) q is c.query_all.ensures.survives

@@ -1,8 +1,12 @@
 use Rattle.sqlite.specs.Held.{state}
 use Rattle.scim_tables.proofs.StepLemmas.{both_then}
+use Rattle.scim_tables.proofs.AskLemmas.{keys_of_tree, asks_member_keys}
 use Rattle.scim_tables.proofs.ReadLemmas.{member_keys_told}
 use Rattle.scim_tables.proofs.keys.read_member_keys.Goals as goal
 
 pub returns-clause-read : goal.returns-clause-read
 returns-clause-read g c clean =
     both_then c.ask.result _ _ _ (λ rows was_open reads. member_keys_told (state g.S.Store c.args.conn.now) (state g.S.Store c.ask.new.conn) rows.items was_open reads) (c.ask.ensures.was_open clean) (c.ask.ensures.read clean)
+
+pub returns-clause-spares : goal.returns-clause-spares
+returns-clause-spares g c = c.ask.ensures.spares (keys_of_tree 6) asks_member_keys

@@ -1,0 +1,70 @@
+-- What the looks ahead of a change tell.
+use Rattle.std.proofs.Common.{◌≢◌, ℕ, pos, List, [], ◌∷◌, codes, filter, true, Option, IsTrue, refl, sym, subst}
+use Rattle.sqlite.specs.declared.types.Value.TheVariants.{Int, Text}
+use Rattle.sqlite.specs.Collation.TheVariants.{Binary}
+use Rattle.sqlite_value.specs.declared.keys.Key.{Key}
+use Rattle.sqlite.specs.Order.{Row}
+use Rattle.sqlite.specs.Term.{col, lit}
+use Rattle.sqlite.specs.Query.{Query}
+use Rattle.sqlite.specs.Listing.{understood}
+use Rattle.sqlite.specs.State.{State, Survives, CommitsShowing}
+use Rattle.sqlite.specs.Given.{IsPlain}
+use Rattle.sqlite.proofs.StateLemmas.{survives_weaker}
+use Rattle.sqlite.proofs.Callers.{never_commits}
+use Rattle.sqlite_tied.specs.Compute.{everything}
+use Rattle.scim_tables.specs.Tables.{store_schema}
+use Rattle.scim_tables.specs.Lists.{Lists, has_text, triple}
+use Rattle.scim_tables.specs.Reading.{Rests, Holds, Finds, IsTextOfFirst}
+use Rattle.scim_tables.specs.code.Asks.{IsAsk}
+use Rattle.scim_tables.specs.code.Queries.{one_table, is_column}
+use Rattle.scim_tables.proofs.AnswerLemmas.{answered_columns, found_first, unchanged_rests}
+use Rattle.scim_tables.proofs.ReadLemmas.{Answered}
+use Rattle.scim_tables.proofs.TestLemmas.{passes_text}
+
+-- a query of the five tables commits nothing
+pub asks_survive : (sql : List ℕ) (params : Row) (old new : State) (q : Query) → IsAsk sql q → Survives old new (CommitsShowing sql params old) → Survives old new (λ _. old.now.schema ≢ store_schema)
+asks_survive sql params old new q is = survives_weaker old new _ _ (λ _ db shown has. never_commits sql params old db (subst (λ s. IsPlain (understood s sql)) (sym has) is.plain) shown)
+
+-- ---- the resource of an id
+
+abbrev pub old_text : List ℕ
+old_text = codes "SELECT document FROM resource WHERE id = ?1"
+
+abbrev pub old_query : Query
+old_query = one_table 2 (is_column 1 0 ∷ []) (col 1 3 ∷ []) []
+
+pub asks_old : IsAsk old_text old_query
+unfolding understood everything
+asks_old = record { names = codes "document" ∷ []; command = refl; plain = (refl, refl); unlisted = refl }
+
+-- ---- the last number
+
+-- a falling order, by bytes
+abbrev pub down : Key
+down = record { collation = Binary; descending = true }
+
+abbrev pub last_text : List ℕ
+last_text = codes "SELECT number FROM audit ORDER BY number DESC LIMIT 1"
+
+-- all numbers of the audit, the last first
+abbrev pub numbers_query : Query
+numbers_query = one_table 8 [] (col 1 0 ∷ []) ((col 1 0, down) ∷ [])
+
+abbrev pub last_query : Query
+last_query = record numbers_query { limit = lit (Int (pos 1)) }
+
+pub asks_last : IsAsk last_text last_query
+unfolding understood everything
+asks_last = record { names = codes "number" ∷ []; command = refl; plain = (refl, refl); unlisted = refl }
+
+module _ (old new : State) (rows : List Row) (opened : IsTrue old.is_open) where
+  pub old_rests : (id : List ℕ) → Answered old_text (Text id ∷ []) old new rows → (lists : Lists) → Holds old lists → Rests old new
+  old_rests id answers lists holds = unchanged_rests old new (answers old_query asks_old (holds opened).schema).unchanged
+
+  pub old_found : (id : List ℕ) (found : Option (List ℕ)) → Answered old_text (Text id ∷ []) old new rows → IsTextOfFirst 0 rows found
+      → (lists : Lists) → Holds old lists → Finds 2 (filter (has_text 0 id) lists.resources) old new found
+  old_found id found answers first lists holds =
+      let are = holds opened in
+      let it = answers old_query asks_old are.schema in
+      found_first 2 _ rows found old new it.unchanged
+      (answered_columns 2 (is_column 1 0 ∷ []) (col 1 3 ∷ []) [] old.now.trees (Text id ∷ []) rows lists.resources triple (has_text 0 id) _ (passes_text 2 id) (λ r. refl) are.resources.same it.answer) first

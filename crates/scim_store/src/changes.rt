@@ -1,0 +1,146 @@
+//! The edits of a change.
+
+ghost use Rattle.std.specs.Prelude.{◌≡◌, ◌≢◌, ◌&&◌, not, ℕ, List, AllPairs, IfOk, map};
+ghost use Rattle.std.specs.Option.{option_copied};
+ghost use Rattle.scim_cell.specs.Content.{Content};
+ghost use Rattle.scim_value.specs.Members.{is_text, lists_value};
+ghost use Rattle.scim_value.specs.Uniqueness.{name_of};
+ghost use Rattle.scim_shelf.specs.code.Members.{is_found, is_in, value_in};
+ghost use Rattle.scim_store.specs.Stands.{is_among};
+ghost use Rattle.scim_store.specs.Edits as spec;
+
+use crate::edits::Edits;
+use scim_cell::{Atom, Id, Row, Text};
+use scim_json::stored_text;
+use scim_schema::{Attribute, Kind, Leaf, SubAttribute, Unit};
+use scim_shelf::Change;
+use scim_text::NoMemory;
+use scim_value::{Resource, UniqueName, unique_names};
+use std::alloc::Global;
+use std::collections::BTreeSet;
+
+/// The unique names of a resource, if there is one. NoMemory where none was to be had.
+fn names_in(alloc: Global, resource: Option<&Resource>) -> Result<Vec<UniqueName>, NoMemory>
+    ensures { IfOk result (λ names. map name_of names.items ≡ spec.names_in (option_copied resource.entry)) }
+{
+    match resource {
+        Some(resource) => unique_names(alloc, resource),
+        None => Ok(Vec::new(alloc)),
+    }
+}
+
+/// The unique names of a resource that another hasn't. NoMemory where none was to be had.
+fn names_beyond(
+    alloc: Global,
+    other: Option<&Resource>,
+    resource: Option<&Resource>,
+) -> Result<Vec<UniqueName>, NoMemory>
+    ensures { IfOk result (λ names. map name_of names.items ≡ spec.names_beyond (spec.names_in (option_copied other.entry)) (spec.names_in (option_copied resource.entry))) }
+{
+    let others = names_in(alloc, other)?;
+    let mut names = names_in(alloc, resource)?;
+    names.retain(|name| !others.contains(name));
+    Ok(names)
+}
+
+/// The `value` of a member; None where it has none.
+fn value_of(member: &Row) -> Option<&str>
+    ensures { (v : List ℕ) → is_text v (value_in member.now) ≡ is_found v (option_copied result) }
+{
+    match member.get(Leaf::of(Attribute::Members, SubAttribute::Value)) {
+        Some(Atom::Text(text)) => Some(text.as_str()),
+        _ => None,
+    }
+}
+
+/// The values that a resource lists among its members. NoMemory where none was to be had.
+fn values_of(alloc: Global, resource: &Resource) -> Result<BTreeSet<&str>, NoMemory>
+    ensures { IfOk result (λ values. (v : List ℕ) → is_in v values ≡ lists_value v resource.now) }
+{
+    let mut values = BTreeSet::new(alloc);
+    for member in resource.part().values(Unit::whole(Attribute::Members)) {
+        if let Some(value) = value_of(member) {
+            values.insert(value)?;
+        }
+    }
+    Ok(values)
+}
+
+/// The values that a resource lists among its members, if there is one. NoMemory where none was to be had.
+fn values_in(alloc: Global, resource: Option<&Resource>) -> Result<BTreeSet<&str>, NoMemory>
+    ensures { IfOk result (λ values. (v : List ℕ) → is_in v values ≡ spec.lists_in v (option_copied resource.entry)) }
+{
+    match resource {
+        Some(resource) => values_of(alloc, resource),
+        None => Ok(BTreeSet::new(alloc)),
+    }
+}
+
+/// The values that aren't among others, each once. NoMemory where none was to be had.
+fn values_beyond<'v>(
+    alloc: Global,
+    others: &BTreeSet<&'v str>,
+    values: &BTreeSet<&'v str>,
+) -> Result<Vec<Text>, NoMemory>
+    ensures listed { IfOk result (λ beyond. (v : List ℕ) → is_among v beyond.items ≡ (is_in v values.now && not (is_in v others.now))) }
+    ensures once { IfOk result (λ beyond. AllPairs (λ v w. v ≢ w) beyond.items) }
+{
+    let mut beyond = Vec::new(alloc);
+    for value in values.difference(others) {
+        beyond.push(Text::copy_of(alloc, value)?)?;
+    }
+    Ok(beyond)
+}
+
+/// What goes and comes where the one resource takes the place of the other. NoMemory where none was to be had.
+fn replacement<'r>(
+    alloc: Global,
+    id: Id,
+    kind: Kind,
+    document: Option<String>,
+    old: Option<&'r Resource>,
+    new: Option<&'r Resource>,
+) -> Result<Edits, NoMemory>
+    ensures kind { IfOk result (λ edits. edits.kind ≡ kind) }
+    ensures document { IfOk result (λ edits. edits.document ≡ document) }
+    ensures replaces { IfOk result (λ edits. (base : List ℕ) → spec.IsWritten base (option_copied new.entry) edits → spec.Replaces base id (option_copied old.entry) (option_copied new.entry) edits) }
+{
+    let old_values = values_in(alloc, old)?;
+    let new_values = values_in(alloc, new)?;
+    Ok(Edits {
+        id: id.text(alloc)?,
+        kind,
+        document,
+        names_gone: names_beyond(alloc, new, old)?,
+        names_come: names_beyond(alloc, old, new)?,
+        members_gone: values_beyond(alloc, &new_values, &old_values)?,
+        members_come: values_beyond(alloc, &old_values, &new_values)?,
+    })
+}
+
+/// The edits of a change, where the old resource is the one that has the id of the change, whatever its kind. A change
+/// of nothing has none.
+///
+/// The only error is [`NoMemory`].
+pub fn edits_of(
+    alloc: Global,
+    change: &Change,
+    old: &Option<Resource>,
+) -> Result<Option<Edits>, NoMemory>
+    ensures { IfOk result (λ edits. (base : List ℕ) (cs : List Content) → spec.IsOld cs change.now old.now → spec.KeepsBelow base change.now → spec.AreEdits base cs change.now edits) }
+{
+    match change {
+        Change::Nothing => Ok(None),
+        Change::Keep(resource) => {
+            let document = Some(stored_text(alloc, resource)?);
+            let part = resource.part();
+            let (id, kind) = (part.id(), part.kind());
+            let edits = replacement(alloc, id, kind, document, old.as_ref(), Some(resource))?;
+            Ok(Some(edits))
+        }
+        Change::Remove(kind, id) => {
+            let edits = replacement(alloc, *id, *kind, None, old.as_ref(), None)?;
+            Ok(Some(edits))
+        }
+    }
+}

@@ -1,0 +1,146 @@
+//! A shelf over the tables of a database.
+
+ghost use Rattle.std.specs.Prelude.{◌≡◌, ◌≢◌, ◌<◌, ◌≤◌, ◌⊎◌, Ok, Err, IfOk, false};
+ghost use Rattle.sqlite.specs.State.{HasCleanDisk};
+ghost use Rattle.sqlite.specs.Held.{state};
+ghost use Rattle.scim_text.specs.declared.memory.Failed.{Failed};
+ghost use Rattle.scim_shelf.specs.declared.faults.ShelfFault.{ShelfFault};
+ghost use Rattle.scim_shelf.specs.Shelves.{Counts};
+ghost use Rattle.scim_shelf.specs.Stores.{last_number};
+ghost use Rattle.scim_store.specs.Shelves.{IsKeptIn};
+
+use crate::committing::{CommitFault, commit_change};
+use crate::finding::{find_by_id, find_groups_with, find_owner_of_name};
+use crate::walking::walk;
+use scim_audit::AuditRow;
+use scim_cell::{Id, Text};
+use scim_schema::Kind;
+use scim_shelf::{Change, Shelf, ShelfFault, Visitor};
+use scim_text::Failed;
+use scim_value::{Resource, UniqueName};
+use sqlite::{Alter, Connection, Error, ErrorCode};
+use std::alloc::Global;
+
+/// The last number that a row of the audit can have.
+const LAST_NUMBER: u64 = 9_223_372_036_854_775_807;
+
+/// A shelf over the tables of a database, whose resources stand below one base.
+///
+/// It finds a resource by its id, by a unique name and by a value that it lists by the keys of the tables. A resource
+/// of another base is refused as a device refuses.
+pub struct SqlShelf<S: Alter> {
+    connection: Connection<S>,
+    base: Text,
+    /// How many rows the audit has.
+    rows: u64,
+    /// How often the device failed, 2^64 - 1 at most.
+    failures: u64,
+    ghost idle: { connection.in_transaction ≡ false },
+    ghost bounded: { rows ≤ last_number },
+}
+
+/// What a fault of the database is to a shelf: want of memory, or a failure of the device, which counts.
+///
+/// It is full only by the shelf's own count of rows: tables that have more aren't what was written.
+fn fault_of(failures: &mut u64, fault: &CommitFault) -> Failed<ShelfFault>
+    ensures grown { failures.old ≤ failures.new }
+    ensures device { result ≡ Failed.Because ShelfFault.Device → (failures.old < failures.new) ⊎ (failures.old ≡ 18446744073709551615) }
+    ensures not_full { result ≢ Failed.Because ShelfFault.Full }
+{
+    match fault {
+        CommitFault::NoMemory
+        | CommitFault::Database(Error::SqliteFailure(ErrorCode::OutOfMemory)) => {
+            Failed::NoMemory
+        }
+        _ => {
+            *failures = failures.saturating_add(1);
+            Failed::Because(ShelfFault::Device)
+        }
+    }
+}
+
+/// What a look into the tables is to a shelf.
+fn told<T>(failures: &mut u64, found: Result<T, Error>) -> Result<T, Failed<ShelfFault>>
+    ensures same { IfOk result (λ x. found ≡ Ok x) }
+    ensures counts { Counts failures.old failures.new result }
+    ensures not_full { result ≢ Err (Failed.Because ShelfFault.Full) }
+{
+    match found {
+        Ok(found) => Ok(found),
+        Err(error) => Err(fault_of(failures, &CommitFault::Database(error))),
+    }
+}
+
+impl<S: Alter> Shelf for SqlShelf<S> {
+    ghost stands = { λ shelf store. IsKeptIn shelf.base (state S.Store shelf.connection) shelf.rows store };
+
+    ghost is_honest = { λ shelf. HasCleanDisk (state S.Store shelf.connection) };
+
+    ghost failures = { λ shelf. shelf.failures };
+
+    fn by_id(
+        &mut self,
+        alloc: Global,
+        kind: Kind,
+        id: Id,
+    ) -> Result<Option<Resource>, Failed<ShelfFault>> {
+        let found = find_by_id(&mut self.connection, alloc, self.base.as_str(), kind, id);
+        told(&mut self.failures, found)
+    }
+
+    fn name_owner(
+        &mut self,
+        alloc: Global,
+        name: &UniqueName,
+    ) -> Result<Option<Resource>, Failed<ShelfFault>> {
+        let found = find_owner_of_name(&mut self.connection, alloc, self.base.as_str(), name);
+        told(&mut self.failures, found)
+    }
+
+    fn groups_with(
+        &mut self,
+        alloc: Global,
+        value: &str,
+    ) -> Result<Vec<Resource>, Failed<ShelfFault>> {
+        let found = find_groups_with(&mut self.connection, alloc, self.base.as_str(), value);
+        told(&mut self.failures, found)
+    }
+
+    fn each<V: Visitor>(
+        &mut self,
+        alloc: Global,
+        kind: Kind,
+        visitor: &mut V,
+    ) -> Result<(), Failed<ShelfFault>> {
+        let shown = walk(
+            &mut self.connection,
+            alloc,
+            self.base.as_str(),
+            kind,
+            visitor,
+        );
+        told(&mut self.failures, shown)
+    }
+
+    fn commit(
+        &mut self,
+        alloc: Global,
+        change: Change,
+        row: AuditRow,
+    ) -> Result<(), Failed<ShelfFault>> {
+        if self.rows >= LAST_NUMBER {
+            return Err(Failed::Because(ShelfFault::Full));
+        }
+        match commit_change(&mut self.connection, alloc, self.base.as_str(), change, row) {
+            Ok(()) => {
+                self.rows += 1;
+                Ok(())
+            }
+            Err(fault) => Err(fault_of(&mut self.failures, &fault)),
+        }
+    }
+
+    fn failures(&self) -> u64 {
+        self.failures
+    }
+}
