@@ -13,3 +13,5 @@ pub mod OwnerLemmas
 pub mod GroupLemmas
 pub mod WalkLemmas
 pub mod NoneLemmas
+pub mod BackLemmas
+pub mod SpanLemmas

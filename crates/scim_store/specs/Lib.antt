@@ -3,6 +3,7 @@ pub mod Stands
 pub mod Beginning
 pub mod Edits
 pub mod Finding
+pub mod AuditBack
 pub mod Committing
 pub mod Shelves
 pub mod code

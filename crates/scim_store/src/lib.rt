@@ -1,24 +1,32 @@
 //! The store in SQLite.
 #![tactic(auto)]
 
+mod auditing;
 mod beginning;
 mod changes;
 mod columns;
 mod committing;
 mod edits;
+mod fields;
 mod finding;
+mod leaves;
 mod looking;
+mod numbers;
+mod records;
 mod shelf;
 mod walking;
 mod writing;
 
+pub use auditing::read_audit_rows;
 pub use beginning::begin_store;
 pub use changes::edits_of;
 pub use columns::{AuditTexts, columns_of};
 pub use committing::{CommitFault, commit_change};
 pub use edits::Edits;
 pub use finding::{find_by_id, find_groups_with, find_owner_of_name};
+pub use leaves::leaf_of_path;
 pub use looking::{find_old, next_number};
+pub use records::{are_audit_rows, read_audit_row};
 pub use shelf::SqlShelf;
 pub use walking::walk;
 pub use writing::write_change;

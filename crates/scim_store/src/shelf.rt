@@ -5,10 +5,13 @@ ghost use Rattle.sqlite.specs.State.{HasCleanDisk};
 ghost use Rattle.sqlite.specs.Held.{state};
 ghost use Rattle.scim_text.specs.declared.memory.Failed.{Failed};
 ghost use Rattle.scim_shelf.specs.declared.faults.ShelfFault.{ShelfFault};
-ghost use Rattle.scim_shelf.specs.Shelves.{Counts};
-ghost use Rattle.scim_shelf.specs.Stores.{last_number};
+ghost use Rattle.scim_shelf.specs.Shelves.{Counts, Answers, OnlyReads};
+ghost use Rattle.scim_shelf.specs.Stores.{Store, last_number};
+ghost use Rattle.scim_store.specs.AuditBack.{AreRowsFrom};
+ghost use Rattle.scim_store.specs.Committing.{HasStore};
 ghost use Rattle.scim_store.specs.Shelves.{IsKeptIn};
 
+use crate::auditing::read_audit_rows;
 use crate::committing::{CommitFault, commit_change};
 use crate::finding::{find_by_id, find_groups_with, find_owner_of_name};
 use crate::walking::walk;
@@ -37,6 +40,40 @@ pub struct SqlShelf<S: Alter> {
     failures: u64,
     ghost idle: { connection.in_transaction ≡ false },
     ghost bounded: { rows ≤ last_number },
+}
+
+impl<S: Alter> SqlShelf<S> {
+    /// The rows of the audit from this number on, in order, and the first `count` of them where there are more. The
+    /// first row has number 1; from 0 counts as from there. Where a method was refused, the methods that the endpoint
+    /// has aren't kept, and those of a collection are given.
+    ///
+    /// Fails by Device where the device did, or where memory was wanting, and leaves what is kept as it was.
+    pub fn audit_rows(
+        &mut self,
+        alloc: Global,
+        from: u64,
+        count: u64,
+    ) -> Result<Vec<AuditRow>, Failed<ShelfFault>>
+        ensures answer { IfOk result (Answers ⟦<SqlShelf<S> as Shelf>⟧.stands ⟦<SqlShelf<S> as Shelf>⟧.is_honest self.old self.new (λ store rows. AreRowsFrom from count store rows.items)) }
+        ensures read { OnlyReads ⟦<SqlShelf<S> as Shelf>⟧.stands ⟦<SqlShelf<S> as Shelf>⟧.is_honest ⟦<SqlShelf<S> as Shelf>⟧.failures self.old self.new result }
+    {
+        let read = read_audit_rows(&mut self.connection, alloc, from, count);
+        told(&mut self.failures, read)
+    }
+
+    /// The connection, with the tables as they are.
+    pub fn into_connection(self) -> Connection<S>
+        ensures idle { result.in_transaction ≡ false }
+        ensures stands { (store : Store) → ⟦<SqlShelf<S> as Shelf>⟧.stands self store → HasCleanDisk (state S.Store result) → HasStore self.base (state S.Store result) store }
+    {
+        let SqlShelf {
+            connection,
+            base: _,
+            rows: _,
+            failures: _,
+        } = self;
+        connection
+    }
 }
 
 /// What a fault of the database is to a shelf: want of memory, or a failure of the device, which counts.
