@@ -11,34 +11,37 @@ mod service_runs;
 mod wire_runs;
 
 use anyhow::{Result, bail};
+use bench_values::print_heading;
+use std::alloc::Global;
 use std::env;
+use std::io::Print;
+use std::time::Clock;
+
+/// What there is to measure.
+const SCENARIOS: &str =
+    "bench documents: writing and reading the JSON of a user, beside serde_json, and users files\nbench parts: making, copying, restricting and looking up parts of 10, 1,000 and 40,000 cells\nbench decisions: what policies of 10 and of 1,000 rules decide of a user, and what a client sees by them\nbench filters: reading filters, and holding them on users and on groups of 1,000 and of 10,000 members\nbench filter-texts: 1,000,000 generated texts, each read as a filter, and what is read checked\nbench once: one GET over users files of 10,000 and of 100,000 users, beside serde_json's reading of the file\nbench pages: a page of 100 out of 10,000 and out of 100,000 users with groups, and by policies of 10 and of 1,000 rules\nbench patch: PATCHes that add one member to groups of 99 and of 9,999, 1,000 and 10,000 members to an empty one, and remove a tenth of 1,000 and of 10,000\nbench put: PUTs of a user by policies of 10 and of 1,000 rules, and of groups of 100 and of 10,000 members\nbench service: turns over 1,000 and over 100,000 users in memory, and bodies of 1,000 and of 10,000 emails\nbench wire: messages with bodies of 100 KiB and of 1 MiB in pieces of 64 KiB and byte by byte, and what a GET takes beside the service";
 
 fn main(rt: HostRuntime) -> Result<()> {
-    let mut scenario = None;
-    for word in env::args(&rt)?.skip(1) {
-        scenario = Some(word);
+    match env::args(&rt)?.nth(1) {
+        None => print_heading(&rt, SCENARIOS),
+        Some(name) => run(&rt, rt.alloc(), name.as_str()),
     }
-    match scenario {
-        None => {
-            println!(rt;
-                "bench documents: writing and reading the JSON of a user, beside serde_json, and users files\nbench parts: making, copying, restricting and looking up parts of 10, 1,000 and 40,000 cells\nbench decisions: what policies of 10 and of 1,000 rules decide of a user, and what a client sees by them\nbench filters: reading filters, and holding them on users and on groups of 1,000 and of 10,000 members\nbench filter-texts: 1,000,000 generated texts, each read as a filter, and what is read checked\nbench once: one GET over users files of 10,000 and of 100,000 users, beside serde_json's reading of the file\nbench pages: a page of 100 out of 10,000 and out of 100,000 users with groups, and by policies of 10 and of 1,000 rules\nbench patch: PATCHes that add one member to groups of 99 and of 9,999, 1,000 and 10,000 members to an empty one, and remove a tenth of 1,000 and of 10,000\nbench put: PUTs of a user by policies of 10 and of 1,000 rules, and of groups of 100 and of 10,000 members\nbench service: turns over 1,000 and over 100,000 users in memory, and bodies of 1,000 and of 10,000 emails\nbench wire: messages with bodies of 100 KiB and of 1 MiB in pieces of 64 KiB and byte by byte, and what a GET takes beside the service"
-            )?;
-            Ok(())
-        }
-        Some(name) if name.as_str() == "documents" => bench_values::run_documents(&rt, rt.alloc()),
-        Some(name) if name.as_str() == "decisions" => bench_policies::run_decisions(
-            &rt,
-            rt.alloc(),
-        ),
-        Some(name) if name.as_str() == "filters" => bench_values::run_filters(&rt, rt.alloc()),
-        Some(name) if name.as_str() == "filter-texts" => filter_texts::run(&rt, rt.alloc()),
-        Some(name) if name.as_str() == "once" => once_runs::run(&rt, rt.alloc()),
-        Some(name) if name.as_str() == "pages" => bench_policies::run_pages(&rt, rt.alloc()),
-        Some(name) if name.as_str() == "parts" => bench_values::run_parts(&rt, rt.alloc()),
-        Some(name) if name.as_str() == "patch" => patch_runs::run(&rt, rt.alloc()),
-        Some(name) if name.as_str() == "put" => put_runs::run(&rt, rt.alloc()),
-        Some(name) if name.as_str() == "service" => service_runs::run(&rt, rt.alloc()),
-        Some(name) if name.as_str() == "wire" => wire_runs::run(&rt, rt.alloc()),
-        Some(name) => bail!("there is no scenario {name}"),
+}
+
+/// Runs the scenario of a name.
+fn run(rt: &(impl Clock + Print), alloc: Global, name: &str) -> Result<()> {
+    match name {
+        "documents" => bench_values::run_documents(rt, alloc),
+        "decisions" => bench_policies::run_decisions(rt, alloc),
+        "filters" => bench_values::run_filters(rt, alloc),
+        "filter-texts" => filter_texts::run(rt, alloc),
+        "once" => once_runs::run(rt, alloc),
+        "pages" => bench_policies::run_pages(rt, alloc),
+        "parts" => bench_values::run_parts(rt, alloc),
+        "patch" => patch_runs::run(rt, alloc),
+        "put" => put_runs::run(rt, alloc),
+        "service" => service_runs::run(rt, alloc),
+        "wire" => wire_runs::run(rt, alloc),
+        _ => bail!("there is no such scenario"),
     }
 }

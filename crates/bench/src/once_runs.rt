@@ -1,14 +1,12 @@
 //! One GET over a users file, beside what serde_json takes to read the file.
 use anyhow::{Result, ensure};
-use bench_values::{fastest, ratio, users_file};
-use scim_cell::Id;
+use bench_values::{fastest, id_of, print_heading, print_line, push_all, users_file};
 use scim_command::{Setting, once};
 use scim_samples::BASE;
 use serde_json::Value;
 use std::alloc::Global;
 use std::io::Print;
 use std::time::Clock;
-use uuid::Uuid;
 
 const FEW: usize = 10_000;
 
@@ -22,9 +20,16 @@ const POLICY: &str =
 
 /// The head of a GET of the last of so many users of a file.
 fn request(alloc: Global, users: usize) -> Result<String> {
-    let last = Id::of(Uuid::from_u128(users.saturating_sub(1) as u128)).text(alloc)?;
-    let last = last.as_str();
-    let head = format!(in alloc; "GET /Users/{last} HTTP/1.1\r\nHost: 127.0.0.1:8080\r\n\r\n")?;
+    let last = id_of(users.saturating_sub(1)).text(alloc)?;
+    let mut head = String::new(alloc);
+    push_all(
+        &mut head,
+        &[
+            "GET /Users/",
+            last.as_str(),
+            " HTTP/1.1\r\nHost: 127.0.0.1:8080\r\n\r\n",
+        ],
+    )?;
     Ok(head)
 }
 
@@ -93,24 +98,20 @@ fn measure_request(
     measure(rt, alloc, setting, request)
 }
 
-/// Prints what a run takes, in microseconds.
+/// Prints what a run takes, in nanoseconds.
 pub fn run(rt: &(impl Clock + Print), alloc: Global) -> Result<()> {
-    println!(rt; "microseconds, for one GET over a users file")?;
-    let (few, few_read) = measure_users(rt, alloc, FEW)?;
-    print_line(rt, FEW, few, few_read)?;
-    let (many, many_read) = measure_users(rt, alloc, MANY)?;
-    print_line(rt, MANY, many, many_read)?;
-    println!(rt; "once of {MANY} / once of {FEW} = {:.1}", ratio(many, few))?;
-    Ok(())
-}
-
-/// Prints the figures of a file of so many users.
-fn print_line(rt: &impl Print, users: usize, answered: u128, read: u128) -> Result<()> {
-    println!(rt;
-        "{users} users: once {}, Value::from_str of the file {}, once/Value::from_str = {:.1}",
-        answered / 1_000,
-        read / 1_000,
-        ratio(answered, read)
+    print_heading(
+        rt,
+        "nanoseconds of serde_json to read a users file, and for one GET over it",
     )?;
-    Ok(())
+    let (few, few_read) = measure_users(rt, alloc, FEW)?;
+    print_line(rt, "of 10,000 users", few_read, few)?;
+    let (many, many_read) = measure_users(rt, alloc, MANY)?;
+    print_line(rt, "of 100,000 users", many_read, many)?;
+    print_line(
+        rt,
+        "one GET over the smaller file and over the larger",
+        few,
+        many,
+    )
 }

@@ -3,7 +3,7 @@
 use crate::put_runs::{group_body, members_text, policy_text, turn_of};
 use crate::service_runs::{heading, make, service_over_nothing, turn_with};
 use anyhow::{Result, ensure};
-use bench_values::ratio;
+use bench_values::{print_heading, print_line, push_all};
 use scim_body::UseFor;
 use scim_operations::read_patch;
 use scim_schema::{Kind, Op};
@@ -81,12 +81,19 @@ const SOME_REMOVED: [Change; 2] = [
 
 /// The text of the message.
 fn message_text(alloc: Global, change: Change) -> Result<String> {
-    let op = change.op;
     let members = members_text(alloc, change.first, change.listed)?;
-    Ok(format!(in alloc;
-        "{{\"schemas\":[\"urn:ietf:params:scim:api:messages:2.0:PatchOp\"],\"Operations\":[{{\"op\":\"{op}\",\"path\":\"members\",\"value\":{}}}]}}",
-        members.as_str()
-    )?)
+    let mut text = String::new(alloc);
+    push_all(
+        &mut text,
+        &[
+            "{\"schemas\":[\"urn:ietf:params:scim:api:messages:2.0:PatchOp\"],\"Operations\":[{\"op\":\"",
+            change.op,
+            "\",\"path\":\"members\",\"value\":",
+            members.as_str(),
+            "}]}",
+        ],
+    )?;
+    Ok(text)
 }
 
 /// The turn that the text of a message asks for.
@@ -142,46 +149,31 @@ fn measure(rt: &impl Clock, alloc: Global, change: Change) -> Result<u128> {
     fastest_pass(rt, alloc, &making, text.as_str(), passes)
 }
 
-/// Prints what two changes take, and how many times as long the second may take at most.
+/// Prints what two changes take.
 fn compare(
     rt: &(impl Clock + Print),
     alloc: Global,
     what: &str,
     changes: [Change; 2],
-    limit: usize,
 ) -> Result<()> {
     let [fewer, more] = changes;
     let few = measure(rt, alloc, fewer)?;
     let many = measure(rt, alloc, more)?;
-    println!(rt;
-        "{what}: {few}, {many}, {:.1} times, at most {limit}",
-        ratio(many, few)
-    )?;
-    Ok(())
+    print_line(rt, what, few, many)
 }
 
 /// Prints what PATCHes take, in nanoseconds.
 pub fn run(rt: &(impl Clock + Print), alloc: Global) -> Result<()> {
-    println!(rt; "nanoseconds a PATCH of a group, its message read too")?;
-    compare(
+    print_heading(
         rt,
-        alloc,
-        "add one to 99 members and to 9,999",
-        ONE_ADDED,
-        130,
+        "nanoseconds a PATCH of a group, its message read too; the limits are 130, 15 and 15 times",
     )?;
-    compare(
-        rt,
-        alloc,
-        "add 1,000 members and 10,000 to none",
-        ALL_ADDED,
-        15,
-    )?;
+    compare(rt, alloc, "add one to 99 members and to 9,999", ONE_ADDED)?;
+    compare(rt, alloc, "add 1,000 members and 10,000 to none", ALL_ADDED)?;
     compare(
         rt,
         alloc,
         "remove 100 of 1,000 members and 1,000 of 10,000",
         SOME_REMOVED,
-        15,
     )
 }

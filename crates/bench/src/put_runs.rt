@@ -1,8 +1,7 @@
 //! What it takes to replace a user, by how many rules a policy has, and a group, by how many members it has.
-use crate::service_runs::{
-    draft_of, heading, make, print_line, service_over_nothing, timed, turn_with,
-};
+use crate::service_runs::{draft_of, heading, make, service_over_nothing, timed, turn_with};
 use anyhow::Result;
+use bench_values::{numbered, print_heading, print_line, push_all};
 use scim_body::UseFor;
 use scim_schema::{Kind, Op};
 use scim_service::{Ask, Turn};
@@ -40,21 +39,28 @@ pub(crate) fn policy_text(alloc: Global, rules: usize) -> Result<String> {
 
 /// The body of a user of 15 cells, with a title.
 fn user_body(alloc: Global, title: &str) -> Result<String> {
-    Ok(format!(in alloc;
-        "{{\"active\":true,\"displayName\":\"Barbara Jensen\",\"emails\":[{{\"primary\":true,\"type\":\"work\",\"value\":\"bjensen@example.com\"}}],\"name\":{{\"familyName\":\"Jensen\",\"givenName\":\"Barbara\"}},\"title\":\"{title}\",\"urn:ietf:params:scim:schemas:extension:enterprise:2.0:User\":{{\"department\":\"Tours\"}},\"userName\":\"bjensen\"}}"
-    )?)
+    let mut body = String::new(alloc);
+    push_all(
+        &mut body,
+        &[
+            "{\"active\":true,\"displayName\":\"Barbara Jensen\",\"emails\":[{\"primary\":true,\"type\":\"work\",\"value\":\"bjensen@example.com\"}],\"name\":{\"familyName\":\"Jensen\",\"givenName\":\"Barbara\"},\"title\":\"",
+            title,
+            "\",\"urn:ietf:params:scim:schemas:extension:enterprise:2.0:User\":{\"department\":\"Tours\"},\"userName\":\"bjensen\"}",
+        ],
+    )?;
+    Ok(body)
 }
 
 /// The JSON list of so many members from a number on.
 pub(crate) fn members_text(alloc: Global, first: usize, members: usize) -> Result<String> {
     let mut text = String::from_str(alloc, "[")?;
     for place in 0..members {
-        let comma = if place == 0 { "" } else { "," };
-        write!(
-            text,
-            "{comma}{{\"value\":\"user{}\"}}",
-            first.saturating_add(place)
-        )?;
+        if place > 0 {
+            text.push(',')?;
+        }
+        let number = first.saturating_add(place);
+        let member = numbered(alloc, "{\"value\":\"user", number, "\"}")?;
+        text.push_str(member.as_str())?;
     }
     text.push(']')?;
     Ok(text)
@@ -63,10 +69,18 @@ pub(crate) fn members_text(alloc: Global, first: usize, members: usize) -> Resul
 /// The body of a group of a name, with so many members.
 pub(crate) fn group_body(alloc: Global, name: &str, members: usize) -> Result<String> {
     let members = members_text(alloc, 0, members)?;
-    Ok(format!(in alloc;
-        "{{\"displayName\":\"{name}\",\"members\":{}}}",
-        members.as_str()
-    )?)
+    let mut body = String::new(alloc);
+    push_all(
+        &mut body,
+        &[
+            "{\"displayName\":\"",
+            name,
+            "\",\"members\":",
+            members.as_str(),
+            "}",
+        ],
+    )?;
+    Ok(body)
 }
 
 /// A turn by which the one resource becomes what the body gives: it is made, or replaced.
@@ -141,22 +155,16 @@ fn measure_group(rt: &impl Clock, alloc: Global, members: usize) -> Result<u128>
 
 /// Prints what PUTs take, in nanoseconds.
 pub fn run(rt: &(impl Clock + Print), alloc: Global) -> Result<()> {
+    print_heading(
+        rt,
+        "nanoseconds a PUT of a user of 15 cells by 10 rules and by 1,000, and of a group of 100 members and of 10,000",
+    )?;
     let [fewer, more] = RULES;
-    println!(rt;
-        "nanoseconds a PUT of a user of 15 cells, by policies of {fewer} and of {more} rules"
-    )?;
-    print_line(
-        rt,
-        "user",
-        measure_user(rt, alloc, fewer)?,
-        measure_user(rt, alloc, more)?,
-    )?;
+    let few = measure_user(rt, alloc, fewer)?;
+    let many = measure_user(rt, alloc, more)?;
+    print_line(rt, "user", few, many)?;
     let [fewer, more] = MEMBERS;
-    println!(rt; "nanoseconds a PUT of a group of {fewer} and of {more} members")?;
-    print_line(
-        rt,
-        "group",
-        measure_group(rt, alloc, fewer)?,
-        measure_group(rt, alloc, more)?,
-    )
+    let few = measure_group(rt, alloc, fewer)?;
+    let many = measure_group(rt, alloc, more)?;
+    print_line(rt, "group", few, many)
 }

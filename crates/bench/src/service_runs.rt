@@ -1,6 +1,6 @@
 //! What turns of a service over a store in memory take, by how many users it has; and what bodies take.
 use anyhow::{Result, bail, ensure};
-use bench_values::{fastest, id_of, ratio};
+use bench_values::{fastest, id_of, numbered, print_heading, print_line, push_all};
 use scim_body::{Draft, UseFor, read_body};
 use scim_cell::Text;
 use scim_filter::{Filter, read_filter};
@@ -86,32 +86,57 @@ pub(crate) fn draft_of(alloc: Global, kind: Kind, use_for: UseFor, body: &str) -
 }
 
 fn user_draft(alloc: Global, number: usize) -> Result<Draft> {
-    let body = format!(in alloc;
-        "{{\"userName\":\"user{number}\",\"name\":{{\"familyName\":\"Jensen\"}},\"emails\":[{{\"value\":\"user{number}@example.com\"}}]}}"
-    )?;
+    let body = user_body(alloc, number)?;
     draft_of(alloc, Kind::User, UseFor::Creating, body.as_str())
+}
+
+fn user_body(alloc: Global, number: usize) -> Result<String> {
+    let name = numbered(alloc, "user", number, "")?;
+    let mut body = String::new(alloc);
+    push_all(
+        &mut body,
+        &[
+            "{\"userName\":\"",
+            name.as_str(),
+            "\",\"name\":{\"familyName\":\"Jensen\"},\"emails\":[{\"value\":\"",
+            name.as_str(),
+            "@example.com\"}]}",
+        ],
+    )?;
+    Ok(body)
 }
 
 /// A group of the users that follow those of the group before it, among the first users.
 fn group_draft(alloc: Global, number: usize) -> Result<Draft> {
-    let mut body = format!(in alloc; "{{\"displayName\":\"Team {number}\",\"members\":[")?;
+    let body = group_body(alloc, number)?;
+    draft_of(alloc, Kind::Group, UseFor::Creating, body.as_str())
+}
+
+fn group_body(alloc: Global, number: usize) -> Result<String> {
+    let mut body = numbered(
+        alloc,
+        "{\"displayName\":\"Team ",
+        number,
+        "\",\"members\":[",
+    )?;
     for place in 0..MEMBERS {
         push_member(alloc, number, place, &mut body)?;
     }
     body.push_str("]}")?;
-    draft_of(alloc, Kind::Group, UseFor::Creating, body.as_str())
+    Ok(body)
 }
 
 fn push_member(alloc: Global, group: usize, place: usize, body: &mut String) -> Result<()> {
     let first = group.saturating_mul(MEMBERS);
     let member = id_of(first.saturating_add(place) % FIRST_USERS).text(alloc)?;
-    let comma = if place == 0 { "" } else { "," };
-    write!(body, "{comma}{{\"value\":\"{}\"}}", member.as_str())?;
-    Ok(())
+    if place > 0 {
+        body.push(',')?;
+    }
+    push_all(body, &["{\"value\":\"", member.as_str(), "\"}"])
 }
 
 fn filter_for(alloc: Global, number: usize) -> Result<Filter> {
-    let text = format!(in alloc; "userName eq \"USER{number}\"")?;
+    let text = numbered(alloc, "userName eq \"USER", number, "\"")?;
     Ok(read_filter(alloc, Kind::User, text.as_str())?)
 }
 
@@ -309,8 +334,11 @@ fn measure_service(
 fn body_of(alloc: Global, emails: usize) -> Result<String> {
     let mut body = String::from_str(alloc, "{\"userName\":\"user\",\"emails\":[")?;
     for place in 0..emails {
-        let comma = if place == 0 { "" } else { "," };
-        write!(body, "{comma}{{\"value\":\"user{place}@example.com\"}}")?;
+        if place > 0 {
+            body.push(',')?;
+        }
+        let email = numbered(alloc, "{\"value\":\"user", place, "@example.com\"}")?;
+        body.push_str(email.as_str())?;
     }
     body.push_str("]}")?;
     Ok(body)
@@ -326,17 +354,13 @@ fn measure_body(rt: &impl Clock, alloc: Global, emails: usize) -> Result<u128> {
     })
 }
 
-pub(crate) fn print_line(rt: &impl Print, what: &str, few: u128, many: u128) -> Result<()> {
-    println!(rt; "{what}: {few}, {many}, {:.1} times", ratio(many, few))?;
-    Ok(())
-}
-
 /// Prints what turns take, in nanoseconds.
 pub fn run(rt: &(impl Clock + Print), alloc: Global) -> Result<()> {
-    let [fewer, more] = USERS;
-    println!(rt;
-        "nanoseconds a turn, over {fewer} and over {more} users, and {GROUPS} groups of {MEMBERS}"
+    print_heading(
+        rt,
+        "nanoseconds a turn, over 1,000 users and over 100,000, and 1,000 groups of 100",
     )?;
+    let [fewer, more] = USERS;
     let few = measure(rt, alloc, fewer)?;
     let many = measure(rt, alloc, more)?;
     print_line(rt, "get", few.get, many.get)?;
@@ -344,8 +368,12 @@ pub fn run(rt: &(impl Clock + Print), alloc: Global) -> Result<()> {
     print_line(rt, "remove", few.remove, many.remove)?;
     print_line(rt, "search by userName", few.search, many.search)?;
     let [shorter, longer] = EMAILS;
-    println!(rt; "nanoseconds a body, of {shorter} and of {longer} emails")?;
     let few = measure_body(rt, alloc, shorter)?;
     let many = measure_body(rt, alloc, longer)?;
-    print_line(rt, "read_body", few, many)
+    print_line(
+        rt,
+        "reading a body of 1,000 emails and of 10,000",
+        few,
+        many,
+    )
 }

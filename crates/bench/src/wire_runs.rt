@@ -1,7 +1,7 @@
 //! Messages: how the reading of a body grows with its length and with the pieces in which it comes, and what a GET takes
 //! beside what the service takes for it.
 use anyhow::{Result, bail, ensure};
-use bench_values::{fastest, ratio};
+use bench_values::{fastest, numbered, print_heading, print_line, push_all};
 use scim_ask::ask;
 use scim_cell::{Id, Text};
 use scim_exchange::{Answer, Arrival, answer};
@@ -18,10 +18,10 @@ use std::io::Print;
 use std::time::{Clock, Instant};
 use uuid::Uuid;
 
-/// The bytes of a short body and of a long one.
-const SHORT: usize = 102_400;
+/// How many KiB a short body has and a long one.
+const SHORT: usize = 100;
 
-const LONG: usize = 1_048_576;
+const LONG: usize = 1_024;
 
 /// The bytes of a large piece.
 const PIECE: usize = 65_536;
@@ -32,42 +32,43 @@ const PASSES: usize = 5;
 /// So many GETs are one pass.
 const GETS: usize = 10_000;
 
-/// The bytes of a chunk.
-const CHUNK: usize = 1_000;
+/// The bytes of a chunk, and the line before it.
+const CHUNK: usize = 1_024;
 
-/// Adds so many bytes of a body, at most those of a chunk, as a chunk or plain.
-fn push_data(alloc: Global, count: usize, chunked: bool, bytes: &mut Vec<u8>) -> Result<()> {
-    let line = [b'a'; CHUNK];
-    let data = &line[..count.min(CHUNK)];
-    if !chunked {
-        return Ok(bytes.extend_from_slice(data)?);
+const CHUNK_LINE: &[u8] = b"400\r\n";
+
+/// Adds a chunk, or its bytes alone.
+fn push_data(chunked: bool, bytes: &mut Vec<u8>) -> Result<()> {
+    if chunked {
+        bytes.extend_from_slice(CHUNK_LINE)?;
     }
-    let size = format!(in alloc; "{:x}\r\n", data.len())?;
-    bytes.extend_from_slice(size.as_bytes())?;
-    bytes.extend_from_slice(data)?;
-    Ok(bytes.extend_from_slice(b"\r\n")?)
+    bytes.extend_from_slice(&[b'a'; CHUNK])?;
+    if chunked {
+        bytes.extend_from_slice(b"\r\n")?;
+    }
+    Ok(())
 }
 
 /// The head of a message with a body of so many bytes.
-fn head_of(alloc: Global, body: usize, chunked: bool) -> Result<Vec<u8>> {
-    let head = if chunked {
-        String::from_str(
-            alloc,
-            "POST /Users HTTP/1.1\r\nTransfer-Encoding: chunked\r\n\r\n",
-        )?
-    } else {
-        format!(in alloc; "POST /Users HTTP/1.1\r\nContent-Length: {body}\r\n\r\n")?
-    };
-    Ok(head.into_bytes())
+fn head_of(alloc: Global, body: usize, chunked: bool) -> Result<String> {
+    if chunked {
+        let head = "POST /Users HTTP/1.1\r\nTransfer-Encoding: chunked\r\n\r\n";
+        return Ok(String::from_str(alloc, head)?);
+    }
+    numbered(
+        alloc,
+        "POST /Users HTTP/1.1\r\nContent-Length: ",
+        body,
+        "\r\n\r\n",
+    )
 }
 
-/// A message with a body of so many bytes, by its length or in chunks.
-fn message_bytes(alloc: Global, body: usize, chunked: bool) -> Result<Vec<u8>> {
-    let mut bytes = head_of(alloc, body, chunked)?;
-    for _ in 0..body / CHUNK {
-        push_data(alloc, CHUNK, chunked, &mut bytes)?;
+/// A message with a body of so many KiB, by its length or in chunks.
+fn message_bytes(alloc: Global, kibibytes: usize, chunked: bool) -> Result<Vec<u8>> {
+    let mut bytes = head_of(alloc, kibibytes.saturating_mul(CHUNK), chunked)?.into_bytes();
+    for _ in 0..kibibytes {
+        push_data(chunked, &mut bytes)?;
     }
-    push_data(alloc, body % CHUNK, chunked, &mut bytes)?;
     if chunked {
         bytes.extend_from_slice(b"0\r\n\r\n")?;
     }
@@ -101,7 +102,15 @@ fn measure_reading(
 
 /// A GET of Alice.
 fn get_of_alice(alloc: Global) -> Result<Message> {
-    let text = format!(in alloc; "GET /Users/{ALICE} HTTP/1.1\r\nHost: 127.0.0.1:8080\r\n\r\n")?;
+    let mut text = String::new(alloc);
+    push_all(
+        &mut text,
+        &[
+            "GET /Users/",
+            ALICE,
+            " HTTP/1.1\r\nHost: 127.0.0.1:8080\r\n\r\n",
+        ],
+    )?;
     for item in Wire::new(alloc).feed(alloc, text.as_bytes())? {
         if let Item::Whole(message) = item {
             return Ok(message);
@@ -164,29 +173,38 @@ fn print_gets(rt: &(impl Clock + Print), alloc: Global) -> Result<()> {
         go_round_service(alloc, &message, &told)
     })?;
     let whole = measure_answers(rt, alloc, &mut service, &arrival, &message)?;
-    println!(rt;
-        "a GET: {whole}, of which {beside} beside the service, {:.2} times what it takes",
-        ratio(beside, whole.saturating_sub(beside))
+    let service_alone = whole.saturating_sub(beside);
+    print_line(
+        rt,
+        "a GET: what the service takes, and what is beside it",
+        service_alone,
+        beside,
+    )
+}
+
+/// Prints what the messages of a short body and of a long one take, and the long one byte by byte.
+fn print_bodies(rt: &(impl Clock + Print), alloc: Global, how: &str, chunked: bool) -> Result<()> {
+    let short = measure_reading(rt, alloc, SHORT, PIECE, chunked)?;
+    let long = measure_reading(rt, alloc, LONG, PIECE, chunked)?;
+    let bytes = measure_reading(rt, alloc, LONG, 1, chunked)?;
+    print_heading(rt, how)?;
+    print_line(
+        rt,
+        "of 100 KiB and of 1 MiB, in pieces of 64 KiB",
+        short,
+        long,
     )?;
-    Ok(())
+    print_line(
+        rt,
+        "of 1 MiB, in pieces of 64 KiB and byte by byte",
+        long,
+        bytes,
+    )
 }
 
 /// Prints what messages take, in nanoseconds.
 pub fn run(rt: &(impl Clock + Print), alloc: Global) -> Result<()> {
-    for chunked in [false, true] {
-        let short = measure_reading(rt, alloc, SHORT, PIECE, chunked)?;
-        let long = measure_reading(rt, alloc, LONG, PIECE, chunked)?;
-        let bytes = measure_reading(rt, alloc, LONG, 1, chunked)?;
-        let how = if chunked {
-            "in chunks"
-        } else {
-            "by its length"
-        };
-        println!(rt;
-            "a body {how}, of {SHORT} and of {LONG} bytes in pieces of {PIECE}: {short}, {long}, {:.1} times; byte by byte {bytes}, {:.1} times",
-            ratio(long, short),
-            ratio(bytes, long)
-        )?;
-    }
+    print_bodies(rt, alloc, "nanoseconds to read a body by its length", false)?;
+    print_bodies(rt, alloc, "in chunks", true)?;
     print_gets(rt, alloc)
 }

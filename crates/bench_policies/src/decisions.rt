@@ -1,6 +1,6 @@
 //! What policies of few and of many rules decide of a user of 15 cells, and what a client sees by them.
 use anyhow::{Result, bail};
-use bench_values::{fastest, ratio, sample_user};
+use bench_values::{fastest, print_heading, print_line, push_all, sample_user};
 use scim_policy::{Policy, read_policy};
 use scim_samples::BASE;
 use scim_schema::Op;
@@ -56,20 +56,25 @@ pub fn policy_text(alloc: Global, rules: usize, client_before: &str) -> Result<S
     let mut text = String::new(alloc);
     text.push_str("{\"version\":1,\"rules\":[")?;
     for path in PATHS.iter().cycle().take(rules.saturating_sub(1)) {
-        push_rule(alloc, &mut text, client_before, path)?;
+        push_rule(&mut text, client_before, path)?;
         text.push(',')?;
     }
-    push_rule(alloc, &mut text, CLIENT, "id")?;
+    push_rule(&mut text, CLIENT, "id")?;
     text.push_str("]}")?;
     Ok(text)
 }
 
-fn push_rule(alloc: Global, text: &mut String, client: &str, path: &str) -> Result<()> {
-    let rule = format!(in alloc;
-        "{{\"allow\":true,\"clients\":[\"{client}\"],\"ops\":[\"read\"],\"types\":[\"User\"],\"paths\":[\"{path}\"]}}"
-    )?;
-    text.push_str(rule.as_str())?;
-    Ok(())
+fn push_rule(text: &mut String, client: &str, path: &str) -> Result<()> {
+    push_all(
+        text,
+        &[
+            "{\"allow\":true,\"clients\":[\"",
+            client,
+            "\"],\"ops\":[\"read\"],\"types\":[\"User\"],\"paths\":[\"",
+            path,
+            "\"]}",
+        ],
+    )
 }
 
 /// Nanoseconds a call.
@@ -136,7 +141,7 @@ fn check_view(
         1
     };
     if seen.rows().len() != wanted {
-        bail!("{} of {wanted} rows are seen", seen.rows().len());
+        bail!("other rows are seen");
     }
     Ok(())
 }
@@ -153,16 +158,13 @@ fn compare(
     print_line(rt, "view", few.view, many.view)
 }
 
-fn print_line(rt: &impl Print, call: &str, few: u128, many: u128) -> Result<()> {
-    let ratio = ratio(many, few);
-    println!(rt; "{call}: {FEW} rules {few}, {MANY} rules {many}, {many}/{few} = {ratio:.1}")?;
-    Ok(())
-}
-
 fn compare_all(rt: &(impl Clock + Print), alloc: Global, user: &Resource) -> Result<()> {
-    println!(rt; "nanoseconds a call, for a user of 15 cells, where all rules fit")?;
+    print_heading(
+        rt,
+        "nanoseconds a call, for a user of 15 cells, by 10 rules and by 1,000, all of which fit",
+    )?;
     compare(rt, alloc, user, CLIENT)?;
-    println!(rt; "where the last rule alone is for the client")?;
+    print_heading(rt, "where the last rule alone is for the client")?;
     compare(rt, alloc, user, OTHER_CLIENT)
 }
 

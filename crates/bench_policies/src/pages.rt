@@ -1,7 +1,7 @@
 //! Pages of what a client sees of many users, their groups among it.
 use crate::decisions::{CLIENT, FEW, MANY, OTHER_CLIENT, policy_text};
 use anyhow::{Result, bail};
-use bench_values::{fastest, id_of, push_member, ratio, user};
+use bench_values::{fastest, id_of, numbered, print_heading, print_line, push_member, user};
 use scim_filter::read_filter;
 use scim_policy::{Policy, read_policy};
 use scim_query::{Page, Query, search_view};
@@ -41,7 +41,7 @@ struct Directory {
 /// A group of the users that follow those of the group before it.
 fn group(alloc: Global, number: usize, users: usize) -> Result<Resource> {
     let id = id_of(number.saturating_add(1_000_000)).text(alloc)?;
-    let mut cells = format!(in alloc; "displayName=Team {number}")?;
+    let mut cells = numbered(alloc, "displayName=Team ", number, "")?;
     for place in 0..MEMBERS {
         let first = number.saturating_mul(MEMBERS);
         let member = first.saturating_add(place) % users.max(1);
@@ -53,7 +53,7 @@ fn group(alloc: Global, number: usize, users: usize) -> Result<Resource> {
 /// A user whose family name is one of some 10,000.
 fn named_user(alloc: Global, number: usize) -> Result<Resource> {
     let name = number.wrapping_mul(7_919) % 10_007;
-    let family_name = format!(in alloc; "Jensen{name}")?;
+    let family_name = numbered(alloc, "Jensen", name, "")?;
     user(alloc, number, family_name.as_str())
 }
 
@@ -146,11 +146,7 @@ fn page_by(alloc: Global, directory: &Directory, policy: &str, query: &Query) ->
 
 fn check_items(directory: &Directory, page: &Page) -> Result<()> {
     if page.total != directory.users.len() || page.items.len() != COUNT {
-        bail!(
-            "{} of {} users are found",
-            page.total,
-            directory.users.len()
-        );
+        bail!("other users are found");
     }
     for part in &page.items {
         if part.positions(Attribute::Groups) == 0 {
@@ -183,13 +179,7 @@ fn compare_policies(
 ) -> Result<()> {
     let few = measure_rules(rt, alloc, directory, FEW, query, client_before)?;
     let many = measure_rules(rt, alloc, directory, MANY, query, client_before)?;
-    println!(rt;
-        "{FEW} rules {}, {MANY} rules {}, {MANY}/{FEW} = {:.1}",
-        few / 1_000,
-        many / 1_000,
-        ratio(many, few)
-    )?;
-    Ok(())
+    print_line(rt, "by 10 rules and by 1,000", few, many)
 }
 
 /// Nanoseconds of a page over so many users.
@@ -213,9 +203,9 @@ fn measure_directory(
     check_page(alloc, directory, query)?;
     let [fewer, _] = USERS;
     if directory.users.len() == fewer {
-        println!(rt; "policies, over {fewer} users, where all rules fit")?;
+        print_heading(rt, "over 10,000 users, where all rules fit")?;
         compare_policies(rt, alloc, directory, query, CLIENT)?;
-        println!(rt; "where the last rule alone is for the client")?;
+        print_heading(rt, "where the last rule alone is for the client")?;
         compare_policies(rt, alloc, directory, query, OTHER_CLIENT)?;
     }
     measure(rt, alloc, directory, ALL, query)
@@ -225,19 +215,14 @@ fn compare_users(rt: &(impl Clock + Print), alloc: Global, query: &Query) -> Res
     let [fewer, more] = USERS;
     let one = measure_users(rt, alloc, fewer, query)?;
     let other = measure_users(rt, alloc, more, query)?;
-    println!(rt;
-        "{fewer} users {}, {more} users {}, {more}/{fewer} = {:.1}",
-        one / 1_000,
-        other / 1_000,
-        ratio(other, one)
-    )?;
-    Ok(())
+    print_line(rt, "over 10,000 users and over 100,000", one, other)
 }
 
-/// Prints what a page takes, in microseconds.
+/// Prints what a page takes, in nanoseconds.
 pub fn run(rt: &(impl Clock + Print), alloc: Global) -> Result<()> {
-    println!(rt;
-        "microseconds, for a page of {COUNT} users with their groups, of {GROUPS} groups with {MEMBERS} members, filtered by userName and sorted by familyName"
+    print_heading(
+        rt,
+        "nanoseconds, for a page of 100 users with their groups, of 1,000 groups with 100 members, filtered by userName and sorted by familyName",
     )?;
     let query = query_by_name(alloc)?;
     compare_users(rt, alloc, &query)

@@ -1,4 +1,5 @@
 //! The JSON of a user of 15 cells, beside what serde_json takes for the same texts, and users files.
+use crate::printing::{numbered, print_figure, print_heading, print_line, push_all};
 use crate::timing::fastest;
 use crate::values::value_of;
 use anyhow::{Result, bail, ensure};
@@ -119,13 +120,22 @@ pub fn users_file(alloc: Global, users: usize) -> Result<String> {
 
 fn push_user(alloc: Global, number: usize, text: &mut String) -> Result<()> {
     let id = Id::of(Uuid::from_u128(number as u128)).text(alloc)?;
-    let id = id.as_str();
-    let comma = if number == 0 { "" } else { "," };
-    write!(
+    let name = numbered(alloc, "user", number, "")?;
+    if number > 0 {
+        text.push(',')?;
+    }
+    push_all(
         text,
-        "{comma}{{\"emails\":[{{\"value\":\"user{number}@example.com\"}}],\"id\":\"{id}\",\"meta\":{{\"created\":\"2024-01-01T00:00:00Z\",\"lastModified\":\"2024-01-01T00:00:00Z\",\"resourceType\":\"User\"}},\"userName\":\"user{number}\"}}"
-    )?;
-    Ok(())
+        &[
+            "{\"emails\":[{\"value\":\"",
+            name.as_str(),
+            "@example.com\"}],\"id\":\"",
+            id.as_str(),
+            "\",\"meta\":{\"created\":\"2024-01-01T00:00:00Z\",\"lastModified\":\"2024-01-01T00:00:00Z\",\"resourceType\":\"User\"},\"userName\":\"",
+            name.as_str(),
+            "\"}",
+        ],
+    )
 }
 
 /// Nanoseconds for each user of a file of so many: of `read_documents`, and of `Value::from_str`.
@@ -150,17 +160,21 @@ fn measure_text(rt: &impl Clock, alloc: Global, text: &str) -> Result<(u128, u12
 
 /// Prints the figures of a user of 15 cells.
 fn print_figures(rt: &impl Print, figures: Figures) -> Result<()> {
-    println!(rt; "nanoseconds a call, for a user of 15 cells")?;
-    println!(rt;
-        "to_json {}, a Value made and printed {}, Value::to_string alone {}",
-        figures.show, figures.show_made, figures.show_value
+    print_heading(rt, "nanoseconds a call, for a user of 15 cells")?;
+    print_line(
+        rt,
+        "to_json, a Value made and printed",
+        figures.show,
+        figures.show_made,
     )?;
-    println!(rt; "stored_text {}", figures.store)?;
-    println!(rt;
-        "read_stored {}, Value::from_str {}",
-        figures.read, figures.read_value
-    )?;
-    Ok(())
+    print_figure(rt, "Value::to_string alone", figures.show_value)?;
+    print_figure(rt, "stored_text", figures.store)?;
+    print_line(
+        rt,
+        "Value::from_str, read_stored",
+        figures.read_value,
+        figures.read,
+    )
 }
 
 fn measure_user(rt: &impl Clock, alloc: Global) -> Result<Figures> {
@@ -168,13 +182,16 @@ fn measure_user(rt: &impl Clock, alloc: Global) -> Result<Figures> {
     measure(rt, alloc, &user)
 }
 
-/// Prints the figures of writing and reading, in nanoseconds a call.
+/// Prints the figures of writing and reading, in nanoseconds.
 pub fn run(rt: &(impl Clock + Print), alloc: Global) -> Result<()> {
     print_figures(rt, measure_user(rt, alloc)?)?;
-    println!(rt; "nanoseconds for each user of a users file")?;
+    print_heading(
+        rt,
+        "nanoseconds for each user of users files of 1,000 and of 10,000: Value::from_str, read_documents",
+    )?;
     for users in USERS {
         let (each, each_value) = measure_file(rt, alloc, users)?;
-        println!(rt; "of {users} users: read_documents {each}, Value::from_str {each_value}")?;
+        print_line(rt, "a user", each_value, each)?;
     }
     Ok(())
 }

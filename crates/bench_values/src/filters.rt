@@ -2,7 +2,8 @@
 pub mod samples;
 
 use crate::filters::samples::{group, id_of, user};
-use crate::timing::{fastest, ratio};
+use crate::printing::{print_figure, print_heading, print_line, push_all};
+use crate::timing::fastest;
 use anyhow::{Result, bail};
 use scim_filter::{Filter, holds, read_filter};
 use scim_schema::Kind;
@@ -38,11 +39,6 @@ const CALLS: usize = 2_000;
 
 /// Of calls that take long, so many make a pass.
 const FEW_CALLS: usize = 20;
-
-/// Microseconds.
-fn micros(nanoseconds: u128) -> f64 {
-    ratio(nanoseconds, 1_000)
-}
 
 /// A filter of so many bytes: many terms joined by `or`.
 fn long_filter(alloc: Global, bytes: usize) -> Result<String> {
@@ -130,7 +126,7 @@ fn counting(
     wanted: usize,
 ) -> Result<u128> {
     if count(alloc, filter, users)? != wanted {
-        bail!("other users are found than {wanted}");
+        bail!("other users are found");
     }
     let took = fastest(rt, PASSES, 1, || {
         count(alloc, filter, users)?;
@@ -160,14 +156,13 @@ fn short_filters_on(rt: &(impl Clock + Print), alloc: Global, user: &Part) -> Re
     let read = reading(rt, alloc, CALLS, SHORT)?;
     let all = holding_short(rt, alloc, SHORT, user, false)?;
     let held = holding_short(rt, alloc, UNTITLED, user, true)?;
-    println!(rt;
-        "a filter of {} bytes: read {:.2}, held on a user of 15 cells {:.2}, where each term is true {:.2}",
-        SHORT.len(),
-        micros(read),
-        micros(all),
-        micros(held)
-    )?;
-    Ok(())
+    print_figure(rt, "reading a filter of 100 bytes", read)?;
+    print_line(
+        rt,
+        "holding it on a user of 15 cells, and where each term is true",
+        all,
+        held,
+    )
 }
 
 fn push_user(alloc: Global, number: usize, users: &mut Vec<Part>) -> Result<()> {
@@ -190,12 +185,13 @@ fn many_users(rt: &(impl Clock + Print), alloc: Global) -> Result<()> {
 }
 
 fn filter_many(rt: &(impl Clock + Print), alloc: Global, users: &[Part]) -> Result<()> {
+    print_heading(rt, "for each of 10,000 users")?;
     for (written, wanted) in [
         ("userName eq \"user9999\"", 1),
         ("emails[type eq \"work\" and value co \"x\"]", USERS),
     ] {
         let each = filtering(rt, alloc, users, written, wanted)?;
-        println!(rt; "for each of {USERS} users, {written}: {:.3}", micros(each))?;
+        print_figure(rt, written, each)?;
     }
     Ok(())
 }
@@ -213,59 +209,48 @@ fn reading_long(rt: &impl Clock, alloc: Global, calls: usize, bytes: usize) -> R
 fn long_and_deep(rt: &(impl Clock + Print), alloc: Global) -> Result<()> {
     let deep = reading_deep(rt, alloc, BRACKETS)?;
     let long = reading_long(rt, alloc, FEW_CALLS, LONGEST)?;
-    println!(rt;
-        "title pr in {BRACKETS} brackets: read {:.2}; a filter of {LONGEST} bytes: read {:.1}",
-        micros(deep),
-        micros(long)
-    )?;
+    print_figure(rt, "reading title pr in 32 brackets", deep)?;
+    print_figure(rt, "reading a filter of 4,096 bytes", long)?;
     let [short, long] = LENGTHS;
     let one = reading_long(rt, alloc, CALLS / 10, short)?;
     let other = reading_long(rt, alloc, FEW_CALLS, long)?;
-    println!(rt;
-        "reading {long} bytes/{short} bytes = {:.1}",
-        ratio(other, one)
-    )?;
-    Ok(())
+    print_line(rt, "reading filters of 400 bytes and of 4,000", one, other)
 }
 
 /// Nanoseconds of holding a filter that names the last of a group's members.
-fn holding_last(
-    rt: &impl Clock,
-    alloc: Global,
-    members: usize,
-    before: &str,
-    behind: &str,
-) -> Result<u128> {
+fn holding_last(rt: &impl Clock, alloc: Global, members: usize, around: [&str; 2]) -> Result<u128> {
     let group = group(alloc, members)?;
-    let filter = filter_on_last(alloc, members, before, behind)?;
+    let filter = filter_on_last(alloc, members, around)?;
     holding(rt, alloc, FEW_CALLS, &filter, &group, true)
 }
 
-/// The filter that names the last of so many members.
-fn filter_on_last(alloc: Global, members: usize, before: &str, behind: &str) -> Result<Filter> {
+/// The filter that names the last of so many members, between two texts.
+fn filter_on_last(alloc: Global, members: usize, around: [&str; 2]) -> Result<Filter> {
+    let [before, behind] = around;
     let last = id_of(members.saturating_sub(1)).text(alloc)?;
-    let written = format!(in alloc; "{before}\"{}\"{behind}", last.as_str())?;
+    let mut written = String::new(alloc);
+    push_all(&mut written, &[before, last.as_str(), behind])?;
     Ok(read_filter(alloc, Kind::Group, written.as_str())?)
 }
 
 fn groups(rt: &(impl Clock + Print), alloc: Global) -> Result<()> {
     let [few, many] = MEMBERS;
-    for (before, behind) in [("members[value eq ", "]"), ("members.value eq ", "")] {
-        let one = holding_last(rt, alloc, few, before, behind)?;
-        let other = holding_last(rt, alloc, many, before, behind)?;
-        println!(rt;
-            "{before}LAST{behind}: {few} members {:.1}, {many} members {:.1}, {many}/{few} = {:.1}",
-            micros(one),
-            micros(other),
-            ratio(other, one)
-        )?;
+    print_heading(rt, "the last of 1,000 members and of 10,000")?;
+    for around in [
+        ["members[value eq \"", "\"]"],
+        ["members.value eq \"", "\""],
+    ] {
+        let one = holding_last(rt, alloc, few, around)?;
+        let other = holding_last(rt, alloc, many, around)?;
+        let [before, _] = around;
+        print_line(rt, before, one, other)?;
     }
     Ok(())
 }
 
-/// Prints what reading and holding filters take, in microseconds, and how they grow.
+/// Prints what reading and holding filters take, in nanoseconds, and how they grow.
 pub fn run(rt: &(impl Clock + Print), alloc: Global) -> Result<()> {
-    println!(rt; "microseconds")?;
+    print_heading(rt, "nanoseconds")?;
     short_filters(rt, alloc)?;
     many_users(rt, alloc)?;
     groups(rt, alloc)?;

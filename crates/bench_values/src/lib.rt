@@ -4,6 +4,7 @@
 mod documents;
 mod filters;
 mod parts;
+mod printing;
 mod timing;
 mod values;
 
@@ -11,4 +12,5 @@ pub use documents::{run as run_documents, sample_user, users_file};
 pub use filters::run as run_filters;
 pub use filters::samples::{id_of, push_member, user};
 pub use parts::run as run_parts;
-pub use timing::{fastest, ratio};
+pub use printing::{numbered, print_figure, print_heading, print_line, push_all};
+pub use timing::fastest;

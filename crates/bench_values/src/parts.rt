@@ -1,4 +1,5 @@
 //! Parts: groups of more and more members, each with four sub-attributes.
+use crate::printing::{numbered, print_figure, print_heading, push_all};
 use anyhow::{Result, bail, ensure};
 use scim_cell::{Cell, Id, Row, RowTest};
 use scim_samples::{ALICE, BASE, read_cells};
@@ -29,8 +30,26 @@ fn group(alloc: Global, members: usize) -> Result<Vec<Cell>> {
 }
 
 fn push_member(alloc: Global, position: usize, cells: &mut Vec<Cell>) -> Result<()> {
-    let member = format!(in alloc;
-        "members[{position}].display=Alice; members[{position}].value={ALICE}; members[{position}].type=User; members[{position}].$ref={BASE}/Users/{ALICE}"
+    let place = numbered(alloc, "members[", position, "]")?;
+    let place = place.as_str();
+    let mut member = String::new(alloc);
+    push_all(
+        &mut member,
+        &[
+            place,
+            ".display=Alice; ",
+            place,
+            ".value=",
+            ALICE,
+            "; ",
+            place,
+            ".type=User; ",
+            place,
+            ".$ref=",
+            BASE,
+            "/Users/",
+            ALICE,
+        ],
     )?;
     Ok(cells.append(&mut read_cells(alloc, member.as_str())?)?)
 }
@@ -129,22 +148,29 @@ fn for_each_cell(took: Duration, rounds: usize, members: usize) -> u128 {
     took.as_nanos() / cells.max(1)
 }
 
-/// Prints what each call takes for each cell, at each size.
-pub fn run(rt: &(impl Print + Clock), alloc: Global) -> Result<()> {
-    println!(rt; "nanoseconds for each cell")?;
-    println!(rt;
-        "{:>8} {:>8} {:>8} {:>8} {:>8}",
-        "cells", "make", "copy", "restrict", "look up"
-    )?;
-    for members in SIZES {
-        let cells = 4 * members + 2;
-        let rounds = CELLS / cells;
-        let figures = measure(rt, alloc, members, rounds)?;
-        let make = for_each_cell(figures.make, rounds, members);
-        let copy = for_each_cell(figures.copy, rounds, members);
-        let restrict = for_each_cell(figures.restrict, rounds, members);
-        let look_up = for_each_cell(figures.look_up, rounds, members);
-        println!(rt; "{cells:>8} {make:>8} {copy:>8} {restrict:>8} {look_up:>8}")?;
+/// Prints what each call takes for each cell of a group of so many members.
+fn print_size(rt: &(impl Print + Clock), alloc: Global, members: usize) -> Result<()> {
+    let cells = members.saturating_mul(4).saturating_add(2);
+    let rounds = CELLS / cells.max(1);
+    let figures = measure(rt, alloc, members, rounds)?;
+    for (what, took) in [
+        ("make", figures.make),
+        ("copy", figures.copy),
+        ("restrict", figures.restrict),
+        ("look up", figures.look_up),
+    ] {
+        print_figure(rt, what, for_each_cell(took, rounds, members))?;
     }
     Ok(())
+}
+
+/// Prints what each call takes for each cell, at each size.
+pub fn run(rt: &(impl Print + Clock), alloc: Global) -> Result<()> {
+    let [few, some, many] = SIZES;
+    print_heading(rt, "nanoseconds for each of 10 cells")?;
+    print_size(rt, alloc, few)?;
+    print_heading(rt, "for each of 1,002")?;
+    print_size(rt, alloc, some)?;
+    print_heading(rt, "for each of 40,002")?;
+    print_size(rt, alloc, many)
 }

@@ -1,4 +1,5 @@
 //! Users and groups that filters are held on.
+use crate::printing::{numbered, push_all};
 use anyhow::Result;
 use scim_cell::Id;
 use scim_samples::{part, resource};
@@ -15,20 +16,46 @@ pub fn id_of(number: usize) -> Id {
 /// A user of 15 cells, with this family name, whose user name has the number.
 pub fn user(alloc: Global, number: usize, family_name: &str) -> Result<Resource> {
     let id = id_of(number).text(alloc)?;
-    let cells = format!(in alloc;
-        "userName=user{number}; name.familyName={family_name}; name.givenName=Barbara; displayName=Barbara Jensen; title=Tour Guide; emails[0].value=user{number}@example.com; emails[0].type=work; emails[0].primary=#true; department=Tours; active=#true"
-    )?;
+    let cells = user_cells(alloc, number, family_name)?;
     Ok(resource(alloc, Kind::User, id.as_str(), cells.as_str())?)
+}
+
+fn user_cells(alloc: Global, number: usize, family_name: &str) -> Result<String> {
+    let name = numbered(alloc, "user", number, "")?;
+    let mut cells = String::new(alloc);
+    push_all(
+        &mut cells,
+        &[
+            "userName=",
+            name.as_str(),
+            "; name.familyName=",
+            family_name,
+            "; name.givenName=Barbara; displayName=Barbara Jensen; title=Tour Guide; emails[0].value=",
+            name.as_str(),
+            "@example.com; emails[0].type=work; emails[0].primary=#true; department=Tours; active=#true",
+        ],
+    )?;
+    Ok(cells)
 }
 
 /// A group with so many members, whose values are the first ids.
 pub fn group(alloc: Global, members: usize) -> Result<Part> {
-    let mut cells = format!(in alloc; "displayName=Team; members[0..{members}].type=User")?;
+    let cells = group_cells(alloc, members)?;
+    let id = id_of(0).text(alloc)?;
+    Ok(part(alloc, Kind::Group, id.as_str(), cells.as_str())?)
+}
+
+fn group_cells(alloc: Global, members: usize) -> Result<String> {
+    let mut cells = numbered(
+        alloc,
+        "displayName=Team; members[0..",
+        members,
+        "].type=User",
+    )?;
     for position in 0..members {
         push_member(alloc, position, position, &mut cells)?;
     }
-    let id = id_of(0).text(alloc)?;
-    Ok(part(alloc, Kind::Group, id.as_str(), cells.as_str())?)
+    Ok(cells)
 }
 
 /// Adds the cell of the member at a position whose value is the id of a number.
@@ -39,6 +66,6 @@ pub fn push_member(
     cells: &mut String,
 ) -> Result<()> {
     let id = id_of(number).text(alloc)?;
-    write!(cells, "; members[{position}].value={}", id.as_str())?;
-    Ok(())
+    let place = numbered(alloc, "; members[", position, "].value=")?;
+    push_all(cells, &[place.as_str(), id.as_str()])
 }
