@@ -1,9 +1,11 @@
 //! The calls of `scim_body`.
-use case_values::{Case, CaseFault, kind_of, said};
+use case_values::{Case, CaseFault, kind_of, push_all, said};
 use scim_body::{BodyFault, Draft, UseFor, read_body};
+use scim_cell::Row;
 use scim_samples::row_text;
 use scim_schema::{Kind, Unit};
 use scim_text::Failed;
+use std::alloc::Global;
 
 /// What a call on a body gives; None where it isn't one.
 pub fn answer(case: &Case<'_>, call: &str) -> Option<Result<String, CaseFault>> {
@@ -34,37 +36,33 @@ fn body_call(case: &Case<'_>) -> Result<String, CaseFault> {
         use_for(case),
         case.text("body")?,
     ) {
-        Ok(draft) => draft_text(case, &draft),
+        Ok(draft) => draft_text(case.alloc, &draft),
         Err(Failed::Because(BodyFault::Syntax)) => said(case.alloc, "Syntax"),
         Err(Failed::Because(BodyFault::Value)) => said(case.alloc, "Value"),
         Err(Failed::NoMemory) => Err(CaseFault::NoMemory),
     }
 }
 
-fn draft_text(case: &Case<'_>, draft: &Draft) -> Result<String, CaseFault> {
-    let mut text = String::from_str(case.alloc, "given")?;
-    push_units(draft.given(), &mut text)?;
-    push_rows(case, draft, &mut text)?;
+fn draft_text(alloc: Global, draft: &Draft) -> Result<String, CaseFault> {
+    let mut text = said(alloc, "given")?;
+    for unit in draft.given() {
+        push_unit(*unit, &mut text)?;
+    }
+    for row in draft.rows() {
+        push_row(alloc, row, &mut text)?;
+    }
     Ok(text)
 }
 
-fn push_units(units: &[Unit], text: &mut String) -> Result<(), CaseFault> {
-    for unit in units {
-        text.push(' ')?;
-        text.push_str(unit.attribute.name())?;
-        if let Some(sub_attribute) = unit.sub_attribute {
-            text.push('.')?;
-            text.push_str(sub_attribute.name())?;
-        }
+fn push_unit(unit: Unit, text: &mut String) -> Result<(), CaseFault> {
+    push_all(text, &[" ", unit.attribute.name()])?;
+    match unit.sub_attribute {
+        Some(sub_attribute) => push_all(text, &[".", sub_attribute.name()]),
+        None => Ok(()),
     }
-    Ok(())
 }
 
-fn push_rows(case: &Case<'_>, draft: &Draft, text: &mut String) -> Result<(), CaseFault> {
-    for row in draft.rows() {
-        let row = row_text(case.alloc, row)?;
-        text.push_str("; ")?;
-        text.push_str(row.as_str())?;
-    }
-    Ok(())
+fn push_row(alloc: Global, row: &Row, text: &mut String) -> Result<(), CaseFault> {
+    let row = row_text(alloc, row)?;
+    push_all(text, &["; ", row.as_str()])
 }

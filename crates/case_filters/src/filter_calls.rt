@@ -1,5 +1,8 @@
 //! The calls of `scim_filter`.
-use case_values::{Case, CaseFault, said, truth};
+use case_values::{
+    Case, CaseFault, attribute_name, between, debugged, joined, push_all, said, shown, spaced_text,
+    truth,
+};
 use scim_cell::Text;
 use scim_filter::{
     Filter, FilterFault, Literal, Meant, Named, Node, Operator, Token, WrittenPath, attribute_path,
@@ -7,7 +10,7 @@ use scim_filter::{
     written_path,
 };
 use scim_samples::leaf_text;
-use scim_schema::{Attribute, Leaf};
+use scim_schema::Leaf;
 use scim_text::Failed;
 use std::alloc::Global;
 use std::str;
@@ -27,15 +30,6 @@ pub fn answer(case: &Case<'_>, call: &str) -> Option<Result<String, CaseFault>> 
     }
 }
 
-/// The argument of this name, with so many spaces behind it as the argument `spaces` says.
-pub fn spaced_text(case: &Case<'_>, name: &'static str) -> Result<String, CaseFault> {
-    let mut text = said(case.alloc, case.text(name)?)?;
-    for _ in 0..case.number("spaces").unwrap_or(0) {
-        text.push(' ')?;
-    }
-    Ok(text)
-}
-
 /// The filter of the argument `filter`.
 pub fn filter_of(case: &Case<'_>) -> Result<Result<Filter, Failed<FilterFault>>, CaseFault> {
     let text = spaced_text(case, "filter")?;
@@ -45,7 +39,7 @@ pub fn filter_of(case: &Case<'_>) -> Result<Result<Filter, Failed<FilterFault>>,
 /// A fault by its name, `Syntax` with its byte.
 fn fault_text(alloc: Global, fault: Failed<FilterFault>) -> Result<String, CaseFault> {
     match fault {
-        Failed::Because(FilterFault::Syntax(at)) => Ok(format!(in alloc; "Syntax {at}")?),
+        Failed::Because(FilterFault::Syntax(at)) => between(alloc, "Syntax ", &at, ""),
         Failed::Because(FilterFault::WrongType) => said(alloc, "WrongType"),
         Failed::Because(FilterFault::TooDeep) => said(alloc, "TooDeep"),
         Failed::Because(FilterFault::TooLong) => said(alloc, "TooLong"),
@@ -66,15 +60,14 @@ fn meant_text(alloc: Global, meant: Meant) -> Result<String, CaseFault> {
 
 fn push_meant(alloc: Global, meant: Meant, text: &mut String) -> Result<(), CaseFault> {
     let name = meant_text(alloc, meant)?;
-    text.push_str(name.as_str())?;
-    Ok(())
+    Ok(text.push_str(name.as_str())?)
 }
 
 fn literal_text(alloc: Global, literal: &Literal) -> Result<String, CaseFault> {
     match literal {
-        Literal::Text(string) => Ok(format!(in alloc; "\"{}\"", string.as_str())?),
-        Literal::Number(number) => Ok(format!(in alloc; "{number}")?),
-        Literal::Truth(truth) => Ok(format!(in alloc; "{truth}")?),
+        Literal::Text(string) => joined(alloc, &["\"", string.as_str(), "\""]),
+        Literal::Number(number) => shown(alloc, number),
+        Literal::Truth(own) => truth(alloc, *own),
         Literal::Null => said(alloc, "null"),
     }
 }
@@ -123,12 +116,13 @@ fn push_comparison(
     literal: &Literal,
     text: &mut String,
 ) -> Result<(), CaseFault> {
-    write!(text, "{operator:?} ")?;
-    push_meant(alloc, meant, text)?;
-    text.push(' ')?;
+    let operator = debugged(alloc, &operator)?;
+    let path = meant_text(alloc, meant)?;
     let value = literal_text(alloc, literal)?;
-    text.push_str(value.as_str())?;
-    Ok(())
+    push_all(
+        text,
+        &[operator.as_str(), " ", path.as_str(), " ", value.as_str()],
+    )
 }
 
 /// What the filter gives, or its fault.
@@ -163,17 +157,10 @@ fn holds_text(case: &Case<'_>, filter: &Filter) -> Result<String, CaseFault> {
 
 /// Whether the filter holds at the position `position`.
 fn holds_at_text(case: &Case<'_>, filter: &Filter) -> Result<String, CaseFault> {
-    let position = usize::try_from(case.number("position")?).unwrap_or(0);
+    let position = case.count("position")?;
     let part = case.part()?;
     let found = holds_at(case.alloc, filter, &part, position)?;
     truth(case.alloc, found)
-}
-
-fn attribute_text(attribute: Option<Attribute>) -> &'static str {
-    match attribute {
-        Some(attribute) => attribute.name(),
-        None => "none",
-    }
 }
 
 /// The names in the order of the text, each as it is written and with its attribute.
@@ -187,12 +174,8 @@ fn names_call(case: &Case<'_>) -> Result<String, CaseFault> {
 /// The names in a filter, each with its attribute.
 fn listed_names(alloc: Global, filter: &Filter) -> Result<String, CaseFault> {
     let names = mentioned_names(alloc, filter)?;
-    names_text(alloc, names.as_slice())
-}
-
-fn names_text(alloc: Global, names: &[Named]) -> Result<String, CaseFault> {
     let mut text = String::new(alloc);
-    for name in names {
+    for name in names.as_slice() {
         push_name(name, &mut text)?;
     }
     Ok(text)
@@ -203,9 +186,7 @@ fn push_name(name: &Named, text: &mut String) -> Result<(), CaseFault> {
         text.push_str(", ")?;
     }
     text.push_str(name.text.as_str())?;
-    text.push(' ')?;
-    text.push_str(attribute_text(name.attribute))?;
-    Ok(())
+    push_all(text, &[" ", attribute_name(name.attribute)])
 }
 
 /// Of a comparison with a string the text, its folding, and the second of the moment that it spells.
@@ -215,8 +196,11 @@ fn string_text(alloc: Global, node: &Node) -> Result<String, CaseFault> {
     };
     let (text, folded) = (string.as_str(), string.folded());
     match string.moment() {
-        Some(reading) => Ok(format!(in alloc; "{text}|{folded}|{}", reading.second)?),
-        None => Ok(format!(in alloc; "{text}|{folded}|none")?),
+        Some(reading) => {
+            let second = shown(alloc, &reading.second)?;
+            joined(alloc, &[text, "|", folded, "|", second.as_str()])
+        }
+        None => joined(alloc, &[text, "|", folded, "|none"]),
     }
 }
 
@@ -232,18 +216,18 @@ fn tokens_call(case: &Case<'_>) -> Result<String, CaseFault> {
 fn tokens_text(alloc: Global, tokens: &[Token<'_>]) -> Result<String, CaseFault> {
     let mut text = String::new(alloc);
     for token in tokens {
-        push_token(token, &mut text)?;
+        push_token(alloc, token, &mut text)?;
     }
     Ok(text)
 }
 
-fn push_token(token: &Token<'_>, text: &mut String) -> Result<(), CaseFault> {
+fn push_token(alloc: Global, token: &Token<'_>, text: &mut String) -> Result<(), CaseFault> {
     if !text.is_empty() {
         text.push('|')?;
     }
-    write!(text, "{}-{} ", token.start, token.end)?;
-    text.push_str(token.slice)?;
-    Ok(())
+    let start = shown(alloc, &token.start)?;
+    let end = shown(alloc, &token.end)?;
+    push_all(text, &[start.as_str(), "-", end.as_str(), " ", token.slice])
 }
 
 /// What the path names; the attribute whose sub-attributes may stand between brackets, the attribute that is
@@ -256,11 +240,13 @@ fn attribute_path_call(case: &Case<'_>) -> Result<String, CaseFault> {
 }
 
 fn told_of_meant(alloc: Global, meant: Meant) -> Result<String, CaseFault> {
-    let inside = attribute_text(meant.attribute());
-    let own = attribute_text(meant.mentioned_attribute());
-    let named = meant_text(alloc, meant)?;
+    let inside = attribute_name(meant.attribute());
+    let own = attribute_name(meant.mentioned_attribute());
+    let mut text = meant_text(alloc, meant)?;
+    push_all(&mut text, &[", ", inside, ", ", own, ", "])?;
     let leaf = compared_text(alloc, meant)?;
-    Ok(format!(in alloc; "{named}, {inside}, {own}, {leaf}")?)
+    text.push_str(leaf.as_str())?;
+    Ok(text)
 }
 
 fn compared_text(alloc: Global, meant: Meant) -> Result<String, CaseFault> {
@@ -271,8 +257,10 @@ fn compared_text(alloc: Global, meant: Meant) -> Result<String, CaseFault> {
 }
 
 fn lone_word_call(case: &Case<'_>) -> Result<String, CaseFault> {
-    let word = lone_word(case.text("text")?).and_then(|word| str::from_utf8(word).ok());
-    said(case.alloc, word.unwrap_or("none"))
+    match lone_word(case.text("text")?) {
+        Some(word) => said(case.alloc, str::from_utf8(word).unwrap_or("none")),
+        None => said(case.alloc, "none"),
+    }
 }
 
 /// What the path names, or the tree of the value path and the name behind it; `wrong types` before it where
@@ -307,9 +295,8 @@ fn push_filter(
         text.push_str("wrong types ")?;
     }
     push_tree(alloc, filter.tree(), text)?;
-    if let Some(name) = sub_name {
-        text.push('.')?;
-        text.push_str(name.as_str())?;
+    match sub_name {
+        Some(name) => push_all(text, &[".", name.as_str()]),
+        None => Ok(()),
     }
-    Ok(())
 }

@@ -1,6 +1,6 @@
-//! The calls of `scim_json`. Users files stand in lines of their own, with what is said of them.
-use case_values::{Case, CaseFault, said};
-use scim_json::{Damaged, read_stored, stored_text, to_json};
+//! The calls of `scim_json`, and lines that hold a users file and what is said of it in place of a call.
+use case_values::{Case, CaseFault, between, file_text, said};
+use scim_json::{Damaged, DamagedItem, read_documents, read_stored, stored_text, to_json};
 use scim_samples::{BASE, part_text};
 use scim_text::Failed;
 use scim_value::Resource;
@@ -13,6 +13,7 @@ pub fn answer(case: &Case<'_>, call: &str) -> Option<Result<String, CaseFault>> 
         "stored_text" => Some(stored_text_call(case)),
         "read_stored" | "stored_again" => Some(read_stored_call(case, call)),
         "reads_back" => Some(reads_back(case)),
+        "users_file" => Some(users_file(case)),
         _ => None,
     }
 }
@@ -56,5 +57,21 @@ fn read_again(alloc: Global, resource: &Resource) -> Result<String, CaseFault> {
         Ok(again) if again == *resource => said(alloc, "true"),
         Ok(_) => said(alloc, "another resource"),
         Err(_) => said(alloc, "Damaged"),
+    }
+}
+
+/// `ok, N resources`, or `item N`. A file that isn't in UTF-8 is refused before it is read, as item 0.
+fn users_file(case: &Case<'_>) -> Result<String, CaseFault> {
+    match file_text(case, "users", "users_hex")? {
+        Some(text) => users_told(case, text.as_str()),
+        None => said(case.alloc, "item 0"),
+    }
+}
+
+fn users_told(case: &Case<'_>, text: &str) -> Result<String, CaseFault> {
+    match read_documents(case.alloc, case.text_or("base", BASE), text) {
+        Ok(resources) => between(case.alloc, "ok, ", &resources.len(), " resources"),
+        Err(Failed::Because(DamagedItem(item))) => between(case.alloc, "item ", &item, ""),
+        Err(Failed::NoMemory) => Err(CaseFault::NoMemory),
     }
 }

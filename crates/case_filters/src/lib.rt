@@ -8,7 +8,7 @@ mod path_calls;
 
 pub use body_calls::{body_kind, use_for};
 use case_values::{Case, CaseFault};
-pub use filter_calls::{filter_of, spaced_text};
+pub use filter_calls::filter_of;
 
 /// What a call gives, if it is one of this crate.
 pub fn answer(case: &Case<'_>, call: &str) -> Option<Result<String, CaseFault>> {

@@ -1,6 +1,6 @@
 //! The calls of `scim_path`.
-use crate::filter_calls::{push_tree, spaced_text};
-use case_values::{Case, CaseFault, said};
+use crate::filter_calls::push_tree;
+use case_values::{Case, CaseFault, push_all, said, spaced_text, urn_of};
 use scim_path::{Path, PathFault, ValuePath, extension_named, read_path};
 use scim_samples::leaf_text;
 use scim_schema::Leaf;
@@ -50,17 +50,14 @@ fn path_text(alloc: Global, path: &Path) -> Result<String, CaseFault> {
 fn push_values(alloc: Global, values: &ValuePath, text: &mut String) -> Result<(), CaseFault> {
     text.push_str(": ")?;
     push_tree(alloc, values.filter.tree(), text)?;
-    if let Some(sub_attribute) = values.sub_attribute {
-        text.push('.')?;
-        text.push_str(sub_attribute.name())?;
+    match values.sub_attribute {
+        Some(sub_attribute) => push_all(text, &[".", sub_attribute.name()]),
+        None => Ok(()),
     }
-    Ok(())
 }
 
 fn extension_named_call(case: &Case<'_>) -> Result<String, CaseFault> {
     let text = spaced_text(case, "text")?;
-    match extension_named(case.kind(), text.as_str()) {
-        Some(schema) => said(case.alloc, schema.urn()),
-        None => said(case.alloc, "none"),
-    }
+    let found = extension_named(case.kind(), text.as_str());
+    said(case.alloc, urn_of(found))
 }

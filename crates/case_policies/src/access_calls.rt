@@ -1,8 +1,8 @@
 //! The calls of `scim_policy` on what a client may write, and what a change would open to it.
 use crate::policy_calls::{decision_text, policy};
-use case_values::{Case, CaseFault, said};
+use case_values::{Case, CaseFault, beside, joined, said};
 use scim_policy::{Decision, Policy};
-use scim_samples::{ALICE, leaf_text, read_leaf, resource};
+use scim_samples::{ALICE, leaf_text, resource};
 use scim_schema::{Leaf, Op, unit_of};
 use scim_value::Resource;
 use std::alloc::Global;
@@ -34,7 +34,7 @@ fn forbidding_text(
     policy: &Policy,
     resource: &Resource,
 ) -> Result<String, CaseFault> {
-    let unit = unit_of(read_leaf(case.text("leaf")?)?);
+    let unit = unit_of(case.leaf("leaf")?);
     match policy.may_write(case.alloc, case.text("client")?, resource, unit)? {
         Some((leaf, decision)) => text_at(case.alloc, leaf, decision),
         None => said(case.alloc, "nothing"),
@@ -58,11 +58,11 @@ fn widening_text(case: &Case<'_>, policy: &Policy, before: &Resource) -> Result<
 
 fn opened_text(alloc: Global, op: Op, leaf: Leaf, decision: Decision) -> Result<String, CaseFault> {
     let rest = text_at(alloc, leaf, decision)?;
-    Ok(format!(in alloc; "{} {rest}", op.name())?)
+    beside(alloc, op.name(), rest.as_str())
 }
 
 fn text_at(alloc: Global, leaf: Leaf, decision: Decision) -> Result<String, CaseFault> {
     let leaf = leaf_text(alloc, leaf)?;
     let decision = decision_text(alloc, decision)?;
-    Ok(format!(in alloc; "{leaf}, {decision}")?)
+    joined(alloc, &[leaf.as_str(), ", ", decision.as_str()])
 }

@@ -3,7 +3,6 @@ use crate::policy_calls::policy;
 use case_values::{Case, CaseFault};
 use scim_explain::{explain, idle_rules, print, print_idle_rules, rule_sentences, table};
 use scim_policy::Policy;
-use scim_samples::read_leaf;
 use scim_value::Resource;
 
 /// What a call of `scim_explain` gives; None where it isn't one.
@@ -36,12 +35,12 @@ fn resource_call(case: &Case<'_>, call: &str) -> Result<String, CaseFault> {
 }
 
 fn told_of(case: &Case<'_>, call: &str, policy: &Policy) -> Result<String, CaseFault> {
+    let client = case.text("client")?;
     let resource = case.resource()?;
     if call == "table" {
-        let client = case.text("client")?;
         Ok(table(case.alloc, policy, client, case.op(), &resource)?)
     } else {
-        explanation_text(case, policy, &resource)
+        explanation_text(case, policy, client, &resource)
     }
 }
 
@@ -49,10 +48,10 @@ fn told_of(case: &Case<'_>, call: &str, policy: &Policy) -> Result<String, CaseF
 fn explanation_text(
     case: &Case<'_>,
     policy: &Policy,
+    client: &str,
     resource: &Resource,
 ) -> Result<String, CaseFault> {
-    let leaf = read_leaf(case.text("leaf")?)?;
-    let client = case.text("client")?;
+    let leaf = case.leaf("leaf")?;
     let explanation = explain(case.alloc, policy, client, case.op(), resource, leaf)?;
     Ok(print(case.alloc, &explanation)?)
 }

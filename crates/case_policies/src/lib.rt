@@ -8,7 +8,7 @@ mod query_calls;
 mod view_calls;
 
 use case_values::{Case, CaseFault};
-pub use policy_calls::{count_text, policy};
+pub use policy_calls::policy;
 pub use query_calls::query_of;
 pub use view_calls::wanted;
 

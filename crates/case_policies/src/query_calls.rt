@@ -1,14 +1,16 @@
 //! The calls of `scim_query`.
 use crate::policy_calls::policy;
 use crate::view_calls::{viewer, wanted};
-use case_filters::{filter_of, spaced_text};
-use case_values::{Case, CaseFault, said};
+use case_filters::filter_of;
+use case_values::{
+    Case, CaseFault, between, joined, parts_of, push_all, resources_of, said, shown, spaced_text,
+};
 use scim_filter::Filter;
 use scim_json::to_json;
 use scim_policy::Policy;
 use scim_query::{Page, Pager, Query, read_sort_by, search, search_view};
-use scim_samples::{atom_text, leaf_text, part, read_leaf, resource, sample_groups, sample_users};
-use scim_schema::{Kind, Leaf};
+use scim_samples::{atom_text, leaf_text, read_leaf, sample_groups};
+use scim_schema::Leaf;
 use scim_value::{Part, Resource};
 use scim_view::Viewer;
 use std::alloc::Global;
@@ -47,14 +49,6 @@ fn sort_leaf(case: &Case<'_>) -> Option<Leaf> {
     read_sort_by(case.kind(), case.text("sortBy").ok()?)
 }
 
-/// The argument of this name as a position or a count.
-fn count_of(case: &Case<'_>, name: &'static str, other: usize) -> usize {
-    match case.number(name) {
-        Ok(number) => usize::try_from(number).unwrap_or(0),
-        Err(_) => other,
-    }
-}
-
 /// The query of a case, by default all by id.
 pub fn query_of(case: &Case<'_>) -> Result<Query, CaseFault> {
     let wanted = wanted(case)?;
@@ -62,25 +56,10 @@ pub fn query_of(case: &Case<'_>) -> Result<Query, CaseFault> {
         filter: wanted_filter(case)?,
         sort_by: sort_leaf(case),
         descending: case.is_true("descending"),
-        start: count_of(case, "startIndex", 1),
-        count: count_of(case, "count", 100),
+        start: case.count("startIndex").unwrap_or(1),
+        count: case.count("count").unwrap_or(100),
         wanted,
     })
-}
-
-/// The parts of the list `parts`, each by the last two digits of its id and its cells.
-fn parts_of(case: &Case<'_>) -> Result<Vec<Part>, CaseFault> {
-    let mut parts = Vec::new(case.alloc);
-    for value in case.list("parts") {
-        parts.push(part_of(case, value.as_str().unwrap_or(""))?)?;
-    }
-    Ok(parts)
-}
-
-fn part_of(case: &Case<'_>, text: &str) -> Result<Part, CaseFault> {
-    let (digits, cells) = text.split_once(' ').unwrap_or((text, ""));
-    let id = format!(in case.alloc; "00000000-0000-4000-8000-0000000000{digits}")?;
-    Ok(part(case.alloc, case.kind(), id.as_str(), cells)?)
 }
 
 fn query_call(case: &Case<'_>, call: &str) -> Result<String, CaseFault> {
@@ -121,13 +100,13 @@ fn pushed_parts(case: &Case<'_>) -> Result<Vec<Part>, CaseFault> {
 fn paged(case: &Case<'_>, query: &Query) -> Result<String, CaseFault> {
     let parts = pushed_parts(case)?;
     let mut pager = Pager::new(case.alloc, query);
-    let most = push_all(&mut pager, parts)?;
+    let most = push_parts(&mut pager, parts)?;
     let page = pager.end()?;
     told_page(case, &page, most)
 }
 
 /// Pushes the parts, and tells the most that were held between two of them.
-fn push_all(pager: &mut Pager<'_>, parts: Vec<Part>) -> Result<usize, CaseFault> {
+fn push_parts(pager: &mut Pager<'_>, parts: Vec<Part>) -> Result<usize, CaseFault> {
     let mut most = 0;
     for part in parts {
         pager.push(part)?;
@@ -138,33 +117,8 @@ fn push_all(pager: &mut Pager<'_>, parts: Vec<Part>) -> Result<usize, CaseFault>
 
 fn told_page(case: &Case<'_>, page: &Page, most: usize) -> Result<String, CaseFault> {
     let text = page_text(case, page)?;
-    Ok(format!(in case.alloc; "{text}, held {most}")?)
-}
-
-/// So many users, whose names are `user0`, `user1` and so on, by their ids.
-fn numbered_users(alloc: Global, number: i64) -> Result<Vec<Resource>, CaseFault> {
-    let mut users = Vec::new(alloc);
-    for index in 0..number {
-        users.push(numbered_user(alloc, index)?)?;
-    }
-    Ok(users)
-}
-
-fn numbered_user(alloc: Global, index: i64) -> Result<Resource, CaseFault> {
-    let id = format!(in alloc; "00000000-0000-4000-8000-000000000{index:03}")?;
-    let cells = format!(in alloc; "userName=user{index}")?;
-    Ok(resource(alloc, Kind::User, id.as_str(), cells.as_str())?)
-}
-
-/// So many users as the argument `users` says, or the samples of the kind.
-fn resources_of(case: &Case<'_>) -> Result<Vec<Resource>, CaseFault> {
-    if let Ok(number) = case.number("users") {
-        return numbered_users(case.alloc, number);
-    }
-    match case.kind() {
-        Kind::User => Ok(sample_users(case.alloc)?),
-        Kind::Group => Ok(sample_groups(case.alloc)?),
-    }
+    let held = between(case.alloc, ", held ", &most, "")?;
+    joined(case.alloc, &[text.as_str(), held.as_str()])
 }
 
 /// The page of what the client sees by the policy.
@@ -198,18 +152,22 @@ fn page_among(
 /// A page as its total, its start and its items: of each its JSON, or where the argument `tell` names a leaf
 /// what stands there.
 fn page_text(case: &Case<'_>, page: &Page) -> Result<String, CaseFault> {
-    let mut text = format!(in case.alloc; "{} from {}:", page.total, page.start)?;
+    let mut text = page_head(case.alloc, page)?;
     for item in &page.items {
         push_item(case, item, &mut text)?;
     }
     Ok(text)
 }
 
+fn page_head(alloc: Global, page: &Page) -> Result<String, CaseFault> {
+    let total = shown(alloc, &page.total)?;
+    let start = shown(alloc, &page.start)?;
+    joined(alloc, &[total.as_str(), " from ", start.as_str(), ":"])
+}
+
 fn push_item(case: &Case<'_>, item: &Part, text: &mut String) -> Result<(), CaseFault> {
-    text.push(' ')?;
     let told = item_text(case, item)?;
-    text.push_str(told.as_str())?;
-    Ok(())
+    push_all(text, &[" ", told.as_str()])
 }
 
 fn item_text(case: &Case<'_>, item: &Part) -> Result<String, CaseFault> {

@@ -1,12 +1,11 @@
 //! The calls of `scim_view`.
 use crate::policy_calls::policy;
-use case_values::{Case, CaseFault, said, truth};
+use case_values::{Case, CaseFault, push_all, resources, said, texts, truth};
 use scim_policy::Policy;
-use scim_samples::{BASE, part_text, read_leaf, sample};
+use scim_samples::{BASE, part_text};
 use scim_schema::Kind;
 use scim_value::{Part, Resource};
 use scim_view::{Names, Viewer, Wanted, project};
-use serde_json::Value;
 use std::alloc::Global;
 
 /// What a call of `scim_view` gives; None where it isn't one.
@@ -34,13 +33,13 @@ pub fn viewer<'c>(case: &'c Case<'_>, policy: &'c Policy) -> Result<Viewer<'c>, 
 /// What the client sees of the resource.
 fn view_call(case: &Case<'_>, call: &str) -> Result<String, CaseFault> {
     let policy = policy(case)?;
-    let viewer = viewer(case, &policy)?;
-    seen_by(case, call, &viewer)
+    seen_by(case, call, &policy)
 }
 
-fn seen_by(case: &Case<'_>, call: &str, viewer: &Viewer<'_>) -> Result<String, CaseFault> {
+fn seen_by(case: &Case<'_>, call: &str, policy: &Policy) -> Result<String, CaseFault> {
+    let viewer = viewer(case, policy)?;
     let resource = case.resource()?;
-    told_of_view(case, call, viewer, &resource)
+    told_of_view(case, call, &viewer, &resource)
 }
 
 fn told_of_view(
@@ -102,30 +101,9 @@ fn seen_text(alloc: Global, part: Option<Part>) -> Result<String, CaseFault> {
     }
 }
 
-/// The resources of a list: names of samples, or objects of an `id` and `cells`.
-fn resources(alloc: Global, kind: Kind, values: &[Value]) -> Result<Vec<Resource>, CaseFault> {
-    let mut resources = Vec::new(alloc);
-    for value in values {
-        resources.push(resource_of(alloc, kind, value)?)?;
-    }
-    Ok(resources)
-}
-
-fn resource_of(alloc: Global, kind: Kind, value: &Value) -> Result<Resource, CaseFault> {
-    if let Some(name) = value.as_str() {
-        return sample(alloc, name)?.ok_or(CaseFault::Missing("a sample"));
-    }
-    let id = value.get("id").and_then(Value::as_str);
-    let cells = value.get("cells").and_then(Value::as_str);
-    match (id, cells) {
-        (Some(id), Some(cells)) => Ok(scim_samples::resource(alloc, kind, id, cells)?),
-        _ => Err(CaseFault::Missing("id and cells")),
-    }
-}
-
 /// The groups of the list `groups`.
 fn groups(case: &Case<'_>) -> Result<Vec<Resource>, CaseFault> {
-    resources(case.alloc, Kind::Group, case.list("groups"))
+    resources(case, Kind::Group, "groups")
 }
 
 /// The parts that are seen of the list `resources`, one after another.
@@ -150,7 +128,7 @@ fn views_among(
     viewer: &Viewer<'_>,
     groups: &[Resource],
 ) -> Result<Vec<Part>, CaseFault> {
-    let resources = resources(case.alloc, case.kind(), case.list("resources"))?;
+    let resources = resources(case, case.kind(), "resources")?;
     Ok(viewer.views(case.alloc, groups, resources.as_slice())?)
 }
 
@@ -164,23 +142,12 @@ fn parts_text(alloc: Global, parts: &[Part]) -> Result<String, CaseFault> {
 
 fn push_part(alloc: Global, part: &Part, text: &mut String) -> Result<(), CaseFault> {
     let cells = part_text(alloc, part)?;
-    text.push_str(cells.as_str())?;
-    text.push_str(" | ")?;
-    Ok(())
-}
-
-/// The texts of a list.
-fn texts<'c>(alloc: Global, values: &'c [Value]) -> Result<Vec<&'c str>, CaseFault> {
-    let mut texts = Vec::new(alloc);
-    for value in values {
-        texts.push(value.as_str().ok_or(CaseFault::Missing("texts"))?)?;
-    }
-    Ok(texts)
+    push_all(text, &[cells.as_str(), " | "])
 }
 
 /// The names that a list has.
 fn names(case: &Case<'_>, list: &'static str) -> Result<Names, CaseFault> {
-    let texts = texts(case.alloc, case.list(list))?;
+    let texts = texts(case, list)?;
     Ok(Names::of(case.alloc, case.kind(), texts.as_slice())?)
 }
 
@@ -208,7 +175,7 @@ fn shown_part(case: &Case<'_>, wanted: &Wanted) -> Result<Part, CaseFault> {
 
 /// Whether the list `attributes` names the leaf.
 fn includes_call(case: &Case<'_>) -> Result<String, CaseFault> {
-    let leaf = read_leaf(case.text("leaf")?)?;
+    let leaf = case.leaf("leaf")?;
     let names = names(case, "attributes")?;
     truth(case.alloc, names.includes(leaf))
 }

@@ -1,10 +1,9 @@
 //! The calls of `scim_audit`.
+use crate::arguments::{debugged, joined, push_all, said, shown};
 use crate::case::Case;
 use crate::faults::CaseFault;
 use scim_audit::{AuditRow, Decided, Methods, Refusal, leaf_path, print_row};
 use scim_cell::{Id, Text};
-use scim_samples::read_leaf;
-use scim_schema::Leaf;
 use scim_text::read_printed_moment;
 use std::alloc::Global;
 
@@ -50,8 +49,7 @@ pub fn answer(case: &Case<'_>, call: &str) -> Option<Result<String, CaseFault>> 
         "refusal" => Some(refusal_call(case)),
         "refusal_body" => Some(refusal_body(case)),
         "leaf_path" => Some(leaf_path_call(case)),
-        "print_row" => Some(print_row_call(case)),
-        "copied_audit_row" => Some(copied_row(case)),
+        "print_row" | "copied_audit_row" => Some(row_call(case, call)),
         _ => None,
     }
 }
@@ -68,28 +66,32 @@ fn refusal(case: &Case<'_>) -> Result<Refusal, CaseFault> {
 }
 
 fn is_named(alloc: Global, refusal: Refusal, name: &str) -> Result<bool, CaseFault> {
-    let own = format!(in alloc; "{refusal:?}")?;
+    let own = debugged(alloc, &refusal)?;
     Ok(own.as_str() == name)
 }
 
 /// The number of a refusal, its status, its keyword where it has one, and what else the reply says.
 fn refusal_call(case: &Case<'_>) -> Result<String, CaseFault> {
     let refusal = refusal(case)?;
-    let number = refusal.number();
-    let status = refusal.status().as_u16();
-    let mut text = format!(in case.alloc; "F{number} {status}")?;
+    let mut text = number_and_status(case.alloc, refusal)?;
     push_words(refusal, &mut text)?;
     push_asks(refusal, &mut text)?;
     Ok(text)
 }
 
+fn number_and_status(alloc: Global, refusal: Refusal) -> Result<String, CaseFault> {
+    let number = shown(alloc, &refusal.number())?;
+    let status = shown(alloc, &refusal.status().as_u16())?;
+    joined(alloc, &["F", number.as_str(), " ", status.as_str()])
+}
+
 /// Writes the keyword and the methods that are allowed, where there are any.
 fn push_words(refusal: Refusal, text: &mut String) -> Result<(), CaseFault> {
     if let Some(scim_type) = refusal.scim_type() {
-        write!(text, " {scim_type}")?;
+        push_all(text, &[" ", scim_type])?;
     }
     if let Some(allow) = refusal.allow() {
-        write!(text, ", Allow: {allow}")?;
+        push_all(text, &[", Allow: ", allow])?;
     }
     Ok(())
 }
@@ -106,11 +108,11 @@ fn push_asks(refusal: Refusal, text: &mut String) -> Result<(), CaseFault> {
 }
 
 fn refusal_body(case: &Case<'_>) -> Result<String, CaseFault> {
-    Ok(String::from_str(case.alloc, refusal(case)?.body())?)
+    said(case.alloc, refusal(case)?.body())
 }
 
 fn leaf_path_call(case: &Case<'_>) -> Result<String, CaseFault> {
-    Ok(leaf_path(case.alloc, read_leaf(case.text("leaf")?)?)?)
+    Ok(leaf_path(case.alloc, case.leaf("leaf")?)?)
 }
 
 /// What `decided` names; `Allow` where it isn't given.
@@ -128,10 +130,6 @@ fn rule(case: &Case<'_>) -> Option<u32> {
     u32::try_from(case.number("rule").ok()?).ok()
 }
 
-fn leaf(case: &Case<'_>) -> Option<Leaf> {
-    read_leaf(case.text("leaf").ok()?).ok()
-}
-
 /// A row of the arguments; what isn't given is absent in it.
 fn row(case: &Case<'_>) -> Result<AuditRow, CaseFault> {
     let Some(moment) = read_printed_moment(case.alloc, case.text("moment")?)? else {
@@ -147,7 +145,7 @@ fn row(case: &Case<'_>) -> Result<AuditRow, CaseFault> {
         id: Id::read(case.text_or("id", "")),
         decided,
         rule: rule(case),
-        leaf: leaf(case),
+        leaf: case.leaf("leaf").ok(),
         refusal: refusal(case).ok(),
     })
 }
@@ -157,15 +155,14 @@ fn number(case: &Case<'_>) -> u64 {
     u64::try_from(case.number("number").unwrap_or(1)).unwrap_or(0)
 }
 
-fn print_row_call(case: &Case<'_>) -> Result<String, CaseFault> {
+/// The line of a row, or of a copy of it.
+fn row_call(case: &Case<'_>, call: &str) -> Result<String, CaseFault> {
     let row = row(case)?;
-    line_of(case, &row)
-}
-
-/// The line of a copy of a row.
-fn copied_row(case: &Case<'_>) -> Result<String, CaseFault> {
-    let row = row(case)?;
-    copy_line(case, &row)
+    if call == "print_row" {
+        line_of(case, &row)
+    } else {
+        copy_line(case, &row)
+    }
 }
 
 fn copy_line(case: &Case<'_>, row: &AuditRow) -> Result<String, CaseFault> {
@@ -175,4 +172,18 @@ fn copy_line(case: &Case<'_>, row: &AuditRow) -> Result<String, CaseFault> {
 
 fn line_of(case: &Case<'_>, row: &AuditRow) -> Result<String, CaseFault> {
     Ok(print_row(case.alloc, number(case), row)?)
+}
+
+/// Adds the lines of an audit behind the first `known`.
+pub fn push_rows(
+    alloc: Global,
+    rows: &[AuditRow],
+    known: usize,
+    text: &mut String,
+) -> Result<(), CaseFault> {
+    for (index, row) in rows.iter().enumerate().skip(known) {
+        let line = print_row(alloc, index as u64 + 1, row)?;
+        push_all(text, &[line.as_str(), ";"])?;
+    }
+    Ok(())
 }

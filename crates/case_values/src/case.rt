@@ -57,6 +57,12 @@ impl Case<'_> {
             .ok_or(CaseFault::Missing(name))
     }
 
+    /// The number of an argument as a count or a position; 0 where it is below that.
+    pub fn count(&self, name: &'static str) -> Result<usize, CaseFault> {
+        let number = self.number(name)?;
+        Ok(usize::try_from(number).unwrap_or(0))
+    }
+
     /// Whether an argument is given as true.
     pub fn is_true(&self, name: &'static str) -> bool {
         self.value

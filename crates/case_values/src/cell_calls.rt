@@ -1,5 +1,5 @@
 //! The calls of `scim_cell`.
-use crate::arguments::{said, truth};
+use crate::arguments::{beside, order, push_all, said, shown, truth};
 use crate::case::Case;
 use crate::faults::CaseFault;
 use crate::row_tests::OfSubAttribute;
@@ -7,8 +7,7 @@ use scim_cell::{
     Atom, Cell, Field, Id, Row, Text, are_values, compare_units, has_type, sub_attributes_by_place,
 };
 use scim_samples::{atom_text, leaf_text, read_cells, read_leaf, row_text};
-use scim_schema::{Leaf, characteristics_of, unit_of};
-use serde_json::Value;
+use scim_schema::{characteristics_of, unit_of};
 use std::alloc::Global;
 
 /// What a call of `scim_cell` gives; None where it isn't one.
@@ -51,10 +50,12 @@ fn id_call(case: &Case<'_>, call: &str) -> Result<String, CaseFault> {
 
 /// How two ids compare.
 fn order_of_ids(case: &Case<'_>) -> Result<String, CaseFault> {
-    match (Id::read(case.text("text")?), Id::read(case.text("other")?)) {
-        (Some(first), Some(second)) => Ok(format!(in case.alloc; "{:?}", first.cmp(&second))?),
-        _ => said(case.alloc, "none"),
-    }
+    let first = Id::read(case.text("text")?);
+    let second = Id::read(case.text("other")?);
+    let (Some(first), Some(second)) = (first, second) else {
+        return said(case.alloc, "none");
+    };
+    order(case.alloc, first.cmp(&second))
 }
 
 fn copied_text(case: &Case<'_>) -> Result<String, CaseFault> {
@@ -71,7 +72,10 @@ fn same_text(case: &Case<'_>) -> Result<String, CaseFault> {
 /// The cell that an argument has.
 pub fn cell(case: &Case<'_>, name: &'static str) -> Result<Cell, CaseFault> {
     let mut cells = read_cells(case.alloc, case.text(name)?)?;
-    cells.pop().ok_or(CaseFault::Missing(name))
+    match cells.pop() {
+        Some(cell) => Ok(cell),
+        None => Err(CaseFault::Missing(name)),
+    }
 }
 
 fn copied_atom(case: &Case<'_>) -> Result<String, CaseFault> {
@@ -87,7 +91,7 @@ fn same_atom(case: &Case<'_>) -> Result<String, CaseFault> {
 
 /// Whether the atom of a cell has the type of a leaf of the kind, or of a whole attribute.
 fn has_type_call(case: &Case<'_>) -> Result<String, CaseFault> {
-    let leaf = read_leaf(case.text("leaf")?)?;
+    let leaf = case.leaf("leaf")?;
     let cell = cell(case, "cell")?;
     let attribute_type = characteristics_of(case.kind(), leaf).attribute_type;
     truth(case.alloc, has_type(attribute_type, &cell.atom))
@@ -97,29 +101,29 @@ fn has_type_call(case: &Case<'_>) -> Result<String, CaseFault> {
 fn place(case: &Case<'_>) -> Result<String, CaseFault> {
     let place = cell(case, "cell")?.place();
     let path = leaf_text(case.alloc, place.leaf())?;
-    Ok(format!(in case.alloc; "{path} {}", place.position)?)
+    let position = shown(case.alloc, &place.position)?;
+    beside(case.alloc, path.as_str(), position.as_str())
 }
 
 fn order_of_places(case: &Case<'_>) -> Result<String, CaseFault> {
     let first = cell(case, "cell")?.place();
     let second = cell(case, "other")?.place();
-    Ok(format!(in case.alloc; "{:?}", first.compare(second))?)
+    order(case.alloc, first.compare(second))
 }
 
 /// How the units of two leaves compare.
 fn order_of_units(case: &Case<'_>) -> Result<String, CaseFault> {
-    let first = unit_of(read_leaf(case.text("leaf")?)?);
-    let second = unit_of(read_leaf(case.text("other")?)?);
-    Ok(format!(in case.alloc; "{:?}", compare_units(first, second))?)
+    let first = unit_of(case.leaf("leaf")?);
+    let second = unit_of(case.leaf("other")?);
+    order(case.alloc, compare_units(first, second))
 }
 
 /// The names of an attribute's sub-attributes in order of place, with a space behind each.
 fn sub_attributes_call(case: &Case<'_>) -> Result<String, CaseFault> {
-    let leaf = read_leaf(case.text("attribute")?)?;
+    let leaf = case.leaf("attribute")?;
     let mut text = String::new(case.alloc);
     for sub_attribute in sub_attributes_by_place(leaf.attribute) {
-        text.push_str(sub_attribute.name())?;
-        text.push(' ')?;
+        push_all(&mut text, &[sub_attribute.name(), " "])?;
     }
     Ok(text)
 }
@@ -131,21 +135,28 @@ fn field_of(cell: Cell) -> Field {
 
 /// The fields of a text of cells.
 fn fields(alloc: Global, text: &str) -> Result<Vec<Field>, CaseFault> {
-    let cells = read_cells(alloc, text)?;
-    Ok(cells.into_iter().map(field_of).collect(alloc)?)
+    let mut fields = Vec::new(alloc);
+    for cell in read_cells(alloc, text)? {
+        fields.push(field_of(cell))?;
+    }
+    Ok(fields)
 }
 
 /// A row: a leaf of its unit and its cells, with a bar between them, as `emails.value|emails.type=work`.
 fn row(alloc: Global, text: &str) -> Result<Row, CaseFault> {
-    let (path, cells) = text.split_once('|').ok_or(CaseFault::Missing("row"))?;
+    let Some((path, cells)) = text.split_once('|') else {
+        return Err(CaseFault::Missing("row"));
+    };
     Ok(Row::new(unit_of(read_leaf(path)?), fields(alloc, cells)?))
 }
 
 /// The rows that `rows` lists.
 pub fn rows(case: &Case<'_>) -> Result<Vec<Row>, CaseFault> {
     let mut rows = Vec::new(case.alloc);
-    for text in case.list("rows").iter().filter_map(Value::as_str) {
-        rows.push(row(case.alloc, text)?)?;
+    for value in case.list("rows") {
+        if let Some(text) = value.as_str() {
+            rows.push(row(case.alloc, text)?)?;
+        }
     }
     Ok(rows)
 }
@@ -181,7 +192,7 @@ fn copied_fields(alloc: Global, row: &Row) -> Result<String, CaseFault> {
 
 /// The atom that a row has at a leaf; `none` where it has none.
 fn atom_of_row(case: &Case<'_>, row: &Row) -> Result<String, CaseFault> {
-    let atom = row.get(read_leaf(case.text("leaf")?)?);
+    let atom = row.get(case.leaf("leaf")?);
     Ok(atom_text(case.alloc, atom)?)
 }
 
@@ -199,24 +210,22 @@ fn restricted_row(case: &Case<'_>, row: &Row) -> Result<String, CaseFault> {
 
 /// Whether rows are values of a leaf's unit.
 fn are_values_call(case: &Case<'_>) -> Result<String, CaseFault> {
-    let unit = unit_of(read_leaf(case.text("leaf")?)?);
+    let unit = unit_of(case.leaf("leaf")?);
     let rows = rows(case)?;
     truth(case.alloc, are_values(case.kind(), unit, rows.as_slice()))
 }
 
-/// Whether the first fields of two texts are equal.
+/// Whether the fields of two cells are equal.
 fn same_field(case: &Case<'_>) -> Result<String, CaseFault> {
-    let first = fields(case.alloc, case.text("cell")?)?;
-    let second = fields(case.alloc, case.text("other")?)?;
-    truth(case.alloc, first.first() == second.first())
+    let first = field_of(cell(case, "cell")?);
+    let second = field_of(cell(case, "other")?);
+    truth(case.alloc, first == second)
 }
 
 /// The test that keeps the sub-attribute of the leaf `keep`.
 pub fn of_sub_attribute(case: &Case<'_>) -> Result<OfSubAttribute, CaseFault> {
-    let Leaf {
-        attribute: _,
-        sub_attribute,
-    } = read_leaf(case.text("keep")?)?;
-    let sub_attribute = sub_attribute.ok_or(CaseFault::Missing("keep"))?;
-    Ok(OfSubAttribute { sub_attribute })
+    match case.leaf("keep")?.sub_attribute {
+        Some(sub_attribute) => Ok(OfSubAttribute { sub_attribute }),
+        None => Err(CaseFault::Missing("keep")),
+    }
 }

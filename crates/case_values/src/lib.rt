@@ -7,21 +7,26 @@ mod audit_calls;
 mod case;
 mod cell_calls;
 mod faults;
+mod listed;
+mod policies;
 mod row_tests;
-mod samples_calls;
 mod schema_calls;
 mod text_calls;
 mod value_calls;
 
-pub use arguments::{kind_of, said, text_or_json, truth};
+pub use arguments::{
+    beside, between, debugged, file_text, joined, kind_of, push_all, said, shown, text_or_json,
+    truth,
+};
+pub use audit_calls::push_rows;
 pub use case::Case;
 pub use faults::CaseFault;
+pub use listed::{parts_of, resources, resources_of, spaced_text, texts};
+pub use policies::policy_text;
+pub use schema_calls::{attribute_name, urn_of};
 
 /// What a call gives, if it is one of this crate.
 pub fn answer(case: &Case<'_>, call: &str) -> Option<Result<String, CaseFault>> {
-    if let Some(found) = samples_calls::answer(case, call) {
-        return Some(found);
-    }
     if let Some(found) = text_calls::answer(case, call) {
         return Some(found);
     }

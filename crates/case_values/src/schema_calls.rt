@@ -1,8 +1,8 @@
 //! The calls of `scim_schema`.
-use crate::arguments::{said, truth};
+use crate::arguments::{beside, joined, push_all, said, truth};
 use crate::case::Case;
 use crate::faults::CaseFault;
-use scim_samples::{leaf_text, read_leaf};
+use scim_samples::leaf_text;
 use scim_schema::{
     Attribute, Characteristics, Kind, Leaf, Schema, attribute_characteristics, attribute_named,
     attribute_named_in, attributes, characteristics_of, core_schema, extension_of, extensions,
@@ -13,7 +13,8 @@ use std::alloc::Global;
 /// What a call of `scim_schema` gives; None where it isn't one.
 pub fn answer(case: &Case<'_>, call: &str) -> Option<Result<String, CaseFault>> {
     match call {
-        "attribute" | "attribute_in" | "sub_attribute" => Some(look_up(case, call)),
+        "attribute" | "attribute_in" => Some(attribute_call(case, call)),
+        "sub_attribute" => Some(sub_attribute_call(case)),
         "schema" | "core_schema" | "schema_of" | "extension_of" => Some(schema_call(case, call)),
         "name" => Some(name(case)),
         "schemas" | "extensions" => Some(urns(case, call)),
@@ -49,36 +50,71 @@ fn characteristics_text(
     } else {
         "caseInexact"
     };
-    Ok(format!(in alloc;
-        "{} {plurality} {need} {case} {} {} {}",
+    let words = [
         of.attribute_type.name(),
+        " ",
+        plurality,
+        " ",
+        need,
+        " ",
+        case,
+        " ",
         of.mutability.name(),
+        " ",
         of.returned.name(),
-        of.uniqueness.name()
-    )?)
+        " ",
+        of.uniqueness.name(),
+    ];
+    joined(alloc, &words)
 }
 
 /// The attribute of either kind that the case names.
 fn attribute_of(case: &Case<'_>) -> Result<Attribute, CaseFault> {
-    Ok(read_leaf(case.text("attribute")?)?.attribute)
+    Ok(case.leaf("attribute")?.attribute)
 }
 
 /// The schema that the case names by its URN.
 fn schema_named(case: &Case<'_>) -> Result<Schema, CaseFault> {
-    Schema::named(case.text("urn")?).ok_or(CaseFault::Missing("urn"))
+    match Schema::named(case.text("urn")?) {
+        Some(schema) => Ok(schema),
+        None => Err(CaseFault::Missing("urn")),
+    }
 }
 
-/// The printed name of what a name finds.
-fn look_up(case: &Case<'_>, call: &str) -> Result<String, CaseFault> {
+/// The printed name of an attribute; `none` of none.
+pub fn attribute_name(attribute: Option<Attribute>) -> &'static str {
+    match attribute {
+        Some(attribute) => attribute.name(),
+        None => "none",
+    }
+}
+
+/// The printed name of the attribute that a name finds.
+fn attribute_call(case: &Case<'_>, call: &str) -> Result<String, CaseFault> {
     let name = case.text("name")?;
-    let found = match call {
-        "attribute" => attribute_named(case.kind(), name).map(|found| found.name()),
-        "attribute_in" => attribute_named_in(case.kind(), schema_named(case)?, name).map(
-            |found| found.name(),
-        ),
-        _ => sub_attribute_named(attribute_of(case)?, name).map(|found| found.name()),
+    let found = if call == "attribute" {
+        attribute_named(case.kind(), name)
+    } else {
+        attribute_named_in(case.kind(), schema_named(case)?, name)
     };
-    said(case.alloc, found.unwrap_or("none"))
+    said(case.alloc, attribute_name(found))
+}
+
+/// The printed name of the sub-attribute that a name finds.
+fn sub_attribute_call(case: &Case<'_>) -> Result<String, CaseFault> {
+    let name = case.text("name")?;
+    match sub_attribute_named(attribute_of(case)?, name) {
+        Some(found) => said(case.alloc, found.name()),
+        None => said(case.alloc, "none"),
+    }
+}
+
+/// The URN of a schema; `none` of none.
+pub fn urn_of(schema: Option<Schema>) -> &'static str {
+    match schema {
+        Some(schema) => schema.urn(),
+        None => "none",
+    }
 }
 
 /// The URN of a schema.
@@ -89,7 +125,7 @@ fn schema_call(case: &Case<'_>, call: &str) -> Result<String, CaseFault> {
         "schema_of" => Some(schema_of(case.kind(), attribute_of(case)?)),
         _ => extension_of(attribute_of(case)?),
     };
-    said(case.alloc, found.map_or("none", |schema| schema.urn()))
+    said(case.alloc, urn_of(found))
 }
 
 /// The printed name of a kind, its endpoint, or the printed name of an operation.
@@ -102,7 +138,7 @@ fn name(case: &Case<'_>) -> Result<String, CaseFault> {
     said(case.alloc, name)
 }
 
-/// URNs, with a space between two.
+/// URNs, with a space behind each.
 fn urns(case: &Case<'_>, call: &str) -> Result<String, CaseFault> {
     let found = if call == "schemas" {
         Schema::all()
@@ -111,8 +147,7 @@ fn urns(case: &Case<'_>, call: &str) -> Result<String, CaseFault> {
     };
     let mut text = String::new(case.alloc);
     for schema in found {
-        text.push_str(schema.urn())?;
-        text.push(' ')?;
+        push_all(&mut text, &[schema.urn(), " "])?;
     }
     Ok(text)
 }
@@ -121,8 +156,7 @@ fn urns(case: &Case<'_>, call: &str) -> Result<String, CaseFault> {
 fn attribute_list(case: &Case<'_>) -> Result<String, CaseFault> {
     let mut text = String::new(case.alloc);
     for attribute in attributes(case.kind()) {
-        text.push_str(attribute.name())?;
-        text.push(' ')?;
+        push_all(&mut text, &[attribute.name(), " "])?;
     }
     Ok(text)
 }
@@ -131,8 +165,7 @@ fn attribute_list(case: &Case<'_>) -> Result<String, CaseFault> {
 fn sub_attribute_list(case: &Case<'_>) -> Result<String, CaseFault> {
     let mut text = String::new(case.alloc);
     for sub_attribute in sub_attributes(attribute_of(case)?) {
-        text.push_str(sub_attribute.name())?;
-        text.push(' ')?;
+        push_all(&mut text, &[sub_attribute.name(), " "])?;
     }
     Ok(text)
 }
@@ -140,7 +173,7 @@ fn sub_attribute_list(case: &Case<'_>) -> Result<String, CaseFault> {
 /// Schema, path and characteristics of the leaf at a place in leaf order, from 1.
 fn leaf(case: &Case<'_>) -> Result<String, CaseFault> {
     let kind = case.kind();
-    let place = usize::try_from(case.number("place")?).unwrap_or(0);
+    let place = case.count("place")?;
     match leaves(kind).get(place.wrapping_sub(1)) {
         Some(leaf) => told_of_leaf(case.alloc, kind, *leaf),
         None => said(case.alloc, "none"),
@@ -148,11 +181,15 @@ fn leaf(case: &Case<'_>) -> Result<String, CaseFault> {
 }
 
 fn told_of_leaf(alloc: Global, kind: Kind, leaf: Leaf) -> Result<String, CaseFault> {
-    let schema = schema_word(schema_of(kind, leaf.attribute));
-    let path = leaf_text(alloc, leaf)?;
     let of = characteristics_of(kind, leaf);
     let text = characteristics_text(alloc, is_multi_valued(leaf.attribute), &of)?;
-    Ok(format!(in alloc; "{schema} {path} {text}")?)
+    let path = leaf_text(alloc, leaf)?;
+    let words = beside(alloc, path.as_str(), text.as_str())?;
+    beside(
+        alloc,
+        schema_word(schema_of(kind, leaf.attribute)),
+        words.as_str(),
+    )
 }
 
 /// The characteristics of a whole complex attribute.
@@ -163,15 +200,12 @@ fn whole_attribute(case: &Case<'_>) -> Result<String, CaseFault> {
 
 /// Whether the kind has the leaf.
 fn has_leaf_call(case: &Case<'_>) -> Result<String, CaseFault> {
-    truth(
-        case.alloc,
-        has_leaf(case.kind(), read_leaf(case.text("leaf")?)?),
-    )
+    truth(case.alloc, has_leaf(case.kind(), case.leaf("leaf")?))
 }
 
 /// The path of a unit: of the whole attribute where it is multi-valued.
 fn unit_call(case: &Case<'_>) -> Result<String, CaseFault> {
-    let unit = unit_of(read_leaf(case.text("leaf")?)?);
+    let unit = unit_of(case.leaf("leaf")?);
     let leaf = Leaf {
         attribute: unit.attribute,
         sub_attribute: unit.sub_attribute,

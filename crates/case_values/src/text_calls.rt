@@ -1,5 +1,5 @@
 //! The calls of `scim_text`.
-use crate::arguments::{said, truth};
+use crate::arguments::{order, said, shown, truth};
 use crate::case::Case;
 use crate::faults::CaseFault;
 use scim_text::{Moment, fold, print_moment, read_moment, read_printed_moment, same_name};
@@ -38,27 +38,29 @@ fn print_moment_call(case: &Case<'_>) -> Result<String, CaseFault> {
 
 /// The second, and `later` where a fraction stands behind it.
 fn read_moment_call(case: &Case<'_>) -> Result<String, CaseFault> {
-    match read_moment(case.text("text")?) {
-        Ok(reading) if reading.later => Ok(format!(in case.alloc; "{} later", reading.second)?),
-        Ok(reading) => Ok(format!(in case.alloc; "{}", reading.second)?),
-        Err(_) => said(case.alloc, "BadMoment"),
+    let Ok(reading) = read_moment(case.text("text")?) else {
+        return said(case.alloc, "BadMoment");
+    };
+    let mut text = shown(case.alloc, &reading.second)?;
+    if reading.later {
+        text.push_str(" later")?;
     }
+    Ok(text)
 }
 
 fn read_printed_moment_call(case: &Case<'_>) -> Result<String, CaseFault> {
     match read_printed_moment(case.alloc, case.text("text")?)? {
-        Some(moment) => Ok(format!(in case.alloc; "{}", moment.seconds())?),
+        Some(moment) => shown(case.alloc, &moment.seconds()),
         None => said(case.alloc, "none"),
     }
 }
 
 /// How the readings of two texts compare.
 fn order_call(case: &Case<'_>) -> Result<String, CaseFault> {
-    match (
-        read_moment(case.text("text")?),
-        read_moment(case.text("other")?),
-    ) {
-        (Ok(first), Ok(second)) => Ok(format!(in case.alloc; "{:?}", first.cmp(&second))?),
-        _ => said(case.alloc, "BadMoment"),
-    }
+    let first = read_moment(case.text("text")?);
+    let second = read_moment(case.text("other")?);
+    let (Ok(first), Ok(second)) = (first, second) else {
+        return said(case.alloc, "BadMoment");
+    };
+    order(case.alloc, first.cmp(&second))
 }

@@ -1,13 +1,11 @@
-//! The calls of `scim_value`.
-use crate::arguments::{said, truth};
+//! The calls of `scim_value`, and that of `scim_samples` which writes a part.
+use crate::arguments::{beside, joined, push_all, said, shown, truth};
 use crate::case::Case;
 use crate::cell_calls::{cell, of_sub_attribute, rows};
 use crate::faults::CaseFault;
 use crate::row_tests::WithAtom;
 use scim_cell::{Atom, Cell, Id, Row, Text, are_values};
-use scim_samples::{
-    ALICE, BASE, atom_text, leaf_text, part, part_text, read_cells, read_leaf, row_text,
-};
+use scim_samples::{ALICE, BASE, atom_text, leaf_text, part, part_text, read_cells, row_text};
 use scim_schema::{Attribute, Kind, Leaf, SubAttribute, Unit, unique_leaves, unit_of};
 use scim_text::Failed;
 use scim_value::{
@@ -32,7 +30,7 @@ pub fn answer(case: &Case<'_>, call: &str) -> Option<Result<String, CaseFault>> 
 /// What a call on one part, or on a leaf gives.
 fn other_answer(case: &Case<'_>, call: &str) -> Option<Result<String, CaseFault>> {
     match call {
-        "atom" | "positions" | "same_part" | "copied_part" | "is_resource" => {
+        "part_text" | "atom" | "positions" | "same_part" | "copied_part" | "is_resource" => {
             Some(part_told(case, call))
         }
         "location" => Some(location_call(case)),
@@ -64,14 +62,9 @@ fn made_text(alloc: Global, made: Result<Part, Failed<Invalid>>) -> Result<Strin
     }
 }
 
-/// The id `id`, by default Alice's; None where it is no id.
-fn id(case: &Case<'_>) -> Option<Id> {
-    Id::read(case.text_or("id", ALICE))
-}
-
 /// The part of cells in any order, or in order of place.
 fn part_call(case: &Case<'_>, call: &str) -> Result<String, CaseFault> {
-    let Some(id) = id(case) else {
+    let Some(id) = Id::read(case.text_or("id", ALICE)) else {
         return Err(CaseFault::Missing("id"));
     };
     let cells = read_cells(case.alloc, case.text("cells")?)?;
@@ -83,14 +76,9 @@ fn part_call(case: &Case<'_>, call: &str) -> Result<String, CaseFault> {
     made_text(case.alloc, made)
 }
 
-/// The leaf `leaf`.
-fn leaf(case: &Case<'_>) -> Result<Leaf, CaseFault> {
-    Ok(read_leaf(case.text("leaf")?)?)
-}
-
 /// The position `position`, by default 0.
 fn position(case: &Case<'_>) -> usize {
-    usize::try_from(case.number("position").unwrap_or(0)).unwrap_or(0)
+    case.count("position").unwrap_or(0)
 }
 
 /// What is told of the part.
@@ -101,6 +89,7 @@ fn part_told(case: &Case<'_>, call: &str) -> Result<String, CaseFault> {
 
 fn told_of_part(case: &Case<'_>, call: &str, part: &Part) -> Result<String, CaseFault> {
     match call {
+        "part_text" => cells_text(case.alloc, part),
         "atom" => atom_told(case, part),
         "positions" => positions_text(case, part),
         "same_part" => same_part(case, part),
@@ -121,8 +110,11 @@ fn part_copy_text(alloc: Global, part: &Part) -> Result<String, CaseFault> {
 fn rows_told(case: &Case<'_>, call: &str, part: &Part) -> Result<String, CaseFault> {
     match call {
         "rows" => rows_text(case.alloc, part.rows()),
-        "values" => rows_text(case.alloc, part.values(unit_of(leaf(case)?))),
-        _ => rows_text(case.alloc, part.attribute_rows(leaf(case)?.attribute)),
+        "values" => rows_text(case.alloc, part.values(unit_of(case.leaf("leaf")?))),
+        _ => rows_text(
+            case.alloc,
+            part.attribute_rows(case.leaf("leaf")?.attribute),
+        ),
     }
 }
 
@@ -144,20 +136,19 @@ fn push_row(alloc: Global, row: &Row, text: &mut String) -> Result<(), CaseFault
         text.push_str(" | ")?;
     }
     let cells = row_text(alloc, row)?;
-    text.push_str(cells.as_str())?;
-    Ok(())
+    Ok(text.push_str(cells.as_str())?)
 }
 
 /// The atom at a position of a leaf; `none` where there is none.
 fn atom_told(case: &Case<'_>, part: &Part) -> Result<String, CaseFault> {
-    let atom = part.get(leaf(case)?, position(case));
+    let atom = part.get(case.leaf("leaf")?, position(case));
     Ok(atom_text(case.alloc, atom)?)
 }
 
 /// The number of positions of a leaf's attribute.
 fn positions_text(case: &Case<'_>, part: &Part) -> Result<String, CaseFault> {
-    let positions = part.positions(leaf(case)?.attribute);
-    Ok(format!(in case.alloc; "{positions}")?)
+    let positions = part.positions(case.leaf("leaf")?.attribute);
+    shown(case.alloc, &positions)
 }
 
 /// Whether the part equals that of a user with Alice's id and other cells.
@@ -174,7 +165,7 @@ fn taken_apart(case: &Case<'_>) -> Result<String, CaseFault> {
 
 fn kind_and_rows(alloc: Global, kind: Kind, rows: &[Row]) -> Result<String, CaseFault> {
     let rows = rows_text(alloc, rows)?;
-    Ok(format!(in alloc; "{} {rows}", kind.name())?)
+    beside(alloc, kind.name(), rows.as_str())
 }
 
 fn with_call(case: &Case<'_>) -> Result<String, CaseFault> {
@@ -188,14 +179,14 @@ fn with_call(case: &Case<'_>) -> Result<String, CaseFault> {
 }
 
 fn without_call(case: &Case<'_>) -> Result<String, CaseFault> {
-    let leaf = leaf(case)?;
+    let leaf = case.leaf("leaf")?;
     let left = case.part()?.without(case.alloc, leaf, position(case))?;
     cells_text(case.alloc, &left)
 }
 
 /// The part with these values of a leaf's unit; `no values` where they are none.
 fn put_call(case: &Case<'_>) -> Result<String, CaseFault> {
-    let unit = unit_of(leaf(case)?);
+    let unit = unit_of(case.leaf("leaf")?);
     let values = rows(case)?;
     let part = case.part()?;
     put_text(case.alloc, part, unit, values)
@@ -258,7 +249,7 @@ fn resource_with(case: &Case<'_>) -> Result<String, CaseFault> {
 }
 
 fn resource_without(case: &Case<'_>) -> Result<String, CaseFault> {
-    let leaf = leaf(case)?;
+    let leaf = case.leaf("leaf")?;
     let resource = case.resource()?;
     resource_text(
         case.alloc,
@@ -307,12 +298,17 @@ fn copy_text(alloc: Global, resource: &Resource) -> Result<String, CaseFault> {
 
 /// The kind, the id, how many positions a leaf's attribute has, and the atom at its first one.
 fn told_of_resource(case: &Case<'_>, resource: &Resource) -> Result<String, CaseFault> {
-    let leaf = leaf(case)?;
-    let positions = resource.positions(leaf.attribute);
-    let atom = atom_text(case.alloc, resource.get(leaf, 0))?;
     let id = resource.id().text(case.alloc)?;
-    let kind = resource.kind().name();
-    Ok(format!(in case.alloc; "{kind} {} {positions} {atom}", id.as_str())?)
+    let rest = told_of_leaf(case, resource)?;
+    let words = beside(case.alloc, id.as_str(), rest.as_str())?;
+    beside(case.alloc, resource.kind().name(), words.as_str())
+}
+
+fn told_of_leaf(case: &Case<'_>, resource: &Resource) -> Result<String, CaseFault> {
+    let leaf = case.leaf("leaf")?;
+    let positions = shown(case.alloc, &resource.positions(leaf.attribute))?;
+    let atom = atom_text(case.alloc, resource.get(leaf, 0))?;
+    beside(case.alloc, positions.as_str(), atom.as_str())
 }
 
 /// The unique names of a resource, each as `LEAF=TEXT`, with a space behind each.
@@ -327,15 +323,11 @@ fn unique_names_text(alloc: Global, resource: &Resource) -> Result<String, CaseF
 
 fn push_unique_name(alloc: Global, name: &UniqueName, text: &mut String) -> Result<(), CaseFault> {
     let leaf = leaf_text(alloc, name.leaf)?;
-    text.push_str(leaf.as_str())?;
-    text.push('=')?;
-    text.push_str(name.text.as_str())?;
-    text.push(' ')?;
-    Ok(())
+    push_all(text, &[leaf.as_str(), "=", name.text.as_str(), " "])
 }
 
 fn location_call(case: &Case<'_>) -> Result<String, CaseFault> {
-    let Some(id) = id(case) else {
+    let Some(id) = Id::read(case.text_or("id", ALICE)) else {
         return Err(CaseFault::Missing("id"));
     };
     let base = case.text_or("base", BASE);
@@ -347,14 +339,18 @@ fn location_call(case: &Case<'_>) -> Result<String, CaseFault> {
 fn unique_leaves_call(case: &Case<'_>) -> Result<String, CaseFault> {
     let mut text = String::new(case.alloc);
     for leaf in unique_leaves(case.kind()) {
-        text.push_str(leaf_text(case.alloc, *leaf)?.as_str())?;
-        text.push(' ')?;
+        push_leaf(case.alloc, *leaf, &mut text)?;
     }
     Ok(text)
 }
 
+fn push_leaf(alloc: Global, leaf: Leaf, text: &mut String) -> Result<(), CaseFault> {
+    let path = leaf_text(alloc, leaf)?;
+    push_all(text, &[path.as_str(), " "])
+}
+
 fn known_text_call(case: &Case<'_>) -> Result<String, CaseFault> {
-    let leaf = leaf(case)?;
+    let leaf = case.leaf("leaf")?;
     Ok(known_text(case.alloc, case.kind(), leaf, case.text("text")?)?)
 }
 
@@ -364,5 +360,5 @@ fn fault_call(case: &Case<'_>) -> Result<String, CaseFault> {
         "Invalid" => Failed::Because(Invalid),
         _ => Failed::NoMemory,
     };
-    Ok(format!(in case.alloc; "{fault}")?)
+    shown(case.alloc, &fault)
 }

@@ -1,12 +1,11 @@
 //! The calls of `scim_command`.
-use case_values::{Case, CaseFault, said};
+use case_values::{Case, CaseFault, between, joined, said, shown};
 use clap::ArgMatches;
 use scim_command::{
     CheckOptions, CommandFault, OnceOptions, RunFault, Setting, check, command, once,
 };
 use scim_samples::{BASE, POLICY, USERS};
 use scim_text::print_moment;
-use serde_json::Value;
 use std::alloc::Global;
 
 /// What a call of `scim_command` gives; None where it isn't one.
@@ -28,16 +27,10 @@ fn once_call(case: &Case<'_>) -> Result<String, CaseFault> {
         case.text_or("client", "hr"),
         case.text_or("base", BASE),
     );
-    once_text(case, &setting)
-}
-
-fn once_text(case: &Case<'_>, setting: &Setting<'_>) -> Result<String, CaseFault> {
     let mut reader = case.text("request")?.as_bytes();
     let mut written = case.text_or("before", "").as_bytes().to_vec(case.alloc)?;
-    match once(case.alloc, setting, &mut reader, &mut written) {
-        Ok(()) => said(case.alloc, text_of(written.as_slice())),
-        Err(fault) => fault_behind(case.alloc, written.as_slice(), &fault),
-    }
+    let done = once(case.alloc, &setting, &mut reader, &mut written);
+    end_text(case.alloc, written.as_slice(), done)
 }
 
 /// What is written of the policy file behind `before`, and the line of the fault where there is one.
@@ -45,26 +38,30 @@ fn check_call(case: &Case<'_>) -> Result<String, CaseFault> {
     let policy = case.text_or("policy", POLICY);
     let is_verbose = case.value.get("verbose").is_some();
     let mut written = case.text_or("before", "").as_bytes().to_vec(case.alloc)?;
-    match check(case.alloc, policy, is_verbose, &mut written) {
-        Ok(()) => said(case.alloc, text_of(written.as_slice())),
-        Err(fault) => fault_behind(case.alloc, written.as_slice(), &fault),
+    let done = check(case.alloc, policy, is_verbose, &mut written);
+    end_text(case.alloc, written.as_slice(), done)
+}
+
+/// What a command wrote, and the line of the fault where there is one.
+fn end_text(
+    alloc: Global,
+    written: &[u8],
+    done: Result<(), RunFault>,
+) -> Result<String, CaseFault> {
+    let text = str::from_utf8(written).unwrap_or("no UTF-8");
+    match done {
+        Ok(()) => said(alloc, text),
+        Err(fault) => between(alloc, text, &fault, ""),
     }
-}
-
-fn text_of(written: &[u8]) -> &str {
-    str::from_utf8(written).unwrap_or("no UTF-8")
-}
-
-fn fault_behind(alloc: Global, written: &[u8], fault: &RunFault) -> Result<String, CaseFault> {
-    let text = text_of(written);
-    Ok(format!(in alloc; "{text}{fault}")?)
 }
 
 /// The words of a command line.
 fn words(case: &Case<'_>) -> Result<Vec<String>, CaseFault> {
     let mut words = Vec::new(case.alloc);
-    for word in case.list("words").iter().filter_map(Value::as_str) {
-        words.push(String::from_str(case.alloc, word)?)?;
+    for value in case.list("words") {
+        if let Some(word) = value.as_str() {
+            words.push(said(case.alloc, word)?)?;
+        }
     }
     Ok(words)
 }
@@ -75,12 +72,8 @@ fn command_line(case: &Case<'_>) -> Result<String, CaseFault> {
     let command = command(case.alloc)?;
     match command.try_get_matches_from(words.as_slice()) {
         Ok(matches) => matches_text(case.alloc, &matches),
-        Err(error) => exit_text(case.alloc, error.exit_code()),
+        Err(error) => between(case.alloc, "exit ", &error.exit_code(), ""),
     }
-}
-
-fn exit_text(alloc: Global, status: i32) -> Result<String, CaseFault> {
-    Ok(format!(in alloc; "exit {status}")?)
 }
 
 fn matches_text(alloc: Global, matches: &ArgMatches<'_>) -> Result<String, CaseFault> {
@@ -101,7 +94,16 @@ fn once_options(alloc: Global, matches: &ArgMatches<'_>) -> Result<String, CaseF
 fn check_options(alloc: Global, matches: &ArgMatches<'_>) -> Result<String, CaseFault> {
     match CheckOptions::of(matches) {
         Ok(CheckOptions { policy, verbose }) => {
-            Ok(format!(in alloc; "policy {policy}, verbose {verbose}")?)
+            between(
+                alloc,
+                "policy ",
+                &policy,
+                if verbose {
+                    ", verbose true"
+                } else {
+                    ", verbose false"
+                },
+            )
         }
         Err(fault) => line_and_status(alloc, &fault),
     }
@@ -110,15 +112,21 @@ fn check_options(alloc: Global, matches: &ArgMatches<'_>) -> Result<String, Case
 fn options_text(alloc: Global, options: &OnceOptions<'_>) -> Result<String, CaseFault> {
     let at = print_moment(alloc, options.at)?;
     let first = options.first.text(alloc)?;
-    Ok(format!(in alloc;
-        "policy {}, users {}, client {}, base {}, at {}, first {}",
+    let words = [
+        "policy ",
         options.policy,
+        ", users ",
         options.users,
+        ", client ",
         options.client,
+        ", base ",
         options.base,
+        ", at ",
         at.as_str(),
-        first.as_str()
-    )?)
+        ", first ",
+        first.as_str(),
+    ];
+    joined(alloc, &words)
 }
 
 /// The line that tells a fault, and the exit status.
@@ -132,16 +140,19 @@ fn fault_of(case: &Case<'_>) -> Result<CommandFault, CaseFault> {
         "not_text" => Ok(CommandFault::NotText),
         "cannot_read" => Ok(CommandFault::cannot_read(case.alloc, case.text("path")?)),
         "users" => {
-            let item = usize::try_from(case.number("item")?).unwrap_or(0);
+            let item = case.count("item")?;
             Ok(CommandFault::Run(RunFault::Users(item)))
         }
         "input_ended" => Ok(CommandFault::Run(RunFault::InputEnded)),
+        "input_failed" => Ok(CommandFault::Run(RunFault::InputFailed)),
+        "output" => Ok(CommandFault::Run(RunFault::Output)),
         "no_memory" => Ok(CommandFault::Run(RunFault::NoMemory)),
         _ => Err(CaseFault::Missing("fault")),
     }
 }
 
 fn line_and_status(alloc: Global, fault: &CommandFault) -> Result<String, CaseFault> {
-    let status = fault.exit_status();
-    Ok(format!(in alloc; "{fault}, exit {status}")?)
+    let line = shown(alloc, fault)?;
+    let status = between(alloc, ", exit ", &fault.exit_status(), "")?;
+    joined(alloc, &[line.as_str(), status.as_str()])
 }

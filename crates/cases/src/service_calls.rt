@@ -1,12 +1,11 @@
 //! The calls of `scim_service`, over a shelf in memory.
 use case_filters::{body_kind, use_for};
 use case_policies::{policy, query_of, wanted};
-use case_values::{Case, CaseFault, text_or_json};
-use scim_audit::{AuditRow, Refusal, print_row};
+use case_values::{Case, CaseFault, push_all, push_rows, shown, text_or_json};
+use scim_audit::{AuditRow, Refusal};
 use scim_body::{BodyFault, read_body};
 use scim_cell::{Id, Text};
 use scim_json::read_documents;
-use scim_policy::Policy;
 use scim_samples::{BASE, USERS};
 use scim_service::{Ask, Reply, Request, Service, Turn};
 use scim_shelf::MemoryShelf;
@@ -14,7 +13,7 @@ use scim_text::{Failed, Moment};
 use std::alloc::Global;
 
 /// 2024-06-01T12:00:00Z, when all turns are.
-pub const NOON: i64 = 1_717_243_200;
+const NOON: i64 = 1_717_243_200;
 
 /// The id for the resource that a turn may make, where the case gives none.
 pub const FRESH: &str = "00000000-0000-4000-8000-0000000000e1";
@@ -22,33 +21,26 @@ pub const FRESH: &str = "00000000-0000-4000-8000-0000000000e1";
 /// What a call of `scim_service` gives; None where it isn't one.
 pub fn answer(case: &Case<'_>, call: &str) -> Option<Result<String, CaseFault>> {
     match call {
-        "service" => Some(service_call(case)),
-        "service_run" => Some(run_call(case)),
+        "service" | "service_run" => Some(service_call(case, call)),
         _ => None,
     }
 }
 
-/// What the turns of the list `turns` are answered, one after another, and then the lines of the audit.
-fn service_call(case: &Case<'_>) -> Result<String, CaseFault> {
-    let policy = policy(case)?;
-    let mut service = service_by(case, policy, "users")?;
-    told_of_turns(case, &mut service)
+/// What the turns of the list `turns` are answered, one after another or where the service is given all of them at once,
+/// and then the lines of the audit.
+fn service_call(case: &Case<'_>, call: &str) -> Result<String, CaseFault> {
+    let mut service = service_by(case, "users")?;
+    if call == "service" {
+        told_of_turns(case, &mut service)
+    } else {
+        told_of_run(case, &mut service)
+    }
 }
 
-/// The same, where the service is given all the turns at once.
-fn run_call(case: &Case<'_>) -> Result<String, CaseFault> {
-    let policy = policy(case)?;
-    let mut service = service_by(case, policy, "users")?;
-    told_of_run(case, &mut service)
-}
-
-/// A service by this policy over the argument that `users` names, below the argument `base`.
-pub fn service_by(
-    case: &Case<'_>,
-    policy: Policy,
-    users: &'static str,
-) -> Result<Service<MemoryShelf>, CaseFault> {
+/// A service by the case's policy over the argument that `users` names, below the argument `base`.
+pub fn service_by(case: &Case<'_>, users: &'static str) -> Result<Service<MemoryShelf>, CaseFault> {
     let base = Text::copy_of(case.alloc, case.text_or("base", BASE))?;
+    let policy = policy(case)?;
     let shelf = shelf_of(case, users)?;
     Ok(Service::new(policy, base, shelf))
 }
@@ -100,7 +92,7 @@ fn told_of_replies(
 ) -> Result<String, CaseFault> {
     let mut text = String::new(alloc);
     for reply in replies {
-        push_reply(reply, &mut text)?;
+        push_reply(alloc, reply, &mut text)?;
     }
     push_rows(alloc, rows, 0, &mut text)?;
     Ok(text)
@@ -114,32 +106,16 @@ fn push_answer(
 ) -> Result<(), CaseFault> {
     let turn = turn_of(case)?;
     let reply = service.answer(case.alloc, &turn);
-    push_reply(&reply, text)
+    push_reply(case.alloc, &reply, text)
 }
 
-fn push_reply(reply: &Reply, text: &mut String) -> Result<(), CaseFault> {
-    let status = reply.status().as_u16();
-    let body = reply.body().unwrap_or("no body");
-    match reply.location() {
-        Some(location) => write!(text, "{status} at {location} {body}, ")?,
-        None => write!(text, "{status} {body}, ")?,
+fn push_reply(alloc: Global, reply: &Reply, text: &mut String) -> Result<(), CaseFault> {
+    let status = shown(alloc, &reply.status().as_u16())?;
+    text.push_str(status.as_str())?;
+    if let Some(location) = reply.location() {
+        push_all(text, &[" at ", location])?;
     }
-    Ok(())
-}
-
-/// Adds the lines of the audit behind the first `known`.
-pub fn push_rows(
-    alloc: Global,
-    rows: &[AuditRow],
-    known: usize,
-    text: &mut String,
-) -> Result<(), CaseFault> {
-    for (index, row) in rows.iter().enumerate().skip(known) {
-        let line = print_row(alloc, index as u64 + 1, row)?;
-        text.push_str(line.as_str())?;
-        text.push(';')?;
-    }
-    Ok(())
+    push_all(text, &[" ", reply.body().unwrap_or("no body"), ", "])
 }
 
 fn turn_of(case: &Case<'_>) -> Result<Turn, CaseFault> {
@@ -149,23 +125,20 @@ fn turn_of(case: &Case<'_>) -> Result<Turn, CaseFault> {
     let Some(fresh) = Id::read(case.text_or("fresh", FRESH)) else {
         return Err(CaseFault::Missing("fresh"));
     };
-    let request = request_of(case)?;
     Ok(Turn {
-        request,
+        request: request_of(case)?,
         moment,
         fresh,
     })
 }
 
 fn request_of(case: &Case<'_>) -> Result<Request, CaseFault> {
-    let client = Text::copy_of(case.alloc, case.text_or("client", "hr"))?;
-    let ask = ask_of(case)?;
     Ok(Request {
-        client,
+        client: Text::copy_of(case.alloc, case.text_or("client", "hr"))?,
         op: case.op(),
         kind: case.kind(),
-        id: case.text("id").ok().and_then(Id::read),
-        ask,
+        id: Id::read(case.text_or("id", "")),
+        ask: ask_of(case)?,
     })
 }
 
@@ -187,14 +160,13 @@ fn ask_of(case: &Case<'_>) -> Result<Result<Ask, Refusal>, CaseFault> {
 
 /// To make a resource of the argument `body`; or what is wrong with the body.
 fn create_of(case: &Case<'_>) -> Result<Result<Ask, Refusal>, CaseFault> {
-    let wanted = wanted(case)?;
     match read_body(
         case.alloc,
         body_kind(case),
         use_for(case),
         case.text("body")?,
     ) {
-        Ok(draft) => Ok(Ok(Ask::Create(draft, wanted))),
+        Ok(draft) => Ok(Ok(Ask::Create(draft, wanted(case)?))),
         Err(Failed::Because(BodyFault::Syntax)) => Ok(Err(Refusal::Syntax)),
         Err(Failed::Because(BodyFault::Value)) => Ok(Err(Refusal::MessageValue)),
         Err(Failed::NoMemory) => Err(CaseFault::NoMemory),

@@ -5,7 +5,8 @@
 //! Behind the `=`, `#` begins a Boolean, `@` a moment, `~` and a number a text of so many letters `x`; all
 //! else is a text. `[0..3]` in place of a position makes the cell at each of the positions 0, 1 and 2.
 use crate::faults::SampleFault;
-use scim_cell::{Atom, Cell, Row, Text};
+use crate::texts::{joined, push_all};
+use scim_cell::{Atom, Cell, Field, Row, Text};
 use scim_schema::{Attribute, Kind, Leaf, attribute_named, is_multi_valued, sub_attribute_named};
 use scim_text::{Moment, NoMemory, print_moment, read_printed_moment};
 use scim_value::Part;
@@ -46,20 +47,26 @@ pub fn read_cells(alloc: Global, text: &str) -> Result<Vec<Cell>, SampleFault> {
 
 /// The cells of `ATTRIBUTE[POSITIONS].SUB=VALUE`.
 fn push_cells(alloc: Global, cells: &mut Vec<Cell>, text: &str) -> Result<(), SampleFault> {
-    let (path, value) = text.split_once('=').ok_or(SampleFault::NotACell)?;
+    let Some((path, value)) = text.split_once('=') else {
+        return Err(SampleFault::NotACell);
+    };
     let (name, rest) = path.split_once('[').unwrap_or((path, ""));
     let (positions, sub_name) = rest.split_once(']').unwrap_or(("0", ""));
-    let path = format!(in alloc; "{name}{sub_name}")?;
-    let leaf = read_leaf(path.as_str())?;
+    let leaf = leaf_at(alloc, name, sub_name)?;
     for position in read_positions(positions)? {
-        let atom = read_atom(alloc, value)?;
         cells.push(Cell {
             leaf,
             position,
-            atom,
+            atom: read_atom(alloc, value)?,
         })?;
     }
     Ok(())
+}
+
+/// The leaf of a path whose positions stood between these two.
+fn leaf_at(alloc: Global, name: &str, sub_name: &str) -> Result<Leaf, SampleFault> {
+    let path = joined(alloc, &[name, sub_name])?;
+    read_leaf(path.as_str())
 }
 
 /// The positions of `3`, or of `0..3`.
@@ -74,7 +81,10 @@ fn read_positions(text: &str) -> Result<Range<usize>, SampleFault> {
 }
 
 fn read_number(text: &str) -> Result<usize, SampleFault> {
-    text.parse::<usize>().map_err(|_| SampleFault::NotACell)
+    match text.parse::<usize>() {
+        Ok(number) => Ok(number),
+        Err(_) => Err(SampleFault::NotACell),
+    }
 }
 
 /// The atom of what stands behind the `=`.
@@ -110,48 +120,61 @@ fn long_text(alloc: Global, length: usize) -> Result<Atom, SampleFault> {
 
 /// The text of an atom as it stands behind the `=`; `none` of none.
 pub fn atom_text(alloc: Global, atom: Option<&Atom>) -> Result<String, NoMemory> {
+    let mut text = String::new(alloc);
     match atom {
-        Some(Atom::Text(text)) => Ok(String::from_str(alloc, text.as_str())?),
-        Some(Atom::Truth(truth)) => Ok(format!(in alloc; "#{truth}")?),
-        Some(Atom::Moment(moment)) => {
+        Some(atom) => push_atom(alloc, atom, &mut text)?,
+        None => text.push_str("none")?,
+    }
+    Ok(text)
+}
+
+fn push_atom(alloc: Global, atom: &Atom, text: &mut String) -> Result<(), NoMemory> {
+    match atom {
+        Atom::Text(own) => Ok(text.push_str(own.as_str())?),
+        Atom::Truth(truth) => Ok(text.push_str(if *truth { "#true" } else { "#false" })?),
+        Atom::Moment(moment) => {
             let printed = print_moment(alloc, *moment)?;
-            Ok(format!(in alloc; "@{printed}")?)
+            push_all(text, &["@", printed.as_str()])
         }
-        None => Ok(String::from_str(alloc, "none")?),
     }
 }
 
 /// The path of a leaf, as `emails.value`.
 pub fn leaf_text(alloc: Global, leaf: Leaf) -> Result<String, NoMemory> {
-    let name = leaf.attribute.name();
+    let mut text = String::from_str(alloc, leaf.attribute.name())?;
+    push_sub_attribute(leaf, &mut text)?;
+    Ok(text)
+}
+
+/// Adds the sub-attribute of a leaf behind a point, where it has one.
+fn push_sub_attribute(leaf: Leaf, text: &mut String) -> Result<(), NoMemory> {
     match leaf.sub_attribute {
-        Some(sub_attribute) => Ok(format!(in alloc; "{name}.{}", sub_attribute.name())?),
-        None => Ok(String::from_str(alloc, name)?),
+        Some(sub_attribute) => push_all(text, &[".", sub_attribute.name()]),
+        None => Ok(()),
     }
 }
 
-fn cell_text(alloc: Global, cell: &Cell) -> Result<String, NoMemory> {
-    let name = cell.leaf.attribute.name();
-    let mut text = String::from_str(alloc, name)?;
+fn push_cell(alloc: Global, cell: &Cell, text: &mut String) -> Result<(), NoMemory> {
+    text.push_str(cell.leaf.attribute.name())?;
     if is_multi_valued(cell.leaf.attribute) {
-        text.push_str(format!(in alloc; "[{}]", cell.position)?.as_str())?;
+        text.push('[')?;
+        text.write(cell.position)?;
+        text.push(']')?;
     }
-    if let Some(sub_attribute) = cell.leaf.sub_attribute {
-        text.push_str(format!(in alloc; ".{}", sub_attribute.name())?.as_str())?;
-    }
-    let atom = atom_text(alloc, Some(&cell.atom))?;
-    text.push_str(format!(in alloc; "={atom}")?.as_str())?;
-    Ok(text)
+    push_sub_attribute(cell.leaf, text)?;
+    text.push('=')?;
+    push_atom(alloc, &cell.atom, text)
 }
 
 /// The cells of a part in order of place, as [`read_cells`] reads them.
 pub fn part_text(alloc: Global, part: &Part) -> Result<String, NoMemory> {
+    let cells = part.cells(alloc)?;
     let mut text = String::new(alloc);
-    for cell in part.cells(alloc)? {
+    for cell in cells.as_slice() {
         if !text.is_empty() {
             text.push_str("; ")?;
         }
-        text.push_str(cell_text(alloc, &cell)?.as_str())?;
+        push_cell(alloc, cell, &mut text)?;
     }
     Ok(text)
 }
@@ -160,12 +183,17 @@ pub fn part_text(alloc: Global, part: &Part) -> Result<String, NoMemory> {
 pub fn row_text(alloc: Global, row: &Row) -> Result<String, NoMemory> {
     let mut text = String::from_str(alloc, row.unit().attribute.name())?;
     for field in row.fields() {
-        let name = match field.leaf.sub_attribute {
-            Some(sub_attribute) => sub_attribute.name(),
-            None => "",
-        };
-        let atom = atom_text(alloc, Some(&field.atom))?;
-        text.push_str(format!(in alloc; " .{name}={atom}")?.as_str())?;
+        push_field(alloc, field, &mut text)?;
     }
     Ok(text)
+}
+
+/// Adds a field; one without a sub-attribute as ` .=b`.
+fn push_field(alloc: Global, field: &Field, text: &mut String) -> Result<(), NoMemory> {
+    let name = match field.leaf.sub_attribute {
+        Some(sub_attribute) => sub_attribute.name(),
+        None => "",
+    };
+    push_all(text, &[" .", name, "="])?;
+    push_atom(alloc, &field.atom, text)
 }

@@ -1,30 +1,44 @@
 //! Sample parts and resources.
 use crate::cells::read_cells;
 use crate::faults::SampleFault;
-use crate::texts::{ALICE, BASE, BOB, STRASSE, TEAM};
+use crate::texts::{ALICE, BASE, BOB, STRASSE, TEAM, joined};
 use scim_cell::Id;
 use scim_schema::Kind;
 use scim_value::{Part, Resource, location};
 use std::alloc::Global;
 
+/// When sample resources were made and last changed, and what stands before their kind.
+const MADE: &str =
+    "; meta.created=@2024-01-01T00:00:00Z; meta.lastModified=@2024-01-01T00:00:00Z; meta.resourceType=";
+
 /// The part of a kind and an id with the cells of a text.
 pub fn part(alloc: Global, kind: Kind, id: &str, cells: &str) -> Result<Part, SampleFault> {
-    let id = Id::read(id).ok_or(SampleFault::NotAnId)?;
+    let Some(id) = Id::read(id) else {
+        return Err(SampleFault::NotAnId);
+    };
     Ok(Part::of(alloc, kind, id, read_cells(alloc, cells)?)?)
 }
 
 /// The resource of a kind and an id below [`BASE`] with the cells of a text, beside which it has its `id` and
 /// `meta`, made and last changed at 2024-01-01T00:00:00Z.
 pub fn resource(alloc: Global, kind: Kind, id: &str, cells: &str) -> Result<Resource, SampleFault> {
-    let own = Id::read(id).ok_or(SampleFault::NotAnId)?;
-    let place = location(alloc, BASE, kind, own)?;
-    let place = place.as_str();
-    let name = kind.name();
-    let cells = format!(in alloc;
-        "{cells}; id={id}; meta.resourceType={name}; meta.location={place}; meta.created=@2024-01-01T00:00:00Z; meta.lastModified=@2024-01-01T00:00:00Z"
-    )?;
+    let cells = resource_cells(alloc, kind, id, cells)?;
     let part = part(alloc, kind, id, cells.as_str())?;
     Ok(Resource::of(part, BASE)?)
+}
+
+/// The cells of a resource, of which a text has those beside `id` and `meta`.
+fn resource_cells(alloc: Global, kind: Kind, id: &str, cells: &str) -> Result<String, SampleFault> {
+    let Some(own) = Id::read(id) else {
+        return Err(SampleFault::NotAnId);
+    };
+    let place = location(alloc, BASE, kind, own)?;
+    let mut text = joined(
+        alloc,
+        &[cells, "; id=", id, "; meta.location=", place.as_str(), MADE],
+    )?;
+    text.push_str(kind.name())?;
+    Ok(text)
 }
 
 /// The sample resource of this name: `alice`, `bob`, `straße` or `team`; None of another.

@@ -1,7 +1,8 @@
-//! The calls of `scim_token`.
-use case_values::{Case, CaseFault, said};
+//! The calls of `scim_token`, and who asks for a step of whole requests.
+use case_values::{Case, CaseFault, said, shown};
 use scim_text::{Failed, NoMemory};
 use scim_token::Tokens;
+use scim_wire::Message;
 use std::alloc::Global;
 
 /// What a call of `scim_token` gives; None where it isn't one.
@@ -22,7 +23,7 @@ fn client_call(case: &Case<'_>) -> Result<String, CaseFault> {
 fn client_in(alloc: Global, file: &str, token: &[u8]) -> Result<String, CaseFault> {
     match Tokens::read(alloc, file) {
         Ok(tokens) => said(alloc, tokens.client_of(token).unwrap_or("none")),
-        Err(Failed::Because(fault)) => Ok(format!(in alloc; "{fault}")?),
+        Err(Failed::Because(fault)) => shown(alloc, &fault),
         Err(Failed::NoMemory) => Err(CaseFault::NoMemory),
     }
 }
@@ -30,9 +31,28 @@ fn client_in(alloc: Global, file: &str, token: &[u8]) -> Result<String, CaseFaul
 /// The argument `tokens`, and behind it as many lines as the argument `more` says, each with a token of its own.
 fn token_file(case: &Case<'_>) -> Result<String, NoMemory> {
     let mut file = String::from_str(case.alloc, case.text_or("tokens", ""))?;
-    let more = case.number("more").unwrap_or(0);
-    for number in 0..more {
+    for number in 0..case.number("more").unwrap_or(0) {
         write!(file, "client {number:064x}\n")?;
     }
     Ok(file)
+}
+
+/// The tokens of the argument `tokens`, the text of a token file; of no client where it isn't given.
+pub fn tokens_of(case: &Case<'_>) -> Result<Tokens, CaseFault> {
+    match Tokens::read(case.alloc, case.text_or("tokens", "")) {
+        Ok(tokens) => Ok(tokens),
+        Err(Failed::NoMemory) => Err(CaseFault::NoMemory),
+        Err(Failed::Because(_)) => Err(CaseFault::Missing("tokens")),
+    }
+}
+
+/// The client of a step: its `client`, or else the one that has the token of the message.
+pub fn client_of<'c>(step: &'c Case<'_>, message: &Message, tokens: &'c Tokens) -> Option<&'c str> {
+    if let Ok(client) = step.text("client") {
+        return Some(client);
+    }
+    match &message.token {
+        Some(token) => tokens.client_of(token.as_slice()),
+        None => None,
+    }
 }

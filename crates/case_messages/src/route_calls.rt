@@ -1,7 +1,7 @@
 //! The calls of `scim_route`.
-use case_values::{Case, CaseFault};
+use case_values::{Case, CaseFault, debugged, joined, push_all, said};
 use scim_cell::{Id, Text};
-use scim_route::{Found, Page, Parameters, Route, find};
+use scim_route::{Found, Parameters, Route, find};
 use scim_text::{Failed, NoMemory};
 use std::alloc::Global;
 
@@ -20,50 +20,55 @@ fn find_call(case: &Case<'_>) -> Result<String, CaseFault> {
     let target = case.text("target")?.as_bytes();
     match find(case.alloc, method, target) {
         Ok(found) => found_text(case.alloc, &found),
-        Err(Failed::Because(refusal)) => Ok(format!(in case.alloc; "{refusal:?}")?),
+        Err(Failed::Because(refusal)) => debugged(case.alloc, &refusal),
         Err(Failed::NoMemory) => Err(CaseFault::NoMemory),
     }
 }
 
+/// What is found, and behind a `?` the query.
 fn found_text(alloc: Global, found: &Found<'_>) -> Result<String, CaseFault> {
     match found {
-        Found::Discovery(page, query) => page_text(alloc, *page, *query),
-        Found::Resource(route) => route_text(alloc, route),
-    }
-}
-
-/// The form, the operation, the kind, the id, `-` where there is none, and behind a `?` the query.
-fn route_text(alloc: Global, route: &Route<'_>) -> Result<String, CaseFault> {
-    let mut text = format!(in alloc; "{:?} {:?} {:?} ", route.form, route.op, route.kind)?;
-    push_id(route.id, &mut text)?;
-    push_query(route.query, &mut text)?;
-    Ok(text)
-}
-
-/// The page, and behind a `?` the query.
-fn page_text(alloc: Global, page: Page, query: Option<&[u8]>) -> Result<String, CaseFault> {
-    let mut text = format!(in alloc; "{page:?}")?;
-    push_query(query, &mut text)?;
-    Ok(text)
-}
-
-fn push_query(query: Option<&[u8]>, text: &mut String) -> Result<(), NoMemory> {
-    if let Some(query) = query {
-        text.push_str(" ?")?;
-        text.push_str(str::from_utf8(query).unwrap_or("no UTF-8"))?;
-    }
-    Ok(())
-}
-
-fn push_id(id: Option<Id>, text: &mut String) -> Result<(), NoMemory> {
-    match id {
-        Some(id) => {
-            let mut buffer = [0; Id::TEXT_LENGTH];
-            text.push_str(id.write(&mut buffer))?;
+        Found::Discovery(page, query) => {
+            let text = debugged(alloc, page)?;
+            with_query(text, *query)
         }
-        None => text.push('-')?,
+        Found::Resource(route) => with_query(route_text(alloc, route)?, route.query),
     }
-    Ok(())
+}
+
+/// The form, the operation, the kind, and the id, `-` where there is none.
+fn route_text(alloc: Global, route: &Route<'_>) -> Result<String, CaseFault> {
+    let form = debugged(alloc, &route.form)?;
+    let op = debugged(alloc, &route.op)?;
+    let kind = debugged(alloc, &route.kind)?;
+    let id = id_text(alloc, route.id)?;
+    let words = [
+        form.as_str(),
+        " ",
+        op.as_str(),
+        " ",
+        kind.as_str(),
+        " ",
+        id.as_str(),
+    ];
+    joined(alloc, &words)
+}
+
+fn id_text(alloc: Global, id: Option<Id>) -> Result<String, CaseFault> {
+    match id {
+        Some(id) => Ok(id.text(alloc)?.into_string()),
+        None => said(alloc, "-"),
+    }
+}
+
+fn with_query(mut text: String, query: Option<&[u8]>) -> Result<String, CaseFault> {
+    if let Some(query) = query {
+        push_all(
+            &mut text,
+            &[" ?", str::from_utf8(query).unwrap_or("no UTF-8")],
+        )?;
+    }
+    Ok(text)
 }
 
 /// The parameters that a query string gives, each behind its name; a query string in hex where it is no UTF-8.
@@ -108,8 +113,8 @@ fn parameters_text(alloc: Global, parameters: &Parameters) -> Result<String, Cas
 }
 
 fn push_parameter(name: &str, value: Option<&Text>, text: &mut String) -> Result<(), CaseFault> {
-    if let Some(value) = value {
-        write!(text, "{name}={};", value.as_str())?;
+    match value {
+        Some(value) => push_all(text, &[name, "=", value.as_str(), ";"]),
+        None => Ok(()),
     }
-    Ok(())
 }

@@ -1,5 +1,5 @@
 //! The calls of `scim_wire`.
-use case_values::{Case, CaseFault, said};
+use case_values::{Case, CaseFault, between, debugged, push_all, said};
 use http::StatusCode;
 use scim_wire::{Item, Message, Octets, Reply, Wire, print_reply};
 use std::alloc::Global;
@@ -15,8 +15,8 @@ pub fn answer(case: &Case<'_>, call: &str) -> Option<Result<String, CaseFault>> 
 
 /// The bytes of a stream: of `hex`; or of `text`, then `count` times `again`, then `end`.
 fn stream(case: &Case<'_>) -> Result<Vec<u8>, CaseFault> {
-    if let Ok(hex) = case.text("hex") {
-        return hex::decode(case.alloc, hex).map_err(|_| CaseFault::Missing("hex"));
+    if let Ok(digits) = case.text("hex") {
+        return bytes_of(case.alloc, digits);
     }
     let mut bytes = case.text("text")?.as_bytes().to_vec(case.alloc)?;
     for _ in 0..case.number("count").unwrap_or(0) {
@@ -26,57 +26,79 @@ fn stream(case: &Case<'_>) -> Result<Vec<u8>, CaseFault> {
     Ok(bytes)
 }
 
+fn bytes_of(alloc: Global, digits: &str) -> Result<Vec<u8>, CaseFault> {
+    match hex::decode(alloc, digits) {
+        Ok(bytes) => Ok(bytes),
+        Err(_) => Err(CaseFault::Missing("hex")),
+    }
+}
+
 /// What a stream gives byte by byte, each item with the count of bytes that had come; and, with `cuts`, the first cut
 /// into two pieces by which it gives something else.
 fn feed_call(case: &Case<'_>) -> Result<String, CaseFault> {
     let bytes = stream(case)?;
     let mut text = String::new(case.alloc);
-    let mut wire = Wire::new(case.alloc);
-    for (index, byte) in bytes.iter().enumerate() {
-        let items = wire.feed(case.alloc, &[*byte])?;
-        push_items(items.as_slice(), index.saturating_add(1), &mut text)?;
-    }
+    push_stream(case.alloc, bytes.as_slice(), &mut text)?;
     if case.is_true("cuts") {
         push_cuts(case.alloc, bytes.as_slice(), &mut text)?;
     }
     Ok(text)
 }
 
-/// Adds items, each with the count of bytes that had come.
-fn push_items(items: &[Item], count: usize, text: &mut String) -> Result<(), CaseFault> {
-    for item in items {
-        push_item(item, text)?;
-        write!(text, "@{count};")?;
+/// Adds what the bytes of a stream give one by one.
+fn push_stream(alloc: Global, bytes: &[u8], text: &mut String) -> Result<(), CaseFault> {
+    let mut wire = Wire::new(alloc);
+    for (index, byte) in bytes.iter().enumerate() {
+        push_fed(alloc, &mut wire, &[*byte], index.saturating_add(1), text)?;
     }
     Ok(())
+}
+
+/// Adds the items that some bytes end, each with the count of bytes that had come.
+fn push_fed(
+    alloc: Global,
+    wire: &mut Wire,
+    bytes: &[u8],
+    count: usize,
+    text: &mut String,
+) -> Result<(), CaseFault> {
+    let items = wire.feed(alloc, bytes)?;
+    for item in items.as_slice() {
+        push_item(alloc, item, text)?;
+        push_count(alloc, count, text)?;
+    }
+    Ok(())
+}
+
+fn push_count(alloc: Global, count: usize, text: &mut String) -> Result<(), CaseFault> {
+    let count = between(alloc, "@", &count, ";")?;
+    push_all(text, &[count.as_str()])
 }
 
 /// Adds an item: `Continue`, a refusal, or a message's method, target, token, body, and whether it closes.
-fn push_item(item: &Item, text: &mut String) -> Result<(), CaseFault> {
+fn push_item(alloc: Global, item: &Item, text: &mut String) -> Result<(), CaseFault> {
     match item {
-        Item::Continue => text.push_str("Continue")?,
-        Item::Refused(refusal) => write!(text, "{refusal:?}")?,
-        Item::Whole(message) => push_message(message, text)?,
+        Item::Continue => push_all(text, &["Continue"]),
+        Item::Refused(refusal) => {
+            let refusal = debugged(alloc, refusal)?;
+            push_all(text, &[refusal.as_str()])
+        }
+        Item::Whole(message) => push_message(message, text),
     }
-    Ok(())
 }
 
 fn push_message(message: &Message, text: &mut String) -> Result<(), CaseFault> {
-    text.push_str(text_of(&message.method))?;
-    text.push(' ')?;
-    text.push_str(text_of(&message.target))?;
+    push_all(
+        text,
+        &[text_of(&message.method), " ", text_of(&message.target)],
+    )?;
     if let Some(token) = &message.token {
-        text.push_str(" token ")?;
-        text.push_str(text_of(token))?;
+        push_all(text, &[" token ", text_of(token)])?;
     }
     if !message.body.as_slice().is_empty() {
-        text.push_str(" body ")?;
-        text.push_str(text_of(&message.body))?;
+        push_all(text, &[" body ", text_of(&message.body)])?;
     }
-    if message.close {
-        text.push_str(" closes")?;
-    }
-    Ok(())
+    push_all(text, &[if message.close { " closes" } else { "" }])
 }
 
 fn text_of(octets: &Octets) -> &str {
@@ -88,8 +110,8 @@ fn items_in_two(alloc: Global, bytes: &[u8], cut: usize) -> Result<String, CaseF
     let (front, back) = bytes.split_at(cut.min(bytes.len()));
     let mut wire = Wire::new(alloc);
     let mut text = String::new(alloc);
-    push_items(wire.feed(alloc, front)?.as_slice(), 0, &mut text)?;
-    push_items(wire.feed(alloc, back)?.as_slice(), 0, &mut text)?;
+    push_fed(alloc, &mut wire, front, 0, &mut text)?;
+    push_fed(alloc, &mut wire, back, 0, &mut text)?;
     Ok(text)
 }
 
@@ -99,12 +121,15 @@ fn push_cuts(alloc: Global, bytes: &[u8], text: &mut String) -> Result<(), CaseF
     for cut in 1..bytes.len() {
         let found = items_in_two(alloc, bytes, cut)?;
         if found.as_str() != whole.as_str() {
-            write!(text, " cut at {cut}: {}", found.as_str())?;
-            return Ok(());
+            return push_cut(alloc, cut, found.as_str(), text);
         }
     }
-    text.push_str(" however cut")?;
-    Ok(())
+    push_all(text, &[" however cut"])
+}
+
+fn push_cut(alloc: Global, cut: usize, found: &str, text: &mut String) -> Result<(), CaseFault> {
+    let cut = between(alloc, " cut at ", &cut, ": ")?;
+    push_all(text, &[cut.as_str(), found])
 }
 
 /// The text of a reply.

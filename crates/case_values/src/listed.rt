@@ -1,0 +1,98 @@
+//! Arguments that are lists, and those that stand for many resources.
+use crate::arguments::{between, joined, said};
+use crate::case::Case;
+use crate::faults::CaseFault;
+use scim_samples::{part, resource, sample, sample_groups, sample_users};
+use scim_schema::Kind;
+use scim_value::{Part, Resource};
+use serde_json::Value;
+use std::alloc::Global;
+
+/// The texts of a list.
+pub fn texts<'c>(case: &'c Case<'_>, name: &'static str) -> Result<Vec<&'c str>, CaseFault> {
+    let mut texts = Vec::new(case.alloc);
+    for value in case.list(name) {
+        let Some(text) = value.as_str() else {
+            return Err(CaseFault::Missing("texts"));
+        };
+        texts.push(text)?;
+    }
+    Ok(texts)
+}
+
+/// The argument of this name, with so many spaces behind it as the argument `spaces` says.
+pub fn spaced_text(case: &Case<'_>, name: &'static str) -> Result<String, CaseFault> {
+    let mut text = said(case.alloc, case.text(name)?)?;
+    for _ in 0..case.number("spaces").unwrap_or(0) {
+        text.push(' ')?;
+    }
+    Ok(text)
+}
+
+/// The parts of the list `parts`, each by the last two digits of its id and its cells.
+pub fn parts_of(case: &Case<'_>) -> Result<Vec<Part>, CaseFault> {
+    let mut parts = Vec::new(case.alloc);
+    for value in case.list("parts") {
+        parts.push(part_of(case, value.as_str().unwrap_or(""))?)?;
+    }
+    Ok(parts)
+}
+
+fn part_of(case: &Case<'_>, text: &str) -> Result<Part, CaseFault> {
+    let (digits, cells) = text.split_once(' ').unwrap_or((text, ""));
+    let id = joined(case.alloc, &["00000000-0000-4000-8000-0000000000", digits])?;
+    Ok(part(case.alloc, case.kind(), id.as_str(), cells)?)
+}
+
+/// The resources of a list: names of samples, or objects of an `id` and `cells`.
+pub fn resources(
+    case: &Case<'_>,
+    kind: Kind,
+    name: &'static str,
+) -> Result<Vec<Resource>, CaseFault> {
+    let mut resources = Vec::new(case.alloc);
+    for value in case.list(name) {
+        resources.push(resource_of(case.alloc, kind, value)?)?;
+    }
+    Ok(resources)
+}
+
+fn resource_of(alloc: Global, kind: Kind, value: &Value) -> Result<Resource, CaseFault> {
+    if let Some(name) = value.as_str() {
+        return match sample(alloc, name)? {
+            Some(resource) => Ok(resource),
+            None => Err(CaseFault::Missing("a sample")),
+        };
+    }
+    let case = Case { alloc, value };
+    match (case.text("id"), case.text("cells")) {
+        (Ok(id), Ok(cells)) => Ok(resource(alloc, kind, id, cells)?),
+        _ => Err(CaseFault::Missing("id and cells")),
+    }
+}
+
+/// So many users as the argument `users` says, or the samples of the kind.
+pub fn resources_of(case: &Case<'_>) -> Result<Vec<Resource>, CaseFault> {
+    if let Ok(number) = case.number("users") {
+        return numbered_users(case.alloc, number);
+    }
+    match case.kind() {
+        Kind::User => Ok(sample_users(case.alloc)?),
+        Kind::Group => Ok(sample_groups(case.alloc)?),
+    }
+}
+
+/// So many users, whose names are `user0`, `user1` and so on, by their ids.
+fn numbered_users(alloc: Global, number: i64) -> Result<Vec<Resource>, CaseFault> {
+    let mut users = Vec::new(alloc);
+    for index in 0..number {
+        users.push(numbered_user(alloc, index)?)?;
+    }
+    Ok(users)
+}
+
+fn numbered_user(alloc: Global, index: i64) -> Result<Resource, CaseFault> {
+    let id = format!(in alloc; "00000000-0000-4000-8000-000000000{index:03}")?;
+    let cells = between(alloc, "userName=user", &index, "")?;
+    Ok(resource(alloc, Kind::User, id.as_str(), cells.as_str())?)
+}
