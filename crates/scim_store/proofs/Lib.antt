@@ -15,3 +15,14 @@ pub mod WalkLemmas
 pub mod NoneLemmas
 pub mod BackLemmas
 pub mod SpanLemmas
+pub mod OwnedLemmas
+pub mod IdTextLemmas
+pub mod DamageLemmas
+pub mod SoundLemmas
+pub mod WholeLemmas
+pub mod HoldLemmas
+pub mod LeastLemmas
+pub mod JudgeLemmas
+pub mod ApartLemmas
+pub mod OpenLemmas
+pub mod ShelfLemmas

@@ -58,7 +58,7 @@ user_names_in None = All-nil _
 user_names_in (Some c) = user_names c
 
 -- at most one name
-abbrev AreFew : List Name → Type 0
+abbrev pub AreFew : List Name → Type 0
 AreFew names = (n : Option Name) × (names ≡ option_to_list n)
 
 few_at : (kind : Kind) (l : Leaf) (o : Option Atom) → AreFew (name_at kind l o)
@@ -67,7 +67,7 @@ few_at kind l (Some (Text t)) = (Some _, refl)
 few_at kind l (Some (Truth b)) = (None, refl)
 few_at kind l (Some (Moment m)) = (None, refl)
 
-few_of : (c : Content) (kind : Kind) → AreFew (flat_map (λ l. name_at c.kind l (first_at l c)) (unique_leaves kind))
+pub few_of : (c : Content) (kind : Kind) → AreFew (flat_map (λ l. name_at c.kind l (first_at l c)) (unique_leaves kind))
 unfolding unique_leaves
 few_of c User = (let one = few_at c.kind (simple UserName) (first_at (simple UserName) c) in (one.0, append-nil _ ∙ one.1))
 few_of c Group = (None, refl)

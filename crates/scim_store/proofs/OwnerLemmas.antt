@@ -69,7 +69,7 @@ each_row n id (m ∷ ms) is are =
     let rest = each_row n id ms is (All-tail (λ (x : Name). x.leaf ≡ simple UserName) m ms are) in
     (λ i. here i || rest i)
 
-none_left : {X : Type 0} (p : X → Bool) (xs : List X) → list_any p xs ≡ false → filter p xs ≡ []
+pub none_left : {X : Type 0} (p : X → Bool) (xs : List X) → list_any p xs ≡ false → filter p xs ≡ []
 none_left p [] none = refl
 none_left p (x ∷ xs) none = go (p x) none (none_left p xs)
   where

@@ -23,7 +23,7 @@ abbrev pub texts_of : List (Bor (List ℕ)) → List (List ℕ)
 texts_of ts = map (λ t. t.now) ts
 
 -- whether a value is among borrowed texts
-among_texts : (v : List ℕ) (ts : List (Bor (List ℕ))) → list_any (λ t. is_eq (slice_cmp nat_cmp v t.now)) ts ≡ is_among v (texts_of ts)
+pub among_texts : (v : List ℕ) (ts : List (Bor (List ℕ))) → list_any (λ t. is_eq (slice_cmp nat_cmp v t.now)) ts ≡ is_among v (texts_of ts)
 among_texts v [] = refl
 among_texts v (t ∷ ts) = (λ i. is_eq-slice_cmp v t.now i || among_texts v ts i)
 

@@ -6,4 +6,7 @@ pub mod Finding
 pub mod AuditBack
 pub mod Committing
 pub mod Shelves
+pub mod Owners
+pub mod Damage
+pub mod Opening
 pub mod code

@@ -54,7 +54,7 @@ fn value_of(member: &Row) -> Option<&str>
 }
 
 /// The values that a resource lists among its members. NoMemory where none was to be had.
-fn values_of(alloc: Global, resource: &Resource) -> Result<BTreeSet<&str>, NoMemory>
+pub(crate) fn values_of(alloc: Global, resource: &Resource) -> Result<BTreeSet<&str>, NoMemory>
     ensures { IfOk result (λ values. (v : List ℕ) → is_in v values ≡ lists_value v resource.now) }
 {
     let mut values = BTreeSet::new(alloc);

@@ -1,6 +1,7 @@
 //! A shelf over the tables of a database.
 
-ghost use Rattle.std.specs.Prelude.{◌≡◌, ◌≢◌, ◌<◌, ◌≤◌, ◌⊎◌, Ok, Err, IfOk, false};
+ghost use Rattle.std.specs.Prelude.{◌≡◌, ◌≢◌, ◌<◌, ◌≤◌, ◌⊎◌, ℕ, List, Ok, Err, IfOk, IfErr, IsTrue, length, false};
+ghost use Rattle.sqlite.specs.Effect.{Database};
 ghost use Rattle.sqlite.specs.State.{HasCleanDisk};
 ghost use Rattle.sqlite.specs.Held.{state};
 ghost use Rattle.scim_text.specs.declared.memory.Failed.{Failed};
@@ -9,11 +10,16 @@ ghost use Rattle.scim_shelf.specs.Shelves.{Counts, Answers, OnlyReads};
 ghost use Rattle.scim_shelf.specs.Stores.{Store, last_number};
 ghost use Rattle.scim_store.specs.AuditBack.{AreRowsFrom};
 ghost use Rattle.scim_store.specs.Committing.{HasStore};
-ghost use Rattle.scim_store.specs.Shelves.{IsKeptIn};
+ghost use Rattle.scim_tables.specs.Tables.{no_schema};
+ghost use Rattle.scim_store.specs.Beginning.{no_store};
+ghost use Rattle.scim_store.specs.Finding.{StandsIn};
+ghost use Rattle.scim_store.specs.Shelves.{IsKeptIn, HasOpened, Refuses};
 
 use crate::auditing::read_audit_rows;
+use crate::beginning::begin_store;
 use crate::committing::{CommitFault, commit_change};
 use crate::finding::{find_by_id, find_groups_with, find_owner_of_name};
+use crate::opening::{Examined, examine};
 use crate::walking::walk;
 use scim_audit::AuditRow;
 use scim_cell::{Id, Text};
@@ -42,7 +48,107 @@ pub struct SqlShelf<S: Alter> {
     ghost bounded: { rows ≤ last_number },
 }
 
+/// What keeps a database from being opened.
+#[derive(Clone, Copy, Debug, PartialEq, Eq)]
+pub enum OpenFault {
+    /// Its tables are of another version.
+    WrongVersion,
+    /// Its tables stand for no store: this is the least id whose rows are neither those of one resource nor none.
+    Damaged(Id),
+    /// It belongs to another program, or its tables stand for no store though the rows of each id hold, or it can't be
+    /// read or written.
+    Store,
+    /// No memory was to be had.
+    NoMemory,
+}
+
+/// What an error of the database is to whoever opens it.
+fn open_fault_of(error: &Error) -> OpenFault
+    ensures { (base : List ℕ) (db : Database) → Refuses base db result }
+{
+    match error {
+        Error::SqliteFailure(ErrorCode::OutOfMemory) => OpenFault::NoMemory,
+        _ => OpenFault::Store,
+    }
+}
+
 impl<S: Alter> SqlShelf<S> {
+    /// A shelf over the tables of a connection, whose audit has so many rows.
+    fn over(
+        alloc: Global,
+        connection: Connection<S>,
+        base: &str,
+        rows: u64,
+    ) -> Result<SqlShelf<S>, (OpenFault, Connection<S>)>
+        requires { connection.in_transaction ≡ false }
+        ensures base { IfOk result (λ shelf. shelf.base ≡ base.now) }
+        ensures kept { IfOk result (λ shelf. HasCleanDisk (state S.Store shelf.connection) → HasCleanDisk (state S.Store connection)
+            × ((store : Store) → StandsIn base.now (state S.Store connection) store → length store.audit ≡ rows → IsKeptIn base.now (state S.Store shelf.connection) shelf.rows store)) }
+        ensures refused { IfErr result (λ e. (base : List ℕ) (db : Database) → Refuses base db e.0) }
+    {
+        if rows > LAST_NUMBER || !connection.is_autocommit() {
+            return Err((OpenFault::Store, connection));
+        }
+        match Text::copy_of(alloc, base) {
+            Ok(base) => Ok(SqlShelf {
+                connection,
+                base,
+                rows,
+                failures: 0,
+            }),
+            Err(_) => Err((OpenFault::NoMemory, connection)),
+        }
+    }
+
+    /// A shelf over an empty database, which gets its tables in one transaction.
+    fn begin(
+        alloc: Global,
+        connection: Connection<S>,
+        base: &str,
+    ) -> Result<SqlShelf<S>, (OpenFault, Connection<S>)>
+        requires { connection.in_transaction ≡ false }
+        ensures kept { IfOk result (λ shelf. HasCleanDisk (state S.Store shelf.connection) → HasCleanDisk (state S.Store connection) × IsTrue (state S.Store connection).is_open
+            × ((state S.Store connection).now.schema ≡ no_schema → IsKeptIn base.now (state S.Store shelf.connection) shelf.rows no_store)) }
+        ensures base { IfOk result (λ shelf. shelf.base ≡ base.now) }
+        ensures refused { IfErr result (λ e. (base : List ℕ) (db : Database) → Refuses base db e.0) }
+    {
+        let mut connection = connection;
+        match begin_store(&mut connection) {
+            Ok(()) => SqlShelf::over(alloc, connection, base, 0),
+            Err(error) => Err((open_fault_of(&error), connection)),
+        }
+    }
+
+    /// Opens a database for a store of resources below the base. An empty one gets its tables in one transaction. Of any
+    /// other all rows are read and checked, in a time that is nearly linear in them.
+    ///
+    /// Fails by WrongVersion and Damaged only where the tables stand for no store; by Store where they don't either,
+    /// where the connection is in a transaction, or where the device failed; or where memory was wanting. Then nothing is
+    /// changed but that an empty database may have got its tables, and the connection is given back.
+    pub fn open(
+        alloc: Global,
+        connection: Connection<S>,
+        base: &str,
+    ) -> Result<SqlShelf<S>, (OpenFault, Connection<S>)>
+        requires { connection.in_transaction ≡ false }
+        ensures base { IfOk result (λ shelf. shelf.base ≡ base.now) }
+        ensures opened { IfOk result (λ shelf. HasCleanDisk (state S.Store shelf.connection) → (store : Store) × HasOpened base.now (state S.Store connection).now (state S.Store shelf.connection) shelf.rows store) }
+        ensures refused { IfErr result (λ e. HasCleanDisk (state S.Store e.1) → Refuses base.now (state S.Store connection).now e.0) }
+    {
+        let mut connection = connection;
+        let examined = match examine(&mut connection, alloc, base) {
+            Ok(examined) => examined,
+            Err(error) => return Err((open_fault_of(&error), connection)),
+        };
+        match examined {
+            Examined::Empty => SqlShelf::begin(alloc, connection, base),
+            Examined::Stands(rows) => SqlShelf::over(alloc, connection, base, rows),
+            Examined::WrongVersion => Err((OpenFault::WrongVersion, connection)),
+            Examined::Damaged(id) => Err((OpenFault::Damaged(id), connection)),
+            Examined::Foreign => Err((OpenFault::Store, connection)),
+        }
+    }
+
     /// The rows of the audit from this number on, in order, and the first `count` of them where there are more. The
     /// first row has number 1; from 0 counts as from there. Where a method was refused, the methods that the endpoint
     /// has aren't kept, and those of a collection are given.

@@ -98,6 +98,9 @@ told_in_order t project order places trees rows shows old new by at outs unchang
     subst (λ xs. Tells places (map shows xs) old new rows) (filter_all (λ r. true) (trees t) (all_true (trees t)))
     (told_where t [] project order places trees [] rows (λ r. true) shows old new by at outs (λ r. refl) unchanged a)
 
--- rows that are told in order are the values, where these rise
+-- rows in order are the values, where these rise
+pub order_rising : (places : List ℕ) (values rows : List Row) → IsAscending (λ a b. columns_cmp places a b ≡ Less) values → IsPermutation values rows → DoNotFall places rows → rows ≡ values
+order_rising places values rows rise same order = sorted_unique (columns_cmp places) (columns_total places) values rows rise same (sorted_from_low (columns_cmp places) rows order)
+
 pub told_rising : (places : List ℕ) (values rows : List Row) (old new : State) → IsAscending (λ a b. columns_cmp places a b ≡ Less) values → Tells places values old new rows → rows ≡ values
-told_rising places values rows old new rise told = sorted_unique (columns_cmp places) (columns_total places) values rows rise told.same (sorted_from_low (columns_cmp places) rows told.order)
+told_rising places values rows old new rise told = order_rising places values rows rise told.same told.order

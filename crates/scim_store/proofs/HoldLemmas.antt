@@ -1,0 +1,159 @@
+-- What the code compares of the rows of one id is what is said of them.
+use Rattle.std.proofs.Common.{◌≡◌, ◌≢◌, ℕ, zero, suc, refl, sym, ◌∙◌, ap, subst, Bool, true, false, List, [], ◌∷◌, get_or, map, filter, arith}
+use Rattle.std.specs.Prelude.{AllPairs, Option, None, Some, IsPermutation}
+use Rattle.std.specs.Option.{option_to_list}
+use Rattle.std.specs.List.{flat_map, AllByRecursion, IsDistinct}
+use Rattle.std.specs.List.Sorted.{IsStrictlySortedBy}
+use Rattle.std.specs.Ordering.{nat_cmp, is_eq, is_lt, ordering_then, ordering_reverse}
+use Rattle.std.specs.declared.cmp.Ordering.{Ordering}
+use Rattle.std.specs.declared.cmp.Ordering.TheVariants.{Less, Equal, Greater}
+use Rattle.std.specs.Cmp.Lexicographic.{slice_cmp, nat_list_eq_equiv}
+use Rattle.std.specs.Str.{bytes_eq}
+use Rattle.std.proofs.lemmas.Cmp.{tied_itself, nat_list_cmp_total}
+use Rattle.std.proofs.lemmas.List.{append-nil, nil_from_length}
+use Rattle.std.proofs.lemmas.List.Elements.{All-nil, All-cons, All-head, All-from_recursion, All-weaker, recursion_from_All}
+use Rattle.std.proofs.lemmas.List.Kept.{AllPairs-cons}
+use Rattle.std.proofs.lemmas.List.Sorted.{IsPermutation-sym, IsPermutation-trans, length_permutation, list_any-IsPermutation}
+use Rattle.std.proofs.lemmas.Map.Keys.{sorted_head, sorted_tail, IsDistinct-IsPermutation}
+use Rattle.std.proofs.lemmas.Map.Text.{is_eq-slice_cmp}
+use Rattle.std.proofs.lemmas.Slice.Eq.{bytes_eq-Decides}
+use Rattle.sqlite_trees.specs.Tree.{IsAscending}
+use Rattle.sqlite_trees.proofs.ListLemmas.{IsPermutation-same, map-map, pull_back, ascending_from_map, ascending_weaker, ascending-filter}
+use Rattle.sqlite.proofs.Callers.{one_permutation}
+use Rattle.sqlite.specs.declared.types.Value.TheVariants.{Text}
+use Rattle.sqlite.specs.Order.{Row, column, value_cmp}
+use Rattle.sqlite_value.proofs.OrderLemmas.{value_cmp_total, value_cmp-Text}
+use Rattle.scim_cell.specs.Ids.{id_text}
+use Rattle.scim_shelf.proofs.StoreLemmas.{keyed_nil, ids_differ}
+use Rattle.scim_tables.specs.Reading.{DoNotFall, columns_cmp, owner_first, group_first}
+use Rattle.scim_value.specs.Uniqueness.{Name, unique_names}
+use Rattle.scim_store.specs.Damage.{Tables, AreRowsOf, HoldsAt, rows_at}
+use Rattle.scim_store.specs.Owners.{is_of}
+use Rattle.scim_store.specs.Stands.{Entry, IsEntry, resource_row, name_row, name_rows, member_row, member_rows}
+use Rattle.scim_store.specs.code.Damage.{owned_name, owned_member, AreOfOne}
+use Rattle.scim_store.proofs.NameLemmas.{few_of}
+use Rattle.scim_store.proofs.SoundLemmas.{few_keyed}
+
+-- the rows are those of one resource, or there are none
+abbrev Fit : List ℕ → List Row → List Row → List Row → Option Entry → Type 0
+Fit base resources names members o = AreRowsOf base (option_to_list o) (record { resources = resources; names = names; members = members })
+
+names_of_one : (e : Entry) → map owner_first (flat_map name_rows (e ∷ [])) ≡ map (owned_name (id_text e.content.id)) (unique_names e.content)
+names_of_one e = ap (map owner_first) (append-nil (name_rows e)) ∙ map-map owner_first (name_row e.content.id) (unique_names e.content)
+
+members_of_one : (e : Entry) → map group_first (flat_map member_rows (e ∷ [])) ≡ map (owned_member (id_text e.content.id)) e.members
+members_of_one e = ap (map group_first) (append-nil (member_rows e)) ∙ map-map group_first (member_row e.content.id) e.members
+
+-- values in order are each there once
+once_rising : (vs : List (List ℕ)) → IsStrictlySortedBy (slice_cmp nat_cmp) vs → AllPairs (λ v w. v ≢ w) vs
+once_rising [] up = λ i j d h k. absurd (omega (arith, k))
+once_rising (v ∷ vs) up =
+    AllPairs-cons (λ x y. x ≢ y) v vs
+    (All-weaker (λ w. slice_cmp nat_cmp v w ≡ Less) (λ w. v ≢ w) (λ w less. ids_differ v w less) vs (All-from_recursion (λ w. slice_cmp nat_cmp v w ≡ Less) vs (sorted_head (slice_cmp nat_cmp) v vs up)))
+    (once_rising vs (sorted_tail (slice_cmp nat_cmp) v vs up))
+
+-- what was compared holds of one resource, or of none
+pub to_fit : (base : List ℕ) (resources names members : List Row) → AreOfOne base resources names members → (o : Option Entry) × Fit base resources names members o
+to_fit base [] names members of = (
+  None,
+  record {
+    sound = All-nil (IsEntry base);
+    keyed = keyed_nil;
+    resources = IsPermutation-same [] [] refl;
+    names = IsPermutation-same names [] of.0;
+    members = IsPermutation-same members [] of.1;
+  },
+)
+to_fit base (row ∷ []) names members of =
+    (let c = of.0 in
+    let row_of = of.1 in
+    let rows = of.2 in
+    let e : Entry = record { content = c; document = row_of.0; members = rows.1 } in (
+      Some e,
+      record {
+        sound = All-cons (IsEntry base) e [] (record { document = row_of.2; members = record { once = once_rising rows.1 rows.2; listed = rows.3 } }) (All-nil (IsEntry base));
+        keyed = few_keyed (Some e);
+        resources = IsPermutation-same _ _ (ap (λ r. r ∷ []) row_of.1);
+        names = IsPermutation-same _ _ (rows.0 ∙ sym (names_of_one e));
+        members = IsPermutation-same _ _ (rows.4 ∙ sym (members_of_one e));
+      },
+    ))
+to_fit base (row ∷ other ∷ rest) names members of = absurd of
+
+-- ---- and back
+
+none_there : (rows : List Row) → IsPermutation rows [] → rows ≡ []
+none_there rows same = nil_from_length rows (sym (length_permutation rows [] same))
+
+few_rows : (f : Name → Row) (o : Option Name) (rows : List Row) → IsPermutation rows (map f (option_to_list o)) → rows ≡ map f (option_to_list o)
+few_rows f None rows same = none_there rows same
+few_rows f (Some n) rows same = one_permutation (f n) rows (IsPermutation-sym _ _ same)
+
+distinct_once : (vs : List (List ℕ)) → AllPairs (λ v w. v ≢ w) vs → IsDistinct bytes_eq vs
+unfolding IsDistinct
+distinct_once [] once = tt
+distinct_once (v ∷ vs) once = (
+  recursion_from_All (λ w. bytes_eq v w ≡ false) vs (λ k d low. differ (get_or vs k d) (once zero (suc k) d (omega arith) (omega arith))),
+  distinct_once vs (λ i j d h k. once (suc i) (suc j) d (omega arith) (omega arith)),
+)
+  where
+    differ : (w : List ℕ) → v ≢ w → bytes_eq v w ≡ false
+    differ w apart = go (bytes_eq v w) refl
+      where
+        go : (b : Bool) → bytes_eq v w ≡ b → b ≡ false
+        go true t = absurd (apart ((bytes_eq-Decides v w).0 t))
+        go false f = refl
+
+-- rows of members in order, each once, have their values in order
+rise : (t : List ℕ) (vs : List (List ℕ)) → IsAscending (λ a b. is_lt (ordering_then (value_cmp (Text t) (Text t)) (ordering_then (value_cmp (Text b) (Text a)) Equal)) ≡ false) vs → IsDistinct bytes_eq vs → IsStrictlySortedBy (slice_cmp nat_cmp) vs
+unfolding IsDistinct IsStrictlySortedBy
+rise t [] up apart = tt
+rise t (v ∷ vs) up apart = (each vs up.0 apart.0, rise t vs up.1 apart.1)
+  where
+    strictly : (w : List ℕ) (o : Ordering) → slice_cmp nat_cmp w v ≡ o → is_lt (ordering_then o Equal) ≡ false → bytes_eq v w ≡ false → slice_cmp nat_cmp v w ≡ Less
+    strictly w Less e low f = absurd cc
+    strictly w Equal e low f = (let back : slice_cmp nat_cmp v w ≡ Equal = nat_list_cmp_total.antisymm v w ∙ ap ordering_reverse e in let c : true ≡ false = sym (ap is_eq back) ∙ is_eq-slice_cmp v w ∙ f in absurd cc)
+    strictly w Greater e low f = nat_list_cmp_total.antisymm v w ∙ ap ordering_reverse e
+
+    each : (ws : List (List ℕ)) → AllByRecursion (λ w. is_lt (ordering_then (value_cmp (Text t) (Text t)) (ordering_then (value_cmp (Text w) (Text v)) Equal)) ≡ false) ws → AllByRecursion (λ w. bytes_eq v w ≡ false) ws → AllByRecursion (λ w. slice_cmp nat_cmp v w ≡ Less) ws
+    each [] low f = tt
+    each (w ∷ ws) low f =
+        (strictly w (slice_cmp nat_cmp w v) refl ((λ i. is_lt (ordering_then (sym (tied_itself value_cmp_total (Text t)) i) (ordering_then (sym (value_cmp-Text w v) i) Equal))) ∙ low.0) f.0, each ws low.1 f.1)
+
+pub from_fit : (base : List ℕ) (resources names members : List Row) (o : Option Entry) → DoNotFall (0 ∷ 1 ∷ []) members → Fit base resources names members o → AreOfOne base resources names members
+from_fit base resources names members None up fit =
+    subst (λ rs. AreOfOne base rs names members) (sym (none_there resources fit.resources)) (none_there names fit.names, none_there members fit.members)
+from_fit base resources names members (Some e) up fit =
+    (let sound = All-head (IsEntry base) e [] fit.sound in
+    let t = id_text e.content.id in
+    let few = few_of e.content e.content.kind in
+    let one : resources ≡ resource_row e ∷ [] = one_permutation (resource_row e) resources (IsPermutation-sym _ _ fit.resources) in
+    let named : names ≡ map (owned_name t) (unique_names e.content) =
+    few_rows (owned_name t) few.0 names (IsPermutation-trans _ _ _ fit.names (IsPermutation-same _ _ (names_of_one e ∙ ap (map (owned_name t)) few.1))) ∙ ap (map (owned_name t)) (sym few.1) in
+    let pulled = pull_back (owned_member t) _ members (IsPermutation-sym _ _ fit.members) e.members (members_of_one e) in
+    let rising = rise t pulled.0 (ascending_from_map _ (owned_member t) pulled.0 (subst (DoNotFall (0 ∷ 1 ∷ [])) pulled.2 up)) (IsDistinct-IsPermutation bytes_eq nat_list_eq_equiv.symm _ _ pulled.1 (distinct_once e.members sound.members.once)) in
+    subst (λ rs. AreOfOne base rs names members) (sym one)
+    (e.content, (e.document, refl, sound.document), (named, pulled.0, rising, (λ v. sym (list_any-IsPermutation (bytes_eq v) _ _ pulled.1) ∙ sound.members.listed v), pulled.2)))
+
+-- rows in order of more columns are in order of the first
+pub falls_less : (more : List ℕ) (rows : List Row) → DoNotFall (0 ∷ more) rows → DoNotFall (0 ∷ []) rows
+falls_less more rows up = ascending_weaker (λ a b. is_lt (columns_cmp (0 ∷ more) b a) ≡ false) (λ a b. is_lt (columns_cmp (0 ∷ []) b a) ≡ false) (λ a b h. first (value_cmp (column b 0) (column a 0)) (columns_cmp more b a) h) rows up
+  where
+    first : (o p : Ordering) → is_lt (ordering_then o p) ≡ false → is_lt (ordering_then o Equal) ≡ false
+    first Less p h = absurd cc
+    first Equal p h = refl
+    first Greater p h = refl
+
+-- ---- the rows of an id
+
+module _ (base : List ℕ) (tables : Tables) (id : List ℕ) (resources names members : List Row) (r : resources ≡ filter (is_of id) tables.resources) (n : names ≡ filter (is_of id) tables.names) (m : members ≡ filter (is_of id) tables.members) where
+  those : ◌≡◌ {A = Tables} (record { resources = resources; names = names; members = members }) (rows_at id tables)
+  those = λ i. record { resources = r i; names = n i; members = m i }
+
+  pub holds_yes : AreOfOne base resources names members → HoldsAt base tables id
+  holds_yes of = (let fit = to_fit base resources names members of in (fit.0, subst (AreRowsOf base (option_to_list fit.0)) those fit.1))
+
+  pub holds_no : DoNotFall (0 ∷ 1 ∷ []) tables.members → HoldsAt base tables id → AreOfOne base resources names members
+  holds_no up at =
+      from_fit base resources names members at.0 (subst (DoNotFall (0 ∷ 1 ∷ [])) (sym m) (ascending-filter _ (is_of id) tables.members up))
+      (subst (AreRowsOf base (option_to_list at.0)) (sym those) at.1)

@@ -1,0 +1,149 @@
+-- What the rows of a database tell of the store that its tables stand for.
+use Rattle.std.proofs.Common.{◌≡◌, ℕ, refl, sym, inl, inr, IsTrue, ap, subst, ◌∙◌, List, [], ◌∷◌, length}
+use Rattle.std.specs.Prelude.{Some, None}
+use Rattle.std.specs.List.{AllByRecursion}
+use Rattle.std.proofs.lemmas.List.Sorted.{IsPermutation-sym}
+use Rattle.sqlite_trees.proofs.ListLemmas.{all-flat_map, all-map, IsPermutation-same}
+use Rattle.sqlite.specs.Effect.{Database}
+use Rattle.sqlite.specs.Order.{Row, column}
+use Rattle.sqlite.specs.State.{State}
+use Rattle.scim_shelf.specs.Stores.{Store, AreKeyed}
+use Rattle.scim_value.specs.Uniqueness.{Name, unique_names}
+use Rattle.scim_tables.specs.Tables.{no_schema}
+use Rattle.scim_store.specs.Beginning.{no_store}
+use Rattle.scim_tables.specs.Lists.{Are}
+use Rattle.scim_tables.specs.Reading.{shown}
+use Rattle.scim_tables.specs.Whole.{AreRowsOf as AreRead, Is}
+use Rattle.scim_tables.specs.declared.tables.TableRows.{TableRows}
+use Rattle.scim_tables.specs.declared.tables.Reading.TheVariants.{WrongVersion as OtherVersion, Foreign as OtherProgram}
+use Rattle.scim_tables.proofs.OrderLemmas.{order_rising}
+use Rattle.scim_tables.proofs.WholeLemmas.{rows_of, holds_lists}
+use Rattle.scim_store.specs.Audit.{audit_rows}
+use Rattle.scim_store.specs.Damage.{AreOrdered, AreSound, IsLeastDamage, IsForeign}
+use Rattle.scim_store.specs.Opening.{resource_tables, CountsAudit, IsByAudit, IsFor, Examines}
+use Rattle.scim_store.specs.Finding.{StandsIn}
+use Rattle.scim_store.specs.Shelves.{IsKeptIn, HasOpened}
+use Rattle.scim_store.specs.declared.opening.Examined.{Examined}
+use Rattle.scim_store.specs.declared.opening.Examined.TheVariants.{Empty, Stands, WrongVersion, Damaged, Foreign}
+use Rattle.scim_store.specs.Stands.{Entry, StandsFor, lists_of, name_row, name_rows, member_row, member_rows}
+use Rattle.scim_store.proofs.NoneLemmas.{other_stand, foreign_stand}
+use Rattle.scim_store.proofs.OwnerLemmas.{contents}
+use Rattle.scim_store.proofs.SoundLemmas.{sound_holds}
+use Rattle.scim_store.proofs.SpanLemmas.{rows_rise}
+
+-- ---- rows of resources have their columns
+
+abbrev IsTriple : Row → Type 0
+IsTriple v = column v 0 ∷ column v 1 ∷ column v 2 ∷ [] ≡ v
+
+abbrev IsPair : Row → Type 0
+IsPair v = column v 0 ∷ column v 1 ∷ [] ≡ v
+
+each_name : (id : List ℕ) (ns : List Name) → AllByRecursion (λ n. IsTriple (name_row id n)) ns
+each_name id [] = tt
+each_name id (n ∷ ns) = (refl, each_name id ns)
+
+each_member : (id : List ℕ) (vs : List (List ℕ)) → AllByRecursion (λ v. IsPair (member_row id v)) vs
+each_member id [] = tt
+each_member id (v ∷ vs) = (refl, each_member id vs)
+
+each_names : (es : List Entry) → AllByRecursion (λ e. AllByRecursion IsTriple (name_rows e)) es
+each_names [] = tt
+each_names (e ∷ es) = (all-map IsTriple (name_row e.content.id) (unique_names e.content) (each_name e.content.id (unique_names e.content)), each_names es)
+
+each_members : (es : List Entry) → AllByRecursion (λ e. AllByRecursion IsPair (member_rows e)) es
+each_members [] = tt
+each_members (e ∷ es) = (all-map IsPair (member_row e.content.id) e.members (each_member e.content.id e.members), each_members es)
+
+-- ---- what was read, in order
+
+pub ordered_read : (db : Database) (rows : TableRows) → AreRead (shown db) rows → AreOrdered (resource_tables rows)
+ordered_read db rows read = record { resources = read.resources.order; names = read.names.order; members = read.members.order }
+
+-- ---- rows that are sound
+
+pub read_stands : (base : List ℕ) (db : Database) (rows : TableRows) (count : ℕ) → Are db (shown db) → AreRead (shown db) rows → AreSound base (resource_tables rows) → CountsAudit rows.audit.items (Some count) → IsFor base db (Stands count)
+read_stands base db rows count held read (es, are) (audit, is, long) = (
+  record { resources = contents es; audit = audit },
+  record {
+    entries = es;
+    resources = refl;
+    sound = are.sound;
+    keyed = are.keyed;
+    tables = holds_lists db (lists_of es audit) rows (all-flat_map IsTriple name_rows es (each_names es)) (all-flat_map IsPair member_rows es (each_members es)) held read (record {
+      resources = record { same = IsPermutation-sym _ _ are.resources; order = read.resources.order };
+      names = record { same = IsPermutation-sym _ _ are.names; order = read.names.order };
+      members = record { same = IsPermutation-sym _ _ are.members; order = read.members.order };
+      audit = record { same = IsPermutation-same _ _ is; order = read.audit.order };
+    });
+  },
+  long,
+)
+
+-- ---- rows that aren't
+
+-- the rows of a database that stands for a store are sound
+sound_of : (base : List ℕ) (db : Database) (rows : TableRows) (store : Store) → AreRead (shown db) rows → StandsFor base db store → AreSound base (resource_tables rows)
+sound_of base db rows store read stands =
+    let told = rows_of db (lists_of stands.entries store.audit) rows stands.tables read in (
+      stands.entries,
+      record {
+        sound = stands.sound;
+        keyed = subst AreKeyed (sym stands.resources) stands.keyed;
+        resources = IsPermutation-sym _ _ told.resources.same;
+        names = IsPermutation-sym _ _ told.names.same;
+        members = IsPermutation-sym _ _ told.members.same;
+      },
+    )
+
+pub damaged_read : (base : List ℕ) (db : Database) (rows : TableRows) (id : List ℕ) → AreRead (shown db) rows → IsLeastDamage base (resource_tables rows) id → IsFor base db (Damaged id)
+damaged_read base db rows id read least = (
+  record { rows = rows; read = read; least = least },
+  λ store sound stands. least.here (sound_holds base (resource_tables rows) id least.is_id (sound_of base db rows store read stands)),
+)
+
+pub foreign_read : (base : List ℕ) (db : Database) (rows : TableRows) → AreRead (shown db) rows → IsForeign base (resource_tables rows) → IsFor base db Foreign
+foreign_read base db rows read foreign = λ store sound stands. foreign.unsound (sound_of base db rows store read stands)
+
+pub audit_read : (base : List ℕ) (db : Database) (rows : TableRows) → AreRead (shown db) rows → CountsAudit rows.audit.items None → IsFor base db Foreign
+audit_read base db rows read none = λ store sound stands.
+    (let told = rows_of db (lists_of stands.entries store.audit) rows stands.tables read in
+    none store.audit sound (sym (order_rising (0 ∷ []) (audit_rows 1 store.audit) rows.audit.items (rows_rise 1 store.audit) told.audit.same told.audit.order)))
+
+-- ---- other databases
+
+pub other_read : (base : List ℕ) (db : Database) → Is db OtherVersion → IsFor base db WrongVersion
+other_read base db is = (is, λ store sound stands. other_stand base db is store stands)
+
+pub program_read : (base : List ℕ) (db : Database) → Is db OtherProgram → IsFor base db Foreign
+program_read base db is = λ store sound stands. foreign_stand base db is store stands
+
+-- ---- all rows
+
+pub by_audit : (base : List ℕ) (db : Database) (rows : TableRows) (it : Examined) → Are db (shown db) → AreRead (shown db) rows → AreSound base (resource_tables rows) → IsByAudit rows.audit.items it → IsFor base db it
+by_audit base db rows Empty held read sound wrong = absurd wrong
+by_audit base db rows (Stands count) held read sound counts = read_stands base db rows count held read sound counts
+by_audit base db rows WrongVersion held read sound wrong = absurd wrong
+by_audit base db rows (Damaged id) held read sound wrong = absurd wrong
+by_audit base db rows Foreign held read sound none = audit_read base db rows read none
+
+-- ---- a shelf over the tables
+
+pub opened_over : (base : List ℕ) (old mid new : State) (count rows : ℕ) → Examines base old mid (Stands count)
+    → ((store : Store) → StandsIn base mid store → length store.audit ≡ count → IsKeptIn base new rows store) → (store : Store) × HasOpened base old.now new rows store
+opened_over base old mid new count rows told kept = (
+  told.is.0,
+  record {
+    kept = kept told.is.0 (λ o. subst (λ (db : Database). StandsFor base db told.is.0) (sym (told.untouched.unchanged (told.untouched.was_open o)).0.now_is) told.is.1) told.is.2;
+    opens = inr told.is.1;
+  },
+)
+
+pub opened_begun : (base : List ℕ) (old mid new : State) (rows : ℕ) → Examines base old mid Empty → IsTrue mid.is_open → (mid.now.schema ≡ no_schema → IsKeptIn base new rows no_store) → (store : Store) × HasOpened base old.now new rows store
+opened_begun base old mid new rows told opened kept = (
+  no_store,
+  record {
+    kept = kept (ap (λ (db : Database). db.schema) (told.untouched.unchanged (told.untouched.was_open opened)).0.now_is ∙ told.is);
+    opens = inl (told.is, refl);
+  },
+)

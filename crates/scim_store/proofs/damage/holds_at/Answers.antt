@@ -1,0 +1,29 @@
+use Rattle.std.proofs.Common.{◌∙◌, ap, filter, subst, sym, ◌∷◌, []}
+use Rattle.std.proofs.lemmas.Result.{IfOk-weaker}
+use Rattle.scim_tables.specs.Lists.{has_text}
+use Rattle.scim_tables.specs.Reading.{DoNotFall}
+use Rattle.scim_store.specs.Damage.{Tables}
+use Rattle.scim_store.proofs.HoldLemmas.{holds_yes, holds_no, falls_less}
+use Rattle.scim_store.proofs.damage.holds_at.Goals as goal
+
+pub returns-clause-yes : goal.returns-clause-yes
+returns-clause-yes c = λ ordered.
+    (let text = c.write-text.ensures.value in
+    let rs = c.as_slice.ensures.value ∙ ap (λ (t : Tables). t.resources) c.tables.view_is in
+    let ns = c.as_slice-2.ensures.value ∙ ap (λ (t : Tables). t.names) c.tables.view_is in
+    let ms = c.as_slice-3.ensures.value ∙ ap (λ (t : Tables). t.members) c.tables.view_is in
+    let r = c.rows_of-resources.ensures (subst (DoNotFall (0 ∷ [])) (sym rs) ordered.resources) ∙ (λ i. filter (has_text 0 (text i)) (rs i)) in
+    let n = c.rows_of-names.ensures (subst (DoNotFall (0 ∷ [])) (sym ns) (falls_less (1 ∷ 2 ∷ []) c.args.tables.now.names ordered.names)) ∙ (λ i. filter (has_text 0 (text i)) (ns i)) in
+    let m = c.rows_of-members.ensures (subst (DoNotFall (0 ∷ [])) (sym ms) (falls_less (1 ∷ []) c.args.tables.now.members ordered.members)) ∙ (λ i. filter (has_text 0 (text i)) (ms i)) in
+    IfOk-weaker c.are_of_one.result _ _ (λ holds f yes'. holds_yes c.args.base.now c.args.tables.now c.args.id c.rows_of-resources.result.now c.rows_of-names.result.now c.rows_of-members.result.now r n m (f yes')) c.are_of_one.ensures.yes)
+
+pub returns-clause-no : goal.returns-clause-no
+returns-clause-no c = λ ordered.
+    (let text = c.write-text.ensures.value in
+    let rs = c.as_slice.ensures.value ∙ ap (λ (t : Tables). t.resources) c.tables.view_is in
+    let ns = c.as_slice-2.ensures.value ∙ ap (λ (t : Tables). t.names) c.tables.view_is in
+    let ms = c.as_slice-3.ensures.value ∙ ap (λ (t : Tables). t.members) c.tables.view_is in
+    let r = c.rows_of-resources.ensures (subst (DoNotFall (0 ∷ [])) (sym rs) ordered.resources) ∙ (λ i. filter (has_text 0 (text i)) (rs i)) in
+    let n = c.rows_of-names.ensures (subst (DoNotFall (0 ∷ [])) (sym ns) (falls_less (1 ∷ 2 ∷ []) c.args.tables.now.names ordered.names)) ∙ (λ i. filter (has_text 0 (text i)) (ns i)) in
+    let m = c.rows_of-members.ensures (subst (DoNotFall (0 ∷ [])) (sym ms) (falls_less (1 ∷ []) c.args.tables.now.members ordered.members)) ∙ (λ i. filter (has_text 0 (text i)) (ms i)) in
+    IfOk-weaker c.are_of_one.result _ _ (λ holds f no at. f no (holds_no c.args.base.now c.args.tables.now c.args.id c.rows_of-resources.result.now c.rows_of-names.result.now c.rows_of-members.result.now r n m ordered.members at)) c.are_of_one.ensures.no)

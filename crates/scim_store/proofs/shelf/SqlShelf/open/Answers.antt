@@ -1,0 +1,32 @@
+use Rattle.std.proofs.Common.{subst}
+use Rattle.std.proofs.lemmas.Result.{IfOk-weaker, IfErr-weaker}
+use Rattle.sqlite.specs.Held.{state}
+use Rattle.scim_store.specs.Opening.{IsFor, Examines}
+use Rattle.scim_store.proofs.OpenLemmas.{opened_over, opened_begun}
+use Rattle.scim_store.proofs.shelf.SqlShelf.open.Goals as goal
+
+pub returns-in-Err-clause-refused : goal.returns-in-Err-clause-refused
+returns-in-Err-clause-refused g c = λ _. c.open_fault_of.ensures c.args.base.now (state g.S.Store c.args.connection).now
+
+pub returns-in-Empty-clause-refused : goal.returns-in-Empty-clause-refused
+returns-in-Empty-clause-refused g c = IfErr-weaker c.begin.result _ _ (λ e refused _. refused c.args.base.now (state g.S.Store c.args.connection).now) c.begin.ensures.refused
+
+pub returns-in-Empty-clause-opened : goal.returns-in-Empty-clause-opened
+returns-in-Empty-clause-opened g c =
+    let old = state g.S.Store c.args.connection in
+    let mid = state g.S.Store c.examine.new.conn in
+    IfOk-weaker c.begin.result _ _ (λ shelf kept clean.
+    (let all = kept clean in opened_begun c.args.base.now old mid (state g.S.Store shelf.connection) shelf.rows (subst (Examines c.args.base.now old mid) c.in-Empty.is (c.in-Ok.ensures.examined all.0)) all.1 all.2)) c.begin.ensures.kept
+
+pub returns-in-Stands-clause-opened : goal.returns-in-Stands-clause-opened
+returns-in-Stands-clause-opened g c =
+    let old = state g.S.Store c.args.connection in
+    let mid = state g.S.Store c.examine.new.conn in
+    IfOk-weaker c.over.result _ _ (λ shelf kept clean.
+    opened_over c.args.base.now old mid (state g.S.Store shelf.connection) c.in-Stands.rows shelf.rows (subst (Examines c.args.base.now old mid) c.in-Stands.is (c.in-Ok.ensures.examined (kept clean).0)) (kept clean).1) c.over.ensures.kept
+
+pub returns-in-Stands-clause-refused : goal.returns-in-Stands-clause-refused
+returns-in-Stands-clause-refused g c = IfErr-weaker c.over.result _ _ (λ e refused _. refused c.args.base.now (state g.S.Store c.args.connection).now) c.over.ensures.refused
+
+pub returns-in-Damaged-clause-refused : goal.returns-in-Damaged-clause-refused
+returns-in-Damaged-clause-refused g c = λ clean. subst (IsFor c.args.base.now (state g.S.Store c.args.connection).now) c.in-Damaged.is (c.in-Ok.ensures.examined clean).is

@@ -1,0 +1,87 @@
+-- Whether the rows of the three tables of resources are those of resources, and at which id they aren't.
+use Rattle.std.specs.Prelude.{◌≡◌, ℕ, Bool, true, List, map, filter, All, Option, IsPermutation, [], ◌∷◌}
+use Rattle.std.specs.Option.{option_to_list}
+use Rattle.std.specs.List.{flat_map, list_any, IsDistinct}
+use Rattle.std.specs.List.Sorted.{IsStrictlySortedBy}
+use Rattle.std.specs.Ordering.{nat_cmp, is_eq}
+use Rattle.std.specs.declared.cmp.Ordering.TheVariants.{Less}
+use Rattle.std.specs.Cmp.Lexicographic.{slice_cmp}
+use Rattle.sqlite.specs.Order.{Row, column, value_cmp}
+use Rattle.scim_cell.specs.Ids.{IsId}
+use Rattle.scim_shelf.specs.Stores.{AreKeyed}
+use Rattle.scim_tables.specs.Reading.{DoNotFall, owner_first, group_first}
+use Rattle.scim_store.specs.Owners.{is_of}
+use Rattle.scim_store.specs.Stands.{Entry, IsEntry, resource_row, name_rows, member_rows}
+use Rattle.scim_store.specs.declared.damage.Judged.{Judged}
+use Rattle.scim_store.specs.declared.damage.Judged.TheVariants.{Sound, Damaged, Foreign}
+
+-- the rows of three tables, as queries tell them
+pub record Tables : Type 0 where
+  -- id, kind and document
+  pub resources : List Row
+  -- owner, attribute and folded text of each unique name
+  pub names : List Row
+  -- group and value of each member
+  pub members : List Row
+
+-- the rows are in order, as they are read: by id; by owner, attribute and text; by group and value
+pub record AreOrdered (tables : Tables) : Type 0 where
+  pub resources : DoNotFall (0 ∷ []) tables.resources
+  pub names : DoNotFall (0 ∷ 1 ∷ 2 ∷ []) tables.names
+  pub members : DoNotFall (0 ∷ 1 ∷ []) tables.members
+
+-- the rows are those of these resources below the base, each table's in some order
+pub record AreRowsOf (base : List ℕ) (entries : List Entry) (tables : Tables) : Type 0 where
+  pub sound : All (IsEntry base) entries
+  pub keyed : AreKeyed (map (λ e. e.content) entries)
+  pub resources : IsPermutation tables.resources (map resource_row entries)
+  pub names : IsPermutation tables.names (map owner_first (flat_map name_rows entries))
+  pub members : IsPermutation tables.members (map group_first (flat_map member_rows entries))
+
+-- the rows are those of some resources
+abbrev pub AreSound : List ℕ → Tables → Type 0
+AreSound base tables = (entries : List Entry) × AreRowsOf base entries tables
+
+-- the rows of an id, in each table
+abbrev pub rows_at : List ℕ → Tables → Tables
+rows_at id tables = record { resources = filter (is_of id) tables.resources; names = filter (is_of id) tables.names; members = filter (is_of id) tables.members }
+
+-- the rows of an id are those of one resource, or there are none
+abbrev pub HoldsAt : List ℕ → Tables → List ℕ → Type 0
+HoldsAt base tables id = (entry : Option Entry) × AreRowsOf base (option_to_list entry) (rows_at id tables)
+
+-- the least id whose rows are neither those of one resource nor none
+pub record IsLeastDamage (base : List ℕ) (tables : Tables) (id : List ℕ) : Type 0 where
+  pub is_id : IsId id
+  pub here : ¬ HoldsAt base tables id
+  pub before : (other : List ℕ) → IsId other → slice_cmp nat_cmp other id ≡ Less → HoldsAt base tables other
+
+-- the rows of each id hold, but together they are those of no resources
+pub record IsForeign (base : List ℕ) (tables : Tables) : Type 0 where
+  pub holds : (id : List ℕ) → IsId id → HoldsAt base tables id
+  pub unsound : ¬ AreSound base tables
+
+-- what is said of the rows is so
+abbrev pub Judges : List ℕ → Tables → Judged → Type 0
+Judges base tables Sound = AreSound base tables
+Judges base tables (Damaged id) = IsLeastDamage base tables id
+Judges base tables Foreign = IsForeign base tables
+
+-- a row belongs to one of these ids
+abbrev pub AreOwned : List (List ℕ) → Row → Type 0
+AreOwned ids row = list_any (λ id. is_of id row) ids ≡ true
+
+-- whether two rows have one text of a name; the one attribute with unique names is `userName`
+abbrev pub is_shared : Row → Row → Bool
+is_shared r s = is_eq (value_cmp (column r 2) (column s 2))
+
+-- Where each row belongs to one of some ids, the rows of each id hold and no name has two rows, the rows are those of resources.
+abbrev pub HoldingRowsAreSound : Type 0
+HoldingRowsAreSound =
+    (base : List ℕ) (tables : Tables) (ids : List (List ℕ)) → IsStrictlySortedBy (slice_cmp nat_cmp) ids → All IsId ids → All (AreOwned ids) tables.resources → All (AreOwned ids) tables.names → All (AreOwned ids) tables.members
+    → ((id : List ℕ) → IsId id → HoldsAt base tables id) → IsDistinct is_shared tables.names → AreSound base tables
+
+-- Where the rows are those of resources, those of each id are those of one resource, or there are none: so where an id is damaged, they are those
+-- of no resources.
+abbrev pub SoundRowsHold : Type 0
+SoundRowsHold = (base : List ℕ) (tables : Tables) (id : List ℕ) → IsId id → AreSound base tables → HoldsAt base tables id

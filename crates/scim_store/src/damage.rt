@@ -1,0 +1,380 @@
+//! Whether the tables of resources hold what they should, and where they don't.
+
+ghost use Rattle.std.specs.Prelude.{◌≡◌, ◌↔◌, ◌||◌, [], ◌∷◌, ℕ, List, true, false, map, IfOk, IfSome, None, IsTrue, All, AllPairs, IsPermutation};
+ghost use Rattle.std.specs.Ordering.{nat_cmp};
+ghost use Rattle.std.specs.Cmp.Lexicographic.{slice_cmp};
+ghost use Rattle.std.specs.BTreeSet.{contains};
+ghost use Rattle.std.specs.List.Sorted.{IsStrictlySortedBy};
+ghost use Rattle.std.specs.Option.{option_copied};
+ghost use Rattle.sqlite.specs.Order.{column};
+ghost use Rattle.scim_cell.specs.Content.{Content};
+ghost use Rattle.scim_cell.specs.Ids.{IsId, id_text};
+ghost use Rattle.scim_value.specs.Members.{lists_value};
+ghost use Rattle.scim_value.specs.Uniqueness.{name_of};
+ghost use Rattle.scim_store.specs.Audit.{kind_number as spec_number};
+ghost use Rattle.scim_store.specs.Stands.{is_among};
+ghost use Rattle.std.specs.List.{IsDistinct};
+ghost use Rattle.scim_store.specs.Owners.{HasOwner, is_owner};
+ghost use Rattle.scim_store.specs.Damage as spec;
+ghost use Rattle.scim_store.specs.code.Damage as code;
+
+use crate::changes::values_of;
+use crate::columns::kind_number;
+use crate::owners::{has_text, have_owners, note_owners, rows_of, value_in};
+use scim_cell::{Id, Text};
+use scim_json::read_stored;
+use scim_text::{Failed, NoMemory};
+use scim_value::{Resource, UniqueName, unique_names};
+use sqlite::Row;
+use sqlite::types::ValueRef;
+use std::alloc::Global;
+use std::collections::BTreeSet;
+use std::marker::Model;
+
+/// What the rows of the tables of resources are.
+#[derive(Clone, Copy, Debug, PartialEq, Eq)]
+pub enum Judged {
+    /// Those of resources.
+    Sound,
+    /// Not those of resources: the rows of this id are neither those of one resource nor none, and it is the least such
+    /// id.
+    Damaged(Id),
+    /// Not those of resources, though the rows of each id are: some row belongs to no id, or two resources share a
+    /// unique name.
+    Foreign,
+}
+
+/// The document of a resource is no UTF-8, so that it can't be read.
+#[derive(Clone, Copy, Debug, PartialEq, Eq)]
+pub struct Unreadable;
+
+/// The rows of the tables of resources, as `read_resources`, `read_names` and `read_members` of `scim_tables` tell them.
+#[derive(Debug, Drop)]
+pub struct ResourceRows {
+    /// Id, kind and document of each resource.
+    pub resources: Vec<Row>,
+    /// Owner, attribute and folded text of each unique name.
+    pub names: Vec<Row>,
+    /// Group and value of each member.
+    pub members: Vec<Row>,
+}
+
+impl Model for ResourceRows {
+    ghost use Rattle.scim_store.specs.Damage.{Tables};
+
+    ghost Value = { Tables };
+
+    ghost view = { λ t. record { resources = t.resources.items; names = t.names.items; members = t.members.items } };
+}
+
+/// Whether the values of a row are just the two texts.
+fn is_pair(row: &Row, first: &str, second: &str) -> bool
+    ensures { result ≡ code.is_pair first.now second.now row.now }
+{
+    row.column_count() == 2 && has_text(row, 0, first) && has_text(row, 1, second)
+}
+
+/// Whether the values of a row are just the three texts.
+fn is_triple(row: &Row, first: &str, second: &str, third: &str) -> bool
+    ensures { result ≡ code.is_triple first.now second.now third.now row.now }
+{
+    row.column_count() == 3
+        && has_text(row, 0, first)
+        && has_text(row, 1, second)
+        && has_text(row, 2, third)
+}
+
+/// Whether the rows are those of the names of the resource with the id, in their order.
+fn are_names(rows: &[Row], id: &str, names: &[UniqueName]) -> bool
+    ensures { result ≡ true ↔ rows.now ≡ map (code.owned_name id.now) (map name_of names.now) }
+{
+    if rows.len() != names.len() {
+        return false;
+    }
+    for at in 0..names.len() {
+        let name = &names[at];
+        if !is_triple(
+            &rows[at],
+            id,
+            name.leaf.attribute.name(),
+            name.text.as_str(),
+        ) {
+            return false;
+        }
+    }
+    true
+}
+
+/// Whether the rows are those of the values that the group with the id lists, in their order.
+fn are_members(rows: &[Row], id: &str, values: &[Text]) -> bool
+    ensures { result ≡ true ↔ rows.now ≡ map (code.owned_member id.now) values.now }
+{
+    if rows.len() != values.len() {
+        return false;
+    }
+    for at in 0..values.len() {
+        if !is_pair(&rows[at], id, values[at].as_str()) {
+            return false;
+        }
+    }
+    true
+}
+
+/// The values that a resource lists among its members, each once, in order. NoMemory where none was to be had.
+fn listed_values(alloc: Global, resource: &Resource) -> Result<Vec<Text>, NoMemory>
+    ensures listed { IfOk result (λ values. (v : List ℕ) → is_among v values.items ≡ lists_value v resource.now) }
+    ensures rising { IfOk result (λ values. IsStrictlySortedBy (slice_cmp nat_cmp) values.items) }
+{
+    let values = values_of(alloc, resource)?;
+    let mut listed = Vec::new(alloc);
+    for value in &values {
+        listed.push(Text::copy_of(alloc, value)?)?;
+    }
+    Ok(listed)
+}
+
+/// Whether the value at a place of a row is the number.
+fn has_number(row: &Row, place: usize, number: u32) -> bool
+    ensures { result ≡ code.is_number number (column row.now place) }
+{
+    match value_in(row, place) {
+        ValueRef::Int(value) => value == i64::from(number),
+        ValueRef::Null => false,
+        ValueRef::Real(_) => false,
+        ValueRef::Text(_) => false,
+        ValueRef::Blob(_) => false,
+    }
+}
+
+/// Whether the row is that of the resource, with the text as its document.
+fn is_row_of(row: &Row, resource: &Resource, document: &str) -> bool
+    ensures { result ≡ code.is_row (id_text resource.now.id) (spec_number resource.now.kind) document.now row.now }
+{
+    let mut buffer = [0; Id::TEXT_LENGTH];
+    row.column_count() == 3
+        && has_text(row, 0, resource.id().write(&mut buffer))
+        && has_number(row, 1, kind_number(resource.kind()))
+        && has_text(row, 2, document)
+}
+
+/// The document of the row of a resource; None where it has no text there.
+fn document_of(row: &Row) -> Result<Option<&str>, Failed<Unreadable>>
+    ensures { IfOk result (λ found. option_copied found ≡ code.text_in (column row.now 2)) }
+{
+    match value_in(row, 2) {
+        ValueRef::Text(bytes) => match str::from_utf8(bytes) {
+            Ok(text) => Ok(Some(text)),
+            Err(_) => Err(Failed::Because(Unreadable)),
+        },
+        ValueRef::Null => Ok(None),
+        ValueRef::Int(_) => Ok(None),
+        ValueRef::Real(_) => Ok(None),
+        ValueRef::Blob(_) => Ok(None),
+    }
+}
+
+/// The resource whose row it is; None where it is that of no resource below the base.
+fn read_resource(
+    alloc: Global,
+    base: &str,
+    row: &Row,
+) -> Result<Option<Resource>, Failed<Unreadable>>
+    ensures some { IfOk result (λ found. IfSome found (code.IsRowOf base.now row.now)) }
+    ensures none { IfOk result (λ found. found ≡ None → (c : Content) → code.IsRowOf base.now row.now c → ⊥) }
+{
+    let Some(document) = document_of(row)? else {
+        return Ok(None);
+    };
+    let resource = match read_stored(alloc, base, document) {
+        Ok(resource) => resource,
+        Err(Failed::Because(_)) => return Ok(None),
+        Err(Failed::NoMemory) => return Err(Failed::NoMemory),
+    };
+    if is_row_of(row, &resource, document) {
+        Ok(Some(resource))
+    } else {
+        Ok(None)
+    }
+}
+
+/// Whether the rows of names and those of members are those of the resource. NoMemory where none was to be had.
+fn has_rows(
+    alloc: Global,
+    resource: &Resource,
+    names: &[Row],
+    members: &[Row],
+) -> Result<bool, NoMemory>
+    ensures yes { IfOk result (λ has. has ≡ true → code.HasRows resource.now names.now members.now) }
+    ensures no { IfOk result (λ has. has ≡ false → code.HasRows resource.now names.now members.now → ⊥) }
+{
+    let mut buffer = [0; Id::TEXT_LENGTH];
+    let id = resource.id().write(&mut buffer);
+    let unique = unique_names(alloc, resource)?;
+    let values = listed_values(alloc, resource)?;
+    Ok(are_names(names, id, unique.as_slice()) && are_members(members, id, values.as_slice()))
+}
+
+/// Whether the rows are those of one resource below the base, or there are none. NoMemory where none was to be had.
+fn are_of_one(
+    alloc: Global,
+    base: &str,
+    resources: &[Row],
+    names: &[Row],
+    members: &[Row],
+) -> Result<bool, Failed<Unreadable>>
+    ensures yes { IfOk result (λ holds. holds ≡ true → code.AreOfOne base.now resources.now names.now members.now) }
+    ensures no { IfOk result (λ holds. holds ≡ false → code.AreOfOne base.now resources.now names.now members.now → ⊥) }
+{
+    match resources {
+        [] => Ok(names.is_empty() && members.is_empty()),
+        [row] => match read_resource(alloc, base, row)? {
+            Some(resource) => Ok(has_rows(alloc, &resource, names, members)?),
+            None => Ok(false),
+        },
+        _ => Ok(false),
+    }
+}
+
+/// Whether the rows of an id are those of one resource below the base, or there are none.
+fn holds_at(
+    alloc: Global,
+    base: &str,
+    tables: &ResourceRows,
+    id: Id,
+) -> Result<bool, Failed<Unreadable>>
+    ensures id { IsId id }
+    ensures yes { spec.AreOrdered tables.now → IfOk result (λ holds. holds ≡ true → spec.HoldsAt base.now tables.now id) }
+    ensures no { spec.AreOrdered tables.now → IfOk result (λ holds. holds ≡ false → spec.HoldsAt base.now tables.now id → ⊥) }
+{
+    let mut buffer = [0; Id::TEXT_LENGTH];
+    let text = id.write(&mut buffer);
+    let resources = rows_of(tables.resources.as_slice(), text);
+    let names = rows_of(tables.names.as_slice(), text);
+    let members = rows_of(tables.members.as_slice(), text);
+    are_of_one(alloc, base, resources, names, members)
+}
+
+/// The least id whose rows don't hold, where those of an id that isn't among these do; None where those of all ids hold.
+fn first_damage(
+    alloc: Global,
+    base: &str,
+    tables: &ResourceRows,
+    ids: &BTreeSet<Id>,
+) -> Result<Option<Id>, Failed<Unreadable>>
+    requires others { (id : List ℕ) → IsId id → contains (slice_cmp nat_cmp) ids.now id ≡ false → spec.HoldsAt base.now tables.now id }
+    ensures some { spec.AreOrdered tables.now → IfOk result (λ found. IfSome found (spec.IsLeastDamage base.now tables.now)) }
+    ensures none { spec.AreOrdered tables.now → IfOk result (λ found. found ≡ None → (id : List ℕ) → IsId id → spec.HoldsAt base.now tables.now id) }
+    ensures ids { IfOk result (λ found. found ≡ None → All IsId ids.now.keys) }
+    ensures rising { IsStrictlySortedBy (slice_cmp nat_cmp) ids.now.keys }
+{
+    for id in ids {
+        if !holds_at(alloc, base, tables, *id)? {
+            return Ok(Some(*id));
+        }
+    }
+    Ok(None)
+}
+
+/// The ids that rows of the tables belong to. NoMemory where none was to be had.
+fn owners(alloc: Global, tables: &ResourceRows) -> Result<BTreeSet<Id>, NoMemory>
+    ensures { IfOk result (λ ids. (id : List ℕ) → IsId id → contains (slice_cmp nat_cmp) ids id
+        ≡ ((is_owner tables.now.resources id || is_owner tables.now.names id) || is_owner tables.now.members id)) }
+{
+    let mut ids = BTreeSet::new(alloc);
+    note_owners(tables.resources.as_slice(), &mut ids)?;
+    note_owners(tables.names.as_slice(), &mut ids)?;
+    note_owners(tables.members.as_slice(), &mut ids)?;
+    Ok(ids)
+}
+
+/// The text of the row of a name; None where it has none.
+fn text_of_name(name: &Row) -> Option<&[u8]>
+    ensures { option_copied result ≡ code.text_in (column name.now 2) }
+{
+    match value_in(name, 2) {
+        ValueRef::Text(text) => Some(text),
+        ValueRef::Null => None,
+        ValueRef::Int(_) => None,
+        ValueRef::Real(_) => None,
+        ValueRef::Blob(_) => None,
+    }
+}
+
+/// Whether each row of a name has a text, and none has that of another: no resource has two names, and only one
+/// attribute has unique names. NoMemory where none was to be had.
+fn are_apart(alloc: Global, names: &[Row]) -> Result<bool, NoMemory>
+    ensures yes { IfOk result (λ apart. apart ≡ true → IsDistinct spec.is_shared names.now) }
+    ensures no { IfOk result (λ apart. apart ≡ false → All code.HasName names.now → IsDistinct spec.is_shared names.now → ⊥) }
+{
+    let mut texts = BTreeSet::new(alloc);
+    for name in names {
+        let Some(text) = text_of_name(name) else {
+            return Ok(false);
+        };
+        if !texts.insert(text)? {
+            return Ok(false);
+        }
+    }
+    Ok(true)
+}
+
+/// Whether each row belongs to an id.
+fn are_owned(resources: &[Row], names: &[Row], members: &[Row]) -> bool
+    ensures resources { result ≡ true → All HasOwner resources.now }
+    ensures names { result ≡ true → All HasOwner names.now }
+    ensures members { result ≡ true → All HasOwner members.now }
+    ensures no { result ≡ false → All HasOwner resources.now → All HasOwner names.now → All HasOwner members.now → ⊥ }
+{
+    if !have_owners(resources) {
+        return false;
+    }
+    if !have_owners(names) {
+        return false;
+    }
+    have_owners(members)
+}
+
+/// Whether rows of which those of each id hold are those of resources. NoMemory where none was to be had.
+fn are_sound(alloc: Global, tables: &ResourceRows) -> Result<bool, NoMemory>
+    ensures owned { IfOk result (λ sound. sound ≡ true → code.AreAllOwned tables.now) }
+    ensures apart { IfOk result (λ sound. sound ≡ true → IsDistinct spec.is_shared tables.now.names) }
+    ensures no { IfOk result (λ sound. sound ≡ false → (base : List ℕ) → spec.AreSound base tables.now → ⊥) }
+{
+    let names = tables.names.as_slice();
+    if !are_owned(
+        tables.resources.as_slice(),
+        names,
+        tables.members.as_slice(),
+    ) {
+        return Ok(false);
+    }
+    are_apart(alloc, names)
+}
+
+/// What the rows of the tables are, if they are in order, as they are read.
+///
+/// The error is that no memory was to be had, or that the document of a resource is no UTF-8.
+pub fn judge(alloc: Global, base: &str, tables: &ResourceRows) -> Result<Judged, Failed<Unreadable>>
+    ensures judged { spec.AreOrdered tables.now → IfOk result (spec.Judges base.now tables.now) }
+{
+    let ids = owners(alloc, tables)?;
+    if let Some(id) = first_damage(alloc, base, tables, &ids)? {
+        return Ok(Judged::Damaged(id));
+    }
+    if are_sound(alloc, tables)? {
+        Ok(Judged::Sound)
+    } else {
+        Ok(Judged::Foreign)
+    }
+}
+
+/// Where the rows are those of resources, those of each id are those of one resource, or there are none. So where an id
+/// is damaged, the rows are those of no resources.
+pub fn sound_rows_hold()
+    ensures { spec.SoundRowsHold }
+{}
+
+/// Where each row belongs to an id, the rows of each id hold and no name has two rows, the rows are those of resources.
+pub fn holding_rows_are_sound()
+    ensures { spec.HoldingRowsAreSound }
+{}

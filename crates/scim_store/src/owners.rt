@@ -1,0 +1,116 @@
+//! Whom the rows of the tables belong to.
+
+ghost use Rattle.std.specs.Prelude.{◌≡◌, ◌||◌, ℕ, List, [], ◌∷◌, All, true, false, filter, IfSome, IfOk, OnOk, None};
+ghost use Rattle.std.specs.Ordering.{nat_cmp};
+ghost use Rattle.std.specs.Cmp.Lexicographic.{slice_cmp};
+ghost use Rattle.std.specs.BTreeSet.{contains};
+ghost use Rattle.sqlite.specs.declared.types.Value.TheVariants.{Text};
+ghost use Rattle.sqlite.specs.Order.{column, value_cmp};
+ghost use Rattle.sqlite_value.specs.Value.{owned};
+ghost use Rattle.scim_cell.specs.Ids.{IsId, id_text};
+ghost use Rattle.scim_tables.specs.Lists as tables;
+ghost use Rattle.scim_tables.specs.Reading.{DoNotFall};
+ghost use Rattle.scim_store.specs.Owners.{is_of, HasOwner, is_owner};
+
+use scim_cell::Id;
+use scim_text::NoMemory;
+use sqlite::Row;
+use sqlite::types::ValueRef;
+use std::cmp::Ordering;
+use std::collections::BTreeSet;
+
+/// The value at a place of a row; NULL past its end.
+pub(crate) fn value_in(row: &Row, place: usize) -> ValueRef<'_>
+    ensures { owned result ≡ column row.now place }
+{
+    row.get_ref(place).unwrap_or(ValueRef::Null)
+}
+
+/// Whether the value at a place of a row is the text.
+pub(crate) fn has_text(row: &Row, place: usize, text: &str) -> bool
+    ensures { result ≡ tables.has_text place text.now row.now }
+{
+    match value_in(row, place) {
+        ValueRef::Text(bytes) => bytes == text.as_bytes(),
+        ValueRef::Null => false,
+        ValueRef::Int(_) => false,
+        ValueRef::Real(_) => false,
+        ValueRef::Blob(_) => false,
+    }
+}
+
+#[tactic(auto, using(crate::proofs::OwnedLemmas::text_against, crate::proofs::OwnedLemmas::high_against, crate::proofs::OwnedLemmas::low_against))]
+/// How the first value of a row compares to a text.
+fn compare_owner(row: &Row, text: &str) -> Ordering
+    ensures { result ≡ value_cmp (column row.now 0) (Text text.now) }
+{
+    match value_in(row, 0) {
+        ValueRef::Null => Ordering::Less,
+        ValueRef::Int(_) => Ordering::Less,
+        ValueRef::Real(_) => Ordering::Less,
+        ValueRef::Text(bytes) => bytes.cmp(text.as_bytes()),
+        ValueRef::Blob(_) => Ordering::Greater,
+    }
+}
+
+/// The rows that begin with the text, if the rows are in order of what they begin with.
+pub(crate) fn rows_of<'r>(rows: &'r [Row], text: &str) -> &'r [Row]
+    ensures { DoNotFall (0 ∷ []) rows.now → result.now ≡ filter (tables.has_text 0 text.now) rows.now }
+{
+    let start = rows.partition_point(|row| compare_owner(row, text).is_lt());
+    let rest = &rows[start..];
+    let count = rest.partition_point(|row| compare_owner(row, text).is_le());
+    &rest[..count]
+}
+
+/// The id whose text the bytes are; None where they are none.
+fn id_of(bytes: &[u8]) -> Option<Id>
+    ensures some { IfSome result (λ id. bytes.now ≡ id_text id) }
+    ensures id { IfSome result IsId }
+    ensures none { result ≡ None → (id : List ℕ) → IsId id → bytes.now ≡ id_text id → ⊥ }
+{
+    match str::from_utf8(bytes) {
+        Ok(text) => Id::read(text),
+        Err(_) => None,
+    }
+}
+
+/// The id whose text a row begins with; None where it begins with no such text.
+fn owner_of(row: &Row) -> Option<Id>
+    ensures some { IfSome result (λ id. is_of id row.now ≡ true) }
+    ensures id { IfSome result IsId }
+    ensures none { result ≡ None → (id : List ℕ) → IsId id → is_of id row.now ≡ false }
+{
+    match value_in(row, 0) {
+        ValueRef::Text(bytes) => id_of(bytes),
+        ValueRef::Null => None,
+        ValueRef::Int(_) => None,
+        ValueRef::Real(_) => None,
+        ValueRef::Blob(_) => None,
+    }
+}
+
+/// Whether each row begins with the text of an id.
+pub(crate) fn have_owners(rows: &[Row]) -> bool
+    ensures yes { result ≡ true → All HasOwner rows.now }
+    ensures no { result ≡ false → All HasOwner rows.now → ⊥ }
+{
+    for row in rows {
+        if owner_of(row).is_none() {
+            return false;
+        }
+    }
+    true
+}
+
+/// Adds the ids whose texts the rows begin with. NoMemory where none was to be had.
+pub(crate) fn note_owners(rows: &[Row], ids: &mut BTreeSet<Id>) -> Result<(), NoMemory>
+    ensures { OnOk result ((id : List ℕ) → IsId id → contains (slice_cmp nat_cmp) ids.new id ≡ (contains (slice_cmp nat_cmp) ids.old id || is_owner rows.now id)) }
+{
+    for row in rows {
+        if let Some(id) = owner_of(row) {
+            ids.insert(id)?;
+        }
+    }
+    Ok(())
+}
