@@ -27,7 +27,7 @@ use Rattle.scim_cell.specs.Ids.{id_text}
 use Rattle.scim_shelf.proofs.StoreLemmas.{keyed_nil, ids_differ}
 use Rattle.scim_tables.specs.Reading.{DoNotFall, columns_cmp, owner_first, group_first}
 use Rattle.scim_value.specs.Uniqueness.{Name, unique_names}
-use Rattle.scim_store.specs.Damage.{Tables, AreRowsOf, HoldsAt, rows_at}
+use Rattle.scim_store.specs.Damage.{Tables, AreThoseOf, HoldsAt, rows_at}
 use Rattle.scim_store.specs.Owners.{is_of}
 use Rattle.scim_store.specs.Stands.{Entry, IsEntry, resource_row, name_row, name_rows, member_row, member_rows}
 use Rattle.scim_store.specs.code.Damage.{owned_name, owned_member, AreOfOne}
@@ -36,7 +36,7 @@ use Rattle.scim_store.proofs.SoundLemmas.{few_keyed}
 
 -- the rows are those of one resource, or there are none
 abbrev Fit : List ℕ → List Row → List Row → List Row → Option Entry → Type 0
-Fit base resources names members o = AreRowsOf base (option_to_list o) (record { resources = resources; names = names; members = members })
+Fit base resources names members o = AreThoseOf base (option_to_list o) (record { resources = resources; names = names; members = members })
 
 names_of_one : (e : Entry) → map owner_first (flat_map name_rows (e ∷ [])) ≡ map (owned_name (id_text e.content.id)) (unique_names e.content)
 names_of_one e = ap (map owner_first) (append-nil (name_rows e)) ∙ map-map owner_first (name_row e.content.id) (unique_names e.content)
@@ -151,9 +151,9 @@ module _ (base : List ℕ) (tables : Tables) (id : List ℕ) (resources names me
   those = λ i. record { resources = r i; names = n i; members = m i }
 
   pub holds_yes : AreOfOne base resources names members → HoldsAt base tables id
-  holds_yes of = (let fit = to_fit base resources names members of in (fit.0, subst (AreRowsOf base (option_to_list fit.0)) those fit.1))
+  holds_yes of = (let fit = to_fit base resources names members of in (fit.0, subst (AreThoseOf base (option_to_list fit.0)) those fit.1))
 
   pub holds_no : DoNotFall (0 ∷ 1 ∷ []) tables.members → HoldsAt base tables id → AreOfOne base resources names members
   holds_no up at =
       from_fit base resources names members at.0 (subst (DoNotFall (0 ∷ 1 ∷ [])) (sym m) (ascending-filter _ (is_of id) tables.members up))
-      (subst (AreRowsOf base (option_to_list at.0)) (sym those) at.1)
+      (subst (AreThoseOf base (option_to_list at.0)) (sym those) at.1)

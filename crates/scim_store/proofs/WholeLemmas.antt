@@ -26,7 +26,7 @@ use Rattle.scim_shelf.proofs.StoreLemmas.{keyed_nil, keyed_cons, ids_differ}
 use Rattle.scim_tables.specs.Reading.{owner_first, group_first}
 use Rattle.scim_value.specs.Uniqueness.{Name, AreApart, unique_names}
 use Rattle.scim_store.specs.Owners.{is_of}
-use Rattle.scim_store.specs.Damage.{Tables, AreRowsOf, AreSound, HoldsAt, rows_at, AreOwned, is_shared}
+use Rattle.scim_store.specs.Damage.{Tables, AreThoseOf, AreSound, HoldsAt, rows_at, AreOwned, is_shared}
 use Rattle.scim_store.specs.Stands.{Entry, IsEntry, resource_row, name_row, name_rows, member_rows}
 use Rattle.scim_store.proofs.IdTextLemmas.{same_owner, text_of}
 use Rattle.scim_store.proofs.OwnerLemmas.{contents}
@@ -77,7 +77,7 @@ record Collected (base : List ℕ) (tables : Tables) (ks : List (List ℕ)) : Ty
   members : IsPermutation (flat_map (λ k. filter (is_of k) tables.members) ks) (map group_first (flat_map member_rows entries))
 
 -- the one resource of an id has it
-own_key : (base : List ℕ) (tables : Tables) (k : List ℕ) (e : Entry) → IsId k → AreRowsOf base (e ∷ []) (rows_at k tables) → e.content.id ≡ k
+own_key : (base : List ℕ) (tables : Tables) (k : List ℕ) (e : Entry) → IsId k → AreThoseOf base (e ∷ []) (rows_at k tables) → e.content.id ≡ k
 own_key base tables k e is are =
     (let passes = All-permutation (λ r. is_of k r ≡ true) _ (resource_row e ∷ []) are.resources (filter_passes (is_of k) tables.resources) in
     let here : is_of k (resource_row e) ≡ true = All-head (λ r. is_of k r ≡ true) (resource_row e) [] passes in
@@ -114,7 +114,7 @@ collected base tables (k ∷ ks) up are holds = go (holds k are.0).0 (holds k ar
     later : AllByRecursion (λ j. slice_cmp nat_cmp k j ≡ Less) ks
     later = sorted_head (slice_cmp nat_cmp) k ks up
 
-    go : (o : Option Entry) → AreRowsOf base (option_to_list o) (rows_at k tables) → Collected base tables ks → Collected base tables (k ∷ ks)
+    go : (o : Option Entry) → AreThoseOf base (option_to_list o) (rows_at k tables) → Collected base tables ks → Collected base tables (k ∷ ks)
     go None of rest = record {
       entries = rest.entries;
       sound = rest.sound;

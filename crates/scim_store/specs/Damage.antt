@@ -31,7 +31,7 @@ pub record AreOrdered (tables : Tables) : Type 0 where
   pub members : DoNotFall (0 ∷ 1 ∷ []) tables.members
 
 -- the rows are those of these resources below the base, each table's in some order
-pub record AreRowsOf (base : List ℕ) (entries : List Entry) (tables : Tables) : Type 0 where
+pub record AreThoseOf (base : List ℕ) (entries : List Entry) (tables : Tables) : Type 0 where
   pub sound : All (IsEntry base) entries
   pub keyed : AreKeyed (map (λ e. e.content) entries)
   pub resources : IsPermutation tables.resources (map resource_row entries)
@@ -40,7 +40,7 @@ pub record AreRowsOf (base : List ℕ) (entries : List Entry) (tables : Tables) 
 
 -- the rows are those of some resources
 abbrev pub AreSound : List ℕ → Tables → Type 0
-AreSound base tables = (entries : List Entry) × AreRowsOf base entries tables
+AreSound base tables = (entries : List Entry) × AreThoseOf base entries tables
 
 -- the rows of an id, in each table
 abbrev pub rows_at : List ℕ → Tables → Tables
@@ -48,7 +48,7 @@ rows_at id tables = record { resources = filter (is_of id) tables.resources; nam
 
 -- the rows of an id are those of one resource, or there are none
 abbrev pub HoldsAt : List ℕ → Tables → List ℕ → Type 0
-HoldsAt base tables id = (entry : Option Entry) × AreRowsOf base (option_to_list entry) (rows_at id tables)
+HoldsAt base tables id = (entry : Option Entry) × AreThoseOf base (option_to_list entry) (rows_at id tables)
 
 -- the least id whose rows are neither those of one resource nor none
 pub record IsLeastDamage (base : List ℕ) (tables : Tables) (id : List ℕ) : Type 0 where

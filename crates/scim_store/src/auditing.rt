@@ -19,7 +19,7 @@ use sqlite::{Alter, Connection, Error, ErrorCode, Row};
 use std::alloc::Global;
 
 /// The last number that SQL has.
-const LAST_NUMBER: u64 = 9_223_372_036_854_775_807;
+pub(crate) const LAST_NUMBER: u64 = 9_223_372_036_854_775_807;
 
 /// The first number of the rows that are asked for, and the end, behind the last of them. SQL has no number behind its
 /// last, so the end isn't above that one, and the first number is below it.

@@ -39,8 +39,8 @@ pub(crate) fn has_text(row: &Row, place: usize, text: &str) -> bool
     }
 }
 
-#[tactic(auto, using(crate::proofs::OwnedLemmas::text_against, crate::proofs::OwnedLemmas::high_against, crate::proofs::OwnedLemmas::low_against))]
 /// How the first value of a row compares to a text.
+#[tactic(auto, using(crate::proofs::OwnedLemmas::text_against, crate::proofs::OwnedLemmas::high_against, crate::proofs::OwnedLemmas::low_against))]
 fn compare_owner(row: &Row, text: &str) -> Ordering
     ensures { result ≡ value_cmp (column row.now 0) (Text text.now) }
 {

@@ -15,7 +15,7 @@ ghost use Rattle.scim_store.specs.Beginning.{no_store};
 ghost use Rattle.scim_store.specs.Finding.{StandsIn};
 ghost use Rattle.scim_store.specs.Shelves.{IsKeptIn, HasOpened, Refuses};
 
-use crate::auditing::read_audit_rows;
+use crate::auditing::{LAST_NUMBER, read_audit_rows};
 use crate::beginning::begin_store;
 use crate::committing::{CommitFault, commit_change};
 use crate::finding::{find_by_id, find_groups_with, find_owner_of_name};
@@ -29,9 +29,6 @@ use scim_text::Failed;
 use scim_value::{Resource, UniqueName};
 use sqlite::{Alter, Connection, Error, ErrorCode};
 use std::alloc::Global;
-
-/// The last number that a row of the audit can have.
-const LAST_NUMBER: u64 = 9_223_372_036_854_775_807;
 
 /// A shelf over the tables of a database, whose resources stand below one base.
 ///
