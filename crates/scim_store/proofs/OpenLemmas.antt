@@ -12,8 +12,8 @@ use Rattle.scim_value.specs.Uniqueness.{Name, unique_names}
 use Rattle.scim_tables.specs.Tables.{no_schema}
 use Rattle.scim_store.specs.Beginning.{no_store}
 use Rattle.scim_tables.specs.Lists.{Are}
-use Rattle.scim_tables.specs.Reading.{shown}
-use Rattle.scim_tables.specs.Whole.{AreRowsOf as AreRead, Is}
+use Rattle.scim_tables.specs.Reading.{shown, Rests}
+use Rattle.scim_tables.specs.Whole.{AreRowsOf as AreRead, Is, IsUntouched}
 use Rattle.scim_tables.specs.declared.tables.TableRows.{TableRows}
 use Rattle.scim_tables.specs.declared.tables.Reading.TheVariants.{WrongVersion as OtherVersion, Foreign as OtherProgram}
 use Rattle.scim_tables.proofs.OrderLemmas.{order_rising}
@@ -147,3 +147,13 @@ opened_begun base old mid new rows told opened kept = (
     opens = inl (told.is, refl);
   },
 )
+
+-- ---- what an opening leaves
+
+-- what is untouched rests
+pub rests_untouched : (old new : State) → IsUntouched old new → Rests old new
+rests_untouched old new same = record {
+  was_open = same.was_open;
+  now = λ o. inl (same.unchanged (same.was_open o)).0.now_is;
+  committed = λ o. (same.unchanged (same.was_open o)).0.committed_is;
+}

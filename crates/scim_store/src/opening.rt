@@ -103,6 +103,7 @@ pub fn examine<S: Alter>(
     ensures clean { doubt (state S.Store conn.old).is_clean ≤ doubt (state S.Store conn.new).is_clean }
     ensures survives { Survives (state S.Store conn.old) (state S.Store conn.new) (λ _. ⊥) }
     ensures examined { HasCleanDisk (state S.Store conn.new) → IfOk result (spec.Examines base.now (state S.Store conn.old) (state S.Store conn.new)) }
+    ensures rests { HasCleanDisk (state S.Store conn.new) → OnErr result (Rests (state S.Store conn.old) (state S.Store conn.new)) }
 {
     match read_tables(conn)? {
         Reading::Empty => Ok(Examined::Empty),

@@ -10,6 +10,7 @@ ghost use Rattle.scim_shelf.specs.Shelves.{Counts, Answers, OnlyReads};
 ghost use Rattle.scim_shelf.specs.Stores.{Store, last_number};
 ghost use Rattle.scim_store.specs.AuditBack.{AreRowsFrom};
 ghost use Rattle.scim_store.specs.Committing.{HasStore};
+ghost use Rattle.scim_tables.specs.Reading.{Rests};
 ghost use Rattle.scim_tables.specs.Tables.{no_schema};
 ghost use Rattle.scim_store.specs.Beginning.{no_store};
 ghost use Rattle.scim_store.specs.Finding.{StandsIn};
@@ -82,6 +83,7 @@ impl<S: Alter> SqlShelf<S> {
         ensures kept { IfOk result (λ shelf. HasCleanDisk (state S.Store shelf.connection) → HasCleanDisk (state S.Store connection)
             × ((store : Store) → StandsIn base.now (state S.Store connection) store → length store.audit ≡ rows → IsKeptIn base.now (state S.Store shelf.connection) shelf.rows store)) }
         ensures refused { IfErr result (λ e. (base : List ℕ) (db : Database) → Refuses base db e.0) }
+        ensures given_back { IfErr result (λ e. e.1 ≡ connection) }
     {
         if rows > LAST_NUMBER || !connection.is_autocommit() {
             return Err((OpenFault::Store, connection));
@@ -108,6 +110,7 @@ impl<S: Alter> SqlShelf<S> {
             × ((state S.Store connection).now.schema ≡ no_schema → IsKeptIn base.now (state S.Store shelf.connection) shelf.rows no_store)) }
         ensures base { IfOk result (λ shelf. shelf.base ≡ base.now) }
         ensures refused { IfErr result (λ e. (base : List ℕ) (db : Database) → Refuses base db e.0) }
+        ensures clean { IfErr result (λ e. HasCleanDisk (state S.Store e.1) → HasCleanDisk (state S.Store connection)) }
     {
         let mut connection = connection;
         match begin_store(&mut connection) {
@@ -120,8 +123,9 @@ impl<S: Alter> SqlShelf<S> {
     /// other all rows are read and checked, in a time that is nearly linear in them.
     ///
     /// Fails by WrongVersion and Damaged only where the tables stand for no store; by Store where they don't either,
-    /// where the connection is in a transaction, or where the device failed; or where memory was wanting. Then nothing is
-    /// changed but that an empty database may have got its tables, and the connection is given back.
+    /// where the connection is in a transaction, or where the device failed; or where memory was wanting. The connection is
+    /// given back then: it is shut, or its database is as it was or as the last commit left it, but that an empty one may
+    /// have got its tables.
     pub fn open(
         alloc: Global,
         connection: Connection<S>,
@@ -131,6 +135,7 @@ impl<S: Alter> SqlShelf<S> {
         ensures base { IfOk result (λ shelf. shelf.base ≡ base.now) }
         ensures opened { IfOk result (λ shelf. HasCleanDisk (state S.Store shelf.connection) → (store : Store) × HasOpened base.now (state S.Store connection).now (state S.Store shelf.connection) shelf.rows store) }
         ensures refused { IfErr result (λ e. HasCleanDisk (state S.Store e.1) → Refuses base.now (state S.Store connection).now e.0) }
+        ensures rests { IfErr result (λ e. HasCleanDisk (state S.Store e.1) → (state S.Store connection).now.schema ≢ no_schema → Rests (state S.Store connection) (state S.Store e.1)) }
     {
         let mut connection = connection;
         let examined = match examine(&mut connection, alloc, base) {

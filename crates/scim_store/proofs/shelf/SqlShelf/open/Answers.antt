@@ -1,8 +1,10 @@
-use Rattle.std.proofs.Common.{subst}
+use Rattle.std.proofs.Common.{subst, sym}
 use Rattle.std.proofs.lemmas.Result.{IfOk-weaker, IfErr-weaker}
 use Rattle.sqlite.specs.Held.{state}
+use Rattle.sqlite.specs.State.{HasCleanDisk}
+use Rattle.scim_tables.specs.Reading.{Rests}
 use Rattle.scim_store.specs.Opening.{IsFor, Examines}
-use Rattle.scim_store.proofs.OpenLemmas.{opened_over, opened_begun}
+use Rattle.scim_store.proofs.OpenLemmas.{opened_over, opened_begun, rests_untouched}
 use Rattle.scim_store.proofs.shelf.SqlShelf.open.Goals as goal
 
 pub returns-in-Err-clause-refused : goal.returns-in-Err-clause-refused
@@ -30,3 +32,14 @@ returns-in-Stands-clause-refused g c = IfErr-weaker c.over.result _ _ (λ e refu
 
 pub returns-in-Damaged-clause-refused : goal.returns-in-Damaged-clause-refused
 returns-in-Damaged-clause-refused g c = λ clean. subst (IsFor c.args.base.now (state g.S.Store c.args.connection).now) c.in-Damaged.is (c.in-Ok.ensures.examined clean).is
+
+pub returns-in-Empty-clause-rests : goal.returns-in-Empty-clause-rests
+returns-in-Empty-clause-rests g c =
+    IfErr-weaker c.begin.result _ _ (λ e was clean other. absurd (other (subst (IsFor c.args.base.now (state g.S.Store c.args.connection).now) c.in-Empty.is (c.in-Ok.ensures.examined (was clean)).is))) c.begin.ensures.clean
+
+pub returns-in-Stands-clause-rests : goal.returns-in-Stands-clause-rests
+returns-in-Stands-clause-rests g c =
+    let old = state g.S.Store c.args.connection in
+    let mid = state g.S.Store c.examine.new.conn in
+    IfErr-weaker c.over.result _ _ (λ e same clean other.
+    subst (λ conn. Rests old (state g.S.Store conn)) (sym same) (rests_untouched old mid (c.in-Ok.ensures.examined (subst (λ conn. HasCleanDisk (state g.S.Store conn)) same clean)).untouched)) c.over.ensures.given_back
