@@ -82,6 +82,34 @@ covers_push m n key i a rs r k updates covered q =
     ∙ one_more (bytes_eq q (key_of a r)) i (get_by_text m q) _ (covered q)
     ∙ sym (list_any-append (λ s. bytes_eq q (key_of a s)) rs (r ∷ []))
 
+same_keyed : (b : Bool) (i : ℕ) (found : Option ℕ) (t : Bool) → is_some found ≡ t → (b ≡ true → t ≡ true) → is_some (cond b (Some i) found) ≡ t
+same_keyed true i found t h k = sym (k refl)
+same_keyed false i found t h k = h
+
+some_too : (k s : Bool) → (k ≡ false → s ≡ false) → s ≡ true → k ≡ true
+some_too true s f h = refl
+some_too false s f h = sym (f refl) ∙ h
+
+-- where one is the same, one has the key
+pub some_same : (a : Attribute) (rs : List Row) (r : Row) → list_any (λ s. is_same_value a s r) rs ≡ true → list_any (keyed a r) rs ≡ true
+some_same a rs r h = some_too (list_any (keyed a r) rs) (list_any (λ s. is_same_value a s r) rs) (none_same a rs r) h
+
+-- the key of a value that is the same as one of these, in another place
+pub covers_same : (m n : BTreeMap (String Global) ℕ) (key : String Global) (i : ℕ) (a : Attribute) (rs : List Row) (r : Row)
+    → string_bytes key ≡ key_of a r
+    → Updates string_cmp m n key (Some i)
+    → list_any (λ q. bytes_eq (key_of a r) (key_of a q)) rs ≡ true
+    → Covers m a rs
+    → Covers n a rs
+covers_same m n key i a rs r k updates there covered q =
+    ap is_some (btree_map_updates_text (string_bytes key) m n (Some i) updates q)
+    ∙ same_keyed (bytes_eq (string_bytes key) q) i (get_by_text m q) _ (covered q)
+    (λ e. ap (λ bs. list_any (λ s. bytes_eq bs (key_of a s)) rs) (sym ((bytes_eq-Decides (string_bytes key) q).0 e) ∙ k) ∙ there)
+
+-- a value that is the same as none of these
+pub with_value_other : (a : Attribute) (rs : List Row) (r : Row) → list_any (λ s. is_same_value a s r) rs ≡ false → with_value a rs r ≡ rs ++ r ∷ []
+with_value_other a rs r h = rw h refl
+
 -- one value more at the end
 pub with_values_more : (a : Attribute) (rs more : List Row) (r : Row) → with_values a rs (more ++ r ∷ []) ≡ with_value a (with_values a rs more) r
 with_values_more a rs [] r = refl

@@ -62,10 +62,7 @@ fn with_many(
 {
     let mut places = places_of(alloc, attribute, values.as_slice())?;
     for value in given {
-        let key = key(alloc, attribute, &value)?;
-        if !has_same(attribute, values.as_slice(), &places, key.as_str(), &value) {
-            push_value(&mut values, &mut places, attribute, key, value)?;
-        }
+        add_value(alloc, attribute, &mut values, &mut places, value)?;
     }
     Ok(values)
 }
@@ -85,42 +82,34 @@ fn places_of(
     Ok(places)
 }
 
-/// Whether one of the values is the same as this one, whose key is given. Where another value has the same key,
-/// each value is looked at.
-fn has_same(
-    attribute: Attribute,
-    values: &[Row],
-    places: &BTreeMap<String, usize>,
-    key: &str,
-    value: &Row,
-) -> bool
-    requires covers { Covers places.now attribute values.now }
-    requires key { key.now ≡ key_of attribute value.now }
+/// Whether one of the values, among them the one in this place, is the same as this one.
+fn has_same(attribute: Attribute, values: &[Row], place: usize, value: &Row) -> bool
     ensures { result ≡ list_any (λ other. spec.is_same_value attribute other value.now) values.now }
 {
-    match places.get(key) {
-        None => false,
-        Some(place) => match values.get(*place) {
-            Some(other) if is_same_value(attribute, other, value) => true,
-            _ => has_same_among(attribute, values, value),
-        },
+    match values.get(place) {
+        Some(other) if is_same_value(attribute, other, value) => true,
+        _ => has_same_among(attribute, values, value),
     }
 }
 
-/// One value more, and its key.
-fn push_value(
+/// One value more and its key, unless one is the same. Where another value has its key, each value is looked at.
+fn add_value(
+    alloc: Global,
+    attribute: Attribute,
     values: &mut Vec<Row>,
     places: &mut BTreeMap<String, usize>,
-    attribute: Attribute,
-    key: String,
     value: Row,
 ) -> Result<(), NoMemory>
-    requires covers { Covers places.old attribute values.old.items }
-    requires key { string_bytes key ≡ key_of attribute value }
-    ensures items { OnOk result (values.new.items ≡ values.old.items ++ value ∷ []) }
+    requires { Covers places.old attribute values.old.items }
+    ensures items { OnOk result (values.new.items ≡ spec.with_value attribute values.old.items value) }
     ensures covers { OnOk result (Covers places.new attribute values.new.items) }
 {
-    let _ = places.insert(key, values.len())?;
-    values.push(value)?;
+    let key_of_value = key(alloc, attribute, &value)?;
+    match places.insert(key_of_value, values.len())? {
+        Some(place) if has_same(attribute, values.as_slice(), place, &value) => {
+            let _ = places.insert(key(alloc, attribute, &value)?, place)?;
+        }
+        _ => values.push(value)?,
+    }
     Ok(())
 }
