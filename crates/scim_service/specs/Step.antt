@@ -88,7 +88,7 @@ absent turn = refused_as turn decided.Absent None None NotFound
 unfoldable pub hidden : Turn → Decision → Plan
 hidden turn d = refused_as turn decided.Hidden (Some d.rule) (Some (simple Id)) NotFound
 
--- since of this decision at a leaf, which denies it, or would open something to the client that was denied it
+-- refused by this decision at a leaf, which denies the request there, or would let the client see something that it doesn't see
 unfoldable pub denied : Turn → Decision → Leaf → Refusal → Plan
 denied turn d l refusal = refused_as turn decided.Deny (Some d.rule) (Some l) refusal
 
