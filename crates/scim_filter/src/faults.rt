@@ -21,7 +21,7 @@ pub enum FilterFault {
 }
 
 /// Why a reader stopped.
-#[derive(Clone, Copy, Debug, PartialEq, Eq)]
+#[derive(Clone, Copy)]
 pub(crate) enum ReadError {
     /// What is left, of this many bytes, is not what is due.
     Syntax(usize),

@@ -56,7 +56,7 @@ impl Meant {
 }
 
 /// A path, with its names as they are written.
-#[derive(Debug, Drop)]
+#[derive(Debug)]
 pub struct Path {
     /// The URN before the last colon.
     pub urn: Option<Text>,
@@ -67,8 +67,20 @@ pub struct Path {
     pub meant: Meant,
 }
 
+/// One call, wherever a path is dropped, in place of a look at which of its names are there.
+impl Drop for Path {
+    fn drop(self) {
+        let Path {
+            urn: _urn,
+            name: _name,
+            sub_name: _sub_name,
+            meant: _meant,
+        } = self;
+    }
+}
+
 /// Whose names stand in a filter.
-#[derive(Clone, Copy, Debug, PartialEq, Eq)]
+#[derive(Clone, Copy)]
 pub(crate) enum Scope {
     /// The attributes of a kind.
     Attributes(Kind),
@@ -77,7 +89,6 @@ pub(crate) enum Scope {
 }
 
 /// A filter, or a part of one.
-#[derive(Drop)]
 pub enum Node {
     Or(Box<Node>, Box<Node>),
     And(Box<Node>, Box<Node>),
@@ -87,6 +98,19 @@ pub enum Node {
     Compare(Path, Operator, Literal),
     /// A value path: the filter between its brackets.
     Values(Path, Box<Node>),
+}
+
+/// One call, wherever a node is dropped, in place of a look at each form that it may have.
+impl Drop for Node {
+    fn drop(self) {
+        match self {
+            Node::Or(_first, _second) | Node::And(_first, _second) => (),
+            Node::Not(_inner) => (),
+            Node::Present(_path) => (),
+            Node::Compare(_path, _operator, _literal) => (),
+            Node::Values(_path, _inner) => (),
+        }
+    }
 }
 
 /// A filter that was read.

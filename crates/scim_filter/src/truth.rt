@@ -30,7 +30,7 @@ enum Cells<'a> {
 
 impl<'a> Cells<'a> {
     /// Rows with all those of the attribute among them.
-    #[tactic(auto, using(crate::proofs::RowLemmas::own_again, crate::proofs::RowLemmas::none_of_another))]
+    #[tactic(auto, using(crate::proofs::RowLemmas::none_of_another))]
     fn around(self, attribute: Attribute) -> &'a [Row]
         ensures { attribute_rows attribute result.now ≡ attribute_rows attribute (rows_in self.entry) }
     {
