@@ -1,5 +1,5 @@
 //! The fields of one value, changed.
-ghost use Rattle.std.specs.Prelude.{◌≡◌, IfOk, filter};
+ghost use Rattle.std.specs.Prelude.{◌≡◌, ◌++◌, ◌∷◌, [], IfOk, OnOk, filter};
 ghost use Rattle.std.specs.Ordering.{is_lt, is_gt};
 ghost use Rattle.scim_schema.specs.Units.{is_same_leaf};
 ghost use Rattle.scim_cell.specs.Place.{place_at};
@@ -22,32 +22,54 @@ fn place_of(field: &Field) -> Place
     }
 }
 
-/// The fields that stand before this one, and those that stand behind it. NoMemory where none was to be had.
-fn parted(
-    alloc: Global,
-    fields: Vec<Field>,
-    field: &Field,
-) -> Result<(Vec<Field>, Vec<Field>), NoMemory>
-    ensures before { IfOk result (λ parts. parts.0.items ≡ filter (λ other. is_lt (spec.field_cmp other field.now)) fields.items) }
-    ensures behind { IfOk result (λ parts. parts.1.items ≡ filter (λ other. is_gt (spec.field_cmp other field.now)) fields.items) }
-{
-    let mut before = Vec::new(alloc);
-    let mut behind = Vec::new(alloc);
-    for other in fields {
+/// The fields that stand before one, and those that stand behind it.
+#[derive(Drop)]
+struct Sides {
+    before: Vec<Field>,
+    behind: Vec<Field>,
+}
+
+impl Sides {
+    /// Adds another field on its side of the one, or drops it where both stand in one place. NoMemory where none was
+    /// to be had.
+    fn add(&mut self, other: Field, field: &Field) -> Result<(), NoMemory>
+        ensures before { OnOk result (self.new.before.items
+            ≡ self.old.before.items ++ filter (λ f. is_lt (spec.field_cmp f field.now)) (other ∷ [])) }
+        ensures behind { OnOk result (self.new.behind.items
+            ≡ self.old.behind.items ++ filter (λ f. is_gt (spec.field_cmp f field.now)) (other ∷ [])) }
+    {
         match place_of(&other).compare(place_of(field)) {
-            Ordering::Less => before.push(other)?,
+            Ordering::Less => self.before.push(other)?,
             Ordering::Equal => (),
-            Ordering::Greater => behind.push(other)?,
+            Ordering::Greater => self.behind.push(other)?,
         }
+        Ok(())
     }
-    Ok((before, behind))
+}
+
+/// The fields on both sides of this one. NoMemory where none was to be had.
+fn parted(alloc: Global, fields: Vec<Field>, field: &Field) -> Result<Sides, NoMemory>
+    ensures before { IfOk result (λ sides. sides.before.items ≡ filter (λ other. is_lt (spec.field_cmp other field.now)) fields.items) }
+    ensures behind { IfOk result (λ sides. sides.behind.items ≡ filter (λ other. is_gt (spec.field_cmp other field.now)) fields.items) }
+{
+    let mut sides = Sides {
+        before: Vec::new(alloc),
+        behind: Vec::new(alloc),
+    };
+    for other in fields {
+        sides.add(other, field)?;
+    }
+    Ok(sides)
 }
 
 /// The fields with this one in its place, over one that stands there. NoMemory where none was to be had.
 fn put_field(alloc: Global, fields: Vec<Field>, field: Field) -> Result<Vec<Field>, NoMemory>
     ensures { IfOk result (λ v. v.items ≡ spec.put_field field fields.items) }
 {
-    let (mut all, mut behind) = parted(alloc, fields, &field)?;
+    let Sides {
+        before: mut all,
+        mut behind,
+    } = parted(alloc, fields, &field)?;
     all.push(field)?;
     all.append(&mut behind)?;
     Ok(all)

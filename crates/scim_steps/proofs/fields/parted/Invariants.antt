@@ -8,6 +8,6 @@ use Rattle.scim_steps.proofs.fields.parted.Given as goal
 -- the fields so far, on both sides
 abbrev pub invariant-loop-other : goal.invariant-loop-other
 invariant-loop-other l = record {
-  before : l.before.items ≡ filter (λ (other : Field). is_lt (field_cmp other l.field)) l.yielded;
-  behind : l.behind.items ≡ filter (λ (other : Field). is_gt (field_cmp other l.field)) l.yielded;
+  before : l.sides.before.items ≡ filter (λ (other : Field). is_lt (field_cmp other l.field)) l.yielded;
+  behind : l.sides.behind.items ≡ filter (λ (other : Field). is_gt (field_cmp other l.field)) l.yielded;
 }
