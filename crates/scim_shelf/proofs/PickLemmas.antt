@@ -3,16 +3,18 @@ use Rattle.std.proofs.Common.{◌≡◌, refl, sym, ◌∙◌, ap, subst, ℕ, B
 use Rattle.std.specs.Prelude.{All, find, filter, Option, Some}
 use Rattle.std.specs.Ordering.{nat_cmp}
 use Rattle.std.specs.declared.cmp.Ordering.TheVariants.{Less, Equal, Greater}
-use Rattle.std.specs.Cmp.Lexicographic.{slice_cmp}
+use Rattle.std.specs.Cmp.Lexicographic.{slice_cmp, nat_list_eq_equiv}
 use Rattle.std.specs.List.{list_any, AllByRecursion}
 use Rattle.std.specs.List.Sorted.{IsStrictlySortedBy}
 use Rattle.std.specs.BTreeMap.{is_at}
 use Rattle.std.proofs.lemmas.Cmp.{nat_list_cmp_total}
-use Rattle.std.proofs.lemmas.List.Elements.{All-head, All-tail, All-from_recursion}
+use Rattle.std.proofs.lemmas.List.Elements.{All-head, All-tail, All-weaker, All-from_recursion}
 use Rattle.std.proofs.lemmas.Map.Keys.{sorted_head, sorted_tail}
 use Rattle.std.proofs.lemmas.Map.Lookups.{exact_bytes}
+use Rattle.std.proofs.lemmas.Map.Text.{is_eq-slice_cmp}
 use Rattle.scim_cell.specs.Content.{Content}
 use Rattle.scim_shelf.specs.Stores.{AreKeyed}
+use Rattle.scim_shelf.specs.code.Members.{is_same}
 use Rattle.scim_shelf.specs.code.Collections.{has_id, if_passes, before, picked}
 use Rattle.scim_shelf.proofs.PlaceLemmas.{AreAbove, by_order, reversed, above_lower}
 use Rattle.scim_shelf.proofs.StoreLemmas.{All-both, keyed_above, keyed_tail}
@@ -29,6 +31,17 @@ IdsAbove id ids = AllByRecursion (λ other. slice_cmp nat_cmp id other ≡ Less)
 -- ids ascend
 abbrev pub Ascend : List (List ℕ) → Type 0
 Ascend ids = IsStrictlySortedBy (slice_cmp nat_cmp) ids
+
+-- one id ascends
+one_ascends : (id : List ℕ) → Ascend (id ∷ [])
+unfolding IsStrictlySortedBy
+one_ascends id = (tt, tt)
+
+-- an id that is another is among this one alone
+among_one : (id other : List ℕ) → is_same id other ≡ true → is_listed other (id ∷ []) ≡ true
+among_one id other h =
+    let here : is_same other id ≡ true = is_eq-slice_cmp other id ∙ nat_list_eq_equiv.symm other id ∙ sym (is_eq-slice_cmp id other) ∙ h in
+    rw here refl
 
 ids_lower : (x y : List ℕ) (ids : List (List ℕ)) → slice_cmp nat_cmp x y ≡ Less → IdsAbove y ids → IdsAbove x ids
 ids_lower x y [] h up = tt
@@ -109,6 +122,13 @@ module _ (test : Content → Bool) where
   pub picked_all : (cs : List Content) → AreKeyed cs → (ids : List (List ℕ)) → Ascend ids → All (IsListed ids) cs → picked test cs ids ≡ filter test cs
   picked_all [] keyed ids ascend all = none_picked ids
   picked_all (c ∷ cs) keyed ids ascend all = picked_more c cs (keyed_above c cs keyed) (picked_all cs (keyed_tail c cs keyed)) ids ascend all
+
+  -- the same of one id
+  pub picked_one : (cs : List Content) → AreKeyed cs → (id : List ℕ) → All (λ c. test c ≡ true → is_same id c.id ≡ true) cs
+      → before (if_passes test (find (has_id id) cs)) [] ≡ filter test cs
+  picked_one cs keyed id all =
+      picked_all cs keyed (id ∷ []) (one_ascends id)
+      (All-weaker (λ c. test c ≡ true → is_same id c.id ≡ true) (IsListed (id ∷ [])) (λ c same passes. among_one id c.id (same passes)) cs all)
 
   -- where no ids are to be had, no resource passes
   pub picked_none : (cs : List Content) → All (IsListed []) cs → [] ≡ filter test cs

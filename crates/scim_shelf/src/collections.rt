@@ -1,5 +1,5 @@
 //! The resources of a store, to be found by id, by unique name and by member.
-ghost use Rattle.std.specs.Prelude.{◌≡◌, ◌&&◌, ◌||◌, not, ℕ, List, [], true, IfOk, OnOk, OnErr, map, find, filter, All, AllPairs};
+ghost use Rattle.std.specs.Prelude.{◌≡◌, ◌&&◌, ◌||◌, not, ℕ, List, [], ◌++◌, true, IfOk, OnOk, OnErr, map, find, filter, All, AllPairs};
 ghost use Rattle.std.specs.Ordering.{nat_cmp};
 ghost use Rattle.std.specs.Cmp.Lexicographic.{slice_cmp};
 ghost use Rattle.std.specs.BTreeSet.{contains};
@@ -11,11 +11,11 @@ ghost use Rattle.scim_cell.specs.Kinds.{of_kind};
 ghost use Rattle.scim_value.specs.Members.{lists_value};
 ghost use Rattle.scim_value.specs.Uniqueness.{name_of, AreApart};
 ghost use Rattle.scim_shelf.specs.Stores.{HasPlace, has_name, is_group_with, keep, without};
-ghost use Rattle.scim_shelf.specs.code.Collections.{IsCollection, has_id, names_of, if_passes};
-ghost use Rattle.scim_shelf.specs.code.Members.{is_one_of, is_value_of, is_group_in, lists_in};
+ghost use Rattle.scim_shelf.specs.code.Collections.{IsCollection, has_id, names_of, if_passes, before};
+ghost use Rattle.scim_shelf.specs.code.Members.{is_same, is_one_of, is_value_of, is_group_in, lists_in};
 
 use crate::groups::{is_group_with, members_beyond, members_of, values_beyond};
-use crate::members::Members;
+use crate::members::{Holders, Members};
 use crate::owners::Owners;
 use crate::shelf::Visitor;
 use scim_cell::{Id, Row, Text};
@@ -166,9 +166,22 @@ impl Collection {
         ensures { IfOk result (λ groups. (cs : List Content) → IsCollection cs self.now → groups.items ≡ filter (is_group_with value.now) cs) }
     {
         match self.members.of(value) {
-            Some(ids) => self.groups_among(alloc, ids, value),
+            Some(Holders::One(id)) => self.group_alone(alloc, *id, value),
+            Some(Holders::Several(ids)) => self.groups_among(alloc, ids, value),
             None => Ok(Vec::new(alloc)),
         }
+    }
+
+    /// The group that lists the value, whose id is this one, if it is any; none else. NoMemory where none was to be
+    /// had.
+    fn group_alone(&self, alloc: Global, id: Id, value: &str) -> Result<Vec<Resource>, NoMemory>
+        ensures { IfOk result (λ groups. (cs : List Content) → IsCollection cs self.now
+            → All (λ c. is_group_with value.now c ≡ true → is_same id c.id ≡ true) cs
+            → groups.items ≡ filter (is_group_with value.now) cs) }
+    {
+        let mut groups = Vec::new(alloc);
+        self.push_group(alloc, &mut groups, id, value)?;
+        Ok(groups)
     }
 
     /// The groups that list the value, in order of id, whose ids are all among these. NoMemory where none was to be
@@ -185,11 +198,27 @@ impl Collection {
     {
         let mut groups = Vec::new(alloc);
         for id in ids {
-            if let Some(group) = self.group_with(*id, value) {
-                groups.push(group.try_copy(alloc)?)?;
-            }
+            self.push_group(alloc, &mut groups, *id, value)?;
         }
         Ok(groups)
+    }
+
+    /// Puts a copy of the group with the id, if it is one that lists the value, at the end of these. NoMemory where
+    /// none was to be had.
+    fn push_group(
+        &self,
+        alloc: Global,
+        groups: &mut Vec<Resource>,
+        id: Id,
+        value: &str,
+    ) -> Result<(), NoMemory>
+        ensures { OnOk result ((cs : List Content) → IsCollection cs self.now
+            → groups.new.items ≡ groups.old.items ++ before (if_passes (is_group_with value.now) (find (has_id id) cs)) []) }
+    {
+        if let Some(group) = self.group_with(id, value) {
+            groups.push(group.try_copy(alloc)?)?;
+        }
+        Ok(())
     }
 
     /// The resource with the id, if it is a group that lists the value.

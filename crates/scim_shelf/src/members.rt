@@ -1,9 +1,11 @@
 //! Which groups may list a value among their members (RFC 7643 section 4.2).
-ghost use Rattle.std.specs.Prelude.{◌≡◌, ◌&&◌, ℕ, List, true, false, cond, map, nat_eq, OnOk, OnErr};
-ghost use Rattle.std.specs.Cmp.Lexicographic.{pointwise};
+ghost use Rattle.std.specs.Prelude.{◌≡◌, ◌&&◌, ℕ, List, true, false, cond, map, nat_eq, IfOk, OnOk, OnErr};
+ghost use Rattle.std.specs.Ordering.{nat_cmp};
+ghost use Rattle.std.specs.BTreeSet.{contains};
+ghost use Rattle.std.specs.Cmp.Lexicographic.{slice_cmp, pointwise};
 ghost use Rattle.std.specs.Option.{option_copied};
 ghost use Rattle.scim_value.specs.Members.{is_text, lists_value};
-ghost use Rattle.scim_shelf.specs.code.Members.{is_same, ids_at, is_noted, is_one_of, is_value_of, value_in};
+ghost use Rattle.scim_shelf.specs.code.Members.{is_same, is_holder, holders_at, is_noted, is_one_of, is_value_of, value_in};
 
 use crate::groups::value_of;
 use scim_cell::{Id, Row, Text};
@@ -11,15 +13,68 @@ use scim_schema::{Attribute, Unit};
 use scim_text::NoMemory;
 use scim_value::Resource;
 use std::alloc::Global;
-use std::collections::{BTreeMap, BTreeSet};
+use std::collections::{BTreeSet, HashMap};
+
+/// The ids that are noted under a value, most often one.
+#[derive(Drop)]
+pub(crate) enum Holders {
+    /// This one alone, which takes no memory of its own.
+    One(Id),
+    /// These, which may be very many.
+    Several(BTreeSet<Id>),
+}
+
+/// The set of these two ids. NoMemory where none was to be had.
+fn both(alloc: Global, one: Id, other: Id) -> Result<BTreeSet<Id>, NoMemory>
+    ensures { IfOk result (λ ids. (i : List ℕ) → contains (slice_cmp nat_cmp) ids i ≡ cond (is_same one i) true (is_same other i)) }
+{
+    let mut ids = BTreeSet::new(alloc);
+    ids.insert(other)?;
+    ids.insert(one)?;
+    Ok(ids)
+}
+
+impl Holders {
+    /// Adds the id. NoMemory where none was to be had: nothing is changed then.
+    fn add(&mut self, alloc: Global, id: Id) -> Result<(), NoMemory>
+        ensures ok { OnOk result ((i : List ℕ) → is_holder i self.new ≡ cond (is_same id i) true (is_holder i self.old)) }
+        ensures err { OnErr result ((i : List ℕ) → is_holder i self.new ≡ is_holder i self.old) }
+    {
+        match self {
+            Holders::One(other) => {
+                if *other != id {
+                    *self = Holders::Several(both(alloc, id, *other)?);
+                }
+            }
+            Holders::Several(ids) => {
+                ids.insert(id)?;
+            }
+        }
+        Ok(())
+    }
+
+    /// Takes the id away if another is left, and answers whether none is.
+    fn drops_last(&mut self, id: Id) -> bool
+        ensures last { result ≡ true → (i : List ℕ) → cond (is_same id i) false (is_holder i self.old) ≡ false }
+        ensures left { result ≡ false → (i : List ℕ) → is_holder i self.new ≡ cond (is_same id i) false (is_holder i self.old) }
+    {
+        match self {
+            Holders::One(other) => *other == id,
+            Holders::Several(ids) => {
+                ids.remove(&id);
+                ids.is_empty()
+            }
+        }
+    }
+}
 
 /// Notes of the groups that list a value, by value: their ids.
 ///
 /// A group that lists a value is noted under it. The group of a note may have ceased to list the value, so who reads
-/// a note looks at the group.
+/// a note looks at the group. A value is found at once, and an id among those of a value by halves.
 #[derive(Drop)]
 pub(crate) struct Members {
-    by_value: BTreeMap<String, BTreeSet<Id>>,
+    by_value: HashMap<String, Holders>,
 }
 
 impl Members {
@@ -28,13 +83,13 @@ impl Members {
         ensures { (v i : List ℕ) → is_noted result v i ≡ false }
     {
         Members {
-            by_value: BTreeMap::new(alloc),
+            by_value: HashMap::new(alloc),
         }
     }
 
-    /// The ids that are noted under a value, in order; None where there are none.
-    pub(crate) fn of(&self, value: &str) -> Option<&BTreeSet<Id>>
-        ensures { option_copied result ≡ ids_at self.now value.now }
+    /// The ids that are noted under a value; None where there are none.
+    pub(crate) fn of(&self, value: &str) -> Option<&Holders>
+        ensures { option_copied result ≡ holders_at self.now value.now }
     {
         self.by_value.get(value)
     }
@@ -44,14 +99,11 @@ impl Members {
         ensures ok { OnOk result ((v i : List ℕ) → is_noted self.new v i ≡ cond (pointwise nat_eq v value.now && is_same id i) true (is_noted self.old v i)) }
         ensures err { OnErr result ((v i : List ℕ) → is_noted self.new v i ≡ is_noted self.old v i) }
     {
-        if let Some(ids) = self.by_value.get_mut(value) {
-            ids.insert(id)?;
-            return Ok(());
+        if let Some(holders) = self.by_value.get_mut(value) {
+            return holders.add(alloc, id);
         }
-        let mut ids = BTreeSet::new(alloc);
-        ids.insert(id)?;
         let value = String::from_str(alloc, value)?;
-        self.by_value.insert(value, ids)?;
+        self.by_value.insert(value, Holders::One(id))?;
         Ok(())
     }
 
@@ -59,11 +111,10 @@ impl Members {
     fn forget(&mut self, value: &str, id: Id)
         ensures { (v i : List ℕ) → is_noted self.new v i ≡ cond (pointwise nat_eq v value.now && is_same id i) false (is_noted self.old v i) }
     {
-        let Some(ids) = self.by_value.get_mut(value) else {
+        let Some(holders) = self.by_value.get_mut(value) else {
             return;
         };
-        ids.remove(&id);
-        if ids.is_empty() {
+        if holders.drops_last(id) {
             self.by_value.remove(value);
         }
     }

@@ -22,9 +22,9 @@ const LAST_NUMBER: u64 = 9_223_372_036_854_775_807;
 
 /// A shelf in memory, which has no device that could fail.
 ///
-/// A resource is found by its id by halves, by a unique name at once, and the groups that list a value by halves
-/// among the values that are listed. A commit looks at the resource with the id of its change alone. No call copies
-/// a resource but those that it answers with.
+/// A resource is found by its id by halves, and by a unique name at once, as are the ids of the groups that list a
+/// value. A commit looks at the resource with the id of its change alone. No call copies a resource but those that it
+/// answers with.
 #[derive(Drop)]
 pub struct MemoryShelf {
     collection: Collection,

@@ -3,7 +3,7 @@ use Rattle.std.specs.Prelude.{ℕ, Bool, false, List, nat_eq, Option, None, Some
 use Rattle.std.specs.List.{list_any}
 use Rattle.std.specs.Ordering.{nat_cmp, is_eq}
 use Rattle.std.specs.Cmp.Lexicographic.{slice_cmp, pointwise}
-use Rattle.std.specs.BTreeMap.{get_by_text}
+use Rattle.std.specs.HashMap.{get_by_text}
 use Rattle.std.specs.BTreeSet.{BTreeSet, contains, contains_by}
 use denote.Ref.{Bor}
 use Rattle.scim_schema.specs.declared.Attribute.TheVariants.{Members}
@@ -15,23 +15,30 @@ use Rattle.scim_cell.specs.Rows.{Row, atom_in}
 use Rattle.scim_value.specs.Members.{is_text, lists_value}
 use Rattle.scim_shelf.specs.Stores.{is_group_with}
 use Rattle.scim_shelf.specs.declared.members.Members.{Members as Notes}
+use Rattle.scim_shelf.specs.declared.members.Holders.{Holders}
+use Rattle.scim_shelf.specs.declared.members.Holders.TheVariants.{One, Several}
 
 -- whether two ids are one
 abbrev pub is_same : List ℕ → List ℕ → Bool
 is_same id i = is_eq (slice_cmp nat_cmp id i)
 
+-- whether an id is among those that are noted under a value
+abbrev pub is_holder : List ℕ → Holders → Bool
+is_holder id (One other) = is_same other id
+is_holder id (Several ids) = contains (slice_cmp nat_cmp) ids id
+
 -- the ids that are noted under a value, if any are
-abbrev pub ids_at : Notes → List ℕ → Option (BTreeSet (List ℕ))
-ids_at notes value = get_by_text notes.by_value value
+abbrev pub holders_at : Notes → List ℕ → Option Holders
+holders_at notes value = get_by_text notes.by_value value
 
 -- whether an id is among those that were found, if any were
-abbrev pub has_in : List ℕ → Option (BTreeSet (List ℕ)) → Bool
+abbrev pub has_in : List ℕ → Option Holders → Bool
 has_in id None = false
-has_in id (Some ids) = contains (slice_cmp nat_cmp) ids id
+has_in id (Some holders) = is_holder id holders
 
 -- whether an id is noted under a value
 abbrev pub is_noted : Notes → List ℕ → List ℕ → Bool
-is_noted notes value id = has_in id (ids_at notes value)
+is_noted notes value id = has_in id (holders_at notes value)
 
 -- whether a text that was found, if one was, is this one
 abbrev pub is_found : List ℕ → Option (List ℕ) → Bool

@@ -1,24 +1,23 @@
-use Rattle.std.proofs.Common.{rules, ◌≡◌, sym, ◌∙◌, ap, cond, false, length}
-use Rattle.std.specs.Prelude.{Option, None, Some}
+use Rattle.std.proofs.Common.{rules, ◌≡◌, sym, ◌∙◌, ap, cond, true, false}
+use Rattle.std.specs.Prelude.{Option, Some}
+use Rattle.scim_shelf.specs.declared.members.Holders.{Holders}
 use Rattle.scim_shelf.specs.code.Members.{is_same, has_in}
-use Rattle.scim_shelf.proofs.NoteLemmas.{Ids, is_there, one_changed, none_changed, no_ids}
+use Rattle.scim_shelf.proofs.NoteLemmas.{is_there, one_changed, last_gone}
 use Rattle.scim_shelf.proofs.members.Members.forget.Goals as goal
 
-pub returns-then-is_empty : goal.returns-then-is_empty
-returns-then-is_empty c =
-    let value = c.args.value.now in
-    let ids = c.remove.new.self in
-    let left = c.get_mut.follows.lender ids in
-    let held = (c.get_mut.follows.holds ids).3 (is_there _ _ c.in-Some.ensures.value) in
-    let empty : length ids.keys ≡ 0 = search rules in
-    λ v i.
-    none_changed value left c.remove-then-is_empty.new.self None c.remove-then-is_empty.ensures.updates (λ j. sym (ap (has_in j) held.1 ∙ no_ids ids empty j)) v i
-    ∙ one_changed value c.args.id false c.args.self.now.by_value left (Some ids) held
-    (λ j. c.remove.ensures.updates.0 j ∙ ap (λ (o : Option Ids). cond (is_same c.args.id j) false (has_in j o)) c.in-Some.ensures.value) v i
+pub returns-then-drops_last : goal.returns-then-drops_last
+returns-then-drops_last c =
+    let holders = c.drops_last.new.self in
+    let is = c.in-Some.ensures.value in
+    let last : c.drops_last.result ≡ true = search rules in
+    last_gone c.args.value.now c.args.id c.args.self.now.by_value (c.get_mut.follows.lender holders) c.remove.new.self (Some holders)
+    ((c.get_mut.follows.holds holders).3 (is_there _ _ is)) c.remove.ensures.updates
+    (λ i. ap (λ (o : Option Holders). cond (is_same c.args.id i) false (has_in i o)) (sym is) ∙ c.drops_last.ensures.last last i)
 
-pub returns-else-is_empty : goal.returns-else-is_empty
-returns-else-is_empty c =
-    let ids = c.remove.new.self in
-    let there = is_there _ _ c.in-Some.ensures.value in
-    one_changed c.args.value.now c.args.id false c.args.self.now.by_value (c.get_mut.follows.lender ids) (Some ids) ((c.get_mut.follows.holds ids).3 there)
-    (λ j. c.remove.ensures.updates.0 j ∙ ap (λ (o : Option Ids). cond (is_same c.args.id j) false (has_in j o)) c.in-Some.ensures.value)
+pub returns-else-drops_last : goal.returns-else-drops_last
+returns-else-drops_last c =
+    let holders = c.drops_last.new.self in
+    let is = c.in-Some.ensures.value in
+    let left : c.drops_last.result ≡ false = search rules in
+    one_changed c.args.value.now c.args.id false c.args.self.now.by_value (c.get_mut.follows.lender holders) (Some holders) ((c.get_mut.follows.holds holders).3 (is_there _ _ is))
+    (λ i. c.drops_last.ensures.left left i ∙ ap (λ (o : Option Holders). cond (is_same c.args.id i) false (has_in i o)) is)
