@@ -5,58 +5,32 @@ use Rattle.sqlite.specs.Query.{Query}
 use Rattle.sqlite.specs.Listing.{understood}
 use Rattle.sqlite_tied.specs.Compute.{everything}
 use Rattle.scim_tables.specs.code.Asks.{IsAsk}
-use Rattle.scim_tables.specs.code.Queries.{one_table, is_column, up}
+use Rattle.scim_tables.specs.code.Queries.{one_table, is_column, up, rows_query, keys_query}
+use Rattle.scim_tables.specs.declared.queries.Table.TheVariants.{Setting, Resource, Taken, Member, Audit}
 use Rattle.scim_tables.proofs.TextLemmas.{key_tests, resource_tests, between_tests}
 
--- ---- in order
-
-abbrev pub settings_text : List ℕ
-settings_text = codes "SELECT name, number FROM setting"
-
-abbrev pub settings : Query
-settings = one_table 0 [] (col 1 1 ∷ col 1 2 ∷ []) []
-
-pub asks_settings : IsAsk settings_text settings
-unfolding understood everything
-asks_settings = record { names = codes "name" ∷ codes "number" ∷ []; command = refl; plain = (refl, refl); unlisted = refl }
+-- ---- the rows of a table
 
 abbrev pub resources_text : List ℕ
 resources_text = codes "SELECT id, kind, document FROM resource ORDER BY id"
 
-abbrev pub resources : Query
-resources = one_table 2 [] (col 1 1 ∷ col 1 2 ∷ col 1 3 ∷ []) ((col 1 1, up) ∷ [])
+pub asks_settings : IsAsk (codes "SELECT name, number FROM setting") (rows_query Setting)
+unfolding understood everything
+asks_settings = record { names = codes "name" ∷ codes "number" ∷ []; command = refl; plain = (refl, refl); unlisted = refl }
 
-pub asks_resources : IsAsk resources_text resources
+pub asks_resources : IsAsk resources_text (rows_query Resource)
 unfolding understood everything
 asks_resources = record { names = codes "id" ∷ codes "kind" ∷ codes "document" ∷ []; command = refl; plain = (refl, refl); unlisted = refl }
 
-abbrev pub names_text : List ℕ
-names_text = codes "SELECT id, attribute, folded FROM taken ORDER BY id, attribute, folded"
-
-abbrev pub names : Query
-names = one_table 4 [] (col 1 3 ∷ col 1 1 ∷ col 1 2 ∷ []) ((col 1 3, up) ∷ (col 1 1, up) ∷ (col 1 2, up) ∷ [])
-
-pub asks_names : IsAsk names_text names
+pub asks_names : IsAsk (codes "SELECT id, attribute, folded FROM taken ORDER BY id, attribute, folded") (rows_query Taken)
 unfolding understood everything
 asks_names = record { names = codes "id" ∷ codes "attribute" ∷ codes "folded" ∷ []; command = refl; plain = (refl, refl); unlisted = refl }
 
-abbrev pub members_text : List ℕ
-members_text = codes "SELECT group_id, value FROM member ORDER BY group_id, value"
-
-abbrev pub members : Query
-members = one_table 6 [] (col 1 2 ∷ col 1 1 ∷ []) ((col 1 2, up) ∷ (col 1 1, up) ∷ [])
-
-pub asks_members : IsAsk members_text members
+pub asks_members : IsAsk (codes "SELECT group_id, value FROM member ORDER BY group_id, value") (rows_query Member)
 unfolding understood everything
 asks_members = record { names = codes "group_id" ∷ codes "value" ∷ []; command = refl; plain = (refl, refl); unlisted = refl }
 
-abbrev pub all_audit_text : List ℕ
-all_audit_text = codes "SELECT number, moment, client, op, kind, id, decided, rule, leaf, refusal FROM audit ORDER BY number"
-
-abbrev pub all_audit : Query
-all_audit = one_table 8 [] (col 1 0 ∷ col 1 2 ∷ col 1 3 ∷ col 1 4 ∷ col 1 5 ∷ col 1 6 ∷ col 1 7 ∷ col 1 8 ∷ col 1 9 ∷ col 1 10 ∷ []) ((col 1 0, up) ∷ [])
-
-pub asks_audit : IsAsk all_audit_text all_audit
+pub asks_audit : IsAsk (codes "SELECT number, moment, client, op, kind, id, decided, rule, leaf, refusal FROM audit ORDER BY number") (rows_query Audit)
 unfolding understood everything
 asks_audit = record {
   names = codes "number" ∷ codes "moment" ∷ codes "client" ∷ codes "op" ∷ codes "kind" ∷ codes "id" ∷ codes "decided" ∷ codes "rule" ∷ codes "leaf" ∷ codes "refusal" ∷ [];
@@ -67,36 +41,26 @@ asks_audit = record {
 
 -- ---- the keys of a table
 
-abbrev pub keys_of_tree : ℕ → Query
-keys_of_tree tree = one_table tree [] (col 1 0 ∷ []) ((col 1 0, up) ∷ [])
-
-abbrev pub setting_keys_text : List ℕ
-setting_keys_text = codes "SELECT rowid FROM setting ORDER BY rowid"
-
-pub asks_setting_keys : IsAsk setting_keys_text (keys_of_tree 0)
+pub asks_setting_keys : IsAsk (codes "SELECT rowid FROM setting ORDER BY rowid") (keys_query Setting)
 unfolding understood everything
 asks_setting_keys = record { names = codes "rowid" ∷ []; command = refl; plain = (refl, refl); unlisted = refl }
 
-abbrev pub resource_keys_text : List ℕ
-resource_keys_text = codes "SELECT rowid FROM resource ORDER BY rowid"
-
-pub asks_resource_keys : IsAsk resource_keys_text (keys_of_tree 2)
+pub asks_resource_keys : IsAsk (codes "SELECT rowid FROM resource ORDER BY rowid") (keys_query Resource)
 unfolding understood everything
 asks_resource_keys = record { names = codes "rowid" ∷ []; command = refl; plain = (refl, refl); unlisted = refl }
 
-abbrev pub name_keys_text : List ℕ
-name_keys_text = codes "SELECT rowid FROM taken ORDER BY rowid"
-
-pub asks_name_keys : IsAsk name_keys_text (keys_of_tree 4)
+pub asks_name_keys : IsAsk (codes "SELECT rowid FROM taken ORDER BY rowid") (keys_query Taken)
 unfolding understood everything
 asks_name_keys = record { names = codes "rowid" ∷ []; command = refl; plain = (refl, refl); unlisted = refl }
 
-abbrev pub member_keys_text : List ℕ
-member_keys_text = codes "SELECT rowid FROM member ORDER BY rowid"
-
-pub asks_member_keys : IsAsk member_keys_text (keys_of_tree 6)
+pub asks_member_keys : IsAsk (codes "SELECT rowid FROM member ORDER BY rowid") (keys_query Member)
 unfolding understood everything
 asks_member_keys = record { names = codes "rowid" ∷ []; command = refl; plain = (refl, refl); unlisted = refl }
+
+-- the column `number` of the audit is the key
+pub asks_audit_keys : IsAsk (codes "SELECT rowid FROM audit ORDER BY rowid") (keys_query Audit)
+unfolding understood everything
+asks_audit_keys = record { names = codes "number" ∷ []; command = refl; plain = (refl, refl); unlisted = refl }
 
 -- ---- by keys
 

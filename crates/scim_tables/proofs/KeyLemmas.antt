@@ -12,10 +12,11 @@ use Rattle.sqlite_trees.proofs.ListLemmas.{filter-map, filter_none, all_weaker, 
 use Rattle.sqlite.specs.declared.types.Value.{Value}
 use Rattle.sqlite.specs.declared.types.Value.TheVariants.{Int}
 use Rattle.sqlite.specs.Order.{Row, value_cmp}
-use Rattle.sqlite.specs.State.{State}
 use Rattle.sqlite.specs.Tree.{IsAscending, rowid, has_rowid}
 use Rattle.scim_tables.specs.Lists.{AreKeyed}
-use Rattle.scim_tables.specs.Reading.{DoNotFall, Tells, TellsKeys, AreRising, key_alone}
+use Rattle.scim_tables.specs.Reading.{DoNotFall}
+use Rattle.scim_tables.specs.Whole.{AreInOrder}
+use Rattle.scim_tables.specs.code.Keys.{AreRising, key_alone}
 use Rattle.scim_tables.proofs.RowidLemmas.{pairs}
 
 -- ---- keys in another order, and alone
@@ -80,9 +81,9 @@ rises (r ∷ rows) low apart = (each_less r rows low.0 apart.0, rises rows low.1
 keyed_rising : (rows : List Row) → DoNotFall (0 ∷ []) rows → AreKeyed rows → AreRising rows
 keyed_rising rows low keys = record { numbers = keys.keyed; rise = rises rows low (pairs (λ r. true) rows keys.keyed keys.once) }
 
-pub keys_told : (table : List Row) (old new : State) (rows : List Row) → Tells (0 ∷ []) (map key_alone table) old new rows → TellsKeys table old new rows
-keys_told table old new rows told = record {
-  told = told;
-  sound = λ up. keyed_back table (keyed_same rows (map key_alone table) (IsPermutation-sym _ _ told.same) (rising_keyed rows up));
-  complete = λ keys. keyed_rising rows told.order (keyed_same (map key_alone table) rows told.same (keyed_alone table keys));
-}
+-- keys that are read in order rise just where the table is keyed
+pub keys_told : (table rows : List Row) → AreInOrder (0 ∷ []) (map key_alone table) rows → (AreRising rows → AreKeyed table) × (AreKeyed table → AreRising rows)
+keys_told table rows are = (
+  λ up. keyed_back table (keyed_same rows (map key_alone table) (IsPermutation-sym _ _ are.same) (rising_keyed rows up)),
+  λ keys. keyed_rising rows are.order (keyed_same (map key_alone table) rows are.same (keyed_alone table keys)),
+)

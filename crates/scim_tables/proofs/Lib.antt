@@ -16,4 +16,5 @@ pub mod OrderLemmas
 pub mod ReadLemmas
 pub mod KeyLemmas
 pub mod RiseLemmas
+pub mod ToldLemmas
 pub mod WholeLemmas

@@ -1,5 +1,5 @@
 -- What CREATE TABLE and the first INSERT make of a database.
-use Rattle.std.proofs.Common.{◌≡◌, ℕ, ℤ, pos, codes, ◌≤◌, List, [], ◌∷◌, map, Bool, true, false, cond, length, None, Ok, Err, Result, OnOk, IsTrue, refl, sym, ap, subst, ◌∙◌, arith}
+use Rattle.std.proofs.Common.{◌≡◌, ℕ, ℤ, pos, codes, ◌≤◌, List, [], ◌∷◌, map, Bool, true, false, cond, length, None, Ok, Err, Result, OnOk, IsErr, IsTrue, refl, sym, ap, subst, ◌∙◌, arith}
 use Rattle.std.proofs.lemmas.List.Sorted.{IsPermutation-refl}
 use Rattle.sqlite_trees.proofs.ListLemmas.{IsPermutation-same}
 use Rattle.sqlite.specs.declared.types.Value.TheVariants.{Null, Int, Text}
@@ -16,50 +16,39 @@ use Rattle.sqlite.specs.Change.{created, next_tree, KeepsRows}
 use Rattle.sqlite.specs.Does.{Tally, Does, lacks_sequence}
 use Rattle.sqlite.specs.Effect.{Database}
 use Rattle.sqlite.specs.Edit.{next_rowid, IsNoIndex}
-use Rattle.sqlite.specs.State.{State, Writes, mode_of, Executes, ExecutesInside}
+use Rattle.sqlite.specs.State.{State, HasCleanDisk, Writes, mode_of, Executes, ExecutesInside}
 use Rattle.sqlite.specs.Listing.{understood}
 use Rattle.sqlite_tied.specs.Compute.{everything}
 use Rattle.sqlite.proofs.Callers.{IsPlain, command_of, statement_of, runs_as}
 use Rattle.scim_tables.specs.Tables.{no_schema, setting_table, resource_table, taken_table, member_table, audit_table, store_schema}
 use Rattle.scim_tables.specs.Lists.{IsTableOf, Are, no_rows, pair, entry, version_values}
-use Rattle.scim_tables.specs.code.Opening.{schema_1, schema_2, schema_3, schema_4, IsMade}
+use Rattle.scim_tables.specs.code.Opening.{schema_1, schema_2, schema_3, schema_4, IsMade, IsBefore, IsBehind, Makes, creation}
+use Rattle.scim_tables.specs.declared.queries.Table.{Table as Name}
+use Rattle.scim_tables.specs.declared.queries.Table.TheVariants.{Setting, Resource, Taken, Member, Audit}
 use Rattle.scim_tables.proofs.ChangeLemmas.{went, same_value, cast_null, cast_int, puts, inside}
+use Rattle.scim_tables.proofs.StepLemmas.{goes_then}
+use Rattle.sqlite.proofs.StateLemmas.{survives_then}
 use Rattle.scim_tables.proofs.TableLemmas.{no_index_2, no_index_4, no_index_6, no_index_8}
 
 -- ---- what the texts mean
 
-abbrev pub setting_text : List ℕ
-setting_text = codes "CREATE TABLE setting (name TEXT PRIMARY KEY, number INTEGER NOT NULL)"
-
-abbrev pub resource_text : List ℕ
-resource_text = codes "CREATE TABLE resource (id TEXT PRIMARY KEY, kind INTEGER NOT NULL, document TEXT NOT NULL)"
-
-abbrev pub taken_text : List ℕ
-taken_text = codes "CREATE TABLE taken (attribute TEXT, folded TEXT, id TEXT, PRIMARY KEY (attribute, folded))"
-
-abbrev pub member_text : List ℕ
-member_text = codes "CREATE TABLE member (value TEXT, group_id TEXT, PRIMARY KEY (value, group_id))"
-
-abbrev pub audit_text : List ℕ
-audit_text = codes "CREATE TABLE audit (number INTEGER PRIMARY KEY, moment INTEGER, client TEXT, op INTEGER, kind INTEGER, id TEXT, decided INTEGER, rule INTEGER, leaf TEXT, refusal INTEGER)"
-
-pub setting_defined : table_defined_by setting_text ≡ Ok setting_table
+pub setting_defined : table_defined_by (creation Setting) ≡ Ok setting_table
 unfolding understood everything
 setting_defined = refl
 
-pub resource_defined : table_defined_by resource_text ≡ Ok resource_table
+pub resource_defined : table_defined_by (creation Resource) ≡ Ok resource_table
 unfolding understood everything
 resource_defined = refl
 
-pub taken_defined : table_defined_by taken_text ≡ Ok taken_table
+pub taken_defined : table_defined_by (creation Taken) ≡ Ok taken_table
 unfolding understood everything
 taken_defined = refl
 
-pub member_defined : table_defined_by member_text ≡ Ok member_table
+pub member_defined : table_defined_by (creation Member) ≡ Ok member_table
 unfolding understood everything
 member_defined = refl
 
-pub audit_defined : table_defined_by audit_text ≡ Ok audit_table
+pub audit_defined : table_defined_by (creation Audit) ≡ Ok audit_table
 unfolding understood everything
 audit_defined = refl
 
@@ -69,23 +58,23 @@ pub record IsCreate (schema : Schema) (text : List ℕ) : Type 0 where
   pub text_is : statement_of text (understood schema text) ≡ text
   pub plain : IsPlain (understood schema text)
 
-pub creates_setting : IsCreate no_schema setting_text
+pub creates_setting : IsCreate no_schema (creation Setting)
 unfolding understood everything
 creates_setting = record { command = refl; text_is = refl; plain = (refl, refl) }
 
-pub creates_resource : IsCreate schema_1 resource_text
+pub creates_resource : IsCreate schema_1 (creation Resource)
 unfolding understood everything
 creates_resource = record { command = refl; text_is = refl; plain = (refl, refl) }
 
-pub creates_taken : IsCreate schema_2 taken_text
+pub creates_taken : IsCreate schema_2 (creation Taken)
 unfolding understood everything
 creates_taken = record { command = refl; text_is = refl; plain = (refl, refl) }
 
-pub creates_member : IsCreate schema_3 member_text
+pub creates_member : IsCreate schema_3 (creation Member)
 unfolding understood everything
 creates_member = record { command = refl; text_is = refl; plain = (refl, refl) }
 
-pub creates_audit : IsCreate schema_4 audit_text
+pub creates_audit : IsCreate schema_4 (creation Audit)
 unfolding understood everything
 creates_audit = record { command = refl; text_is = refl; plain = (refl, refl) }
 
@@ -128,52 +117,60 @@ module _ (schema : Schema) (table : Table) (text : List ℕ) (is : IsCreate sche
         others = subst (λ (d : Database). KeepsRows schema.tables old.now.trees d.trees) (sym now) (subst (λ (s : Schema). KeepsRows s.tables old.now.trees first.0.trees) has made.others);
       }
 
-abbrev pub Makes : Schema → List ℕ → Schema → List ℕ → State → State → Result ℕ Error → Type 0
-Makes from had to has old new r = OnOk r (IsTrue new.in_transaction × (IsMade from had old.now → IsMade to has new.now))
+-- at Ok the table is made behind those in front of it
+abbrev pub MakesTable : Name → State → State → Result ℕ Error → Type 0
+MakesTable table old new r = OnOk r (IsTrue new.in_transaction × (IsBefore table old.now → IsBehind table new.now))
 
-pub makes_setting : (old new : State) (r : Result ℕ Error) → ExecutesInside 0 setting_text [] old new r → Makes no_schema [] schema_1 (0 ∷ []) old new r
+makes_setting : (old new : State) (r : Result ℕ Error) → ExecutesInside 0 (creation Setting) [] old new r → MakesTable Setting old new r
 makes_setting old new (Err e) h = tt
 makes_setting old new (Ok count) h = (
   h.1.mode,
   λ was.
-      (let it = creates no_schema setting_table setting_text creates_setting setting_defined refl old new count was.schema_is h.0 in record { schema_is = it.schema_is; none = (it.empty, tt) }),
+      (let it = creates no_schema setting_table (creation Setting) creates_setting setting_defined refl old new count was h.0 in record { schema_is = it.schema_is; none = (it.empty, tt) }),
 )
 
-pub makes_resource : (old new : State) (r : Result ℕ Error) → ExecutesInside 0 resource_text [] old new r → Makes schema_1 (0 ∷ []) schema_2 (2 ∷ 0 ∷ []) old new r
+makes_resource : (old new : State) (r : Result ℕ Error) → ExecutesInside 0 (creation Resource) [] old new r → MakesTable Resource old new r
 makes_resource old new (Err e) h = tt
 makes_resource old new (Ok count) h = (
   h.1.mode,
   λ was.
-      (let it = creates schema_1 resource_table resource_text creates_resource resource_defined refl old new count was.schema_is h.0 in
+      (let it = creates schema_1 resource_table (creation Resource) creates_resource resource_defined refl old new count was.schema_is h.0 in
       record { schema_is = it.schema_is; none = (it.empty, (it.others.0 ∙ was.none.0, tt)) }),
 )
 
-pub makes_taken : (old new : State) (r : Result ℕ Error) → ExecutesInside 0 taken_text [] old new r → Makes schema_2 (2 ∷ 0 ∷ []) schema_3 (4 ∷ 2 ∷ 0 ∷ []) old new r
+makes_taken : (old new : State) (r : Result ℕ Error) → ExecutesInside 0 (creation Taken) [] old new r → MakesTable Taken old new r
 makes_taken old new (Err e) h = tt
 makes_taken old new (Ok count) h = (
   h.1.mode,
   λ was.
-      (let it = creates schema_2 taken_table taken_text creates_taken taken_defined refl old new count was.schema_is h.0 in
+      (let it = creates schema_2 taken_table (creation Taken) creates_taken taken_defined refl old new count was.schema_is h.0 in
       record { schema_is = it.schema_is; none = (it.empty, (it.others.1.0 ∙ was.none.0, (it.others.0 ∙ was.none.1.0, tt))) }),
 )
 
-pub makes_member : (old new : State) (r : Result ℕ Error) → ExecutesInside 0 member_text [] old new r → Makes schema_3 (4 ∷ 2 ∷ 0 ∷ []) schema_4 (6 ∷ 4 ∷ 2 ∷ 0 ∷ []) old new r
+makes_member : (old new : State) (r : Result ℕ Error) → ExecutesInside 0 (creation Member) [] old new r → MakesTable Member old new r
 makes_member old new (Err e) h = tt
 makes_member old new (Ok count) h = (
   h.1.mode,
   λ was.
-      (let it = creates schema_3 member_table member_text creates_member member_defined refl old new count was.schema_is h.0 in
+      (let it = creates schema_3 member_table (creation Member) creates_member member_defined refl old new count was.schema_is h.0 in
       record { schema_is = it.schema_is; none = (it.empty, (it.others.1.1.0 ∙ was.none.0, (it.others.1.0 ∙ was.none.1.0, (it.others.0 ∙ was.none.1.1.0, tt)))) }),
 )
 
-pub makes_audit : (old new : State) (r : Result ℕ Error) → ExecutesInside 0 audit_text [] old new r → Makes schema_4 (6 ∷ 4 ∷ 2 ∷ 0 ∷ []) store_schema (8 ∷ 6 ∷ 4 ∷ 2 ∷ 0 ∷ []) old new r
+makes_audit : (old new : State) (r : Result ℕ Error) → ExecutesInside 0 (creation Audit) [] old new r → MakesTable Audit old new r
 makes_audit old new (Err e) h = tt
 makes_audit old new (Ok count) h = (
   h.1.mode,
   λ was.
-      (let it = creates schema_4 audit_table audit_text creates_audit audit_defined refl old new count was.schema_is h.0 in
+      (let it = creates schema_4 audit_table (creation Audit) creates_audit audit_defined refl old new count was.schema_is h.0 in
       record { schema_is = it.schema_is; none = (it.empty, (it.others.1.1.1.0 ∙ was.none.0, (it.others.1.1.0 ∙ was.none.1.0, (it.others.1.0 ∙ was.none.1.1.0, (it.others.0 ∙ was.none.1.1.1.0, tt))))) }),
 )
+
+pub makes_table : (table : Name) (old new : State) (r : Result ℕ Error) → ExecutesInside 0 (creation table) [] old new r → MakesTable table old new r
+makes_table Setting = makes_setting
+makes_table Resource = makes_resource
+makes_table Taken = makes_taken
+makes_table Member = makes_member
+makes_table Audit = makes_audit
 
 -- ---- the version
 
@@ -210,3 +207,24 @@ notes_version old new count was h =
 
 pub notes_version_inside : (old new : State) (r : Result ℕ Error) → ExecutesInside 0 version_text [] old new r → OnOk r (IsTrue new.in_transaction × (IsMade store_schema (8 ∷ 6 ∷ 4 ∷ 2 ∷ 0 ∷ []) old.now → Are new.now no_rows))
 notes_version_inside old new r = inside version_text [] old new r (λ count h was. notes_version old new count was h)
+
+-- ---- steps, one behind another
+
+-- one step behind another
+pub makes_then : {T U : Type 0} (A B C : Database → Type 0) (a b c : State) (x : T) (r : Result U Error) → Makes A B a b (Ok x) → Makes B C b c r → Makes A C a c r
+makes_then A B C a b c x r first second = record {
+  went = λ clean inside. (let one = first.went (earlier clean) inside in goes_then r (λ h. (h.0, λ was. h.1 (one.1 was))) (second.went clean one.0));
+  kept = λ clean.
+      (let one = first.kept (earlier clean) in
+      let two = second.kept clean in
+      record { was_open = λ o. one.was_open (two.was_open o); committed = λ o. two.committed o ∙ one.committed (two.was_open o) });
+  survives = survives_then a b c _ _ _ (λ _ db none. none) (λ _ db none. none) first.survives second.survives;
+}
+  where
+    earlier : HasCleanDisk c → HasCleanDisk b
+    earlier clean = omega (arith, clean, second.survives.clean)
+
+-- the error of a step is that of the whole
+pub makes_failed : {T U : Type 0} (A B C : Database → Type 0) (a b : State) (e : Error) (r : Result U Error) → IsErr r → Makes {T = T} A B a b (Err e) → Makes A C a b r
+makes_failed A B C a b e (Ok y) fails made = absurd cc
+makes_failed A B C a b e (Err f) fails made = record { went = λ clean inside. tt; kept = made.kept; survives = made.survives }

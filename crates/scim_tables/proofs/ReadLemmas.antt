@@ -7,74 +7,58 @@ use Rattle.sqlite.specs.declared.types.Value.TheVariants.{Int, Text}
 use Rattle.sqlite.specs.Order.{Row}
 use Rattle.sqlite.specs.Query.{Query}
 use Rattle.sqlite.specs.Term.{col}
-use Rattle.sqlite.specs.State.{State}
+use Rattle.sqlite.specs.State.{State, IsUnchanged}
 use Rattle.scim_tables.specs.Tables.{store_schema}
 use Rattle.scim_tables.specs.Lists.{Lists, has_text, has_texts, pair, triple, entry}
-use Rattle.scim_tables.specs.Reading.{TellsKeys, key_alone, shown_settings, group_alone, Rests, HasTables, Holds, Tells, Finds, IsTextOfFirst, shown, owner_first, group_first, is_resource, is_between}
+use Rattle.scim_tables.specs.Reading.{group_alone, Rests, HasTables, Holds, Tells, Finds, IsTextOfFirst, shown, owner_first, group_first, is_resource, is_between}
 use Rattle.scim_tables.specs.code.Asks.{IsAsk, IsAnswered}
-use Rattle.scim_tables.specs.code.Queries.{is_column, up}
-use Rattle.scim_tables.proofs.AskLemmas.{keys_of_tree, setting_keys_text, asks_setting_keys, resource_keys_text, asks_resource_keys, name_keys_text, asks_name_keys, member_keys_text, asks_member_keys, settings_text, settings, asks_settings, groups_text, groups, asks_groups, resources_text, resources, asks_resources, names_text, names, asks_names, members_text, members, asks_members, all_audit_text, all_audit, asks_audit, document_text, document, asks_document, owner_text, owner, asks_owner, between_text, between, asks_between}
+use Rattle.scim_tables.specs.code.Queries.{is_column, up, tree_of, rows_query, keys_query}
+use Rattle.scim_tables.specs.code.Keys.{key_alone}
+use Rattle.scim_tables.specs.code.Told.{AreRows, AreKeys}
+use Rattle.scim_tables.specs.Whole.{AreInOrder}
+use Rattle.scim_tables.specs.declared.queries.Table.{Table}
+use Rattle.scim_tables.specs.declared.queries.Table.TheVariants.{Setting, Resource, Taken, Member, Audit}
+use Rattle.scim_tables.proofs.AskLemmas.{groups_text, groups, asks_groups, resources_text, asks_resources, document_text, document, asks_document, owner_text, owner, asks_owner, between_text, between, asks_between}
 use Rattle.scim_tables.proofs.AnswerLemmas.{passing, answered_columns, found_first, unchanged_rests}
 use Rattle.scim_tables.proofs.KeyLemmas.{keys_told}
 use Rattle.scim_tables.proofs.OrderLemmas.{told_in_order, told_where}
 use Rattle.scim_tables.proofs.TestLemmas.{passes_text, passes_resource, passes_key, passes_between}
 use Rattle.scim_tables.proofs.TextLemmas.{key_tests, resource_tests, between_tests}
 
+-- ---- all rows of a table, and its keys
+
+ordered : {places : List ℕ} {values : List Row} {old new : State} {rows : List Row} → Tells places values old new rows → IsUnchanged old new × AreInOrder places values rows
+ordered told = (told.unchanged, record { same = told.same; order = told.order })
+
+pub rows_told : (table : Table) (old new : State) (rows : List Row) → IsAnswered (rows_query table) [] old new rows → IsUnchanged old new × AreRows table old.now rows
+rows_told Setting old new rows it = ordered (told_in_order 0 (col 1 1 ∷ col 1 2 ∷ []) [] [] old.now.trees rows pair old new refl (λ r. tt) (λ r. refl) it.unchanged it.answer)
+rows_told Resource old new rows it = ordered (told_in_order 2 (col 1 1 ∷ col 1 2 ∷ col 1 3 ∷ []) ((col 1 1, up) ∷ []) (0 ∷ []) old.now.trees rows triple old new refl (λ r. (refl, tt)) (λ r. refl) it.unchanged it.answer)
+rows_told Taken old new rows it =
+    ordered (subst (λ values. Tells (0 ∷ 1 ∷ 2 ∷ []) values old new rows) (sym (map-map owner_first triple (old.now.trees 4)))
+    (told_in_order 4 (col 1 3 ∷ col 1 1 ∷ col 1 2 ∷ []) ((col 1 3, up) ∷ (col 1 1, up) ∷ (col 1 2, up) ∷ []) (0 ∷ 1 ∷ 2 ∷ []) old.now.trees rows (λ r. owner_first (triple r)) old new refl (λ r. (refl, (refl, (refl, tt)))) (λ r. refl) it.unchanged it.answer))
+rows_told Member old new rows it =
+    ordered (subst (λ values. Tells (0 ∷ 1 ∷ []) values old new rows) (sym (map-map group_first pair (old.now.trees 6)))
+    (told_in_order 6 (col 1 2 ∷ col 1 1 ∷ []) ((col 1 2, up) ∷ (col 1 1, up) ∷ []) (0 ∷ 1 ∷ []) old.now.trees rows (λ r. group_first (pair r)) old new refl (λ r. (refl, (refl, tt))) (λ r. refl) it.unchanged it.answer))
+rows_told Audit old new rows it =
+    ordered (told_in_order 8 (col 1 0 ∷ col 1 2 ∷ col 1 3 ∷ col 1 4 ∷ col 1 5 ∷ col 1 6 ∷ col 1 7 ∷ col 1 8 ∷ col 1 9 ∷ col 1 10 ∷ []) ((col 1 0, up) ∷ []) (0 ∷ []) old.now.trees rows entry old new refl (λ r. (refl, tt)) (λ r. refl) it.unchanged it.answer)
+
+pub table_keys_told : (table : Table) (old new : State) (rows : List Row) → IsAnswered (keys_query table) [] old new rows → IsUnchanged old new × AreKeys table old.now rows
+table_keys_told table old new rows it =
+    let told = ordered (told_in_order (tree_of table) (col 1 0 ∷ []) ((col 1 0, up) ∷ []) (0 ∷ []) old.now.trees rows key_alone old new refl (λ r. (refl, tt)) (λ r. refl) it.unchanged it.answer) in
+    let both = keys_told (old.now.trees (tree_of table)) rows told.1 in
+    (told.0, record { are = told.1; sound = both.0; complete = both.1 })
+
 -- the query is answered
 abbrev pub Answered : List ℕ → Row → State → State → List Row → Type 0
 Answered text params old new rows = (q : Query) → IsAsk text q → old.now.schema ≡ store_schema → IsAnswered q params old new rows
 
 module _ (old new : State) (rows : List Row) (opened : IsTrue old.is_open) where
-  -- ---- in order
-
-  pub settings_told : Answered settings_text [] old new rows → HasTables old → Tells [] (shown_settings old.now) old new rows
-  settings_told answers has =
-      let it = answers settings asks_settings (has opened) in
-      told_in_order 0 (col 1 1 ∷ col 1 2 ∷ []) [] [] old.now.trees rows pair old new refl (λ r. tt) (λ r. refl) it.unchanged it.answer
+  -- ---- all rows of a table
 
   pub resources_told : Answered resources_text [] old new rows → HasTables old → Tells (0 ∷ []) (shown old.now).resources old new rows
   resources_told answers has =
-      let it = answers resources asks_resources (has opened) in
+      let it = answers (rows_query Resource) asks_resources (has opened) in
       told_in_order 2 (col 1 1 ∷ col 1 2 ∷ col 1 3 ∷ []) ((col 1 1, up) ∷ []) (0 ∷ []) old.now.trees rows triple old new refl (λ r. (refl, tt)) (λ r. refl) it.unchanged it.answer
-
-  pub names_told : Answered names_text [] old new rows → HasTables old → Tells (0 ∷ 1 ∷ 2 ∷ []) (map owner_first (shown old.now).taken) old new rows
-  names_told answers has =
-      let it = answers names asks_names (has opened) in
-      subst (λ values. Tells (0 ∷ 1 ∷ 2 ∷ []) values old new rows) (sym (map-map owner_first triple (old.now.trees 4)))
-      (told_in_order 4 (col 1 3 ∷ col 1 1 ∷ col 1 2 ∷ []) ((col 1 3, up) ∷ (col 1 1, up) ∷ (col 1 2, up) ∷ []) (0 ∷ 1 ∷ 2 ∷ []) old.now.trees rows (λ r. owner_first (triple r)) old new refl (λ r. (refl, (refl, (refl, tt)))) (λ r. refl) it.unchanged it.answer)
-
-  pub members_told : Answered members_text [] old new rows → HasTables old → Tells (0 ∷ 1 ∷ []) (map group_first (shown old.now).member) old new rows
-  members_told answers has =
-      let it = answers members asks_members (has opened) in
-      subst (λ values. Tells (0 ∷ 1 ∷ []) values old new rows) (sym (map-map group_first pair (old.now.trees 6)))
-      (told_in_order 6 (col 1 2 ∷ col 1 1 ∷ []) ((col 1 2, up) ∷ (col 1 1, up) ∷ []) (0 ∷ 1 ∷ []) old.now.trees rows (λ r. group_first (pair r)) old new refl (λ r. (refl, (refl, tt))) (λ r. refl) it.unchanged it.answer)
-
-  pub audit_told : Answered all_audit_text [] old new rows → HasTables old → Tells (0 ∷ []) (shown old.now).audit old new rows
-  audit_told answers has =
-      let it = answers all_audit asks_audit (has opened) in
-      told_in_order 8 (col 1 0 ∷ col 1 2 ∷ col 1 3 ∷ col 1 4 ∷ col 1 5 ∷ col 1 6 ∷ col 1 7 ∷ col 1 8 ∷ col 1 9 ∷ col 1 10 ∷ []) ((col 1 0, up) ∷ []) (0 ∷ []) old.now.trees rows entry old new refl (λ r. (refl, tt)) (λ r. refl) it.unchanged it.answer
-
-  -- ---- the keys of a table
-
-  pub setting_keys_told : Answered setting_keys_text [] old new rows → HasTables old → TellsKeys (old.now.trees 0) old new rows
-  setting_keys_told answers has =
-      let it = answers (keys_of_tree 0) asks_setting_keys (has opened) in
-      keys_told (old.now.trees 0) old new rows (told_in_order 0 (col 1 0 ∷ []) ((col 1 0, up) ∷ []) (0 ∷ []) old.now.trees rows key_alone old new refl (λ r. (refl, tt)) (λ r. refl) it.unchanged it.answer)
-
-  pub resource_keys_told : Answered resource_keys_text [] old new rows → HasTables old → TellsKeys (old.now.trees 2) old new rows
-  resource_keys_told answers has =
-      let it = answers (keys_of_tree 2) asks_resource_keys (has opened) in
-      keys_told (old.now.trees 2) old new rows (told_in_order 2 (col 1 0 ∷ []) ((col 1 0, up) ∷ []) (0 ∷ []) old.now.trees rows key_alone old new refl (λ r. (refl, tt)) (λ r. refl) it.unchanged it.answer)
-
-  pub name_keys_told : Answered name_keys_text [] old new rows → HasTables old → TellsKeys (old.now.trees 4) old new rows
-  name_keys_told answers has =
-      let it = answers (keys_of_tree 4) asks_name_keys (has opened) in
-      keys_told (old.now.trees 4) old new rows (told_in_order 4 (col 1 0 ∷ []) ((col 1 0, up) ∷ []) (0 ∷ []) old.now.trees rows key_alone old new refl (λ r. (refl, tt)) (λ r. refl) it.unchanged it.answer)
-
-  pub member_keys_told : Answered member_keys_text [] old new rows → HasTables old → TellsKeys (old.now.trees 6) old new rows
-  member_keys_told answers has =
-      let it = answers (keys_of_tree 6) asks_member_keys (has opened) in
-      keys_told (old.now.trees 6) old new rows (told_in_order 6 (col 1 0 ∷ []) ((col 1 0, up) ∷ []) (0 ∷ []) old.now.trees rows key_alone old new refl (λ r. (refl, tt)) (λ r. refl) it.unchanged it.answer)
 
   -- ---- by a key
 

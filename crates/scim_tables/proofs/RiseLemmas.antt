@@ -13,7 +13,7 @@ use Rattle.sqlite.specs.Edit.{id_in}
 use Rattle.sqlite.specs.Order.{Row, value_cmp}
 use Rattle.sqlite.specs.Tree.{IsAscending, rowid}
 use Rattle.sqlite.specs.View.{is_int}
-use Rattle.scim_tables.specs.Reading.{AreRising}
+use Rattle.scim_tables.specs.code.Keys.{AreRising}
 use Rattle.scim_tables.specs.code.Keys.{is_above, rise_from}
 
 and_parts : (a b : Bool) → (a && b) ≡ true → (a ≡ true) × (b ≡ true)

@@ -1,57 +1,33 @@
 -- What was read of a database is what it is.
-use Rattle.std.proofs.Common.{◌≡◌, ◌≢◌, ℕ, List, [], ◌∷◌, map, Bool, true, false, IsTrue, arith, inl, inr, refl, ap, subst, subst₂, ◌∙◌}
+use Rattle.std.proofs.Common.{◌≡◌, ◌≢◌, ℕ, List, [], ◌∷◌, map, Bool, false, IsTrue, inl, inr, refl, subst, subst₂}
 use Rattle.std.specs.Prelude.{IsPermutation}
 use Rattle.std.specs.List.{AllByRecursion}
 use Rattle.std.proofs.lemmas.List.Sorted.{IsPermutation-sym, IsPermutation-trans, IsPermutation-refl, IsPermutation-map}
 use Rattle.sqlite.specs.Effect.{Database}
 use Rattle.sqlite.specs.Order.{Row, column}
-use Rattle.sqlite.specs.State.{State, IsUnchanged, HasCleanDisk}
+use Rattle.sqlite.specs.State.{State, IsUnchanged}
 use Rattle.sqlite.proofs.Callers.{one_permutation}
-use Rattle.sqlite.proofs.StateLemmas.{survives_then}
 use Rattle.scim_tables.specs.Tables.{store_schema}
 use Rattle.scim_tables.specs.Lists.{Lists, Are, version_values, pair, triple}
-use Rattle.scim_tables.specs.Reading.{HasTables, Spares, Tells, shown, shown_settings, owner_first, group_first}
-use Rattle.scim_tables.specs.Whole.{HasVersion, AreAllKeyed, AreInOrder, AreRowsOf, Tests, IsUntouched, IsReading, Is, AreNone}
+use Rattle.scim_tables.specs.Reading.{shown, shown_settings, owner_first, group_first}
+use Rattle.scim_tables.specs.code.Told.{Decides}
+use Rattle.scim_tables.specs.Whole.{HasVersion, AreAllKeyed, AreInOrder, AreRowsOf, IsByRows, IsReading, Is, AreNone}
 use Rattle.scim_tables.specs.declared.tables.TableRows.{TableRows}
-use Rattle.scim_tables.specs.declared.tables.Reading.TheVariants.{WrongVersion, Foreign, Tables}
-
--- ---- nothing is changed
-
-pub both_unchanged : (a b c : State) → IsUnchanged a b → IsUnchanged b c → IsUnchanged a c
-both_unchanged a b c first second = (
-  record {
-    was_open = first.0.was_open;
-    is_open = second.0.is_open;
-    now_is = second.0.now_is ∙ first.0.now_is;
-    committed_is = second.0.committed_is ∙ first.0.committed_is;
-    mode = second.0.mode ∙ first.0.mode;
-  },
-  record { changes = second.1.changes ∙ first.1.changes; last_rowid = second.1.last_rowid ∙ first.1.last_rowid },
-  second.2 ∙ first.2,
-)
-
-pub untouched : (old new : State) → IsUnchanged old new → IsUntouched old new
-untouched old new same = record { was_open = λ _. same.0.was_open; unchanged = λ _. same }
-
--- one read behind another
-pub spares_then : (a b c : State) → Spares a b → (HasCleanDisk b → HasTables a → IsUnchanged a b) → Spares b c → Spares a c
-spares_then a b c one kept two =
-    survives_then a b c _ _ _ (λ _ db other. other) (λ clean db other has.
-    (let same = kept (omega (arith, clean, two.clean)) (λ _. has) in other (ap (λ (d : Database). d.schema) same.0.now_is ∙ has))) one two
+use Rattle.scim_tables.specs.declared.tables.Reading.{Reading}
+use Rattle.scim_tables.specs.declared.tables.Reading.TheVariants.{WrongVersion, Foreign}
 
 -- ---- the settings
 
-pub version_tested : (old new : State) (rows : List Row) (has : Bool) → Tells [] (shown_settings old.now) old new rows → (IsTrue has → rows ≡ version_values ∷ []) → (has ≡ false → rows ≢ version_values ∷ []) → Tests (HasVersion old.now) old new has
-version_tested old new rows has told is_one is_other = record {
-  unchanged = told.unchanged;
-  yes = λ holds. subst (λ xs. IsPermutation (shown_settings old.now) xs) (is_one holds) told.same;
-  no = λ fails same. is_other fails (one_permutation version_values rows (IsPermutation-trans _ _ _ (IsPermutation-sym _ _ same) told.same));
+pub version_told : (db : Database) (rows : List Row) (has : Bool) → AreInOrder [] (shown_settings db) rows → (IsTrue has → rows ≡ version_values ∷ []) → (has ≡ false → rows ≢ version_values ∷ []) → Decides (HasVersion db) has
+version_told db rows has are is_one is_other = record {
+  yes = λ holds. subst (λ xs. IsPermutation (shown_settings db) xs) (is_one holds) are.same;
+  no = λ fails same. is_other fails (one_permutation version_values rows (IsPermutation-trans _ _ _ (IsPermutation-sym _ _ same) are.same));
 }
 
 -- ---- what a database is
 
 -- what the tables show, they hold
-shown_are : (db : Database) → db.schema ≡ store_schema → HasVersion db → AreAllKeyed db → Are db (shown db)
+pub shown_are : (db : Database) → db.schema ≡ store_schema → HasVersion db → AreAllKeyed db → Are db (shown db)
 shown_are db has version keyed = record {
   schema = has;
   version = record { keys = keyed.settings; same = version };
@@ -61,14 +37,12 @@ shown_are db has version keyed = record {
   audit = IsPermutation-refl _;
 }
 
-pub rows_read : (old a b new : State) (rows : TableRows) → old.now.schema ≡ store_schema → Tests (HasVersion old.now) old a true → Tests (AreAllKeyed a.now) a b true → IsUnchanged b new → AreRowsOf (shown b.now) rows → IsReading old new (Tables rows)
-rows_read old a b new rows has version keyed same are =
-    let first : a.now ≡ old.now = version.unchanged.0.now_is in
-    let both : b.now ≡ old.now = keyed.unchanged.0.now_is ∙ first in
-    record {
-      is = inr (has, (shown_are old.now has (version.yes refl) (subst AreAllKeyed first (keyed.yes refl)), subst (λ (db : Database). AreRowsOf (shown db) rows) both are));
-      untouched = untouched old new (both_unchanged old a new version.unchanged (both_unchanged a b new keyed.unchanged same));
-    }
+-- what the rows told is what the database is
+pub is_reading : (old new : State) (reading : Reading) → old.now.schema ≡ store_schema → IsUnchanged old new × IsByRows old.now reading → IsReading old new reading
+is_reading old new reading has told = record {
+  is = inr (has, told.1);
+  untouched = record { was_open = λ _. told.0.0.was_open; unchanged = λ _. told.0 };
+}
 
 -- ---- a database that has no rows of ours
 

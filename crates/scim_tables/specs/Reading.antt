@@ -1,17 +1,15 @@
 -- What a query tells of the tables.
-use Rattle.std.specs.Prelude.{◌≡◌, ◌≢◌, ◌⊎◌, ℕ, ℤ, pos, Bool, false, true, ◌&&◌, IsTrue, List, [], ◌∷◌, map, Option, Some, None, IsPermutation}
+use Rattle.std.specs.Prelude.{◌≡◌, ◌≢◌, ◌⊎◌, ℕ, ℤ, pos, Bool, false, ◌&&◌, IsTrue, List, [], ◌∷◌, map, Option, Some, None, IsPermutation}
 use Rattle.std.specs.Ordering.{is_eq, is_lt, is_ge, ordering_then}
 use Rattle.std.specs.declared.cmp.Ordering.{Ordering}
-use Rattle.std.specs.declared.cmp.Ordering.TheVariants.{Less, Equal}
+use Rattle.std.specs.declared.cmp.Ordering.TheVariants.{Equal}
 use Rattle.sqlite.specs.declared.types.Value.TheVariants.{Int, Text}
 use Rattle.sqlite.specs.Effect.{Database}
 use Rattle.sqlite.specs.Order.{Row, column, value_cmp}
 use Rattle.sqlite.specs.State.{State, IsUnchanged, Survives}
-use Rattle.std.specs.List.{AllByRecursion}
-use Rattle.sqlite.specs.Tree.{IsAscending, rowid}
-use Rattle.sqlite.specs.View.{is_int}
+use Rattle.sqlite.specs.Tree.{IsAscending}
 use Rattle.scim_tables.specs.Tables.{store_schema}
-use Rattle.scim_tables.specs.Lists.{Lists, Are, AreKeyed, pair, triple, entry, has_text}
+use Rattle.scim_tables.specs.Lists.{Lists, Are, pair, triple, entry, has_text}
 
 -- after a query that fails: the connection is shut, or it is as it was or as the last commit left it
 pub record Rests (old new : State) : Type 0 where
@@ -85,18 +83,3 @@ pub record Finds (place : ℕ) (values : List Row) (old new : State) (found : Op
   pub ordered : List Row
   pub same : IsPermutation values ordered
   pub first : IsTextOfFirst place ordered found
-
--- the key of a row, alone
-abbrev pub key_alone : Row → Row
-key_alone r = rowid r ∷ []
-
--- each row begins with a number, which is above those of the rows in front of it
-pub record AreRising (rows : List Row) : Type 0 where
-  pub numbers : AllByRecursion (λ r. is_int (rowid r) ≡ true) rows
-  pub rise : IsAscending (λ a b. value_cmp (rowid a) (rowid b) ≡ Less) rows
-
--- the rows are the keys of a table, in order; they rise just where each key is a number and none comes twice
-pub record TellsKeys (table : List Row) (old new : State) (rows : List Row) : Type 0 where
-  pub told : Tells (0 ∷ []) (map key_alone table) old new rows
-  pub sound : AreRising rows → AreKeyed table
-  pub complete : AreKeyed table → AreRising rows

@@ -58,12 +58,6 @@ pub record AreRowsOf (lists : Lists) (rows : TableRows) : Type 0 where
 
 -- ---- what is found
 
--- a test has found whether this holds, and nothing is changed
-pub record Tests (P : Type 0) (old new : State) (found : Bool) : Type 0 where
-  pub unchanged : IsUnchanged old new
-  pub yes : IsTrue found → P
-  pub no : found ≡ false → ¬ P
-
 -- where the connection is open, it was, and nothing is changed
 pub record IsUntouched (old new : State) : Type 0 where
   pub was_open : IsTrue new.is_open → IsTrue old.is_open

@@ -4,3 +4,4 @@ pub mod Changes
 pub mod Queries
 pub mod Asks
 pub mod Keys
+pub mod Told

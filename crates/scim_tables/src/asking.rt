@@ -1,37 +1,34 @@
 //! The queries on the tables. None changes anything, but one that fails within a transaction may roll it back.
 
-ghost use Rattle.std.specs.Prelude.{◌≡◌, ◌≤◌, [], ◌∷◌, false, map, filter, string_bytes, option_map, IfOk, OnOk, OnErr, IsTrue};
+ghost use Rattle.std.specs.Prelude.{◌≡◌, ◌≤◌, [], ◌∷◌, false, map, filter, string_bytes, option_map, IfOk, OnErr};
 ghost use Rattle.sqlite.specs.State.{HasCleanDisk};
 ghost use Rattle.sqlite.specs.View.{doubt};
 ghost use Rattle.sqlite.specs.Held.{state};
 ghost use Rattle.sqlite.specs.Values.{bound};
-ghost use Rattle.scim_tables.specs.Tables.{store_schema};
 ghost use Rattle.scim_tables.specs.Lists.{Lists, has_text, has_texts};
-ghost use Rattle.scim_tables.specs.Reading.{Rests, Spares, HasTables, Holds, Tells, Finds, IsTextOfFirst, shown, shown_settings, owner_first, group_first, group_alone, is_resource, is_between};
-ghost use Rattle.scim_tables.specs.code.Asks.{IsAsk, IsAnswered};
+ghost use Rattle.scim_tables.specs.Reading.{Rests, HasTables, Holds, Tells, Finds, IsTextOfFirst, shown, group_alone, is_resource, is_between};
+ghost use Rattle.scim_tables.specs.code.Asks.{IsAsked};
+ghost use Rattle.scim_tables.specs.code.Told.{OnlyAsks, AreRows, AreKeys};
 
+use crate::queries::{Table, keys_query, rows_query};
 use sqlite::types::ValueRef;
 use sqlite::{Alter, Connection, Error, Row, params};
 
-/// All rows of a query.
-pub(crate) fn ask<S: Alter>(
+/// All rows of a query. The error is the one that the database gave; the connection is then shut, or as it was or as the
+/// last commit left it.
+pub fn ask<S: Alter>(
     conn: &mut Connection<S>,
     sql: &str,
     params: &[ValueRef<'_>],
 ) -> Result<Vec<Row>, Error>
-    ensures mode { conn.old.in_transaction ≡ false → conn.new.in_transaction ≡ false }
-    ensures clean { doubt (state S.Store conn.old).is_clean ≤ doubt (state S.Store conn.new).is_clean }
-    ensures spares { (q : _) → IsAsk sql.now q → Spares (state S.Store conn.old) (state S.Store conn.new) }
-    ensures was_open { HasCleanDisk (state S.Store conn.new) → OnOk result (IsTrue (state S.Store conn.old).is_open) }
-    ensures read { HasCleanDisk (state S.Store conn.new) → IfOk result (λ rows. (q : _) → IsAsk sql.now q → (state S.Store conn.old).now.schema ≡ store_schema
-        → IsAnswered q (bound params.now) (state S.Store conn.old) (state S.Store conn.new) rows.items) }
-    ensures rests { HasCleanDisk (state S.Store conn.new) → OnErr result (Rests (state S.Store conn.old) (state S.Store conn.new)) }
+    ensures { IsAsked sql.now (bound params.now) (state S.Store conn.old) (state S.Store conn.new) result }
 {
     conn.query_all(sql, params)
 }
 
-/// The text of the first row, if there is a row.
-fn first_text(rows: &[Row]) -> Result<Option<String>, Error>
+/// The text of the first row, if there is a row. The error is that of a first column that is no text, or that no memory
+/// was to be had.
+pub fn first_text(rows: &[Row]) -> Result<Option<String>, Error>
     ensures { IfOk result (λ found. IsTextOfFirst 0 rows.now (option_map string_bytes found)) }
 {
     match rows {
@@ -85,85 +82,18 @@ pub fn find_owner<S: Alter>(
     first_text(rows.as_slice())
 }
 
-/// The rows of all resources, in order of id, whatever they are. The error is
-/// the one that the database gave; the connection is then shut, or as it was or as the last commit left it.
-pub fn read_resources<S: Alter>(conn: &mut Connection<S>) -> Result<Vec<Row>, Error>
-    ensures mode { conn.old.in_transaction ≡ false → conn.new.in_transaction ≡ false }
-    ensures clean { doubt (state S.Store conn.old).is_clean ≤ doubt (state S.Store conn.new).is_clean }
-    ensures spares { Spares (state S.Store conn.old) (state S.Store conn.new) }
-    ensures read { HasCleanDisk (state S.Store conn.new) → IfOk result (λ rows. HasTables (state S.Store conn.old)
-        → Tells (0 ∷ []) (shown (state S.Store conn.old).now).resources (state S.Store conn.old) (state S.Store conn.new) rows.items) }
-    ensures rests { HasCleanDisk (state S.Store conn.new) → OnErr result (Rests (state S.Store conn.old) (state S.Store conn.new)) }
+/// All rows of a table, in order, whatever they are. The error is the one that the database gave.
+pub(crate) fn read_rows<S: Alter>(conn: &mut Connection<S>, table: Table) -> Result<Vec<Row>, Error>
+    ensures { OnlyAsks (λ db rows. AreRows table db rows.items) (state S.Store conn.old) (state S.Store conn.new) result }
 {
-    ask(
-        conn,
-        "SELECT id, kind, document FROM resource ORDER BY id",
-        &[],
-    )
+    ask(conn, rows_query(table), &[])
 }
 
-/// The unique names, each behind its owner, in order of owner, attribute and text, whatever they are. The error is
-/// the one that the database gave; the connection is then shut, or as it was or as the last commit left it.
-pub fn read_names<S: Alter>(conn: &mut Connection<S>) -> Result<Vec<Row>, Error>
-    ensures mode { conn.old.in_transaction ≡ false → conn.new.in_transaction ≡ false }
-    ensures clean { doubt (state S.Store conn.old).is_clean ≤ doubt (state S.Store conn.new).is_clean }
-    ensures spares { Spares (state S.Store conn.old) (state S.Store conn.new) }
-    ensures read { HasCleanDisk (state S.Store conn.new) → IfOk result (λ rows. HasTables (state S.Store conn.old)
-        → Tells (0 ∷ 1 ∷ 2 ∷ []) (map owner_first (shown (state S.Store conn.old).now).taken) (state S.Store conn.old) (state S.Store conn.new) rows.items) }
-    ensures rests { HasCleanDisk (state S.Store conn.new) → OnErr result (Rests (state S.Store conn.old) (state S.Store conn.new)) }
+/// The keys of a table, in order. Where they rise, none comes twice. The error is the one that the database gave.
+pub(crate) fn read_keys<S: Alter>(conn: &mut Connection<S>, table: Table) -> Result<Vec<Row>, Error>
+    ensures { OnlyAsks (λ db keys. AreKeys table db keys.items) (state S.Store conn.old) (state S.Store conn.new) result }
 {
-    ask(
-        conn,
-        "SELECT id, attribute, folded FROM taken ORDER BY id, attribute, folded",
-        &[],
-    )
-}
-
-/// The members, each behind its group, in order of group and value, whatever they are. The error is
-/// the one that the database gave; the connection is then shut, or as it was or as the last commit left it.
-pub fn read_members<S: Alter>(conn: &mut Connection<S>) -> Result<Vec<Row>, Error>
-    ensures mode { conn.old.in_transaction ≡ false → conn.new.in_transaction ≡ false }
-    ensures clean { doubt (state S.Store conn.old).is_clean ≤ doubt (state S.Store conn.new).is_clean }
-    ensures spares { Spares (state S.Store conn.old) (state S.Store conn.new) }
-    ensures read { HasCleanDisk (state S.Store conn.new) → IfOk result (λ rows. HasTables (state S.Store conn.old)
-        → Tells (0 ∷ 1 ∷ []) (map group_first (shown (state S.Store conn.old).now).member) (state S.Store conn.old) (state S.Store conn.new) rows.items) }
-    ensures rests { HasCleanDisk (state S.Store conn.new) → OnErr result (Rests (state S.Store conn.old) (state S.Store conn.new)) }
-{
-    ask(
-        conn,
-        "SELECT group_id, value FROM member ORDER BY group_id, value",
-        &[],
-    )
-}
-
-/// The rows of the audit, in order of number, whatever they are. The error is
-/// the one that the database gave; the connection is then shut, or as it was or as the last commit left it.
-pub fn read_audit<S: Alter>(conn: &mut Connection<S>) -> Result<Vec<Row>, Error>
-    ensures mode { conn.old.in_transaction ≡ false → conn.new.in_transaction ≡ false }
-    ensures clean { doubt (state S.Store conn.old).is_clean ≤ doubt (state S.Store conn.new).is_clean }
-    ensures spares { Spares (state S.Store conn.old) (state S.Store conn.new) }
-    ensures read { HasCleanDisk (state S.Store conn.new) → IfOk result (λ rows. HasTables (state S.Store conn.old)
-        → Tells (0 ∷ []) (shown (state S.Store conn.old).now).audit (state S.Store conn.old) (state S.Store conn.new) rows.items) }
-    ensures rests { HasCleanDisk (state S.Store conn.new) → OnErr result (Rests (state S.Store conn.old) (state S.Store conn.new)) }
-{
-    ask(
-        conn,
-        "SELECT number, moment, client, op, kind, id, decided, rule, leaf, refusal FROM audit ORDER BY number",
-        &[],
-    )
-}
-
-/// The rows of `setting`, whatever they are, in any order. The error is the one that the database gave; the connection
-/// is then shut, or as it was or as the last commit left it.
-pub fn read_settings<S: Alter>(conn: &mut Connection<S>) -> Result<Vec<Row>, Error>
-    ensures mode { conn.old.in_transaction ≡ false → conn.new.in_transaction ≡ false }
-    ensures clean { doubt (state S.Store conn.old).is_clean ≤ doubt (state S.Store conn.new).is_clean }
-    ensures spares { Spares (state S.Store conn.old) (state S.Store conn.new) }
-    ensures read { HasCleanDisk (state S.Store conn.new) → IfOk result (λ rows. HasTables (state S.Store conn.old)
-        → Tells [] (shown_settings (state S.Store conn.old).now) (state S.Store conn.old) (state S.Store conn.new) rows.items) }
-    ensures rests { HasCleanDisk (state S.Store conn.new) → OnErr result (Rests (state S.Store conn.old) (state S.Store conn.new)) }
-{
-    ask(conn, "SELECT name, number FROM setting", &[])
+    ask(conn, keys_query(table), &[])
 }
 
 /// The ids of the groups that have a member of the value, in order. The error is the one that the database gave; the

@@ -6,18 +6,13 @@ mod audit;
 mod keys;
 mod names;
 mod opening;
+mod queries;
 mod schema;
 mod tables;
 mod writes;
 
-pub use asking::{
-    find_owner, find_resource, read_audit, read_audit_between, read_groups, read_members,
-    read_names, read_resources, read_settings,
-};
+pub use asking::{ask, find_owner, find_resource, first_text, read_audit_between, read_groups};
 pub use audit::{AuditColumns, insert_audit};
-pub use keys::{
-    do_keys_rise, read_member_keys, read_name_keys, read_resource_keys, read_setting_keys,
-};
 pub use opening::create_tables;
 pub use schema::is_store_schema;
 pub use tables::{Reading, TableRows, read_tables};

@@ -1,87 +1,51 @@
 //! The tables in an empty database.
 
-ghost use Rattle.std.specs.Prelude.{◌≡◌, [], ◌∷◌, false, OnOk, OnErr};
+ghost use Rattle.std.specs.Prelude.{◌≡◌, false, OnOk, OnErr};
 ghost use Rattle.sqlite.specs.State.{HasCleanDisk, Survives};
 ghost use Rattle.sqlite.specs.Held.{state};
-ghost use Rattle.scim_tables.specs.Tables.{no_schema, store_schema};
 ghost use Rattle.scim_tables.specs.Lists.{Are, no_rows};
-ghost use Rattle.scim_tables.specs.Steps.{Goes, Keeps, Became, Undoes, Leaves};
+ghost use Rattle.scim_tables.specs.Steps.{Became, Undoes, Leaves};
 ghost use Rattle.scim_tables.specs.Opening.{MakesTables};
-ghost use Rattle.scim_tables.specs.code.Opening.{schema_1, schema_2, schema_3, schema_4, IsMade};
+ghost use Rattle.scim_tables.specs.code.Opening as spec;
+ghost use Rattle.scim_tables.specs.code.Opening.{IsBefore, IsBehind, Makes};
+ghost use Rattle.scim_tables.specs.declared.queries.Table.TheVariants.{Setting, Taken, Audit};
 
+use crate::queries::Table;
 use sqlite::{Alter, Connection, Error, Transaction};
 
-/// Creates the table `setting`.
-fn create_setting<S: Alter>(tx: &mut Transaction<'_, S>) -> Result<usize, Error>
-    ensures same_reference { tx.new.conn.ghost_name ≡ tx.old.conn.ghost_name }
-    ensures went { Goes (state S.Store tx.old.conn.now) (state S.Store tx.new.conn.now) result (λ old new. IsMade no_schema [] old → IsMade schema_1 (0 ∷ []) new) }
-    ensures kept { Keeps (state S.Store tx.old.conn.now) (state S.Store tx.new.conn.now) }
-    ensures survives { Survives (state S.Store tx.old.conn.now) (state S.Store tx.new.conn.now) (λ _. ⊥) }
+/// The text that makes a table.
+fn creation(table: Table) -> &'static str
+    ensures { result.now ≡ spec.creation table }
 {
-    tx.execute(
-        "CREATE TABLE setting (name TEXT PRIMARY KEY, number INTEGER NOT NULL)",
-        &[],
-    )
+    match table {
+        Table::Setting => "CREATE TABLE setting (name TEXT PRIMARY KEY, number INTEGER NOT NULL)",
+        Table::Resource => {
+            "CREATE TABLE resource (id TEXT PRIMARY KEY, kind INTEGER NOT NULL, document TEXT NOT NULL)"
+        }
+        Table::Taken => {
+            "CREATE TABLE taken (attribute TEXT, folded TEXT, id TEXT, PRIMARY KEY (attribute, folded))"
+        }
+        Table::Member => {
+            "CREATE TABLE member (value TEXT, group_id TEXT, PRIMARY KEY (value, group_id))"
+        }
+        Table::Audit => {
+            "CREATE TABLE audit (number INTEGER PRIMARY KEY, moment INTEGER, client TEXT, op INTEGER, kind INTEGER, id TEXT, decided INTEGER, rule INTEGER, leaf TEXT, refusal INTEGER)"
+        }
+    }
 }
 
-/// Creates the table `resource`.
-fn create_resource<S: Alter>(tx: &mut Transaction<'_, S>) -> Result<usize, Error>
+/// Makes a table behind those that come before it.
+fn create_table<S: Alter>(tx: &mut Transaction<'_, S>, table: Table) -> Result<usize, Error>
     ensures same_reference { tx.new.conn.ghost_name ≡ tx.old.conn.ghost_name }
-    ensures went { Goes (state S.Store tx.old.conn.now) (state S.Store tx.new.conn.now) result (λ old new. IsMade schema_1 (0 ∷ []) old → IsMade schema_2 (2 ∷ 0 ∷ []) new) }
-    ensures kept { Keeps (state S.Store tx.old.conn.now) (state S.Store tx.new.conn.now) }
-    ensures survives { Survives (state S.Store tx.old.conn.now) (state S.Store tx.new.conn.now) (λ _. ⊥) }
+    ensures made { Makes (IsBefore table) (IsBehind table) (state S.Store tx.old.conn.now) (state S.Store tx.new.conn.now) result }
 {
-    tx.execute(
-        "CREATE TABLE resource (id TEXT PRIMARY KEY, kind INTEGER NOT NULL, document TEXT NOT NULL)",
-        &[],
-    )
-}
-
-/// Creates the table `taken`.
-fn create_taken<S: Alter>(tx: &mut Transaction<'_, S>) -> Result<usize, Error>
-    ensures same_reference { tx.new.conn.ghost_name ≡ tx.old.conn.ghost_name }
-    ensures went { Goes (state S.Store tx.old.conn.now) (state S.Store tx.new.conn.now) result (λ old new. IsMade schema_2 (2 ∷ 0 ∷ []) old → IsMade schema_3 (4 ∷ 2 ∷ 0 ∷ []) new) }
-    ensures kept { Keeps (state S.Store tx.old.conn.now) (state S.Store tx.new.conn.now) }
-    ensures survives { Survives (state S.Store tx.old.conn.now) (state S.Store tx.new.conn.now) (λ _. ⊥) }
-{
-    tx.execute(
-        "CREATE TABLE taken (attribute TEXT, folded TEXT, id TEXT, PRIMARY KEY (attribute, folded))",
-        &[],
-    )
-}
-
-/// Creates the table `member`.
-fn create_member<S: Alter>(tx: &mut Transaction<'_, S>) -> Result<usize, Error>
-    ensures same_reference { tx.new.conn.ghost_name ≡ tx.old.conn.ghost_name }
-    ensures went { Goes (state S.Store tx.old.conn.now) (state S.Store tx.new.conn.now) result (λ old new. IsMade schema_3 (4 ∷ 2 ∷ 0 ∷ []) old → IsMade schema_4 (6 ∷ 4 ∷ 2 ∷ 0 ∷ []) new) }
-    ensures kept { Keeps (state S.Store tx.old.conn.now) (state S.Store tx.new.conn.now) }
-    ensures survives { Survives (state S.Store tx.old.conn.now) (state S.Store tx.new.conn.now) (λ _. ⊥) }
-{
-    tx.execute(
-        "CREATE TABLE member (value TEXT, group_id TEXT, PRIMARY KEY (value, group_id))",
-        &[],
-    )
-}
-
-/// Creates the table `audit`.
-fn create_audit<S: Alter>(tx: &mut Transaction<'_, S>) -> Result<usize, Error>
-    ensures same_reference { tx.new.conn.ghost_name ≡ tx.old.conn.ghost_name }
-    ensures went { Goes (state S.Store tx.old.conn.now) (state S.Store tx.new.conn.now) result (λ old new. IsMade schema_4 (6 ∷ 4 ∷ 2 ∷ 0 ∷ []) old → IsMade store_schema (8 ∷ 6 ∷ 4 ∷ 2 ∷ 0 ∷ []) new) }
-    ensures kept { Keeps (state S.Store tx.old.conn.now) (state S.Store tx.new.conn.now) }
-    ensures survives { Survives (state S.Store tx.old.conn.now) (state S.Store tx.new.conn.now) (λ _. ⊥) }
-{
-    tx.execute(
-        "CREATE TABLE audit (number INTEGER PRIMARY KEY, moment INTEGER, client TEXT, op INTEGER, kind INTEGER, id TEXT, decided INTEGER, rule INTEGER, leaf TEXT, refusal INTEGER)",
-        &[],
-    )
+    tx.execute(creation(table), &[])
 }
 
 /// Notes the version of the tables.
 fn insert_version<S: Alter>(tx: &mut Transaction<'_, S>) -> Result<usize, Error>
     ensures same_reference { tx.new.conn.ghost_name ≡ tx.old.conn.ghost_name }
-    ensures went { Goes (state S.Store tx.old.conn.now) (state S.Store tx.new.conn.now) result (λ old new. IsMade store_schema (8 ∷ 6 ∷ 4 ∷ 2 ∷ 0 ∷ []) old → Are new no_rows) }
-    ensures kept { Keeps (state S.Store tx.old.conn.now) (state S.Store tx.new.conn.now) }
-    ensures survives { Survives (state S.Store tx.old.conn.now) (state S.Store tx.new.conn.now) (λ _. ⊥) }
+    ensures made { Makes (IsBehind Audit) (λ db. Are db no_rows) (state S.Store tx.old.conn.now) (state S.Store tx.new.conn.now) result }
 {
     tx.execute(
         "INSERT INTO setting (name, number) VALUES ('version', 1)",
@@ -89,39 +53,25 @@ fn insert_version<S: Alter>(tx: &mut Transaction<'_, S>) -> Result<usize, Error>
     )
 }
 
-/// Makes the first tables.
+/// Makes the first three tables.
 fn create_first<S: Alter>(tx: &mut Transaction<'_, S>) -> Result<usize, Error>
     ensures same_reference { tx.new.conn.ghost_name ≡ tx.old.conn.ghost_name }
-    ensures went { Goes (state S.Store tx.old.conn.now) (state S.Store tx.new.conn.now) result (λ old new. IsMade no_schema [] old → IsMade schema_3 (4 ∷ 2 ∷ 0 ∷ []) new) }
-    ensures kept { Keeps (state S.Store tx.old.conn.now) (state S.Store tx.new.conn.now) }
-    ensures survives { Survives (state S.Store tx.old.conn.now) (state S.Store tx.new.conn.now) (λ _. ⊥) }
+    ensures made { Makes (IsBefore Setting) (IsBehind Taken) (state S.Store tx.old.conn.now) (state S.Store tx.new.conn.now) result }
 {
-    create_setting(tx)?;
-    create_resource(tx)?;
-    create_taken(tx)
+    create_table(tx, Table::Setting)?;
+    create_table(tx, Table::Resource)?;
+    create_table(tx, Table::Taken)
 }
 
-/// Makes the other tables, and notes the version.
-fn create_others<S: Alter>(tx: &mut Transaction<'_, S>) -> Result<usize, Error>
-    ensures same_reference { tx.new.conn.ghost_name ≡ tx.old.conn.ghost_name }
-    ensures went { Goes (state S.Store tx.old.conn.now) (state S.Store tx.new.conn.now) result (λ old new. IsMade schema_3 (4 ∷ 2 ∷ 0 ∷ []) old → Are new no_rows) }
-    ensures kept { Keeps (state S.Store tx.old.conn.now) (state S.Store tx.new.conn.now) }
-    ensures survives { Survives (state S.Store tx.old.conn.now) (state S.Store tx.new.conn.now) (λ _. ⊥) }
-{
-    create_member(tx)?;
-    create_audit(tx)?;
-    insert_version(tx)
-}
-
-/// Makes all tables.
+/// Makes all tables, and notes the version.
 fn create_all<S: Alter>(tx: &mut Transaction<'_, S>) -> Result<usize, Error>
     ensures same_reference { tx.new.conn.ghost_name ≡ tx.old.conn.ghost_name }
-    ensures went { Goes (state S.Store tx.old.conn.now) (state S.Store tx.new.conn.now) result (λ old new. MakesTables old new) }
-    ensures kept { Keeps (state S.Store tx.old.conn.now) (state S.Store tx.new.conn.now) }
-    ensures survives { Survives (state S.Store tx.old.conn.now) (state S.Store tx.new.conn.now) (λ _. ⊥) }
+    ensures made { Makes (IsBefore Setting) (λ db. Are db no_rows) (state S.Store tx.old.conn.now) (state S.Store tx.new.conn.now) result }
 {
     create_first(tx)?;
-    create_others(tx)
+    create_table(tx, Table::Member)?;
+    create_table(tx, Table::Audit)?;
+    insert_version(tx)
 }
 
 /// Makes the five tables in a database that has no table, index or view, and notes in `setting` that they are those of

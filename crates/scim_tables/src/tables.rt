@@ -1,20 +1,20 @@
 //! All rows of the tables, where a database has those of version 1, and else what it is.
 
-ghost use Rattle.std.specs.Prelude.{◌≡◌, ◌≢◌, ◌≤◌, ◌∷◌, [], false, pos, IfOk, OnOk, OnErr, IsTrue};
+ghost use Rattle.std.specs.Prelude.{◌≡◌, ◌≢◌, ◌≤◌, ◌∷◌, [], false, pos, IfOk, OnErr, IsTrue};
 ghost use Rattle.sqlite_value.specs.Value.{owned};
 ghost use Rattle.sqlite.specs.declared.types.Value.TheVariants.{Int, Text};
-ghost use Rattle.sqlite.specs.State.{HasCleanDisk, IsUnchanged, Survives};
+ghost use Rattle.sqlite.specs.State.{HasCleanDisk, Survives};
 ghost use Rattle.sqlite.specs.View.{doubt};
 ghost use Rattle.sqlite.specs.Held.{state};
-ghost use Rattle.scim_tables.specs.Lists.{AreKeyed, version_values};
-ghost use Rattle.scim_tables.specs.Reading.{Rests, Spares, HasTables, shown};
-ghost use Rattle.scim_tables.specs.Whole.{HasVersion, AreAllKeyed, AreRowsOf, Tests, IsReading};
+ghost use Rattle.scim_tables.specs.Lists.{version_values};
+ghost use Rattle.scim_tables.specs.Reading.{Rests, shown};
+ghost use Rattle.scim_tables.specs.code.Told.{OnlyAsks, Decides, DecidesKeyed};
+ghost use Rattle.scim_tables.specs.Whole.{HasVersion, AreAllKeyed, AreRowsOf, IsByRows, IsReading};
 
-use crate::asking::{read_audit, read_members, read_names, read_resources, read_settings};
-use crate::keys::{
-    do_keys_rise, read_member_keys, read_name_keys, read_resource_keys, read_setting_keys,
-};
+use crate::asking::{read_keys, read_rows};
+use crate::keys::do_keys_rise;
 use crate::names::reading_by_names;
+use crate::queries::Table;
 use crate::schema::is_store_schema;
 use sqlite::types::ValueRef;
 use sqlite::{Alter, Connection, Error, Row};
@@ -93,110 +93,65 @@ fn is_version(rows: &[Row]) -> Result<bool, Error>
 
 /// Whether the settings say that the tables are those of version 1, in a database with the five tables.
 fn has_version<S: Alter>(conn: &mut Connection<S>) -> Result<bool, Error>
-    ensures mode { conn.old.in_transaction ≡ false → conn.new.in_transaction ≡ false }
-    ensures clean { doubt (state S.Store conn.old).is_clean ≤ doubt (state S.Store conn.new).is_clean }
-    ensures spares { Spares (state S.Store conn.old) (state S.Store conn.new) }
-    ensures tested { HasCleanDisk (state S.Store conn.new) → IfOk result (λ has. HasTables (state S.Store conn.old)
-        → Tests (HasVersion (state S.Store conn.old).now) (state S.Store conn.old) (state S.Store conn.new) has) }
-    ensures rests { HasCleanDisk (state S.Store conn.new) → HasTables (state S.Store conn.old) → OnErr result (Rests (state S.Store conn.old) (state S.Store conn.new)) }
+    ensures { OnlyAsks (λ db. Decides (HasVersion db)) (state S.Store conn.old) (state S.Store conn.new) result }
 {
-    let rows = read_settings(conn)?;
+    let rows = read_rows(conn, Table::Setting)?;
     is_version(rows.as_slice())
 }
 
-/// Whether the settings have keys, none of which comes twice, in a database with the five tables.
-fn are_settings_keyed<S: Alter>(conn: &mut Connection<S>) -> Result<bool, Error>
-    ensures mode { conn.old.in_transaction ≡ false → conn.new.in_transaction ≡ false }
-    ensures clean { doubt (state S.Store conn.old).is_clean ≤ doubt (state S.Store conn.new).is_clean }
-    ensures spares { Spares (state S.Store conn.old) (state S.Store conn.new) }
-    ensures tested { HasCleanDisk (state S.Store conn.new) → IfOk result (λ keyed. HasTables (state S.Store conn.old)
-        → Tests (AreKeyed ((state S.Store conn.old).now.trees 0)) (state S.Store conn.old) (state S.Store conn.new) keyed) }
-    ensures rests { HasCleanDisk (state S.Store conn.new) → HasTables (state S.Store conn.old) → OnErr result (Rests (state S.Store conn.old) (state S.Store conn.new)) }
+/// Whether the rows of a table have keys, none of which comes twice, in a database with the five tables.
+fn are_keyed<S: Alter>(conn: &mut Connection<S>, table: Table) -> Result<bool, Error>
+    ensures { OnlyAsks (DecidesKeyed table) (state S.Store conn.old) (state S.Store conn.new) result }
 {
-    let keys = read_setting_keys(conn)?;
-    do_keys_rise(keys.as_slice())
-}
-
-/// Whether the resources have keys, none of which comes twice, in a database with the five tables.
-fn are_resources_keyed<S: Alter>(conn: &mut Connection<S>) -> Result<bool, Error>
-    ensures mode { conn.old.in_transaction ≡ false → conn.new.in_transaction ≡ false }
-    ensures clean { doubt (state S.Store conn.old).is_clean ≤ doubt (state S.Store conn.new).is_clean }
-    ensures spares { Spares (state S.Store conn.old) (state S.Store conn.new) }
-    ensures tested { HasCleanDisk (state S.Store conn.new) → IfOk result (λ keyed. HasTables (state S.Store conn.old)
-        → Tests (AreKeyed ((state S.Store conn.old).now.trees 2)) (state S.Store conn.old) (state S.Store conn.new) keyed) }
-    ensures rests { HasCleanDisk (state S.Store conn.new) → HasTables (state S.Store conn.old) → OnErr result (Rests (state S.Store conn.old) (state S.Store conn.new)) }
-{
-    let keys = read_resource_keys(conn)?;
-    do_keys_rise(keys.as_slice())
-}
-
-/// Whether the unique names have keys, none of which comes twice, in a database with the five tables.
-fn are_names_keyed<S: Alter>(conn: &mut Connection<S>) -> Result<bool, Error>
-    ensures mode { conn.old.in_transaction ≡ false → conn.new.in_transaction ≡ false }
-    ensures clean { doubt (state S.Store conn.old).is_clean ≤ doubt (state S.Store conn.new).is_clean }
-    ensures spares { Spares (state S.Store conn.old) (state S.Store conn.new) }
-    ensures tested { HasCleanDisk (state S.Store conn.new) → IfOk result (λ keyed. HasTables (state S.Store conn.old)
-        → Tests (AreKeyed ((state S.Store conn.old).now.trees 4)) (state S.Store conn.old) (state S.Store conn.new) keyed) }
-    ensures rests { HasCleanDisk (state S.Store conn.new) → HasTables (state S.Store conn.old) → OnErr result (Rests (state S.Store conn.old) (state S.Store conn.new)) }
-{
-    let keys = read_name_keys(conn)?;
-    do_keys_rise(keys.as_slice())
-}
-
-/// Whether the members have keys, none of which comes twice, in a database with the five tables.
-fn are_members_keyed<S: Alter>(conn: &mut Connection<S>) -> Result<bool, Error>
-    ensures mode { conn.old.in_transaction ≡ false → conn.new.in_transaction ≡ false }
-    ensures clean { doubt (state S.Store conn.old).is_clean ≤ doubt (state S.Store conn.new).is_clean }
-    ensures spares { Spares (state S.Store conn.old) (state S.Store conn.new) }
-    ensures tested { HasCleanDisk (state S.Store conn.new) → IfOk result (λ keyed. HasTables (state S.Store conn.old)
-        → Tests (AreKeyed ((state S.Store conn.old).now.trees 6)) (state S.Store conn.old) (state S.Store conn.new) keyed) }
-    ensures rests { HasCleanDisk (state S.Store conn.new) → HasTables (state S.Store conn.old) → OnErr result (Rests (state S.Store conn.old) (state S.Store conn.new)) }
-{
-    let keys = read_member_keys(conn)?;
+    let keys = read_keys(conn, table)?;
     do_keys_rise(keys.as_slice())
 }
 
 /// Whether the rows of each table but the audit have keys, none of which comes twice, in a database with the five
 /// tables.
 fn are_all_keyed<S: Alter>(conn: &mut Connection<S>) -> Result<bool, Error>
-    ensures mode { conn.old.in_transaction ≡ false → conn.new.in_transaction ≡ false }
-    ensures clean { doubt (state S.Store conn.old).is_clean ≤ doubt (state S.Store conn.new).is_clean }
-    ensures spares { Spares (state S.Store conn.old) (state S.Store conn.new) }
-    ensures tested { HasCleanDisk (state S.Store conn.new) → IfOk result (λ keyed. HasTables (state S.Store conn.old)
-        → Tests (AreAllKeyed (state S.Store conn.old).now) (state S.Store conn.old) (state S.Store conn.new) keyed) }
-    ensures rests { HasCleanDisk (state S.Store conn.new) → HasTables (state S.Store conn.old) → OnErr result (Rests (state S.Store conn.old) (state S.Store conn.new)) }
+    ensures { OnlyAsks (λ db. Decides (AreAllKeyed db)) (state S.Store conn.old) (state S.Store conn.new) result }
 {
-    if !are_settings_keyed(conn)? {
+    if !are_keyed(conn, Table::Setting)? {
         return Ok(false);
     }
-    if !are_resources_keyed(conn)? {
+    if !are_keyed(conn, Table::Resource)? {
         return Ok(false);
     }
-    if !are_names_keyed(conn)? {
+    if !are_keyed(conn, Table::Taken)? {
         return Ok(false);
     }
-    are_members_keyed(conn)
+    are_keyed(conn, Table::Member)
 }
 
 /// The rows of the tables, in a database with the five tables.
-fn read_rows<S: Alter>(conn: &mut Connection<S>) -> Result<TableRows, Error>
-    ensures mode { conn.old.in_transaction ≡ false → conn.new.in_transaction ≡ false }
-    ensures clean { doubt (state S.Store conn.old).is_clean ≤ doubt (state S.Store conn.new).is_clean }
-    ensures spares { Spares (state S.Store conn.old) (state S.Store conn.new) }
-    ensures unchanged { HasCleanDisk (state S.Store conn.new) → HasTables (state S.Store conn.old) → OnOk result (IsUnchanged (state S.Store conn.old) (state S.Store conn.new)) }
-    ensures read { HasCleanDisk (state S.Store conn.new) → HasTables (state S.Store conn.old) → IfOk result (AreRowsOf (shown (state S.Store conn.old).now)) }
-    ensures rests { HasCleanDisk (state S.Store conn.new) → HasTables (state S.Store conn.old) → OnErr result (Rests (state S.Store conn.old) (state S.Store conn.new)) }
+fn read_all_rows<S: Alter>(conn: &mut Connection<S>) -> Result<TableRows, Error>
+    ensures { OnlyAsks (λ db. AreRowsOf (shown db)) (state S.Store conn.old) (state S.Store conn.new) result }
 {
-    let resources = read_resources(conn)?;
-    let names = read_names(conn)?;
-    let members = read_members(conn)?;
-    let audit = read_audit(conn)?;
+    let resources = read_rows(conn, Table::Resource)?;
+    let names = read_rows(conn, Table::Taken)?;
+    let members = read_rows(conn, Table::Member)?;
+    let audit = read_rows(conn, Table::Audit)?;
     Ok(TableRows {
         resources,
         names,
         members,
         audit,
     })
+}
+
+/// What the rows tell of a database with the five tables.
+fn reading_by_rows<S: Alter>(conn: &mut Connection<S>) -> Result<Reading, Error>
+    ensures { OnlyAsks IsByRows (state S.Store conn.old) (state S.Store conn.new) result }
+{
+    if !has_version(conn)? {
+        return Ok(Reading::WrongVersion);
+    }
+    if !are_all_keyed(conn)? {
+        return Ok(Reading::Foreign);
+    }
+    let rows = read_all_rows(conn)?;
+    Ok(Reading::Tables(rows))
 }
 
 /// The rows of a database that has the tables of version 1, and else whether it is empty, of another version or foreign.
@@ -219,12 +174,5 @@ pub fn read_tables<S: Alter>(conn: &mut Connection<S>) -> Result<Reading, Error>
     if !is_store_schema(conn.schema()) {
         return Ok(reading_by_names(conn.schema()));
     }
-    if !has_version(conn)? {
-        return Ok(Reading::WrongVersion);
-    }
-    if !are_all_keyed(conn)? {
-        return Ok(Reading::Foreign);
-    }
-    let rows = read_rows(conn)?;
-    Ok(Reading::Tables(rows))
+    reading_by_rows(conn)
 }

@@ -1,6 +1,0 @@
-use Rattle.sqlite.specs.Held.{state}
-use Rattle.scim_tables.proofs.OpeningLemmas.{makes_resource}
-use Rattle.scim_tables.proofs.opening.create_resource.Goals as goal
-
-pub returns-clause-went : goal.returns-clause-went
-returns-clause-went g c clean inside = makes_resource (state g.S.Store c.args.tx.now.conn.now) (state g.S.Store c.execute.new.self.conn.now) c.execute.result (c.execute.ensures.runs clean inside)
