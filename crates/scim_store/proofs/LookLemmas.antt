@@ -21,10 +21,6 @@ use Rattle.scim_tables.proofs.AnswerLemmas.{answered_columns, found_first, uncha
 use Rattle.scim_tables.proofs.ReadLemmas.{Answered}
 use Rattle.scim_tables.proofs.TestLemmas.{passes_text}
 
--- a query of the five tables commits nothing
-pub asks_survive : (sql : List ℕ) (params : Row) (old new : State) (q : Query) → IsAsk sql q → Survives old new (CommitsShowing sql params old) → Survives old new (λ _. old.now.schema ≢ store_schema)
-asks_survive sql params old new q is = survives_weaker old new _ _ (λ _ db shown has. never_commits sql params old db (subst (λ s. IsPlain (understood s sql)) (sym has) is.plain) shown)
-
 -- ---- the resource of an id
 
 abbrev pub old_text : List ℕ

@@ -48,7 +48,7 @@ pub enum Judged {
 #[derive(Clone, Copy, Debug, PartialEq, Eq)]
 pub struct Unreadable;
 
-/// The rows of the tables of resources, as `read_resources`, `read_names` and `read_members` of `scim_tables` tell them.
+/// The rows of the tables of resources, as `read_tables` of `scim_tables` tells them.
 #[derive(Debug, Drop)]
 pub struct ResourceRows {
     /// Id, kind and document of each resource.

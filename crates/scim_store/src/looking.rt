@@ -16,39 +16,10 @@ ghost use Rattle.scim_store.specs.code.Numbers.{IsNextOf, IsNextOfFirst};
 
 use crate::finding::read_document;
 use scim_cell::Id;
+use scim_tables::{ask, first_text};
 use scim_value::Resource;
-use sqlite::types::ValueRef;
 use sqlite::{Alter, Connection, Error, Row, params};
 use std::alloc::Global;
-
-/// All rows of a query.
-fn look<S: Alter>(
-    conn: &mut Connection<S>,
-    sql: &str,
-    params: &[ValueRef<'_>],
-) -> Result<Vec<Row>, Error>
-    ensures mode { conn.old.in_transaction ≡ false → conn.new.in_transaction ≡ false }
-    ensures survives { (q : _) → IsAsk sql.now q → Survives (state S.Store conn.old) (state S.Store conn.new) (λ _. (state S.Store conn.old).now.schema ≢ store_schema) }
-    ensures was_open { HasCleanDisk (state S.Store conn.new) → OnOk result (IsTrue (state S.Store conn.old).is_open) }
-    ensures read { HasCleanDisk (state S.Store conn.new) → IfOk result (λ rows. (q : _) → IsAsk sql.now q → (state S.Store conn.old).now.schema ≡ store_schema
-        → IsAnswered q (bound params.now) (state S.Store conn.old) (state S.Store conn.new) rows.items) }
-    ensures rests { HasCleanDisk (state S.Store conn.new) → OnErr result (Rests (state S.Store conn.old) (state S.Store conn.new)) }
-{
-    conn.query_all(sql, params)
-}
-
-/// The text of the first row, if there is a row.
-fn first_text(rows: &[Row]) -> Result<Option<String>, Error>
-    ensures { IfOk result (λ found. IsTextOfFirst 0 rows.now (option_map string_bytes found)) }
-{
-    match rows {
-        [] => Ok(None),
-        [row, ..] => {
-            let text: String = row.get(0)?;
-            Ok(Some(text))
-        }
-    }
-}
 
 /// The document of the resource with an id, whatever its kind; None where there is no such resource.
 fn find_document<S: Alter>(conn: &mut Connection<S>, id: &str) -> Result<Option<String>, Error>
@@ -58,7 +29,7 @@ fn find_document<S: Alter>(conn: &mut Connection<S>, id: &str) -> Result<Option<
         → Finds 2 (filter (has_text 0 id.now) lists.resources) (state S.Store conn.old) (state S.Store conn.new) (option_map string_bytes found)) }
     ensures rests { HasCleanDisk (state S.Store conn.new) → (lists : Lists) → Holds (state S.Store conn.old) lists → Rests (state S.Store conn.old) (state S.Store conn.new) }
 {
-    let rows = look(
+    let rows = ask(
         conn,
         "SELECT document FROM resource WHERE id = ?1",
         params![id],
@@ -123,7 +94,7 @@ pub fn next_number<S: Alter>(conn: &mut Connection<S>) -> Result<Option<u64>, Er
     ensures number { IfOk result (λ next. IfSome next (λ n. n ≤ last_number)) }
     ensures rests { HasCleanDisk (state S.Store conn.new) → (base : List ℕ) (store : Store) → StandsIn base (state S.Store conn.old) store → Rests (state S.Store conn.old) (state S.Store conn.new) }
 {
-    let rows = look(
+    let rows = ask(
         conn,
         "SELECT number FROM audit ORDER BY number DESC LIMIT 1",
         &[],
