@@ -1,6 +1,6 @@
 //! One GET over a users file, beside what serde_json takes to read the file.
 use anyhow::{Result, ensure};
-use bench_values::{fastest, id_of, print_heading, print_line, push_all, users_file};
+use bench_values::{fastest, id_of, print_heading, print_line, users_file};
 use scim_command::{Setting, once};
 use scim_samples::BASE;
 use serde_json::Value;
@@ -21,16 +21,12 @@ const POLICY: &str =
 /// The head of a GET of the last of so many users of a file.
 fn request(alloc: Global, users: usize) -> Result<String> {
     let last = id_of(users.saturating_sub(1)).text(alloc)?;
-    let mut head = String::new(alloc);
-    push_all(
-        &mut head,
-        &[
-            "GET /Users/",
-            last.as_str(),
-            " HTTP/1.1\r\nHost: 127.0.0.1:8080\r\n\r\n",
-        ],
-    )?;
-    Ok(head)
+    let pieces = [
+        "GET /Users/",
+        last.as_str(),
+        " HTTP/1.1\r\nHost: 127.0.0.1:8080\r\n\r\n",
+    ];
+    Ok(pieces.concat(alloc)?)
 }
 
 /// Answers the request.

@@ -3,7 +3,7 @@
 use crate::put_runs::{group_body, members_text, policy_text, turn_of};
 use crate::service_runs::{heading, make, service_over_nothing, turn_with};
 use anyhow::{Result, ensure};
-use bench_values::{print_heading, print_line, push_all};
+use bench_values::{print_heading, print_line};
 use scim_body::UseFor;
 use scim_operations::read_patch;
 use scim_schema::{Kind, Op};
@@ -82,25 +82,22 @@ const SOME_REMOVED: [Change; 2] = [
 /// The text of the message.
 fn message_text(alloc: Global, change: Change) -> Result<String> {
     let members = members_text(alloc, change.first, change.listed)?;
-    let mut text = String::new(alloc);
-    push_all(
-        &mut text,
-        &[
-            "{\"schemas\":[\"urn:ietf:params:scim:api:messages:2.0:PatchOp\"],\"Operations\":[{\"op\":\"",
-            change.op,
-            "\",\"path\":\"members\",\"value\":",
-            members.as_str(),
-            "}]}",
-        ],
-    )?;
-    Ok(text)
+    let pieces = [
+        "{\"schemas\":[\"urn:ietf:params:scim:api:messages:2.0:PatchOp\"],\"Operations\":[{\"op\":\"",
+        change.op,
+        "\",\"path\":\"members\",\"value\":",
+        members.as_str(),
+        "}]}",
+    ];
+    Ok(pieces.concat(alloc)?)
 }
 
 /// The turn that the text of a message asks for.
 fn turn_for(alloc: Global, text: &str) -> Result<Turn> {
+    let heading = heading(alloc)?;
     let patch = read_patch(alloc, Kind::Group, text)?;
     let ask = Ask::Patch(patch, Wanted::Default);
-    Ok(turn_with(heading(alloc)?, Op::Modify, Kind::Group, 1, ask))
+    Ok(turn_with(heading, Op::Modify, Kind::Group, 1, ask))
 }
 
 /// Reads the text of a message and answers it.
@@ -118,9 +115,19 @@ fn patch(alloc: Global, service: &mut Service<MemoryShelf>, text: &str) -> Resul
 fn pass(rt: &impl Clock, alloc: Global, making: &Turn, text: &str) -> Result<u128> {
     let policy = policy_text(alloc, 1)?;
     let mut service = service_over_nothing(alloc, policy.as_str())?;
-    make(alloc, &mut service, making)?;
+    pass_over(rt, alloc, &mut service, making, text)
+}
+
+fn pass_over(
+    rt: &impl Clock,
+    alloc: Global,
+    service: &mut Service<MemoryShelf>,
+    making: &Turn,
+    text: &str,
+) -> Result<u128> {
+    make(alloc, service, making)?;
     let start = Instant::now(rt)?;
-    patch(alloc, &mut service, text)?;
+    patch(alloc, service, text)?;
     Ok(start.elapsed(rt)?.as_nanos())
 }
 

@@ -1,10 +1,11 @@
 //! What it takes to replace a user, by how many rules a policy has, and a group, by how many members it has.
 use crate::service_runs::{draft_of, heading, make, service_over_nothing, timed, turn_with};
 use anyhow::Result;
-use bench_values::{numbered, print_heading, print_line, push_all};
+use bench_values::{numbered, print_heading, print_line};
 use scim_body::UseFor;
 use scim_schema::{Kind, Op};
-use scim_service::{Ask, Turn};
+use scim_service::{Ask, Service, Turn};
+use scim_shelf::MemoryShelf;
 use scim_view::Wanted;
 use std::alloc::Global;
 use std::io::Print;
@@ -39,16 +40,12 @@ pub(crate) fn policy_text(alloc: Global, rules: usize) -> Result<String> {
 
 /// The body of a user of 15 cells, with a title.
 fn user_body(alloc: Global, title: &str) -> Result<String> {
-    let mut body = String::new(alloc);
-    push_all(
-        &mut body,
-        &[
-            "{\"active\":true,\"displayName\":\"Barbara Jensen\",\"emails\":[{\"primary\":true,\"type\":\"work\",\"value\":\"bjensen@example.com\"}],\"name\":{\"familyName\":\"Jensen\",\"givenName\":\"Barbara\"},\"title\":\"",
-            title,
-            "\",\"urn:ietf:params:scim:schemas:extension:enterprise:2.0:User\":{\"department\":\"Tours\"},\"userName\":\"bjensen\"}",
-        ],
-    )?;
-    Ok(body)
+    let pieces = [
+        "{\"active\":true,\"displayName\":\"Barbara Jensen\",\"emails\":[{\"primary\":true,\"type\":\"work\",\"value\":\"bjensen@example.com\"}],\"name\":{\"familyName\":\"Jensen\",\"givenName\":\"Barbara\"},\"title\":\"",
+        title,
+        "\",\"urn:ietf:params:scim:schemas:extension:enterprise:2.0:User\":{\"department\":\"Tours\"},\"userName\":\"bjensen\"}",
+    ];
+    Ok(pieces.concat(alloc)?)
 }
 
 /// The JSON list of so many members from a number on.
@@ -69,28 +66,25 @@ pub(crate) fn members_text(alloc: Global, first: usize, members: usize) -> Resul
 /// The body of a group of a name, with so many members.
 pub(crate) fn group_body(alloc: Global, name: &str, members: usize) -> Result<String> {
     let members = members_text(alloc, 0, members)?;
-    let mut body = String::new(alloc);
-    push_all(
-        &mut body,
-        &[
-            "{\"displayName\":\"",
-            name,
-            "\",\"members\":",
-            members.as_str(),
-            "}",
-        ],
-    )?;
-    Ok(body)
+    let pieces = [
+        "{\"displayName\":\"",
+        name,
+        "\",\"members\":",
+        members.as_str(),
+        "}",
+    ];
+    Ok(pieces.concat(alloc)?)
 }
 
 /// A turn by which the one resource becomes what the body gives: it is made, or replaced.
 pub(crate) fn turn_of(alloc: Global, kind: Kind, use_for: UseFor, body: &str) -> Result<Turn> {
+    let heading = heading(alloc)?;
     let draft = draft_of(alloc, kind, use_for, body)?;
     let (op, ask) = match use_for {
         UseFor::Creating => (Op::Create, Ask::Create(draft, Wanted::Default)),
         UseFor::Replacing => (Op::Modify, Ask::Replace(draft, Wanted::Default)),
     };
-    Ok(turn_with(heading(alloc)?, op, kind, 1, ask))
+    Ok(turn_with(heading, op, kind, 1, ask))
 }
 
 /// Turns by which the resource becomes what each of the two bodies gives, in turn.
@@ -112,17 +106,25 @@ fn measure(
     kind: Kind,
     bodies: [&str; 2],
 ) -> Result<u128> {
-    let mut service = service_over_nothing(alloc, policy)?;
     let [_, last] = bodies;
-    make(
-        alloc,
-        &mut service,
-        &turn_of(alloc, kind, UseFor::Creating, last)?,
-    )?;
+    let making = turn_of(alloc, kind, UseFor::Creating, last)?;
     let turns = turns_of(alloc, kind, bodies)?;
-    let mut best = timed(rt, alloc, &mut service, turns.as_slice(), 200)?;
+    let mut service = service_over_nothing(alloc, policy)?;
+    measure_turns(rt, alloc, &mut service, &making, turns.as_slice())
+}
+
+/// Nanoseconds of each of the turns, by a service whose resource another turn makes.
+fn measure_turns(
+    rt: &impl Clock,
+    alloc: Global,
+    service: &mut Service<MemoryShelf>,
+    making: &Turn,
+    turns: &[Turn],
+) -> Result<u128> {
+    make(alloc, service, making)?;
+    let mut best = timed(rt, alloc, service, turns, 200)?;
     for _ in 1..PASSES {
-        best = best.min(timed(rt, alloc, &mut service, turns.as_slice(), 200)?);
+        best = best.min(timed(rt, alloc, service, turns, 200)?);
     }
     Ok(best)
 }

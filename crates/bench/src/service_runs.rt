@@ -11,6 +11,7 @@ use scim_schema::{Kind, Op};
 use scim_service::{Ask, Request, Service, Turn};
 use scim_shelf::MemoryShelf;
 use scim_text::Moment;
+use scim_value::Resource;
 use scim_view::Wanted;
 use std::alloc::Global;
 use std::io::Print;
@@ -92,18 +93,14 @@ fn user_draft(alloc: Global, number: usize) -> Result<Draft> {
 
 fn user_body(alloc: Global, number: usize) -> Result<String> {
     let name = numbered(alloc, "user", number, "")?;
-    let mut body = String::new(alloc);
-    push_all(
-        &mut body,
-        &[
-            "{\"userName\":\"",
-            name.as_str(),
-            "\",\"name\":{\"familyName\":\"Jensen\"},\"emails\":[{\"value\":\"",
-            name.as_str(),
-            "@example.com\"}]}",
-        ],
-    )?;
-    Ok(body)
+    let pieces = [
+        "{\"userName\":\"",
+        name.as_str(),
+        "\",\"name\":{\"familyName\":\"Jensen\"},\"emails\":[{\"value\":\"",
+        name.as_str(),
+        "@example.com\"}]}",
+    ];
+    Ok(pieces.concat(alloc)?)
 }
 
 /// A group of the users that follow those of the group before it, among the first users.
@@ -219,12 +216,20 @@ fn push_turn(alloc: Global, asked: Asked, number: usize, turns: &mut Vec<Turn>) 
     Ok(turns.push(turn)?)
 }
 
+/// A service by a policy file over a store of these resources.
+pub(crate) fn service_over(
+    alloc: Global,
+    policy: &str,
+    resources: Vec<Resource>,
+) -> Result<Service<MemoryShelf>> {
+    let shelf = MemoryShelf::new(alloc, resources)?;
+    let base = Text::copy_of(alloc, BASE)?;
+    Ok(Service::new(read_policy(alloc, policy)?, base, shelf))
+}
+
 /// A service by a policy file over a store without resources.
 pub(crate) fn service_over_nothing(alloc: Global, policy: &str) -> Result<Service<MemoryShelf>> {
-    let base = Text::copy_of(alloc, BASE)?;
-    let shelf = MemoryShelf::new(alloc, Vec::new(alloc))?;
-    let policy = read_policy(alloc, policy)?;
-    Ok(Service::new(policy, base, shelf))
+    service_over(alloc, policy, Vec::new(alloc))
 }
 
 /// Answers a turn that makes a resource.
@@ -275,12 +280,12 @@ pub(crate) fn timed(
     let start = Instant::now(rt)?;
     let replies = service.run(alloc, turns)?;
     let spent = start.elapsed(rt)?;
-    ensure!(
-        replies
-            .iter()
-            .all(|reply| reply.status().as_u16() == status),
-        "a turn is answered otherwise"
-    );
+    for reply in replies.as_slice() {
+        ensure!(
+            reply.status().as_u16() == status,
+            "a turn is answered otherwise"
+        );
+    }
     Ok(spent.as_nanos() / turns.len().max(1) as u128)
 }
 

@@ -1,14 +1,14 @@
 //! Messages: how the reading of a body grows with its length and with the pieces in which it comes, and what a GET takes
 //! beside what the service takes for it.
+use crate::service_runs::service_over;
 use anyhow::{Result, bail, ensure};
-use bench_values::{fastest, numbered, print_heading, print_line, push_all};
+use bench_values::{fastest, numbered, print_heading, print_line};
 use scim_ask::ask;
-use scim_cell::{Id, Text};
+use scim_cell::Id;
 use scim_exchange::{Answer, Arrival, answer};
 use scim_json::read_documents;
-use scim_policy::read_policy;
 use scim_route::{Found, find};
-use scim_samples::{ALICE, BASE, POLICY, USERS};
+use scim_samples::{BASE, POLICY, USERS};
 use scim_service::Service;
 use scim_shelf::MemoryShelf;
 use scim_text::Moment;
@@ -36,6 +36,10 @@ const GETS: usize = 10_000;
 const CHUNK: usize = 1_024;
 
 const CHUNK_LINE: &[u8] = b"400\r\n";
+
+/// A GET of Alice, by her id.
+const GET_OF_ALICE: &[u8] =
+    b"GET /Users/00000000-0000-4000-8000-00000000000a HTTP/1.1\r\nHost: 127.0.0.1:8080\r\n\r\n";
 
 /// Adds a chunk, or its bytes alone.
 fn push_data(chunked: bool, bytes: &mut Vec<u8>) -> Result<()> {
@@ -78,6 +82,10 @@ fn message_bytes(alloc: Global, kibibytes: usize, chunked: bool) -> Result<Vec<u
 /// Reads a stream of one message in pieces of so many bytes.
 fn read_in_pieces(alloc: Global, bytes: &[u8], size: usize) -> Result<()> {
     let mut wire = Wire::new(alloc);
+    feed_in_pieces(alloc, &mut wire, bytes, size)
+}
+
+fn feed_in_pieces(alloc: Global, wire: &mut Wire, bytes: &[u8], size: usize) -> Result<()> {
     let mut items: usize = 0;
     for piece in bytes.chunks(size.max(1)) {
         items = items.saturating_add(wire.feed(alloc, piece)?.len());
@@ -100,33 +108,21 @@ fn measure_reading(
     })
 }
 
-/// A GET of Alice.
+/// The message of a GET of Alice.
 fn get_of_alice(alloc: Global) -> Result<Message> {
-    let mut text = String::new(alloc);
-    push_all(
-        &mut text,
-        &[
-            "GET /Users/",
-            ALICE,
-            " HTTP/1.1\r\nHost: 127.0.0.1:8080\r\n\r\n",
-        ],
-    )?;
-    for item in Wire::new(alloc).feed(alloc, text.as_bytes())? {
-        if let Item::Whole(message) = item {
-            return Ok(message);
-        }
+    let mut items = Wire::new(alloc).feed(alloc, GET_OF_ALICE)?;
+    match items.pop() {
+        Some(Item::Whole(message)) => Ok(message),
+        _ => bail!("a message isn't read"),
     }
-    bail!("a message isn't read")
 }
 
 /// The service over the sample users.
 fn sample_service(alloc: Global) -> Result<Service<MemoryShelf>> {
-    let Ok(resources) = read_documents(alloc, BASE, USERS) else {
-        bail!("the sample users can't be read");
-    };
-    let shelf = MemoryShelf::new(alloc, resources)?;
-    let base = Text::copy_of(alloc, BASE)?;
-    Ok(Service::new(read_policy(alloc, POLICY)?, base, shelf))
+    match read_documents(alloc, BASE, USERS) {
+        Ok(resources) => service_over(alloc, POLICY, resources),
+        Err(_) => bail!("the sample users can't be read"),
+    }
 }
 
 /// Finds what a GET names, reads what it asks, and prints its answer.
@@ -159,20 +155,38 @@ fn measure_answers(
     Ok(start.elapsed(rt)?.as_nanos() / GETS as u128)
 }
 
+/// Nanoseconds of what is beside the service in a GET.
+fn measure_beside(
+    rt: &impl Clock,
+    alloc: Global,
+    service: &mut Service<MemoryShelf>,
+    arrival: &Arrival<'_>,
+    message: &Message,
+) -> Result<u128> {
+    let told = answer(alloc, service, arrival, message);
+    fastest(rt, PASSES, GETS, || go_round_service(alloc, message, &told))
+}
+
 /// Prints what a GET takes, and what of it isn't the service's.
 fn print_gets(rt: &(impl Clock + Print), alloc: Global) -> Result<()> {
     let message = get_of_alice(alloc)?;
     let mut service = sample_service(alloc)?;
+    print_gets_of(rt, alloc, &mut service, &message)
+}
+
+fn print_gets_of(
+    rt: &(impl Clock + Print),
+    alloc: Global,
+    service: &mut Service<MemoryShelf>,
+    message: &Message,
+) -> Result<()> {
     let arrival = Arrival {
         client: Some("hr"),
         moment: Moment::new(0).unwrap(),
         fresh: Id::of(Uuid::nil()),
     };
-    let told = answer(alloc, &mut service, &arrival, &message);
-    let beside = fastest(rt, PASSES, GETS, || {
-        go_round_service(alloc, &message, &told)
-    })?;
-    let whole = measure_answers(rt, alloc, &mut service, &arrival, &message)?;
+    let beside = measure_beside(rt, alloc, service, &arrival, message)?;
+    let whole = measure_answers(rt, alloc, service, &arrival, message)?;
     let service_alone = whole.saturating_sub(beside);
     print_line(
         rt,

@@ -33,78 +33,56 @@ pub fn sample_user(alloc: Global) -> Result<Resource> {
     Ok(user)
 }
 
-/// Nanoseconds a call.
+/// A call whose time is taken.
 #[derive(Clone, Copy)]
-struct Figures {
-    show: u128,
-    show_made: u128,
-    show_value: u128,
-    store: u128,
-    read: u128,
-    read_value: u128,
+enum Call<'a> {
+    Show(&'a Resource),
+    ShowMade(&'a Resource),
+    ShowValue(&'a Value),
+    Store(&'a Resource),
+    Read(&'a str),
+    ReadFile(&'a str),
+    ReadValue(&'a str),
 }
 
-/// The user's JSON, which is the same as that of a value.
-fn shown(alloc: Global, user: &Resource) -> Result<String> {
-    let shown = to_json(alloc, user.part())?;
-    check_made(alloc, user, shown.as_str())?;
-    Ok(shown)
+impl Call<'_> {
+    /// Makes the call; what it gives is let go.
+    fn make(self, alloc: Global) -> Result<()> {
+        match self {
+            Call::Show(user) => drop(to_json(alloc, user.part())?),
+            Call::ShowMade(user) => drop(made_text(alloc, user)?),
+            Call::ShowValue(value) => drop(value.to_string(alloc)?),
+            Call::Store(user) => drop(stored_text(alloc, user)?),
+            Call::Read(text) => drop(read_stored(alloc, BASE, text)?),
+            Call::ReadFile(text) => drop(read_documents(alloc, BASE, text)?),
+            Call::ReadValue(text) => drop(Value::from_str(alloc, text)?),
+        }
+        Ok(())
+    }
+
+    /// Nanoseconds of the call, one of many.
+    fn figure(self, rt: &impl Clock, alloc: Global) -> Result<u128> {
+        fastest(rt, PASSES, CALLS, || self.make(alloc))
+    }
+
+    /// Nanoseconds of the call, made once.
+    fn lone_figure(self, rt: &impl Clock, alloc: Global) -> Result<u128> {
+        fastest(rt, 1, 1, || self.make(alloc))
+    }
 }
 
-fn check_made(alloc: Global, user: &Resource, shown: &str) -> Result<()> {
-    let made = value_of(alloc, user.part())?.to_string(alloc)?;
-    ensure!(made.as_str() == shown, "the two texts differ");
-    Ok(())
+/// The user's JSON by way of a value.
+fn made_text(alloc: Global, user: &Resource) -> Result<String> {
+    let value = value_of(alloc, user.part())?;
+    Ok(value.to_string(alloc)?)
 }
 
+/// The value that the user's JSON is of, which is the same as that of a value that is made.
 fn value_shown(alloc: Global, user: &Resource) -> Result<Value> {
-    let shown = shown(alloc, user)?;
+    let shown = to_json(alloc, user.part())?;
+    let made = made_text(alloc, user)?;
+    ensure!(made == shown, "the two texts differ");
     Ok(Value::from_str(alloc, shown.as_str())?)
-}
-
-fn measure(rt: &impl Clock, alloc: Global, user: &Resource) -> Result<Figures> {
-    let value = value_shown(alloc, user)?;
-    measure_calls(rt, alloc, user, &value)
-}
-
-fn measure_calls(
-    rt: &impl Clock,
-    alloc: Global,
-    user: &Resource,
-    value: &Value,
-) -> Result<Figures> {
-    let show = fastest(rt, PASSES, CALLS, || {
-        to_json(alloc, user.part())?;
-        Ok(())
-    })?;
-    let show_made = fastest(rt, PASSES, CALLS, || {
-        value_of(alloc, user.part())?.to_string(alloc)?;
-        Ok(())
-    })?;
-    let show_value = fastest(rt, PASSES, CALLS, || {
-        value.to_string(alloc)?;
-        Ok(())
-    })?;
-    let store = fastest(rt, PASSES, CALLS, || {
-        stored_text(alloc, user)?;
-        Ok(())
-    })?;
-    let read = fastest(rt, PASSES, CALLS, || {
-        read_stored(alloc, BASE, STORED)?;
-        Ok(())
-    })?;
-    let read_value = fastest(rt, PASSES, CALLS, || {
-        Value::from_str(alloc, STORED)?;
-        Ok(())
-    })?;
-    Ok(Figures {
-        show,
-        show_made,
-        show_value,
-        store,
-        read,
-        read_value,
-    })
 }
 
 /// A users file of so many users.
@@ -138,60 +116,64 @@ fn push_user(alloc: Global, number: usize, text: &mut String) -> Result<()> {
     )
 }
 
-/// Nanoseconds for each user of a file of so many: of `read_documents`, and of `Value::from_str`.
-fn measure_file(rt: &impl Clock, alloc: Global, users: usize) -> Result<(u128, u128)> {
+/// Prints what reading a file of so many users takes for each of them, in nanoseconds: by `Value::from_str`, and by
+/// `read_documents`.
+fn print_file(rt: &(impl Clock + Print), alloc: Global, users: usize) -> Result<()> {
     let text = users_file(alloc, users)?;
-    let (took, value_took) = measure_text(rt, alloc, text.as_str())?;
+    let read = Call::ReadFile(text.as_str()).lone_figure(rt, alloc)?;
+    let value_read = Call::ReadValue(text.as_str()).lone_figure(rt, alloc)?;
     let users = users.max(1) as u128;
-    Ok((took / users, value_took / users))
-}
-
-fn measure_text(rt: &impl Clock, alloc: Global, text: &str) -> Result<(u128, u128)> {
-    let took = fastest(rt, 1, 1, || {
-        read_documents(alloc, BASE, text)?;
-        Ok(())
-    })?;
-    let value_took = fastest(rt, 1, 1, || {
-        Value::from_str(alloc, text)?;
-        Ok(())
-    })?;
-    Ok((took, value_took))
+    print_line(rt, "a user", value_read / users, read / users)
 }
 
 /// Prints the figures of a user of 15 cells.
-fn print_figures(rt: &impl Print, figures: Figures) -> Result<()> {
+fn print_user(
+    rt: &(impl Clock + Print),
+    alloc: Global,
+    user: &Resource,
+    value: &Value,
+) -> Result<()> {
     print_heading(rt, "nanoseconds a call, for a user of 15 cells")?;
-    print_line(
-        rt,
-        "to_json, a Value made and printed",
-        figures.show,
-        figures.show_made,
-    )?;
-    print_figure(rt, "Value::to_string alone", figures.show_value)?;
-    print_figure(rt, "stored_text", figures.store)?;
-    print_line(
-        rt,
-        "Value::from_str, read_stored",
-        figures.read_value,
-        figures.read,
-    )
+    let calls = [Call::Show(user), Call::ShowMade(user)];
+    print_both(rt, alloc, "to_json, a Value made and printed", calls)?;
+    print_call(rt, alloc, "Value::to_string alone", Call::ShowValue(value))?;
+    print_call(rt, alloc, "stored_text", Call::Store(user))?;
+    let calls = [Call::ReadValue(STORED), Call::Read(STORED)];
+    print_both(rt, alloc, "Value::from_str, read_stored", calls)
 }
 
-fn measure_user(rt: &impl Clock, alloc: Global) -> Result<Figures> {
+fn print_call(rt: &(impl Clock + Print), alloc: Global, what: &str, call: Call<'_>) -> Result<()> {
+    let figure = call.figure(rt, alloc)?;
+    print_figure(rt, what, figure)
+}
+
+fn print_both(
+    rt: &(impl Clock + Print),
+    alloc: Global,
+    what: &str,
+    calls: [Call<'_>; 2],
+) -> Result<()> {
+    let [first, second] = calls;
+    let first = first.figure(rt, alloc)?;
+    let second = second.figure(rt, alloc)?;
+    print_line(rt, what, first, second)
+}
+
+fn measure_user(rt: &(impl Clock + Print), alloc: Global) -> Result<()> {
     let user = sample_user(alloc)?;
-    measure(rt, alloc, &user)
+    let value = value_shown(alloc, &user)?;
+    print_user(rt, alloc, &user, &value)
 }
 
 /// Prints the figures of writing and reading, in nanoseconds.
 pub fn run(rt: &(impl Clock + Print), alloc: Global) -> Result<()> {
-    print_figures(rt, measure_user(rt, alloc)?)?;
+    measure_user(rt, alloc)?;
     print_heading(
         rt,
         "nanoseconds for each user of users files of 1,000 and of 10,000: Value::from_str, read_documents",
     )?;
     for users in USERS {
-        let (each, each_value) = measure_file(rt, alloc, users)?;
-        print_line(rt, "a user", each_value, each)?;
+        print_file(rt, alloc, users)?;
     }
     Ok(())
 }

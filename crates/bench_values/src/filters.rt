@@ -2,7 +2,7 @@
 pub mod samples;
 
 use crate::filters::samples::{group, id_of, user};
-use crate::printing::{print_figure, print_heading, print_line, push_all};
+use crate::printing::{print_figure, print_heading, print_line};
 use crate::timing::fastest;
 use anyhow::{Result, bail};
 use scim_filter::{Filter, holds, read_filter};
@@ -68,12 +68,29 @@ fn deep_filter(alloc: Global, brackets: usize) -> Result<String> {
     Ok(written)
 }
 
-/// Nanoseconds of reading a filter.
-fn reading(rt: &impl Clock, alloc: Global, calls: usize, written: &str) -> Result<u128> {
-    fastest(rt, PASSES, calls, || {
-        read_filter(alloc, Kind::User, written)?;
+/// A call whose time is taken.
+#[derive(Clone, Copy)]
+enum Call<'a> {
+    Read(&'a str),
+    Hold(&'a Filter, &'a Part),
+    Count(&'a Filter, &'a [Part]),
+}
+
+impl Call<'_> {
+    /// Makes the call; what it gives is let go.
+    fn make(self, alloc: Global) -> Result<()> {
+        match self {
+            Call::Read(written) => drop(read_filter(alloc, Kind::User, written)?),
+            Call::Hold(filter, part) => drop(holds(alloc, filter, part)?),
+            Call::Count(filter, users) => drop(count(alloc, filter, users)?),
+        }
         Ok(())
-    })
+    }
+
+    /// Nanoseconds of the call, one of so many.
+    fn figure(self, rt: &impl Clock, alloc: Global, calls: usize) -> Result<u128> {
+        fastest(rt, PASSES, calls, || self.make(alloc))
+    }
 }
 
 /// Nanoseconds of holding a filter on a part, of which it is as said.
@@ -88,10 +105,7 @@ fn holding(
     if holds(alloc, filter, part)? != is_true {
         bail!("a filter holds, or does not");
     }
-    fastest(rt, PASSES, calls, || {
-        holds(alloc, filter, part)?;
-        Ok(())
-    })
+    Call::Hold(filter, part).figure(rt, alloc, calls)
 }
 
 /// How many of the users a filter holds of.
@@ -128,10 +142,7 @@ fn counting(
     if count(alloc, filter, users)? != wanted {
         bail!("other users are found");
     }
-    let took = fastest(rt, PASSES, 1, || {
-        count(alloc, filter, users)?;
-        Ok(())
-    })?;
+    let took = Call::Count(filter, users).figure(rt, alloc, 1)?;
     Ok(took / users.len().max(1) as u128)
 }
 
@@ -153,7 +164,7 @@ fn short_filters(rt: &(impl Clock + Print), alloc: Global) -> Result<()> {
 }
 
 fn short_filters_on(rt: &(impl Clock + Print), alloc: Global, user: &Part) -> Result<()> {
-    let read = reading(rt, alloc, CALLS, SHORT)?;
+    let read = Call::Read(SHORT).figure(rt, alloc, CALLS)?;
     let all = holding_short(rt, alloc, SHORT, user, false)?;
     let held = holding_short(rt, alloc, UNTITLED, user, true)?;
     print_figure(rt, "reading a filter of 100 bytes", read)?;
@@ -198,12 +209,12 @@ fn filter_many(rt: &(impl Clock + Print), alloc: Global, users: &[Part]) -> Resu
 
 fn reading_deep(rt: &impl Clock, alloc: Global, brackets: usize) -> Result<u128> {
     let written = deep_filter(alloc, brackets)?;
-    reading(rt, alloc, CALLS, written.as_str())
+    Call::Read(written.as_str()).figure(rt, alloc, CALLS)
 }
 
 fn reading_long(rt: &impl Clock, alloc: Global, calls: usize, bytes: usize) -> Result<u128> {
     let written = long_filter(alloc, bytes)?;
-    reading(rt, alloc, calls, written.as_str())
+    Call::Read(written.as_str()).figure(rt, alloc, calls)
 }
 
 fn long_and_deep(rt: &(impl Clock + Print), alloc: Global) -> Result<()> {
@@ -228,8 +239,7 @@ fn holding_last(rt: &impl Clock, alloc: Global, members: usize, around: [&str; 2
 fn filter_on_last(alloc: Global, members: usize, around: [&str; 2]) -> Result<Filter> {
     let [before, behind] = around;
     let last = id_of(members.saturating_sub(1)).text(alloc)?;
-    let mut written = String::new(alloc);
-    push_all(&mut written, &[before, last.as_str(), behind])?;
+    let written = [before, last.as_str(), behind].concat(alloc)?;
     Ok(read_filter(alloc, Kind::Group, written.as_str())?)
 }
 

@@ -1,5 +1,5 @@
 //! Parts: groups of more and more members, each with four sub-attributes.
-use crate::printing::{numbered, print_figure, print_heading, push_all};
+use crate::printing::{numbered, print_figure, print_heading};
 use anyhow::{Result, bail, ensure};
 use scim_cell::{Cell, Id, Row, RowTest};
 use scim_samples::{ALICE, BASE, read_cells};
@@ -32,25 +32,22 @@ fn group(alloc: Global, members: usize) -> Result<Vec<Cell>> {
 fn push_member(alloc: Global, position: usize, cells: &mut Vec<Cell>) -> Result<()> {
     let place = numbered(alloc, "members[", position, "]")?;
     let place = place.as_str();
-    let mut member = String::new(alloc);
-    push_all(
-        &mut member,
-        &[
-            place,
-            ".display=Alice; ",
-            place,
-            ".value=",
-            ALICE,
-            "; ",
-            place,
-            ".type=User; ",
-            place,
-            ".$ref=",
-            BASE,
-            "/Users/",
-            ALICE,
-        ],
-    )?;
+    let pieces = [
+        place,
+        ".display=Alice; ",
+        place,
+        ".value=",
+        ALICE,
+        "; ",
+        place,
+        ".type=User; ",
+        place,
+        ".$ref=",
+        BASE,
+        "/Users/",
+        ALICE,
+    ];
+    let member = pieces.concat(alloc)?;
     Ok(cells.append(&mut read_cells(alloc, member.as_str())?)?)
 }
 

@@ -116,8 +116,8 @@ fn add_field(
     attribute: Attribute,
     field: &Field,
 ) -> Result<(), NoMemory> {
-    let value = atom(alloc, &field.atom)?;
     let Some(sub_attribute) = field.leaf.sub_attribute else {
+        let value = atom(alloc, &field.atom)?;
         return insert(alloc, members, attribute.name(), value);
     };
     let name = String::from_str(alloc, attribute.name())?;
@@ -125,6 +125,7 @@ fn add_field(
         .entry(name)?
         .or_insert(Value::Object(Map::new(alloc)));
     if let Value::Object(fields) = object {
+        let value = atom(alloc, &field.atom)?;
         insert(alloc, fields, sub_attribute.name(), value)?;
     }
     Ok(())

@@ -47,13 +47,10 @@ fn is_of_type(attribute_type: AttributeType, literal: &Literal) -> bool {
         ) => true,
         (AttributeType::Boolean, Literal::Truth(_)) => true,
         (AttributeType::Boolean, Literal::Text(text)) => {
-            ["true", "false"]
-                .iter()
-                .any(|truth| text.as_str().eq_ignore_ascii_case(truth))
+            let text = text.as_str();
+            text.eq_ignore_ascii_case("true") || text.eq_ignore_ascii_case("false")
         }
-        (AttributeType::DateTime, Literal::Text(text)) => {
-            MOMENTS.iter().any(|moment| *moment == text.as_str())
-        }
+        (AttributeType::DateTime, Literal::Text(text)) => MOMENTS.contains(&text.as_str()),
         _ => false,
     }
 }

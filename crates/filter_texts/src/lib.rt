@@ -12,7 +12,7 @@ use crate::checks::{has_right_types, is_same_tree, most_open, paths_in};
 use crate::dice::Dice;
 use crate::printing::plain_text;
 use crate::texts::{Sample, Sort, random_sample};
-use anyhow::{Error, Result, bail, ensure};
+use anyhow::{Result, bail, ensure};
 use scim_filter::{Filter, FilterFault, Node, mentioned_names, read_filter, read_tokens};
 use scim_schema::Kind;
 use scim_text::Failed;
@@ -46,17 +46,15 @@ struct Counts {
     too_long: usize,
 }
 
-impl Counts {
-    fn new() -> Counts {
-        Counts {
-            read: 0,
-            syntax: 0,
-            wrong_type: 0,
-            too_deep: 0,
-            too_long: 0,
-        }
-    }
+const NO_TEXTS: Counts = Counts {
+    read: 0,
+    syntax: 0,
+    wrong_type: 0,
+    too_deep: 0,
+    too_long: 0,
+};
 
+impl Counts {
     fn add(&mut self, fault: Option<FilterFault>) {
         let count = match fault {
             None => &mut self.read,
@@ -136,12 +134,6 @@ fn check(alloc: Global, sample: &Sample) -> Result<Option<FilterFault>> {
     }
 }
 
-/// Prints a text whose outcome has no cause, and fails.
-fn fail(rt: &impl Print, number: usize, text: &str, cause: &Error) -> Result<Option<FilterFault>> {
-    println!(rt; "{text}")?;
-    bail!("text {number}: {cause}")
-}
-
 /// The fault of a text, if it has one. Fails where the outcome has no cause, and prints the text.
 fn check_or_print(
     rt: &impl Print,
@@ -151,7 +143,10 @@ fn check_or_print(
 ) -> Result<Option<FilterFault>> {
     match check(alloc, sample) {
         Ok(fault) => Ok(fault),
-        Err(cause) => fail(rt, number, sample.text.as_str(), &cause),
+        Err(cause) => {
+            println!(rt; "text {number}: {}", sample.text)?;
+            Err(cause)
+        }
     }
 }
 
@@ -170,7 +165,7 @@ fn check_next(
 /// first text whose outcome has no cause, which it prints.
 fn check_all(rt: &impl Print, alloc: Global) -> Result<[Counts; 4]> {
     let mut dice = Dice::new(SEED);
-    let mut counts = [Counts::new(), Counts::new(), Counts::new(), Counts::new()];
+    let mut counts = [NO_TEXTS; 4];
     for number in 0..TEXTS {
         let fault = check_next(rt, alloc, &mut dice, number)?;
         counts[number % SORTS.len()].add(fault);

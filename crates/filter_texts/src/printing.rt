@@ -132,7 +132,7 @@ impl Printer {
             self.push("00")?;
         }
         let digits = number.unsigned_abs();
-        write!(self.text, "{digits}")?;
+        self.text.write(digits)?;
         Ok(())
     }
 
@@ -177,11 +177,17 @@ impl Printer {
         self.unit(0xdc00 | (above & 0x3ff))
     }
 
+    /// `\u` and four digits, all in upper or all in lower case.
     fn unit(&mut self, unit: u32) -> Result<(), NoMemory> {
-        if self.plays(2) {
-            write!(self.text, "\\u{unit:04X}")?;
-        } else {
-            write!(self.text, "\\u{unit:04x}")?;
+        let is_upper = self.plays(2);
+        self.push("\\u")?;
+        for shift in [12, 8, 4, 0] {
+            let digit = char::from_digit((unit >> shift) & 15, 16).unwrap_or('0');
+            self.text.push(if is_upper {
+                digit.to_ascii_uppercase()
+            } else {
+                digit
+            })?;
         }
         Ok(())
     }

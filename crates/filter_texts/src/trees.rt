@@ -59,8 +59,11 @@ fn random_urn(
             let Some(schema) = dice.pick(Schema::all()) else {
                 return Ok((None, known));
             };
-            let urn = recased(alloc, dice, schema.urn())?;
-            Ok((Some(urn), known.filter(|a| schema_of(kind, *a) == schema)))
+            let named = match known {
+                Some(attribute) if schema_of(kind, attribute) == schema => known,
+                _ => None,
+            };
+            Ok((Some(recased(alloc, dice, schema.urn())?), named))
         }
         _ => Ok((None, known)),
     }
@@ -95,6 +98,14 @@ fn random_sub_name(
     }
 }
 
+/// What a path to a whole attribute means.
+fn whole(named: Option<Attribute>) -> Meant {
+    match named {
+        Some(attribute) => Meant::Attribute(attribute),
+        None => Meant::Nothing,
+    }
+}
+
 /// A path to an attribute of the kind or to one of its sub-attributes, or to nothing.
 fn random_path(alloc: Global, dice: &mut Dice, kind: Kind) -> Result<Path, NoMemory> {
     let known = if dice.one_in(5) {
@@ -112,7 +123,7 @@ fn random_path(alloc: Global, dice: &mut Dice, kind: Kind) -> Result<Path, NoMem
         let (sub_name, meant) = random_sub_name(alloc, dice, known, named)?;
         (Some(sub_name), meant)
     } else {
-        (None, named.map_or(Meant::Nothing, Meant::Attribute))
+        (None, whole(named))
     };
     Ok(Path {
         urn,

@@ -22,20 +22,16 @@ pub fn user(alloc: Global, number: usize, family_name: &str) -> Result<Resource>
 
 fn user_cells(alloc: Global, number: usize, family_name: &str) -> Result<String> {
     let name = numbered(alloc, "user", number, "")?;
-    let mut cells = String::new(alloc);
-    push_all(
-        &mut cells,
-        &[
-            "userName=",
-            name.as_str(),
-            "; name.familyName=",
-            family_name,
-            "; name.givenName=Barbara; displayName=Barbara Jensen; title=Tour Guide; emails[0].value=",
-            name.as_str(),
-            "@example.com; emails[0].type=work; emails[0].primary=#true; department=Tours; active=#true",
-        ],
-    )?;
-    Ok(cells)
+    let pieces = [
+        "userName=",
+        name.as_str(),
+        "; name.familyName=",
+        family_name,
+        "; name.givenName=Barbara; displayName=Barbara Jensen; title=Tour Guide; emails[0].value=",
+        name.as_str(),
+        "@example.com; emails[0].type=work; emails[0].primary=#true; department=Tours; active=#true",
+    ];
+    Ok(pieces.concat(alloc)?)
 }
 
 /// A group with so many members, whose values are the first ids.
