@@ -1,5 +1,5 @@
 -- What a commit leaves of a store.
-use Rattle.std.proofs.Common.{◌≡◌, ◌≢◌, ◌∙◌, sym, subst, refl, ap, ℕ, List, Option, inl, inr}
+use Rattle.std.proofs.Common.{◌≡◌, ◌≢◌, IsTrue, ◌∙◌, sym, subst, refl, ap, ℕ, List, Option, inl, inr}
 use Rattle.sqlite.specs.Effect.{Database}
 use Rattle.sqlite.specs.State.{State, IsUnchanged, HasCleanDisk, Survives}
 use Rattle.sqlite.specs.Tree.{Trees}
@@ -15,7 +15,7 @@ use Rattle.scim_tables.specs.Steps.{Became, Undoes, Leaves}
 use Rattle.scim_store.specs.declared.edits.Edits.{Edits}
 use Rattle.scim_store.specs.Audit.{audit_row}
 use Rattle.scim_store.specs.Edits.{Writes}
-use Rattle.scim_store.specs.Committing.{HasStore, Stays, Changes, StandForNone, IsReady}
+use Rattle.scim_store.specs.Committing.{HasStore, AreOf, Stays, Changes, StandForNone, IsReady}
 use Rattle.scim_store.specs.Finding.{StandsIn}
 use Rattle.scim_store.specs.Stands.{StandsFor}
 
@@ -85,6 +85,13 @@ module _ (base : List ℕ) (change : Change) (row : AuditRow) (edits : Option Ed
     stands = λ _. (let it = ready store has.stands in became.changed.stands base store change row (subst (λ (db : Database). StandsFor base db store) (sym (it.stays.now it.opened)) (has.stands (it.stays.was_open it.opened))) can it.are (are ∙ ap (λ n. audit_row n row) it.next));
     settled = λ _. became.settled;
   }
+
+  -- the law is the store's: what a crash leaves of an open one is its last commit
+  pub changes_last : Became b c (Writes edits columns) → ((store : Store) → StandsIn base a store → IsReady base store change a b edits number)
+      → ((trees : Trees) → IsTrue c.is_open → c.may_leave trees → trees ≡ c.committed.trees)
+      → (store : Store) → HasStore base a store → CanKeep store change → (trees : Trees) → c.may_leave trees → AreOf base (after change row store) trees
+  changes_last became ready law store has can trees left =
+      (c.now, law trees became.is_open left ∙ ap (λ (db : Database). db.trees) (sym became.settled), (changes_made became ready store has can).stands became.is_open)
 
   pub changes_survive : (HasCleanDisk c → (store : Store) → StandsIn base a store → IsReady base store change a b edits number)
       → Survives a b (λ _. StandForNone base a.now) → Survives b c (Leaves (Writes edits columns) b.now) → Survives a c (Leaves (Changes base change row) a.now)

@@ -1,5 +1,5 @@
 -- What the looks ahead of a change tell.
-use Rattle.std.proofs.Common.{◌≢◌, ℕ, pos, List, [], ◌∷◌, codes, filter, true, Option, IsTrue, refl, sym, subst}
+use Rattle.std.proofs.Common.{ℕ, pos, List, [], ◌∷◌, codes, filter, true, Option, IsTrue, refl}
 use Rattle.sqlite.specs.declared.types.Value.TheVariants.{Int, Text}
 use Rattle.sqlite.specs.Collation.TheVariants.{Binary}
 use Rattle.sqlite_value.specs.declared.keys.Key.{Key}
@@ -7,12 +7,8 @@ use Rattle.sqlite.specs.Order.{Row}
 use Rattle.sqlite.specs.Term.{col, lit}
 use Rattle.sqlite.specs.Query.{Query}
 use Rattle.sqlite.specs.Listing.{understood}
-use Rattle.sqlite.specs.State.{State, Survives, CommitsShowing}
-use Rattle.sqlite.specs.Given.{IsPlain}
-use Rattle.sqlite.proofs.StateLemmas.{survives_weaker}
-use Rattle.sqlite.proofs.Callers.{never_commits}
+use Rattle.sqlite.specs.State.{State}
 use Rattle.sqlite_tied.specs.Compute.{everything}
-use Rattle.scim_tables.specs.Tables.{store_schema}
 use Rattle.scim_tables.specs.Lists.{Lists, has_text, triple}
 use Rattle.scim_tables.specs.Reading.{Rests, Holds, Finds, IsTextOfFirst}
 use Rattle.scim_tables.specs.code.Asks.{IsAsk}

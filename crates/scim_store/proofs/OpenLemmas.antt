@@ -6,11 +6,14 @@ use Rattle.std.proofs.lemmas.List.Sorted.{IsPermutation-sym}
 use Rattle.sqlite_trees.proofs.ListLemmas.{all-flat_map, all-map, IsPermutation-same}
 use Rattle.sqlite.specs.Effect.{Database}
 use Rattle.sqlite.specs.Order.{Row, column}
-use Rattle.sqlite.specs.State.{State}
+use Rattle.sqlite.specs.State.{State, HasCleanDisk, Survives}
+use Rattle.sqlite.proofs.StateLemmas.{survives_then, survives_weaker}
+use Rattle.scim_tables.specs.Steps.{Leaves}
 use Rattle.scim_shelf.specs.Stores.{Store, AreKeyed}
 use Rattle.scim_value.specs.Uniqueness.{Name, unique_names}
 use Rattle.scim_tables.specs.Tables.{no_schema}
-use Rattle.scim_store.specs.Beginning.{no_store}
+use Rattle.scim_store.specs.Beginning.{no_store, Begins}
+use Rattle.scim_store.proofs.ShelfLemmas.{clean_before}
 use Rattle.scim_tables.specs.Lists.{Are}
 use Rattle.scim_tables.specs.Reading.{shown, Rests}
 use Rattle.scim_tables.specs.Whole.{AreRowsOf as AreRead, Is, IsUntouched}
@@ -22,7 +25,7 @@ use Rattle.scim_store.specs.Audit.{audit_rows}
 use Rattle.scim_store.specs.Damage.{AreOrdered, AreSound, IsLeastDamage, IsForeign}
 use Rattle.scim_store.specs.Opening.{resource_tables, CountsAudit, IsByAudit, IsFor, Examines}
 use Rattle.scim_store.specs.Finding.{StandsIn}
-use Rattle.scim_store.specs.Shelves.{IsKeptIn, HasOpened}
+use Rattle.scim_store.specs.Shelves.{IsKeptIn, HasOpened, LeavesBegun}
 use Rattle.scim_store.specs.declared.opening.Examined.{Examined}
 use Rattle.scim_store.specs.declared.opening.Examined.TheVariants.{Empty, Stands, WrongVersion, Damaged, Foreign}
 use Rattle.scim_store.specs.Stands.{Entry, StandsFor, lists_of, name_row, name_rows, member_row, member_rows}
@@ -157,3 +160,16 @@ rests_untouched old new same = record {
   now = λ o. inl (same.unchanged (same.was_open o)).0.now_is;
   committed = λ o. (same.unchanged (same.was_open o)).0.committed_is;
 }
+
+-- ---- what a crash leaves
+
+pub untouched_survives : (base : List ℕ) (a b : State) → Survives a b (λ _. ⊥) → Survives a b (LeavesBegun base a)
+untouched_survives base a b = survives_weaker a b _ _ (λ _ db none. absurd none)
+
+pub begun_survives : (base : List ℕ) (a b c : State) → (HasCleanDisk b → IsUntouched a b) → Survives a b (λ _. ⊥) → Survives b c (Leaves Begins b.now) → Survives a c (LeavesBegun base a)
+begun_survives base a b c same one two =
+    survives_then a b c _ _ _ (λ _ db none. absurd none) (λ clean db begins. (
+      begins.0,
+      begins.1,
+      λ opened empty. begins.2 (ap (λ (d : Database). d.schema) ((same (clean_before b c two.clean clean)).unchanged opened).0.now_is ∙ empty) base,
+    )) one two

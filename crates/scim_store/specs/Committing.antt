@@ -1,6 +1,7 @@
 -- What a commit leaves of a store.
 use Rattle.std.specs.Prelude.{◌≡◌, ℕ, List, IsTrue, Option, length, ◌+◌}
 use Rattle.sqlite.specs.Effect.{Database}
+use Rattle.sqlite.specs.Tree.{Trees}
 use Rattle.sqlite.specs.State.{State}
 use Rattle.scim_audit.specs.declared.rows.AuditRow.{AuditRow}
 use Rattle.scim_shelf.specs.declared.changes.Change.{Change}
@@ -17,6 +18,10 @@ pub record HasStore (base : List ℕ) (s : State) (store : Store) : Type 0 where
 -- what the tables stood for, they stand for after a change that may be made, with its row of the audit
 abbrev pub Changes : List ℕ → Change → AuditRow → Database → Database → Type 0
 Changes base change row old new = (store : Store) → StandsFor base old store → CanKeep store change → StandsFor base new (after change row store)
+
+-- these trees are the tables of the store
+abbrev pub AreOf : List ℕ → Store → Trees → Type 0
+AreOf base store trees = (db : Database) × (trees ≡ db.trees) × StandsFor base db store
 
 -- where the connection is open, it was, and its database and the last commit are as they were
 pub record Stays (old new : State) : Type 0 where

@@ -1,6 +1,7 @@
 -- What a shelf over a connection stands for, and what comes of opening a database.
-use Rattle.std.specs.Prelude.{◌≡◌, ◌⊎◌, ℕ, List, length, ⊤}
+use Rattle.std.specs.Prelude.{◌≡◌, ◌⊎◌, ℕ, List, length, ⊤, IsTrue}
 use Rattle.sqlite.specs.Effect.{Database}
+use Rattle.sqlite.specs.Tree.{Trees}
 use Rattle.sqlite.specs.State.{State, HasCleanDisk}
 use Rattle.scim_shelf.specs.Stores.{Store}
 use Rattle.scim_tables.specs.Tables.{no_schema}
@@ -32,3 +33,7 @@ Refuses base db WrongVersion = IsFor base db OtherVersion
 Refuses base db (Damaged id) = IsFor base db (DamagedAt id)
 Refuses base db NoStore = ⊤
 Refuses base db NoMemory = ⊤
+
+-- what a crash may leave while a database is opened, beside what it could leave before: where it was empty, the tables of a store that has nothing
+abbrev pub LeavesBegun : List ℕ → State → Trees → Type 0
+LeavesBegun base s trees = (db : Database) × (trees ≡ db.trees) × (IsTrue s.is_open → s.now.schema ≡ no_schema → StandsFor base db no_store)

@@ -3,6 +3,7 @@
 ghost use Rattle.std.specs.Prelude.{◌≡◌, ◌≢◌, ◌≤◌, ◌+◌, ◌↔◌, ℕ, List, false, IfOk, OnOk, OnErr, Err, IsTrue, length};
 ghost use Rattle.sqlite.specs.State.{HasCleanDisk, IsUnchanged, Survives};
 ghost use Rattle.sqlite.specs.Held.{state};
+ghost use Rattle.sqlite.specs.Tree.{Trees};
 ghost use Rattle.scim_value.specs.Resource.{HasBase};
 ghost use Rattle.scim_shelf.specs.Stores.{Store, CanKeep, after};
 ghost use Rattle.scim_tables.specs.Audit.{last_number};
@@ -11,7 +12,7 @@ ghost use Rattle.scim_tables.specs.Tables.{store_schema};
 ghost use Rattle.scim_store.specs.declared.committing.CommitFault.{CommitFault};
 ghost use Rattle.scim_store.specs.Finding.{StandsIn};
 ghost use Rattle.scim_store.specs.Edits.{IsOld, KeepsBelow};
-ghost use Rattle.scim_store.specs.Committing.{HasStore, Changes, Stays, StandForNone, IsReady};
+ghost use Rattle.scim_store.specs.Committing.{HasStore, AreOf, Changes, Stays, StandForNone, IsReady};
 
 use crate::changes::edits_of;
 use crate::columns::{AuditTexts, columns_of};
@@ -160,6 +161,9 @@ fn prepare<S: Alter>(
 /// The error is Full where the last number of the audit is in use, OtherBase where a resource that is to be kept stands
 /// below another base, NoMemory, or the one that the database gave, among them a want of memory of its own. Then nothing
 /// is changed and no row is added, or the connection is shut.
+///
+/// A crash meanwhile leaves the store before or the store after, with the row; one after Ok leaves the store after, where the
+/// disk gives back what was written.
 pub fn commit_change<S: Alter>(
     conn: &mut Connection<S>,
     alloc: Global,
@@ -176,6 +180,10 @@ pub fn commit_change<S: Alter>(
 
     // A crash leaves what it could leave before, or the tables with the change and its row of the audit.
     ensures crash { Survives (state S.Store conn.old) (state S.Store conn.new) (Leaves (Changes base.now change row) (state S.Store conn.old).now) }
+
+    // Once it has answered Ok, a crash leaves these tables.
+    ensures durable { HasCleanDisk (state S.Store conn.new) → OnOk result ((store : Store) → HasStore base.now (state S.Store conn.old) store → CanKeep store change
+        → (trees : Trees) → (state S.Store conn.new).may_leave trees → AreOf base.now (after change row store) trees) }
 {
     let prepared = prepare(conn, alloc, base, &change)?;
     let texts = AuditTexts::of(alloc, &row)?;

@@ -2,7 +2,7 @@
 
 ghost use Rattle.std.specs.Prelude.{◌≡◌, ◌≢◌, ◌<◌, ◌≤◌, ◌⊎◌, ℕ, List, Ok, Err, IfOk, IfErr, IsTrue, length, false};
 ghost use Rattle.sqlite.specs.Effect.{Database};
-ghost use Rattle.sqlite.specs.State.{HasCleanDisk};
+ghost use Rattle.sqlite.specs.State.{HasCleanDisk, Survives};
 ghost use Rattle.sqlite.specs.Held.{state};
 ghost use Rattle.scim_text.specs.declared.memory.Failed.{Failed};
 ghost use Rattle.scim_shelf.specs.declared.faults.ShelfFault.{ShelfFault};
@@ -12,9 +12,10 @@ ghost use Rattle.scim_store.specs.AuditBack.{AreRowsFrom};
 ghost use Rattle.scim_store.specs.Committing.{HasStore};
 ghost use Rattle.scim_tables.specs.Reading.{Rests};
 ghost use Rattle.scim_tables.specs.Tables.{no_schema};
-ghost use Rattle.scim_store.specs.Beginning.{no_store};
+ghost use Rattle.scim_tables.specs.Steps.{Leaves};
+ghost use Rattle.scim_store.specs.Beginning.{no_store, Begins};
 ghost use Rattle.scim_store.specs.Finding.{StandsIn};
-ghost use Rattle.scim_store.specs.Shelves.{IsKeptIn, HasOpened, Refuses};
+ghost use Rattle.scim_store.specs.Shelves.{IsKeptIn, HasOpened, Refuses, LeavesBegun};
 
 use crate::auditing::{LAST_NUMBER, read_audit_rows};
 use crate::beginning::begin_store;
@@ -80,6 +81,7 @@ impl<S: Alter> SqlShelf<S> {
     ) -> Result<SqlShelf<S>, (OpenFault, Connection<S>)>
         requires { connection.in_transaction ≡ false }
         ensures base { IfOk result (λ shelf. shelf.base ≡ base.now) }
+        ensures same { IfOk result (λ shelf. shelf.connection ≡ connection) }
         ensures kept { IfOk result (λ shelf. HasCleanDisk (state S.Store shelf.connection) → HasCleanDisk (state S.Store connection)
             × ((store : Store) → StandsIn base.now (state S.Store connection) store → length store.audit ≡ rows → IsKeptIn base.now (state S.Store shelf.connection) shelf.rows store)) }
         ensures refused { IfErr result (λ e. (base : List ℕ) (db : Database) → Refuses base db e.0) }
@@ -111,6 +113,8 @@ impl<S: Alter> SqlShelf<S> {
         ensures base { IfOk result (λ shelf. shelf.base ≡ base.now) }
         ensures refused { IfErr result (λ e. (base : List ℕ) (db : Database) → Refuses base db e.0) }
         ensures clean { IfErr result (λ e. HasCleanDisk (state S.Store e.1) → HasCleanDisk (state S.Store connection)) }
+        ensures crash { IfOk result (λ shelf. Survives (state S.Store connection) (state S.Store shelf.connection) (Leaves Begins (state S.Store connection).now)) }
+        ensures crash_at_err { IfErr result (λ e. Survives (state S.Store connection) (state S.Store e.1) (Leaves Begins (state S.Store connection).now)) }
     {
         let mut connection = connection;
         match begin_store(&mut connection) {
@@ -136,6 +140,10 @@ impl<S: Alter> SqlShelf<S> {
         ensures opened { IfOk result (λ shelf. HasCleanDisk (state S.Store shelf.connection) → (store : Store) × HasOpened base.now (state S.Store connection).now (state S.Store shelf.connection) shelf.rows store) }
         ensures refused { IfErr result (λ e. HasCleanDisk (state S.Store e.1) → Refuses base.now (state S.Store connection).now e.0) }
         ensures rests { IfErr result (λ e. HasCleanDisk (state S.Store e.1) → (state S.Store connection).now.schema ≢ no_schema → Rests (state S.Store connection) (state S.Store e.1)) }
+
+        // A crash leaves what it could leave before, or, where the database was empty, the tables of a store that has nothing.
+        ensures crash { IfOk result (λ shelf. Survives (state S.Store connection) (state S.Store shelf.connection) (LeavesBegun base.now (state S.Store connection))) }
+        ensures crash_at_err { IfErr result (λ e. Survives (state S.Store connection) (state S.Store e.1) (LeavesBegun base.now (state S.Store connection))) }
     {
         let mut connection = connection;
         let examined = match examine(&mut connection, alloc, base) {

@@ -1,7 +1,9 @@
-use Rattle.std.proofs.Common.{refl}
-use Rattle.std.proofs.lemmas.Result.{IfOk-weaker}
+use Rattle.std.proofs.Common.{refl, subst, sym}
+use Rattle.std.proofs.lemmas.Result.{IfOk-weaker, IfErr-weaker}
 use Rattle.sqlite.specs.Held.{state}
-use Rattle.scim_store.specs.Beginning.{no_store}
+use Rattle.sqlite.specs.State.{Survives}
+use Rattle.scim_tables.specs.Steps.{Leaves}
+use Rattle.scim_store.specs.Beginning.{no_store, Begins}
 use Rattle.scim_store.proofs.ShelfLemmas.{clean_before}
 use Rattle.scim_store.proofs.shelf.SqlShelf.begin.Goals as goal
 
@@ -14,3 +16,13 @@ returns-in-Ok-clause-kept g c =
       made.was_open,
       λ empty. both.1 no_store (λ _. made.changed empty c.args.base.now) refl,
     ))) c.over.ensures.kept
+
+pub returns-in-Ok-clause-crash : goal.returns-in-Ok-clause-crash
+returns-in-Ok-clause-crash g c =
+    let old = state g.S.Store c.args.connection in
+    IfOk-weaker c.over.result _ _ (λ shelf same. subst (λ conn. Survives old (state g.S.Store conn) (Leaves Begins old.now)) (sym same) c.begin_store.ensures.crash) c.over.ensures.same
+
+pub returns-in-Ok-clause-crash_at_err : goal.returns-in-Ok-clause-crash_at_err
+returns-in-Ok-clause-crash_at_err g c =
+    let old = state g.S.Store c.args.connection in
+    IfErr-weaker c.over.result _ _ (λ e same. subst (λ conn. Survives old (state g.S.Store conn) (Leaves Begins old.now)) (sym same) c.begin_store.ensures.crash) c.over.ensures.given_back

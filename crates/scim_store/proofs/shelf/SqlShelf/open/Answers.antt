@@ -1,10 +1,11 @@
 use Rattle.std.proofs.Common.{subst, sym}
 use Rattle.std.proofs.lemmas.Result.{IfOk-weaker, IfErr-weaker}
 use Rattle.sqlite.specs.Held.{state}
-use Rattle.sqlite.specs.State.{HasCleanDisk}
+use Rattle.sqlite.specs.State.{HasCleanDisk, Survives}
 use Rattle.scim_tables.specs.Reading.{Rests}
 use Rattle.scim_store.specs.Opening.{IsFor, Examines}
-use Rattle.scim_store.proofs.OpenLemmas.{opened_over, opened_begun, rests_untouched}
+use Rattle.scim_store.specs.Shelves.{LeavesBegun}
+use Rattle.scim_store.proofs.OpenLemmas.{opened_over, opened_begun, rests_untouched, untouched_survives, begun_survives}
 use Rattle.scim_store.proofs.shelf.SqlShelf.open.Goals as goal
 
 pub returns-in-Err-clause-refused : goal.returns-in-Err-clause-refused
@@ -43,3 +44,39 @@ returns-in-Stands-clause-rests g c =
     let mid = state g.S.Store c.examine.new.conn in
     IfErr-weaker c.over.result _ _ (λ e same clean other.
     subst (λ conn. Rests old (state g.S.Store conn)) (sym same) (rests_untouched old mid (c.in-Ok.ensures.examined (subst (λ conn. HasCleanDisk (state g.S.Store conn)) same clean)).untouched)) c.over.ensures.given_back
+
+pub returns-in-Empty-clause-crash : goal.returns-in-Empty-clause-crash
+returns-in-Empty-clause-crash g c =
+    let old = state g.S.Store c.args.connection in
+    let mid = state g.S.Store c.examine.new.conn in
+    IfOk-weaker c.begin.result _ _ (λ shelf crash. begun_survives c.args.base.now old mid (state g.S.Store shelf.connection) (λ clean. (c.in-Ok.ensures.examined clean).untouched) c.examine.ensures.survives crash) c.begin.ensures.crash
+
+pub returns-in-Empty-clause-crash_at_err : goal.returns-in-Empty-clause-crash_at_err
+returns-in-Empty-clause-crash_at_err g c =
+    let old = state g.S.Store c.args.connection in
+    let mid = state g.S.Store c.examine.new.conn in
+    IfErr-weaker c.begin.result _ _ (λ e crash. begun_survives c.args.base.now old mid (state g.S.Store e.1) (λ clean. (c.in-Ok.ensures.examined clean).untouched) c.examine.ensures.survives crash) c.begin.ensures.crash_at_err
+
+pub returns-in-Stands-clause-crash : goal.returns-in-Stands-clause-crash
+returns-in-Stands-clause-crash g c =
+    let old = state g.S.Store c.args.connection in
+    let mid = state g.S.Store c.examine.new.conn in
+    IfOk-weaker c.over.result _ _ (λ shelf same. subst (λ conn. Survives old (state g.S.Store conn) (LeavesBegun c.args.base.now old)) (sym same) (untouched_survives c.args.base.now old mid c.examine.ensures.survives)) c.over.ensures.same
+
+pub returns-in-Stands-clause-crash_at_err : goal.returns-in-Stands-clause-crash_at_err
+returns-in-Stands-clause-crash_at_err g c =
+    let old = state g.S.Store c.args.connection in
+    let mid = state g.S.Store c.examine.new.conn in
+    IfErr-weaker c.over.result _ _ (λ e same. subst (λ conn. Survives old (state g.S.Store conn) (LeavesBegun c.args.base.now old)) (sym same) (untouched_survives c.args.base.now old mid c.examine.ensures.survives)) c.over.ensures.given_back
+
+pub returns-in-Err-clause-crash_at_err : goal.returns-in-Err-clause-crash_at_err
+returns-in-Err-clause-crash_at_err g c = untouched_survives c.args.base.now (state g.S.Store c.args.connection) (state g.S.Store c.examine.new.conn) c.examine.ensures.survives
+
+pub returns-in-WrongVersion-clause-crash_at_err : goal.returns-in-WrongVersion-clause-crash_at_err
+returns-in-WrongVersion-clause-crash_at_err g c = untouched_survives c.args.base.now (state g.S.Store c.args.connection) (state g.S.Store c.examine.new.conn) c.examine.ensures.survives
+
+pub returns-in-Damaged-clause-crash_at_err : goal.returns-in-Damaged-clause-crash_at_err
+returns-in-Damaged-clause-crash_at_err g c = untouched_survives c.args.base.now (state g.S.Store c.args.connection) (state g.S.Store c.examine.new.conn) c.examine.ensures.survives
+
+pub returns-in-Foreign-clause-crash_at_err : goal.returns-in-Foreign-clause-crash_at_err
+returns-in-Foreign-clause-crash_at_err g c = untouched_survives c.args.base.now (state g.S.Store c.args.connection) (state g.S.Store c.examine.new.conn) c.examine.ensures.survives
