@@ -11,7 +11,6 @@ use scim_schema::{Kind, Op};
 use scim_service::{Ask, Request, Service, Turn};
 use scim_shelf::MemoryShelf;
 use scim_text::Moment;
-use scim_value::Resource;
 use scim_view::Wanted;
 use std::alloc::Global;
 use std::io::Print;
@@ -216,20 +215,12 @@ fn push_turn(alloc: Global, asked: Asked, number: usize, turns: &mut Vec<Turn>) 
     Ok(turns.push(turn)?)
 }
 
-/// A service by a policy file over a store of these resources.
-pub(crate) fn service_over(
-    alloc: Global,
-    policy: &str,
-    resources: Vec<Resource>,
-) -> Result<Service<MemoryShelf>> {
-    let shelf = MemoryShelf::new(alloc, resources)?;
-    let base = Text::copy_of(alloc, BASE)?;
-    Ok(Service::new(read_policy(alloc, policy)?, base, shelf))
-}
-
 /// A service by a policy file over a store without resources.
 pub(crate) fn service_over_nothing(alloc: Global, policy: &str) -> Result<Service<MemoryShelf>> {
-    service_over(alloc, policy, Vec::new(alloc))
+    let base = Text::copy_of(alloc, BASE)?;
+    let shelf = MemoryShelf::new(alloc, Vec::new(alloc))?;
+    let policy = read_policy(alloc, policy)?;
+    Ok(Service::new(policy, base, shelf))
 }
 
 /// Answers a turn that makes a resource.

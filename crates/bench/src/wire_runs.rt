@@ -1,12 +1,12 @@
 //! Messages: how the reading of a body grows with its length and with the pieces in which it comes, and what a GET takes
 //! beside what the service takes for it.
-use crate::service_runs::service_over;
 use anyhow::{Result, bail, ensure};
 use bench_values::{fastest, numbered, print_heading, print_line};
 use scim_ask::ask;
-use scim_cell::Id;
+use scim_cell::{Id, Text};
 use scim_exchange::{Answer, Arrival, answer};
 use scim_json::read_documents;
+use scim_policy::read_policy;
 use scim_route::{Found, find};
 use scim_samples::{BASE, POLICY, USERS};
 use scim_service::Service;
@@ -119,10 +119,12 @@ fn get_of_alice(alloc: Global) -> Result<Message> {
 
 /// The service over the sample users.
 fn sample_service(alloc: Global) -> Result<Service<MemoryShelf>> {
-    match read_documents(alloc, BASE, USERS) {
-        Ok(resources) => service_over(alloc, POLICY, resources),
-        Err(_) => bail!("the sample users can't be read"),
-    }
+    let Ok(resources) = read_documents(alloc, BASE, USERS) else {
+        bail!("the sample users can't be read");
+    };
+    let shelf = MemoryShelf::new(alloc, resources)?;
+    let base = Text::copy_of(alloc, BASE)?;
+    Ok(Service::new(read_policy(alloc, POLICY)?, base, shelf))
 }
 
 /// Finds what a GET names, reads what it asks, and prints its answer.
