@@ -166,10 +166,11 @@ rests_untouched old new same = record {
 pub untouched_survives : (base : List ℕ) (a b : State) → Survives a b (λ _. ⊥) → Survives a b (LeavesBegun base a)
 untouched_survives base a b = survives_weaker a b _ _ (λ _ db none. absurd none)
 
-pub begun_survives : (base : List ℕ) (a b c : State) → (HasCleanDisk b → IsUntouched a b) → Survives a b (λ _. ⊥) → Survives b c (Leaves Begins b.now) → Survives a c (LeavesBegun base a)
-begun_survives base a b c same one two =
-    survives_then a b c _ _ _ (λ _ db none. absurd none) (λ clean db begins. (
-      begins.0,
-      begins.1,
-      λ opened empty. begins.2 (ap (λ (d : Database). d.schema) ((same (clean_before b c two.clean clean)).unchanged opened).0.now_is ∙ empty) base,
-    )) one two
+pub begun_survives : (base : List ℕ) (a b c : State) → (HasCleanDisk b → IsUntouched a b) → (HasCleanDisk b → a.now.schema ≡ no_schema)
+    → Survives a b (λ _. ⊥) → Survives b c (Leaves Begins b.now) → Survives a c (LeavesBegun base a)
+begun_survives base a b c same empty one two =
+    survives_then a b c _ _ _ (λ _ db none. absurd none) (λ clean db begins.
+    (let before = clean_before b c two.clean clean in (
+      empty before,
+      (begins.0, begins.1, λ opened. begins.2 (ap (λ (d : Database). d.schema) ((same before).unchanged opened).0.now_is ∙ empty before) base),
+    ))) one two

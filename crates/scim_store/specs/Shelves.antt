@@ -34,6 +34,6 @@ Refuses base db (Damaged id) = IsFor base db (DamagedAt id)
 Refuses base db NoStore = ⊤
 Refuses base db NoMemory = ⊤
 
--- what a crash may leave while a database is opened, beside what it could leave before: where it was empty, the tables of a store that has nothing
+-- what a crash may leave while a database is opened, beside what it could leave before: only where it was empty, and then the tables of a store that has nothing
 abbrev pub LeavesBegun : List ℕ → State → Trees → Type 0
-LeavesBegun base s trees = (db : Database) × (trees ≡ db.trees) × (IsTrue s.is_open → s.now.schema ≡ no_schema → StandsFor base db no_store)
+LeavesBegun base s trees = (s.now.schema ≡ no_schema) × ((db : Database) × (trees ≡ db.trees) × (IsTrue s.is_open → StandsFor base db no_store))

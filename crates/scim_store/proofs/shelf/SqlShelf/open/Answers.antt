@@ -49,13 +49,13 @@ pub returns-in-Empty-clause-crash : goal.returns-in-Empty-clause-crash
 returns-in-Empty-clause-crash g c =
     let old = state g.S.Store c.args.connection in
     let mid = state g.S.Store c.examine.new.conn in
-    IfOk-weaker c.begin.result _ _ (λ shelf crash. begun_survives c.args.base.now old mid (state g.S.Store shelf.connection) (λ clean. (c.in-Ok.ensures.examined clean).untouched) c.examine.ensures.survives crash) c.begin.ensures.crash
+    IfOk-weaker c.begin.result _ _ (λ shelf crash. begun_survives c.args.base.now old mid (state g.S.Store shelf.connection) (λ clean. (c.in-Ok.ensures.examined clean).untouched) (λ clean. subst (IsFor c.args.base.now old.now) c.in-Empty.is (c.in-Ok.ensures.examined clean).is) c.examine.ensures.survives crash) c.begin.ensures.crash
 
 pub returns-in-Empty-clause-crash_at_err : goal.returns-in-Empty-clause-crash_at_err
 returns-in-Empty-clause-crash_at_err g c =
     let old = state g.S.Store c.args.connection in
     let mid = state g.S.Store c.examine.new.conn in
-    IfErr-weaker c.begin.result _ _ (λ e crash. begun_survives c.args.base.now old mid (state g.S.Store e.1) (λ clean. (c.in-Ok.ensures.examined clean).untouched) c.examine.ensures.survives crash) c.begin.ensures.crash_at_err
+    IfErr-weaker c.begin.result _ _ (λ e crash. begun_survives c.args.base.now old mid (state g.S.Store e.1) (λ clean. (c.in-Ok.ensures.examined clean).untouched) (λ clean. subst (IsFor c.args.base.now old.now) c.in-Empty.is (c.in-Ok.ensures.examined clean).is) c.examine.ensures.survives crash) c.begin.ensures.crash_at_err
 
 pub returns-in-Stands-clause-crash : goal.returns-in-Stands-clause-crash
 returns-in-Stands-clause-crash g c =
