@@ -33,7 +33,8 @@ fn request(alloc: Global, users: usize) -> Result<String> {
 fn answer(alloc: Global, setting: &Setting<'_>, request: &str) -> Result<Vec<u8>> {
     let mut input = request.as_bytes();
     let mut output = Vec::new(alloc);
-    once(alloc, setting, &mut input, &mut output)?;
+    let done = once(alloc, setting, &mut input, &mut output);
+    ensure!(done.is_ok(), "the request isn't answered");
     Ok(output)
 }
 

@@ -1,20 +1,20 @@
 //! What turns of a service over a store in memory take, by how many users it has; and what bodies take.
-use anyhow::{Result, bail, ensure};
+use anyhow::Result;
+use bench_turns::{draft_of, heading, make, timed, turn_with};
 use bench_values::{fastest, id_of, numbered, print_heading, print_line, push_all};
-use scim_body::{Draft, UseFor, read_body};
+use scim_body::{Draft, UseFor};
 use scim_cell::Text;
 use scim_filter::{Filter, read_filter};
 use scim_policy::read_policy;
 use scim_query::Query;
 use scim_samples::BASE;
 use scim_schema::{Kind, Op};
-use scim_service::{Ask, Request, Service, Turn};
+use scim_service::{Ask, Service, Turn};
 use scim_shelf::MemoryShelf;
-use scim_text::Moment;
 use scim_view::Wanted;
 use std::alloc::Global;
 use std::io::Print;
-use std::time::{Clock, Instant};
+use std::time::Clock;
 
 /// How many users a store has that are in groups: those of the smaller store.
 const FIRST_USERS: usize = 1_000;
@@ -74,14 +74,6 @@ impl Figures {
             remove: self.remove.min(other.remove),
             search: self.search.min(other.search),
         }
-    }
-}
-
-/// The draft of a body.
-pub(crate) fn draft_of(alloc: Global, kind: Kind, use_for: UseFor, body: &str) -> Result<Draft> {
-    match read_body(alloc, kind, use_for, body) {
-        Ok(draft) => Ok(draft),
-        Err(_) => bail!("a body is refused"),
     }
 }
 
@@ -165,37 +157,6 @@ fn op_of(asked: Asked) -> Op {
     }
 }
 
-/// Who asks, and when.
-pub(crate) fn heading(alloc: Global) -> Result<(Text, Moment)> {
-    let Some(moment) = Moment::new(1_717_243_200) else {
-        bail!("there is no such moment");
-    };
-    Ok((Text::copy_of(alloc, "hr")?, moment))
-}
-
-/// A turn for the resource of a number.
-pub(crate) fn turn_with(
-    heading: (Text, Moment),
-    op: Op,
-    kind: Kind,
-    number: usize,
-    ask: Ask,
-) -> Turn {
-    let (client, moment) = heading;
-    let id = id_of(number);
-    Turn {
-        request: Request {
-            client,
-            op,
-            kind,
-            id: Some(id),
-            ask: Ok(ask),
-        },
-        moment,
-        fresh: id,
-    }
-}
-
 fn turn_of(alloc: Global, asked: Asked, number: usize) -> Result<Turn> {
     let heading = heading(alloc)?;
     let ask = ask_of(alloc, asked, number)?;
@@ -221,13 +182,6 @@ pub(crate) fn service_over_nothing(alloc: Global, policy: &str) -> Result<Servic
     let shelf = MemoryShelf::new(alloc, Vec::new(alloc))?;
     let policy = read_policy(alloc, policy)?;
     Ok(Service::new(policy, base, shelf))
-}
-
-/// Answers a turn that makes a resource.
-pub(crate) fn make(alloc: Global, service: &mut Service<MemoryShelf>, turn: &Turn) -> Result<()> {
-    let reply = service.answer(alloc, turn);
-    ensure!(reply.location().is_some(), "a resource isn't made");
-    Ok(())
 }
 
 /// Makes the user of a number.
@@ -258,26 +212,6 @@ fn fill(alloc: Global, service: &mut Service<MemoryShelf>, users: usize) -> Resu
         make_group(alloc, service, number)?;
     }
     Ok(())
-}
-
-/// Nanoseconds a turn, where each is answered with the status.
-pub(crate) fn timed(
-    rt: &impl Clock,
-    alloc: Global,
-    service: &mut Service<MemoryShelf>,
-    turns: &[Turn],
-    status: u16,
-) -> Result<u128> {
-    let start = Instant::now(rt)?;
-    let replies = service.run(alloc, turns)?;
-    let spent = start.elapsed(rt)?;
-    for reply in replies.as_slice() {
-        ensure!(
-            reply.status().as_u16() == status,
-            "a turn is answered otherwise"
-        );
-    }
-    Ok(spent.as_nanos() / turns.len().max(1) as u128)
 }
 
 /// Nanoseconds a turn, of so many that ask the same.

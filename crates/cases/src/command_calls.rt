@@ -1,10 +1,14 @@
 //! The calls of `scim_command`.
 use case_values::{Case, CaseFault, between, joined, said, shown};
 use clap::ArgMatches;
+use scim_audit::leaf_path;
+use scim_cell::Id;
 use scim_command::{
-    CheckOptions, CommandFault, OnceOptions, RunFault, Setting, check, command, once,
+    AuditOptions, CheckOptions, CommandFault, DatabaseFault, ExplainOptions, ExportOptions,
+    ImportOptions, OnceOptions, RunFault, Setting, check, command, once,
 };
 use scim_samples::{BASE, POLICY, USERS};
+use scim_schema::Leaf;
 use scim_text::print_moment;
 use std::alloc::Global;
 
@@ -43,7 +47,7 @@ fn check_call(case: &Case<'_>) -> Result<String, CaseFault> {
 }
 
 /// What a command wrote, and the line of the fault where there is one.
-fn end_text(
+pub(crate) fn end_text(
     alloc: Global,
     written: &[u8],
     done: Result<(), RunFault>,
@@ -80,6 +84,10 @@ fn matches_text(alloc: Global, matches: &ArgMatches<'_>) -> Result<String, CaseF
     match matches.subcommand() {
         Some(("once", matches)) => once_options(alloc, matches),
         Some(("check", matches)) => check_options(alloc, matches),
+        Some(("audit", matches)) => audit_options(alloc, matches),
+        Some(("export", matches)) => export_options(alloc, matches),
+        Some(("import", matches)) => import_options(alloc, matches),
+        Some(("explain", matches)) => explain_options(alloc, matches),
         _ => said(alloc, "no command"),
     }
 }
@@ -106,6 +114,49 @@ fn check_options(alloc: Global, matches: &ArgMatches<'_>) -> Result<String, Case
             )
         }
         Err(fault) => line_and_status(alloc, &fault),
+    }
+}
+
+fn audit_options(alloc: Global, matches: &ArgMatches<'_>) -> Result<String, CaseFault> {
+    match AuditOptions::of(matches) {
+        Ok(options) => {
+            let from = between(alloc, ", from ", &options.from, "")?;
+            let count = between(alloc, ", count ", &options.count, "")?;
+            joined(
+                alloc,
+                &["db ", options.database, from.as_str(), count.as_str()],
+            )
+        }
+        Err(fault) => line_and_status(alloc, &fault),
+    }
+}
+
+fn export_options(alloc: Global, matches: &ArgMatches<'_>) -> Result<String, CaseFault> {
+    match ExportOptions::of(matches) {
+        Ok(options) => joined(alloc, &["db ", options.database]),
+        Err(fault) => line_and_status(alloc, &fault),
+    }
+}
+
+fn import_options(alloc: Global, matches: &ArgMatches<'_>) -> Result<String, CaseFault> {
+    match ImportOptions::of(matches) {
+        Ok(options) => joined(alloc, &["db ", options.database, ", users ", options.users]),
+        Err(fault) => line_and_status(alloc, &fault),
+    }
+}
+
+/// Of the options of `explain` the leaf: `all` where none is given.
+fn explain_options(alloc: Global, matches: &ArgMatches<'_>) -> Result<String, CaseFault> {
+    match ExplainOptions::of(matches) {
+        Ok(options) => leaf_text(alloc, options.leaf),
+        Err(fault) => line_and_status(alloc, &fault),
+    }
+}
+
+fn leaf_text(alloc: Global, leaf: Option<Leaf>) -> Result<String, CaseFault> {
+    match leaf {
+        Some(leaf) => Ok(leaf_path(alloc, leaf)?),
+        None => said(alloc, "all"),
     }
 }
 
@@ -147,7 +198,23 @@ fn fault_of(case: &Case<'_>) -> Result<CommandFault, CaseFault> {
         "input_failed" => Ok(CommandFault::Run(RunFault::InputFailed)),
         "output" => Ok(CommandFault::Run(RunFault::Output)),
         "no_memory" => Ok(CommandFault::Run(RunFault::NoMemory)),
+        "absent" => Ok(CommandFault::Run(RunFault::Absent)),
+        "damaged" => damaged(case),
+        "wrong_version" => Ok(of_database(DatabaseFault::WrongVersion)),
+        "unusable" => Ok(of_database(DatabaseFault::Unusable)),
+        "not_empty" => Ok(of_database(DatabaseFault::NotEmpty)),
         _ => Err(CaseFault::Missing("fault")),
+    }
+}
+
+fn of_database(fault: DatabaseFault) -> CommandFault {
+    CommandFault::Run(RunFault::Database(fault))
+}
+
+fn damaged(case: &Case<'_>) -> Result<CommandFault, CaseFault> {
+    match Id::read(case.text("id")?) {
+        Some(id) => Ok(of_database(DatabaseFault::Damaged(id))),
+        None => Err(CaseFault::Missing("id")),
     }
 }
 

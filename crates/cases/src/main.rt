@@ -7,7 +7,7 @@
 #![tactic(auto)]
 
 mod command_calls;
-mod exchange_calls;
+mod database_commands;
 mod service_calls;
 
 use case_runs::{Calls, FolderFault, Tally, go_through};
@@ -47,9 +47,6 @@ struct AllCalls;
 impl Calls for AllCalls {
     fn answer(&self, case: &Case<'_>) -> Result<String, CaseFault> {
         let call = case.call()?;
-        if call == "steps" {
-            return exchange_calls::answered(case);
-        }
         if let Some(found) = case_values::answer(case, call) {
             return found;
         }
@@ -60,6 +57,12 @@ impl Calls for AllCalls {
             return found;
         }
         if let Some(found) = case_messages::answer(case, call) {
+            return found;
+        }
+        if let Some(found) = case_stores::answer(case, call) {
+            return found;
+        }
+        if let Some(found) = database_commands::answer(case, call) {
             return found;
         }
         if let Some(found) = service_calls::answer(case, call) {

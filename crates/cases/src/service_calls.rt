@@ -1,12 +1,12 @@
 //! The calls of `scim_service`, over a shelf in memory.
 use case_filters::{body_kind, use_for};
 use case_policies::{policy, query_of, wanted};
-use case_values::{Case, CaseFault, push_all, push_rows, shown, text_or_json};
+use case_stores::{FRESH, shelf_of};
+use case_values::{Case, CaseFault, push_all, push_rows, shown};
 use scim_audit::{AuditRow, Refusal};
 use scim_body::{BodyFault, read_body};
 use scim_cell::{Id, Text};
-use scim_json::read_documents;
-use scim_samples::{BASE, USERS};
+use scim_samples::BASE;
 use scim_service::{Ask, Reply, Request, Service, Turn};
 use scim_shelf::MemoryShelf;
 use scim_text::{Failed, Moment};
@@ -14,9 +14,6 @@ use std::alloc::Global;
 
 /// 2024-06-01T12:00:00Z, when all turns are.
 const NOON: i64 = 1_717_243_200;
-
-/// The id for the resource that a turn may make, where the case gives none.
-pub const FRESH: &str = "00000000-0000-4000-8000-0000000000e1";
 
 /// What a call of `scim_service` gives; None where it isn't one.
 pub fn answer(case: &Case<'_>, call: &str) -> Option<Result<String, CaseFault>> {
@@ -29,7 +26,7 @@ pub fn answer(case: &Case<'_>, call: &str) -> Option<Result<String, CaseFault>> 
 /// What the turns of the list `turns` are answered, one after another or where the service is given all of them at once,
 /// and then the lines of the audit.
 fn service_call(case: &Case<'_>, call: &str) -> Result<String, CaseFault> {
-    let mut service = service_by(case, "users")?;
+    let mut service = service_of(case)?;
     if call == "service" {
         told_of_turns(case, &mut service)
     } else {
@@ -37,21 +34,12 @@ fn service_call(case: &Case<'_>, call: &str) -> Result<String, CaseFault> {
     }
 }
 
-/// A service by the case's policy over the argument that `users` names, below the argument `base`.
-pub fn service_by(case: &Case<'_>, users: &'static str) -> Result<Service<MemoryShelf>, CaseFault> {
+/// A service by the case's policy over the argument `users`, below the argument `base`.
+fn service_of(case: &Case<'_>) -> Result<Service<MemoryShelf>, CaseFault> {
     let base = Text::copy_of(case.alloc, case.text_or("base", BASE))?;
     let policy = policy(case)?;
-    let shelf = shelf_of(case, users)?;
+    let shelf = shelf_of(case, "users")?;
     Ok(Service::new(policy, base, shelf))
-}
-
-/// A shelf of the argument `name`, a users file; of the sample users and groups where it isn't given.
-fn shelf_of(case: &Case<'_>, name: &'static str) -> Result<MemoryShelf, CaseFault> {
-    let users = text_or_json(case, name, USERS)?;
-    match read_documents(case.alloc, case.text_or("base", BASE), users.as_str()) {
-        Ok(resources) => Ok(MemoryShelf::new(case.alloc, resources)?),
-        Err(_) => Err(CaseFault::Missing(name)),
-    }
 }
 
 fn told_of_turns(case: &Case<'_>, service: &mut Service<MemoryShelf>) -> Result<String, CaseFault> {

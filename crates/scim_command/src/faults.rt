@@ -1,6 +1,8 @@
 //! Why a command gave up.
+use scim_cell::Id;
 use scim_json::DamagedItem;
 use scim_policy::{Cause, PolicyFault};
+use scim_shelf::ShelfFault;
 use scim_text::{Failed, NoMemory};
 use std::error::Error;
 use std::fmt;
@@ -17,10 +19,44 @@ pub enum RunFault {
     InputEnded,
     /// The input could not be read.
     InputFailed,
+    /// The database isn't one that the command can work on.
+    Database(DatabaseFault),
+    /// There is no resource of the kind with the id.
+    Absent,
     /// The answer could not be written; a part of it may have been.
     Output,
     /// No memory was to be had.
     NoMemory,
+}
+
+/// Why a command can't work on a database.
+#[derive(Clone, Copy, Debug, PartialEq, Eq)]
+pub enum DatabaseFault {
+    /// Its tables are of another version.
+    WrongVersion,
+    /// Its tables stand for no store: this is the least id whose rows are neither those of one resource nor none.
+    Damaged(Id),
+    /// It belongs to another program, or its tables stand for no store though the rows of each id hold, or it can't be
+    /// read or written.
+    Unusable,
+    /// It has resources or rows of the audit, where the command fills an empty one.
+    NotEmpty,
+}
+
+/// What follows `database: ` in the line of a fault.
+impl fmt::Display for DatabaseFault {
+    fn fmt<W: fmt::Write>(&self, f: &mut fmt::Formatter<W>) -> fmt::Result {
+        match self {
+            DatabaseFault::WrongVersion => f.write_str("wrong version"),
+            DatabaseFault::Damaged(id) => {
+                let mut buffer = [0; Id::TEXT_LENGTH];
+                let id = id.write(&mut buffer);
+                write!(f, "damaged {id}")
+            }
+            DatabaseFault::Unusable => f.write_str("cannot be used"),
+            DatabaseFault::NotEmpty => f.write_str("not empty"),
+        }
+    }
 }
 
 /// One line for people, as it is written to standard error.
@@ -30,6 +66,8 @@ impl fmt::Display for RunFault {
             RunFault::Policy { rule, cause } => write!(f, "policy: rule {rule}: {cause}"),
             RunFault::Users(number) => write!(f, "users: item {number}"),
             RunFault::InputEnded | RunFault::InputFailed => write!(f, "input ended early"),
+            RunFault::Database(fault) => write!(f, "database: {fault}"),
+            RunFault::Absent => write!(f, "absent"),
             RunFault::Output => write!(f, "output cannot be written"),
             RunFault::NoMemory => write!(f, "out of memory"),
         }
@@ -61,6 +99,20 @@ impl From<Failed<DamagedItem>> for RunFault {
     fn from(fault: Failed<DamagedItem>) -> RunFault {
         match fault {
             Failed::Because(DamagedItem(number)) => RunFault::Users(number),
+            Failed::NoMemory => RunFault::NoMemory,
+        }
+    }
+}
+
+impl From<Failed<ShelfFault>> for RunFault {
+    ghost use Rattle.std.specs.Prelude.{◌≡◌};
+    ghost use Rattle.scim_command.specs.Faults.{of_shelf};
+
+    ghost from_gives = { λ e f. f ≡ of_shelf e };
+
+    fn from(fault: Failed<ShelfFault>) -> RunFault {
+        match fault {
+            Failed::Because(_) => RunFault::Database(DatabaseFault::Unusable),
             Failed::NoMemory => RunFault::NoMemory,
         }
     }

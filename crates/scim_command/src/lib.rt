@@ -5,6 +5,8 @@
 mod answers;
 mod checks;
 mod command_faults;
+mod database_options;
+mod explain_options;
 mod faults;
 mod inputs;
 mod options;
@@ -13,6 +15,9 @@ mod writing;
 
 pub use checks::check;
 pub use command_faults::CommandFault;
-pub use faults::RunFault;
-pub use options::{CheckOptions, OnceOptions, command};
+pub use database_options::{AuditOptions, ExportOptions, ImportOptions};
+pub use explain_options::ExplainOptions;
+pub use faults::{DatabaseFault, RunFault};
+pub use options::{CheckOptions, DEFAULT_BASE, OnceOptions, command};
 pub use run_once::{Setting, once};
+pub use writing::write_or_fault;

@@ -9,7 +9,7 @@ use scim_wire::write_text;
 use std::io::Write;
 
 /// Writes the text. Output, where a write fails: then a front of it has been written, and nothing else.
-pub(crate) fn write_or_fault<W: Write>(text: &str, writer: &mut W) -> Result<(), RunFault>
+pub fn write_or_fault<W: Write>(text: &str, writer: &mut W) -> Result<(), RunFault>
     ensures whole { OnOk result (Appends (W.contents writer.old) (W.contents writer.new) text.now) }
     ensures front { OnErr result (AppendsFront (W.contents writer.old) (W.contents writer.new) text.now) }
     ensures fault { IfErr result (λ f. f ≡ RunFault.Output) }

@@ -4,4 +4,5 @@ pub mod Laws
 pub mod Lists
 pub mod Sentences
 pub mod Tables
+pub mod Targets
 pub mod Texts

@@ -1,5 +1,5 @@
 -- The rules of a policy, each in a sentence.
-use Rattle.std.specs.Prelude.{ℕ, ◌==◌, List, [], ◌++◌, length, map, codes, if◌then◌else◌}
+use Rattle.std.specs.Prelude.{ℕ, List, [], ◌++◌, map, codes, Option, None, Some}
 use Rattle.std.specs.List.{flat_map, enumerate_from}
 use Rattle.scim_schema.specs.declared.Kind.{Kind}
 use Rattle.scim_schema.specs.Names.{kind_name, op_name}
@@ -9,9 +9,10 @@ use Rattle.scim_policy.specs.declared.rules.ClientName.{ClientName}
 use Rattle.scim_policy.specs.declared.rules.ClientName.TheVariants.{Everyone, Named}
 use Rattle.scim_policy.specs.declared.rules.PolicyPath.{PolicyPath}
 use Rattle.scim_policy.specs.declared.rules.PolicyPath.TheVariants.{Everything, Attribute, SubAttribute}
-use Rattle.scim_policy.specs.Rules.{Rule}
+use Rattle.scim_policy.specs.Rules.{Target, Rule}
 use Rattle.scim_policy.specs.Decide.{paths_on}
 use Rattle.scim_explain.specs.Lists.{joined, listed}
+use Rattle.scim_explain.specs.Targets.{target_on, tree_text}
 use Rattle.scim_explain.specs.Texts.{effect_word, rule_line}
 
 -- the words for whom a rule is for
@@ -25,13 +26,18 @@ path_word Everything = codes "everything"
 path_word (Attribute a) = leaf_path (simple a)
 path_word (SubAttribute a b) = leaf_path (leaf_at a b)
 
--- what is said of a target, where the rule has one
-abbrev pub target_words : Rule → List ℕ
-target_words r = if length r.targets == 0 then [] else codes " where its target holds"
+-- what is said of a target, if there is one
+abbrev pub target_clause : Option Target → List ℕ
+target_clause None = []
+target_clause (Some t) = codes " where " ++ tree_text t.tree
+
+-- what is said of a rule's target on resources of a kind
+abbrev pub target_words : Rule → Kind → List ℕ
+target_words r k = target_clause (target_on k r.targets)
 
 -- what a rule covers of resources of a kind
 abbrev pub kind_clause : Rule → Kind → List ℕ
-kind_clause r k = kind_name k ++ target_words r ++ codes ": " ++ listed (map path_word (paths_on k r.paths))
+kind_clause r k = kind_name k ++ target_words r k ++ codes ": " ++ listed (map path_word (paths_on k r.paths))
 
 -- what it covers of each of its kinds
 abbrev pub kind_clauses : Rule → List ℕ

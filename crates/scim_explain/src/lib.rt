@@ -8,6 +8,7 @@ mod laws;
 mod lists;
 mod sentences;
 mod tables;
+mod targets;
 mod texts;
 
 pub use explanations::{Explanation, explain};

@@ -3,18 +3,21 @@ ghost use Rattle.std.specs.Prelude.{◌≡◌, IfOk, map, string_bytes};
 ghost use Rattle.scim_schema.specs.Names.{op_name};
 ghost use Rattle.scim_explain.specs.Lists.{listed as listed_words};
 ghost use Rattle.scim_explain.specs.Sentences as spec;
+ghost use Rattle.scim_explain.specs.Targets.{target_on as target_of};
+ghost use Rattle.std.specs.Option.{option_copied};
 
 use crate::lists::{joined, listed};
+use crate::targets::filter_text;
 use crate::texts::{effect_word, rule_line};
 use scim_audit::leaf_path;
-use scim_policy::{ClientName, Policy, PolicyPath, Rule};
+use scim_policy::{ClientName, Policy, PolicyPath, Rule, Target};
 use scim_schema::{Kind, Leaf, Op};
 use scim_text::NoMemory;
 use std::alloc::Global;
 
 /// The rules of the policy in lines, each with a line feed at its end: `rule N: `, and whether it allows or
 /// denies whom to do what, and with what of which resources, as `rule 3: allow mail to read User: id and
-/// emails`. Of a target it says that there is one.
+/// emails`, and `rule 2: deny mail to read User where userType eq "Contractor": everything`.
 ///
 /// The only error is [`NoMemory`].
 pub fn rule_sentences(alloc: Global, policy: &Policy) -> Result<String, NoMemory>
@@ -96,21 +99,29 @@ fn kinds_text(alloc: Global, rule: &Rule) -> Result<String, NoMemory>
 fn kind_clause(alloc: Global, rule: &Rule, kind: Kind) -> Result<String, NoMemory>
     ensures { IfOk result (λ text. string_bytes text ≡ spec.kind_clause rule.now kind) }
 {
-    let name = kind.name();
-    let target = target_words(rule);
+    let target = target_words(alloc, rule, kind)?;
     let paths = paths_text(alloc, rule.paths_on(kind))?;
-    Ok(format!(in alloc; "{name}{target}: {paths}")?)
+    Ok([kind.name(), target.as_str(), ": ", paths.as_str()].concat(alloc)?)
 }
 
-/// What is said of a target.
-fn target_words(rule: &Rule) -> &'static str
-    ensures { result.now ≡ spec.target_words rule.now }
+/// What is said of a rule's target on resources of a kind, where it has one.
+fn target_words(alloc: Global, rule: &Rule, kind: Kind) -> Result<String, NoMemory>
+    ensures { IfOk result (λ text. string_bytes text ≡ spec.target_words rule.now kind) }
 {
-    if rule.targets().is_empty() {
-        ""
-    } else {
-        " where its target holds"
+    match target_on(rule.targets(), kind) {
+        Some(target) => {
+            let filter = filter_text(alloc, target.filter())?;
+            Ok([" where ", filter.as_str()].concat(alloc)?)
+        }
+        None => Ok(String::new(alloc)),
     }
+}
+
+/// The target on resources of a kind.
+fn target_on(targets: &[Target], kind: Kind) -> Option<&Target>
+    ensures { option_copied result ≡ target_of kind targets.now }
+{
+    targets.iter().find(|target| kind == target.kind())
 }
 
 /// What paths cover.

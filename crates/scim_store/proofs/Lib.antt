@@ -26,3 +26,4 @@ pub mod JudgeLemmas
 pub mod ApartLemmas
 pub mod OpenLemmas
 pub mod ShelfLemmas
+pub mod ImportLemmas

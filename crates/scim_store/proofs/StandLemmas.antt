@@ -112,7 +112,7 @@ new_only true false h = refl
 new_only false old h = cc
 
 -- the row of a document that is there
-document_rows : {X : Type 0} (bytes : X → List ℕ) (o : Option X) (id : List ℕ) (kind : ℕ) (text : List ℕ) → option_map bytes o ≡ Some text → option_to_list (option_map (λ d. resource_values id kind (bytes d)) o) ≡ resource_values id kind text ∷ []
+pub document_rows : {X : Type 0} (bytes : X → List ℕ) (o : Option X) (id : List ℕ) (kind : ℕ) (text : List ℕ) → option_map bytes o ≡ Some text → option_to_list (option_map (λ d. resource_values id kind (bytes d)) o) ≡ resource_values id kind text ∷ []
 document_rows bytes None id kind text h = cc
 document_rows bytes (Some d) id kind text h = ap (λ t. resource_values id kind t ∷ []) (some_one h)
   where

@@ -6,6 +6,7 @@ pub mod Finding
 pub mod AuditBack
 pub mod Committing
 pub mod Shelves
+pub mod Importing
 pub mod Owners
 pub mod Damage
 pub mod Opening

@@ -1,9 +1,10 @@
 //! The edits of a change.
 
-ghost use Rattle.std.specs.Prelude.{◌≡◌, ◌≢◌, ◌&&◌, not, ℕ, List, AllPairs, IfOk, map};
+ghost use Rattle.std.specs.Prelude.{◌≡◌, ◌≢◌, ◌&&◌, not, ℕ, List, AllPairs, IfOk, Some, map};
 ghost use Rattle.std.specs.Option.{option_copied};
 ghost use Rattle.scim_cell.specs.Content.{Content};
 ghost use Rattle.scim_value.specs.Members.{is_text, lists_value};
+ghost use Rattle.scim_value.specs.Resource.{HasBase};
 ghost use Rattle.scim_value.specs.Uniqueness.{name_of};
 ghost use Rattle.scim_shelf.specs.code.Members.{is_found, is_in, value_in};
 ghost use Rattle.scim_store.specs.Stands.{is_among};
@@ -118,6 +119,19 @@ fn replacement<'r>(
     })
 }
 
+/// The edits that keep a resource where the old one, if there is one, has its id. NoMemory where none was to be had.
+pub(crate) fn edits_to_keep(
+    alloc: Global,
+    resource: &Resource,
+    old: Option<&Resource>,
+) -> Result<Edits, NoMemory>
+    ensures { IfOk result (λ edits. (base : List ℕ) → HasBase base resource.now → spec.Replaces base resource.now.id (option_copied old.entry) (Some resource.now) edits) }
+{
+    let document = Some(stored_text(alloc, resource)?);
+    let part = resource.part();
+    replacement(alloc, part.id(), part.kind(), document, old, Some(resource))
+}
+
 /// The edits of a change, where the old resource is the one that has the id of the change, whatever its kind. A change
 /// of nothing has none.
 ///
@@ -132,10 +146,7 @@ pub fn edits_of(
     match change {
         Change::Nothing => Ok(None),
         Change::Keep(resource) => {
-            let document = Some(stored_text(alloc, resource)?);
-            let part = resource.part();
-            let (id, kind) = (part.id(), part.kind());
-            let edits = replacement(alloc, id, kind, document, old.as_ref(), Some(resource))?;
+            let edits = edits_to_keep(alloc, resource, old.as_ref())?;
             Ok(Some(edits))
         }
         Change::Remove(kind, id) => {

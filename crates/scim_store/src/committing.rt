@@ -64,7 +64,7 @@ impl From<NoMemory> for CommitFault {
 }
 
 /// Whether the resource stands below the base. NoMemory where none was to be had.
-fn is_below(alloc: Global, base: &str, resource: &Resource) -> Result<bool, NoMemory>
+pub(crate) fn is_below(alloc: Global, base: &str, resource: &Resource) -> Result<bool, NoMemory>
     ensures { IfOk result (λ below. IsTrue below ↔ HasBase base.now resource.now) }
 {
     let expected = location(alloc, base, resource.kind(), resource.id())?;

@@ -10,6 +10,7 @@ mod damage;
 mod edits;
 mod fields;
 mod finding;
+mod importing;
 mod leaves;
 mod looking;
 mod numbers;
@@ -30,6 +31,7 @@ pub use damage::{
 };
 pub use edits::Edits;
 pub use finding::{find_by_id, find_groups_with, find_owner_of_name};
+pub use importing::{ImportFault, import};
 pub use leaves::leaf_of_path;
 pub use looking::{find_old, next_number};
 pub use opening::{Examined, examine};

@@ -127,7 +127,7 @@ fn take_rows<S: Alter>(tx: &mut Transaction<'_, S>, edits: &Edits) -> Result<(),
 }
 
 /// Puts in what comes.
-fn put_rows<S: Alter>(tx: &mut Transaction<'_, S>, edits: &Edits) -> Result<(), Error>
+pub(crate) fn put_rows<S: Alter>(tx: &mut Transaction<'_, S>, edits: &Edits) -> Result<(), Error>
     ensures same_reference { tx.new.conn.ghost_name ≡ tx.old.conn.ghost_name }
     ensures went { Goes (state S.Store tx.old.conn.now) (state S.Store tx.new.conn.now) result (λ old new.
         (lists : Lists) → Are old lists → Are new (record lists {

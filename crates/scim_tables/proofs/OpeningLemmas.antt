@@ -22,7 +22,8 @@ use Rattle.sqlite_tied.specs.Compute.{everything}
 use Rattle.sqlite.proofs.Callers.{IsPlain, command_of, statement_of, runs_as}
 use Rattle.scim_tables.specs.Tables.{no_schema, setting_table, resource_table, taken_table, member_table, audit_table, store_schema}
 use Rattle.scim_tables.specs.Lists.{IsTableOf, Are, no_rows, pair, entry, version_values}
-use Rattle.scim_tables.specs.code.Opening.{schema_1, schema_2, schema_3, schema_4, IsMade, IsBefore, IsBehind, Makes, creation}
+use Rattle.scim_tables.specs.code.Opening.{schema_1, schema_2, schema_3, schema_4, IsMade, IsBefore, IsBehind, creation}
+use Rattle.scim_tables.specs.Steps.{Makes}
 use Rattle.scim_tables.specs.declared.queries.Table.{Table as Name}
 use Rattle.scim_tables.specs.declared.queries.Table.TheVariants.{Setting, Resource, Taken, Member, Audit}
 use Rattle.scim_tables.proofs.ChangeLemmas.{went, same_value, cast_null, cast_int, puts, inside}

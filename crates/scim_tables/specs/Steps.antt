@@ -1,5 +1,6 @@
 -- A step inside a transaction, and a whole transaction.
 use Rattle.std.specs.Prelude.{◌≡◌, IsTrue, Result, OnOk}
+use Rattle.sqlite.specs.declared.error.Error.{Error}
 use Rattle.sqlite.specs.Tree.{Trees}
 use Rattle.sqlite.specs.Effect.{Database}
 use Rattle.sqlite.specs.State.{State, HasCleanDisk, KeepsCommit, Survives}
@@ -11,6 +12,13 @@ Goes old new result P = HasCleanDisk new → IsTrue old.in_transaction → OnOk 
 -- nothing is committed
 abbrev pub Keeps : State → State → Type 0
 Keeps old new = HasCleanDisk new → KeepsCommit old new
+
+-- What a step inside a transaction leaves: at Ok the transaction goes on, and a database of the one kind has become one of the other. Nothing is committed, and a crash
+-- leaves no more than before.
+pub record Makes {T : Type 0} (Before Behind : Database → Type 0) (old new : State) (result : Result T Error) : Type 0 where
+  pub went : Goes old new result (λ before behind. Before before → Behind behind)
+  pub kept : Keeps old new
+  pub survives : Survives old new (λ _. ⊥)
 
 -- what a loop inside a transaction has done so far: it goes, keeps, and a crash leaves no more than before
 pub record Loops (old new : State) (P : Database → Database → Type 0) : Type 0 where

@@ -13,7 +13,8 @@ mod writes;
 
 pub use asking::{ask, find_owner, find_resource, first_text, read_audit_between, read_groups};
 pub use audit::{AuditColumns, insert_audit};
-pub use opening::create_tables;
+pub use names::is_empty_database;
+pub use opening::{create_tables, make_tables};
 pub use schema::is_store_schema;
 pub use tables::{Reading, TableRows, read_tables};
 pub use writes::{

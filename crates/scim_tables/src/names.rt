@@ -1,11 +1,13 @@
-//! What the names of its tables tell of a database that isn't ours.
+//! What the names of its tables tell of a database: whether it is empty, and what it is where it isn't ours.
 
 ghost use Rattle.std.specs.Prelude.{◌≡◌, ◌≢◌, false, true, IsTrue};
+ghost use Rattle.sqlite.specs.Held.{state};
 ghost use Rattle.scim_tables.specs.Tables.{no_schema};
 ghost use Rattle.scim_tables.specs.Whole as spec;
 ghost use Rattle.scim_tables.specs.Whole.{IsByNames};
 
 use crate::tables::Reading;
+use sqlite::{Alter, Connection};
 use sqlite_schema::names::same_name;
 use sqlite_schema::schema::Schema;
 
@@ -71,4 +73,12 @@ pub(crate) fn reading_by_names(schema: &Schema) -> Reading
     } else {
         Reading::Foreign
     }
+}
+
+/// Whether a database has no table, index or view. No row is read.
+pub fn is_empty_database<S: Alter>(conn: &Connection<S>) -> bool
+    ensures yes { IsTrue result → (state S.Store conn.now).now.schema ≡ no_schema }
+    ensures no { result ≡ false → (state S.Store conn.now).now.schema ≢ no_schema }
+{
+    is_no_schema(conn.schema())
 }

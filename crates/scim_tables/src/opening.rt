@@ -4,10 +4,11 @@ ghost use Rattle.std.specs.Prelude.{◌≡◌, false, OnOk, OnErr};
 ghost use Rattle.sqlite.specs.State.{HasCleanDisk, Survives};
 ghost use Rattle.sqlite.specs.Held.{state};
 ghost use Rattle.scim_tables.specs.Lists.{Are, no_rows};
-ghost use Rattle.scim_tables.specs.Steps.{Became, Undoes, Leaves};
+ghost use Rattle.scim_tables.specs.Tables.{no_schema};
+ghost use Rattle.scim_tables.specs.Steps.{Makes, Became, Undoes, Leaves};
 ghost use Rattle.scim_tables.specs.Opening.{MakesTables};
 ghost use Rattle.scim_tables.specs.code.Opening as spec;
-ghost use Rattle.scim_tables.specs.code.Opening.{IsBefore, IsBehind, Makes};
+ghost use Rattle.scim_tables.specs.code.Opening.{IsBefore, IsBehind};
 ghost use Rattle.scim_tables.specs.declared.queries.Table.TheVariants.{Setting, Taken, Audit};
 
 use crate::queries::Table;
@@ -63,10 +64,15 @@ fn create_first<S: Alter>(tx: &mut Transaction<'_, S>) -> Result<usize, Error>
     create_table(tx, Table::Taken)
 }
 
-/// Makes all tables, and notes the version.
-fn create_all<S: Alter>(tx: &mut Transaction<'_, S>) -> Result<usize, Error>
+/// Makes the five tables inside a transaction, in a database that has no table, index or view, and notes in `setting` that
+/// they are those of version 1.
+///
+/// It answers how many rows it wrote, as the database counts them. The error is the one that the database gave, as where a
+/// table of one of the names is there, or where the disk or the memory failed. Then nothing is committed, and the
+/// transaction may have been rolled back, so it is to be dropped.
+pub fn make_tables<S: Alter>(tx: &mut Transaction<'_, S>) -> Result<usize, Error>
     ensures same_reference { tx.new.conn.ghost_name ≡ tx.old.conn.ghost_name }
-    ensures made { Makes (IsBefore Setting) (λ db. Are db no_rows) (state S.Store tx.old.conn.now) (state S.Store tx.new.conn.now) result }
+    ensures made { Makes (λ db. db.schema ≡ no_schema) (λ db. Are db no_rows) (state S.Store tx.old.conn.now) (state S.Store tx.new.conn.now) result }
 {
     create_first(tx)?;
     create_table(tx, Table::Member)?;
@@ -87,6 +93,6 @@ pub fn create_tables<S: Alter>(conn: &mut Connection<S>) -> Result<(), Error>
     ensures crash { Survives (state S.Store conn.old) (state S.Store conn.new) (Leaves MakesTables (state S.Store conn.old).now) }
 {
     let mut tx = conn.transaction();
-    create_all(&mut tx)?;
+    make_tables(&mut tx)?;
     tx.commit()
 }

@@ -35,7 +35,7 @@ pub(crate) fn read_texts(
     users: &str,
 ) -> Result<Texts, CommandFault> {
     let policy = read_policy_text(rt, alloc, policy)?;
-    match read_text(rt, alloc, users, RunFault::Users(0)) {
+    match read_users_text(rt, alloc, users) {
         Ok(users) => Ok(Texts { policy, users }),
         Err(fault) => {
             if let Err(earlier) = read_policy(alloc, policy.as_str()) {
@@ -57,6 +57,15 @@ pub(crate) fn read_policy_text(
         cause: Cause::Json,
     };
     read_text(rt, alloc, path, not_text)
+}
+
+/// The text of the users file at this path.
+pub(crate) fn read_users_text(
+    rt: &(impl Files + AllocGlobal),
+    alloc: Global,
+    path: &str,
+) -> Result<String, CommandFault> {
+    read_text(rt, alloc, path, RunFault::Users(0))
 }
 
 /// The text of the file at this path; `not_text` where it isn't UTF-8.

@@ -1,12 +1,14 @@
 //! `scimd`: a SCIM 2.0 service provider (RFC 7643, RFC 7644) whose access policy is proved to be kept.
 //!
-//! The exit status is 0, 1 for a fault of a file, of the input or of memory, and 2 for the command line.
+//! The exit status is 0, 1 for a fault of a file, of the database, of the input or of memory, and 2 for the command line.
 #![tactic(auto)]
 
+mod databases;
 mod files;
 
 use anyhow::Result;
 use clap::{ArgMatches, Error};
+use databases::{run_audit, run_explain, run_export, run_import};
 use scim_command::{CheckOptions, CommandFault, OnceOptions, RunFault, check, command, once};
 use std::env;
 use std::io::ErrorKind;
@@ -53,6 +55,10 @@ fn run_matches(rt: &HostRuntime, matches: &ArgMatches<'_>) -> Result<ExitCode> {
     let done = match matches.subcommand() {
         Some(("once", matches)) => run_once(rt, matches),
         Some(("check", matches)) => run_check(rt, matches),
+        Some(("explain", matches)) => run_explain(rt, matches),
+        Some(("audit", matches)) => run_audit(rt, matches),
+        Some(("export", matches)) => run_export(rt, matches),
+        Some(("import", matches)) => run_import(rt, matches),
         _ => Err(CommandFault::BadOption),
     };
     match done {

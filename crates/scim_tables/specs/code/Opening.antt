@@ -1,14 +1,11 @@
 -- The schema while the tables are made.
-use Rattle.std.specs.Prelude.{◌≡◌, ℕ, codes, List, [], ◌∷◌, Result}
+use Rattle.std.specs.Prelude.{◌≡◌, ℕ, codes, List, [], ◌∷◌}
 use Rattle.std.specs.List.{AllByRecursion}
 use Rattle.sqlite.specs.Schema.{Schema}
 use Rattle.sqlite.specs.Change.{created}
-use Rattle.sqlite.specs.declared.error.Error.{Error}
 use Rattle.sqlite.specs.Effect.{Database}
-use Rattle.sqlite.specs.State.{State, Survives}
 use Rattle.scim_tables.specs.declared.queries.Table.{Table as Name}
 use Rattle.scim_tables.specs.declared.queries.Table.TheVariants.{Setting, Resource, Taken, Member, Audit}
-use Rattle.scim_tables.specs.Steps.{Goes, Keeps}
 use Rattle.scim_tables.specs.Tables.{no_schema, store_schema, setting_table, resource_table, taken_table, member_table}
 
 -- the schema with the first table
@@ -55,10 +52,3 @@ IsBehind Resource = IsBefore Taken
 IsBehind Taken = IsBefore Member
 IsBehind Member = IsBefore Audit
 IsBehind Audit = IsMade store_schema (8 ∷ 6 ∷ 4 ∷ 2 ∷ 0 ∷ [])
-
--- What a step of the opening leaves: at Ok the transaction goes on, and a database of the one kind has become one of the other. Nothing is committed, and a crash
--- leaves no more than before.
-pub record Makes {T : Type 0} (Before Behind : Database → Type 0) (old new : State) (result : Result T Error) : Type 0 where
-  pub went : Goes old new result (λ before behind. Before before → Behind behind)
-  pub kept : Keeps old new
-  pub survives : Survives old new (λ _. ⊥)

@@ -1,7 +1,6 @@
-use Rattle.std.proofs.Common.{rules, sym, subst, Option, None, Some, string_bytes, option_map, ap}
+use Rattle.std.proofs.Common.{sym, subst, Option, None, Some}
 use Rattle.scim_cell.specs.Content.{Content}
 use Rattle.scim_shelf.specs.declared.changes.Change.{Change}
-use Rattle.scim_value.specs.Resource.{IsResource}
 use Rattle.scim_store.specs.Edits.{IsOld, KeepsBelow, AreEdits, Replaces}
 use Rattle.scim_store.proofs.changes.edits_of.Goals as goal
 
@@ -9,11 +8,9 @@ pub returns-in_ok-edits-in-Keep : goal.returns-in_ok-edits-in-Keep
 returns-in_ok-edits-in-Keep c = λ base cs.
     let r = c.in-Keep.resource in
     let e = c.in_ok-edits-in-Keep.edits in
-    let sound : IsResource r = search rules in
-    let document = ap (option_map string_bytes) c.in_ok-edits-in-Keep.ensures.document in
     subst (λ (change : Change). IsOld cs change c.args.old.now → KeepsBelow base change → AreEdits base cs change (Some e)) (sym c.in-Keep.is) (λ was below.
     subst (λ (o : Option Content). Replaces base r.id o (Some r) e) (sym was)
-    (rw (c.id-id.ensures, c.part-part.ensures.value, c.as_ref.ensures.value) at (c.in_ok-edits-in-Keep.ensures.replaces base (search rules, string_bytes c.in_ok-stored_text-in-Keep.field-0, document, ((sound, below), c.in_ok-stored_text-in-Keep.ensures.reads)))))
+    (rw (c.as_ref.ensures.value) at (c.in_ok-edits-in-Keep.ensures base below)))
 
 pub returns-in_ok-edits-in-Remove : goal.returns-in_ok-edits-in-Remove
 returns-in_ok-edits-in-Remove c = λ base cs.

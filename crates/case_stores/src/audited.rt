@@ -1,0 +1,79 @@
+//! Stores that whole requests go to.
+use crate::databases::opened;
+use crate::faults::StoreFault;
+use case_values::{Case, CaseFault, push_all};
+use scim_audit::{AuditRow, print_row};
+use scim_shelf::{MemoryShelf, Shelf};
+use scim_store::SqlShelf;
+use sqlite::Alter;
+use std::alloc::Global;
+
+/// A store that whole requests go to, and its audit.
+pub trait Audited: Shelf {
+    /// The rows of the audit after the first `known`.
+    fn rows_after(&mut self, alloc: Global, known: u64) -> Result<Vec<AuditRow>, StoreFault>;
+
+    /// The store, after its database was closed and opened again; as it is, where it has none.
+    fn reopened(self, case: &Case<'_>) -> Result<Self, StoreFault>;
+
+    /// Lets the store go.
+    fn close(self);
+}
+
+impl Audited for MemoryShelf {
+    fn rows_after(&mut self, alloc: Global, known: u64) -> Result<Vec<AuditRow>, StoreFault> {
+        Ok(copied_after(alloc, self.audit(), known as usize)?)
+    }
+
+    fn reopened(self, _case: &Case<'_>) -> Result<MemoryShelf, StoreFault> {
+        Ok(self)
+    }
+
+    fn close(self) {}
+}
+
+impl<S: Alter + Drop> Audited for SqlShelf<S> {
+    fn rows_after(&mut self, alloc: Global, known: u64) -> Result<Vec<AuditRow>, StoreFault> {
+        match self.audit_rows(alloc, known.saturating_add(1), u64::MAX) {
+            Ok(rows) => Ok(rows),
+            Err(_) => Err(StoreFault::NotRead),
+        }
+    }
+
+    fn reopened(self, case: &Case<'_>) -> Result<SqlShelf<S>, StoreFault> {
+        opened(case, self.into_connection())
+    }
+
+    fn close(self) {
+        let _connection = self.into_connection();
+    }
+}
+
+/// Copies of the rows after the first `known`.
+fn copied_after(
+    alloc: Global,
+    rows: &[AuditRow],
+    known: usize,
+) -> Result<Vec<AuditRow>, CaseFault> {
+    let mut copies = Vec::new(alloc);
+    for row in rows.iter().skip(known) {
+        copies.push(row.try_copy(alloc)?)?;
+    }
+    Ok(copies)
+}
+
+/// Adds the lines of rows of the audit, before which there are `known` rows.
+pub fn push_rows_after(
+    alloc: Global,
+    known: u64,
+    rows: &[AuditRow],
+    text: &mut String,
+) -> Result<(), CaseFault> {
+    let mut number = known;
+    for row in rows {
+        number = number.saturating_add(1);
+        let line = print_row(alloc, number, row)?;
+        push_all(text, &[line.as_str(), ";"])?;
+    }
+    Ok(())
+}

@@ -1,0 +1,97 @@
+//! Whole requests: messages as bytes, one after another, over a store, and the replies that come.
+use case_messages::client_of;
+use case_runs::request_bytes;
+use case_values::{Case, CaseFault};
+use scim_cell::Id;
+use scim_exchange::{Answer, Arrival, answer as answer_message};
+use scim_service::Service;
+use scim_shelf::Shelf;
+use scim_text::read_printed_moment;
+use scim_token::Tokens;
+use scim_wire::{Item, Message, Wire};
+use std::alloc::Global;
+
+/// The id for the resource that a request may make, where the case gives none.
+pub const FRESH: &str = "00000000-0000-4000-8000-0000000000e1";
+
+/// What is written where a message's body is waited for (RFC 9110 section 15.2.1).
+const CONTINUE: &str = "HTTP/1.1 100 Continue\r\n\r\n";
+
+/// Adds what the messages of a step are answered, up to one that closes the connection.
+pub fn push_replies<S: Shelf>(
+    step: &Case<'_>,
+    tokens: &Tokens,
+    service: &mut Service<S>,
+    text: &mut String,
+) -> Result<(), CaseFault> {
+    let bytes = request_bytes(step)?;
+    let items = Wire::new(step.alloc).feed(step.alloc, bytes.as_slice())?;
+    for item in items.as_slice() {
+        if push_item(step, item, tokens, service, text)? {
+            break;
+        }
+    }
+    Ok(())
+}
+
+/// Adds what is written for an item, and says whether the connection is closed after it. A step that names its client
+/// goes as `once` does, which writes no Continue; another goes by its token.
+fn push_item<S: Shelf>(
+    step: &Case<'_>,
+    item: &Item,
+    tokens: &Tokens,
+    service: &mut Service<S>,
+    text: &mut String,
+) -> Result<bool, CaseFault> {
+    match item {
+        Item::Continue => {
+            if step.value.get("client").is_none() {
+                text.push_str(CONTINUE)?;
+            }
+            Ok(false)
+        }
+        Item::Whole(message) => {
+            push_answer(step, message, tokens, service, text)?;
+            Ok(message.close)
+        }
+        Item::Refused(refusal) => {
+            push_text(step.alloc, &Answer::Refused(*refusal), true, text)?;
+            Ok(true)
+        }
+    }
+}
+
+/// Adds the reply to a message: of the step's `client`, or else of the client that has its token; at the moment `at`, by
+/// default noon of 2024-06-01; and with the id `first` for what it creates.
+fn push_answer<S: Shelf>(
+    step: &Case<'_>,
+    message: &Message,
+    tokens: &Tokens,
+    service: &mut Service<S>,
+    text: &mut String,
+) -> Result<(), CaseFault> {
+    let at = step.text_or("at", "2024-06-01T12:00:00Z");
+    let Some(moment) = read_printed_moment(step.alloc, at)? else {
+        return Err(CaseFault::Missing("at"));
+    };
+    let Some(fresh) = Id::read(step.text_or("first", FRESH)) else {
+        return Err(CaseFault::Missing("first"));
+    };
+    let arrival = Arrival {
+        client: client_of(step, message, tokens),
+        moment,
+        fresh,
+    };
+    let answer = answer_message(step.alloc, service, &arrival, message);
+    push_text(step.alloc, &answer, message.close, text)
+}
+
+fn push_text(
+    alloc: Global,
+    answer: &Answer,
+    close: bool,
+    text: &mut String,
+) -> Result<(), CaseFault> {
+    let told = answer.text(alloc, close)?;
+    Ok(text.push_str(told.as_str())?)
+}

@@ -1,0 +1,143 @@
+//! The steps of a case, over a store in memory and over one in a database.
+use crate::audited::{Audited, push_rows_after};
+use crate::databases::{database_of, shelf_of};
+use crate::exchanges::push_replies;
+use crate::faults::{StoreFault, told_or_fault};
+use crate::services::service_over;
+use case_messages::tokens_of;
+use case_runs::{Store, goes_to, stores_of};
+use case_values::{Case, CaseFault, joined};
+use scim_service::Service;
+use scim_shelf::Shelf;
+use scim_token::Tokens;
+
+/// What the steps are answered over a store in memory; and behind it, where that is another text, what they are over one
+/// in a database.
+pub fn answered(case: &Case<'_>) -> Result<String, CaseFault> {
+    let tokens = tokens_of(case)?;
+    let in_memory = told_or_fault(case.alloc, told_in_memory(case, &tokens))?;
+    let in_database = told_or_fault(case.alloc, told_in_database(case, &tokens))?;
+    if in_memory == in_database {
+        return Ok(in_memory);
+    }
+    let texts = [
+        in_memory.as_str(),
+        "\nand something else over a database: ",
+        in_database.as_str(),
+    ];
+    joined(case.alloc, &texts)
+}
+
+fn told_in_memory(case: &Case<'_>, tokens: &Tokens) -> Result<String, StoreFault> {
+    let mut text = String::new(case.alloc);
+    for store in stores_of(case) {
+        let shelf = shelf_of(case, store.users)?;
+        push_steps(case, &Asked { store, tokens }, shelf, &mut text)?;
+    }
+    Ok(text)
+}
+
+fn told_in_database(case: &Case<'_>, tokens: &Tokens) -> Result<String, StoreFault> {
+    let mut text = String::new(case.alloc);
+    for store in stores_of(case) {
+        let shelf = database_of(case, store.users)?;
+        push_steps(case, &Asked { store, tokens }, shelf, &mut text)?;
+    }
+    Ok(text)
+}
+
+/// Which of the stores of a case is asked, and who has which token.
+#[derive(Clone, Copy)]
+struct Asked<'a> {
+    store: &'a Store,
+    tokens: &'a Tokens,
+}
+
+/// Adds what the steps of a case are answered by a store, which is let go then.
+fn push_steps<S: Audited>(
+    case: &Case<'_>,
+    asked: &Asked<'_>,
+    shelf: S,
+    text: &mut String,
+) -> Result<(), StoreFault> {
+    let mut shelf = shelf;
+    let mut known = 0;
+    for value in case.list("steps") {
+        let step = Case {
+            alloc: case.alloc,
+            value,
+        };
+        let service = service_for(case, &step, shelf)?;
+        shelf = after_step(&step, asked, service, &mut known, text)?;
+    }
+    shelf.close();
+    Ok(())
+}
+
+/// A service for a step. Where the step `reopens` the store, its database is closed and opened again before.
+fn service_for<S: Audited>(
+    case: &Case<'_>,
+    step: &Case<'_>,
+    shelf: S,
+) -> Result<Service<S>, StoreFault> {
+    if step.is_true("reopens") {
+        service_over(case, shelf.reopened(case)?)
+    } else {
+        service_over(case, shelf)
+    }
+}
+
+/// The store after a step, of which is added what it is answered, and the lines of the audit that it adds, where it has
+/// `audit`. The store is let go where one of them can't be told.
+fn after_step<S: Audited>(
+    step: &Case<'_>,
+    asked: &Asked<'_>,
+    service: Service<S>,
+    known: &mut u64,
+    text: &mut String,
+) -> Result<S, StoreFault> {
+    let mut service = service;
+    let answered = push_answers(step, asked, &mut service, text);
+    let mut shelf = service.into_shelf();
+    let noted = push_new_rows(step, &mut shelf, known, text);
+    match (answered, noted) {
+        (Ok(()), Ok(())) => Ok(shelf),
+        (Err(fault), _) => {
+            shelf.close();
+            Err(StoreFault::Case(fault))
+        }
+        (_, Err(fault)) => {
+            shelf.close();
+            Err(fault)
+        }
+    }
+}
+
+/// Adds what a step is answered, if it goes to the store.
+fn push_answers<S: Shelf>(
+    step: &Case<'_>,
+    asked: &Asked<'_>,
+    service: &mut Service<S>,
+    text: &mut String,
+) -> Result<(), CaseFault> {
+    if !goes_to(step, asked.store)? {
+        return Ok(());
+    }
+    text.push_str(asked.store.title)?;
+    push_replies(step, asked.tokens, service, text)
+}
+
+/// Adds the lines of the rows of the audit after the first `known`, where the step has `audit`, and counts the rows.
+fn push_new_rows<S: Audited>(
+    step: &Case<'_>,
+    shelf: &mut S,
+    known: &mut u64,
+    text: &mut String,
+) -> Result<(), StoreFault> {
+    let rows = shelf.rows_after(step.alloc, *known)?;
+    if step.value.get("audit").is_some() {
+        push_rows_after(step.alloc, *known, rows.as_slice(), text)?;
+    }
+    *known = known.saturating_add(rows.len() as u64);
+    Ok(())
+}

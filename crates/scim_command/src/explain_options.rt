@@ -1,0 +1,82 @@
+//! The command line of `explain`.
+use crate::command_faults::CommandFault;
+use crate::database_options::database;
+use crate::options::{CLIENT_HELP, POLICY_HELP, client_of, required, text_of};
+use clap::{Arg, ArgMatches, Command};
+use scim_cell::Id;
+use scim_filter::{Meant, attribute_path};
+use scim_schema::{Kind, Leaf, Op, has_leaf};
+use std::alloc::{AllocError, Global};
+
+/// What `explain` is given.
+#[derive(Clone, Copy, Debug)]
+pub struct ExplainOptions<'a> {
+    /// The path of the policy file.
+    pub policy: &'a str,
+    /// The path of the database.
+    pub database: &'a str,
+    /// The name of the client that is asked about.
+    pub client: &'a str,
+    /// What the client would do.
+    pub op: Op,
+    /// The kind of the resource.
+    pub kind: Kind,
+    /// The id of the resource.
+    pub id: Id,
+    /// What of the resource; None for all of it.
+    pub leaf: Option<Leaf>,
+}
+
+pub(crate) fn explain_command<'a>(alloc: Global) -> Result<Command<'a>, AllocError> {
+    Command::new(alloc, "explain")
+        .about("Say why a client may or may not do something with a resource of a database")
+        .arg(required(alloc, "policy", "FILE", POLICY_HELP))?
+        .arg(database(alloc))?
+        .arg(required(alloc, "client", "NAME", CLIENT_HELP))?
+        .arg(required(alloc, "op", "OP", "read, create, modify or delete"))?
+        .arg(required(alloc, "kind", "KIND", "User or Group"))?
+        .arg(required(alloc, "id", "ID", "The id of the resource"))?
+        .arg(
+            Arg::new(alloc, "path").long("path").value_name("PATH").help(
+                "What of the resource, as policies name it; all of it where this isn't given",
+            ),
+        )
+}
+
+impl<'a> ExplainOptions<'a> {
+    /// The options of `explain`; BadOption where the client's name can be none, where there is no such operation or kind, where
+    /// the id isn't in the form in which the server prints it, or where the path isn't that of one leaf of the kind.
+    pub fn of(matches: &ArgMatches<'a>) -> Result<ExplainOptions<'a>, CommandFault> {
+        let kind = Kind::named(text_of(matches, "kind")?).ok_or(CommandFault::BadOption)?;
+        Ok(ExplainOptions {
+            policy: text_of(matches, "policy")?,
+            database: text_of(matches, "db")?,
+            client: client_of(matches)?,
+            op: Op::named(text_of(matches, "op")?).ok_or(CommandFault::BadOption)?,
+            kind,
+            id: Id::read(text_of(matches, "id")?).ok_or(CommandFault::BadOption)?,
+            leaf: leaf_given(matches, kind)?,
+        })
+    }
+}
+
+/// The leaf of the kind that the option gives; None where it isn't given.
+fn leaf_given(matches: &ArgMatches<'_>, kind: Kind) -> Result<Option<Leaf>, CommandFault> {
+    match matches.get_str("path") {
+        Some(path) => match leaf_at(kind, path) {
+            Some(leaf) => Ok(Some(leaf)),
+            None => Err(CommandFault::BadOption),
+        },
+        None => Ok(None),
+    }
+}
+
+/// The leaf of the kind that a path names; None where it names none.
+fn leaf_at(kind: Kind, path: &str) -> Option<Leaf> {
+    let leaf = match attribute_path(kind, path)? {
+        Meant::Attribute(attribute) => Leaf::simple(attribute),
+        Meant::SubAttribute(attribute, sub_attribute) => Leaf::of(attribute, sub_attribute),
+        Meant::Nothing => return None,
+    };
+    has_leaf(kind, leaf).then_some(leaf)
+}

@@ -1,0 +1,5 @@
+pub mod AuditLemmas
+pub mod SpacedLemmas
+pub mod ImportLemmas
+pub mod ExportLemmas
+pub mod NewStoreLemmas

@@ -1,0 +1,40 @@
+-- The faults of a command over a database.
+use Rattle.scim_store.specs.declared.shelf.OpenFault.{OpenFault}
+use Rattle.scim_store.specs.declared.shelf.OpenFault.TheVariants as opening
+use Rattle.scim_store.specs.declared.importing.ImportFault.{ImportFault}
+use Rattle.scim_store.specs.declared.importing.ImportFault.TheVariants as importing
+use Rattle.sqlite.specs.declared.error.Error.TheVariants.{SqliteFailure}
+use Rattle.sqlite.specs.declared.error.ErrorCode.TheVariants.{OutOfMemory}
+use Rattle.scim_command.specs.declared.faults.DatabaseFault.TheVariants.{WrongVersion, Damaged, Unusable, NotEmpty}
+use Rattle.scim_command.specs.declared.faults.RunFault.{RunFault}
+use Rattle.scim_command.specs.declared.faults.RunFault.TheVariants.{Users, Database, Output, NoMemory}
+
+-- what keeps a database from being opened is to a command
+abbrev pub of_opening : OpenFault → RunFault
+of_opening opening.WrongVersion = Database WrongVersion
+of_opening (opening.Damaged id) = Database (Damaged id)
+of_opening opening.Store = Database Unusable
+of_opening opening.NoMemory = NoMemory
+
+-- what keeps resources from being brought into one is to a command; that one of them stands below another base never comes of a users file
+abbrev pub of_importing : ImportFault → RunFault
+of_importing importing.NotEmpty = Database NotEmpty
+of_importing (importing.Database (SqliteFailure OutOfMemory)) = NoMemory
+of_importing (importing.Database error) = Database Unusable
+of_importing importing.OtherBase = Database Unusable
+of_importing importing.NoMemory = NoMemory
+
+-- what a command may answer that reads a store and writes what it finds: that the database can't be used, that the text can't be written, or want of memory
+abbrev pub IsDatabaseFault : RunFault → Type 0
+IsDatabaseFault (Database Unusable) = Unit {0}
+IsDatabaseFault Output = Unit {0}
+IsDatabaseFault NoMemory = Unit {0}
+IsDatabaseFault _ = ⊥
+
+-- what `import` may answer: that the users file is damaged, that the database isn't empty or can't be used, or want of memory
+abbrev pub IsImportFault : RunFault → Type 0
+IsImportFault (Users n) = Unit {0}
+IsImportFault (Database NotEmpty) = Unit {0}
+IsImportFault (Database Unusable) = Unit {0}
+IsImportFault NoMemory = Unit {0}
+IsImportFault _ = ⊥

@@ -1,0 +1,6 @@
+pub mod Audit
+pub mod Explaining
+pub mod Exports
+pub mod Imports
+pub mod Faults
+pub mod code

@@ -1,0 +1,113 @@
+-- What events of many connections come to: what is to be done for each connection, and how the connections and the store stand
+-- after it.
+use Rattle.std.specs.Prelude.{◌≡◌, ◌⊎◌, ℕ, ◌==◌, Bool, List, [], ◌∷◌, ◌++◌, map, zip, Result, Ok, Err, if◌then◌else◌}
+use Rattle.std.specs.List.{FoldsTo}
+use Rattle.scim_policy.specs.Rules.{Rule}
+use Rattle.scim_shelf.specs.Stores.{Store}
+use Rattle.scim_wire.specs.declared.messages.Item.{Item}
+use Rattle.scim_wire.specs.Messages.{HasItems}
+use Rattle.scim_token.specs.TokenFile.{Entry}
+use Rattle.scim_hub.specs.declared.events.Stamp.{Stamp}
+use Rattle.scim_hub.specs.declared.events.Event.{Event}
+use Rattle.scim_hub.specs.declared.events.Happening.{Happening}
+use Rattle.scim_hub.specs.declared.events.Happening.TheVariants.{Joined, Piece, Left}
+use Rattle.scim_hub.specs.declared.events.HubFault.{HubFault}
+use Rattle.scim_hub.specs.declared.events.HubFault.TheVariants.{AlreadyJoined, Unknown, Closed, NoMemory}
+use Rattle.scim_hub.specs.Answering.{AreAnswered}
+
+-- A connection: there is none of the number; or one of which this has come, which gave these items; or one of which nothing more
+-- is read.
+pub data Connection : Type 0 where
+  absent : Connection
+  joined : List ℕ → List Item → Connection
+  shut : Connection
+
+-- the connections by number, and the store
+pub record Hall : Type 0 where
+  pub connections : ℕ → Connection
+  pub store : Store
+
+-- no connections, over a store
+abbrev pub none_joined : Store → Hall
+none_joined store = record { connections = λ _. absent; store = store }
+
+-- the connections, but that of one number, which is this now
+abbrev pub set : ℕ → Connection → (ℕ → Connection) → ℕ → Connection
+set n connection connections m = if n == m then connection else connections m
+
+-- what is to be done: a text is written to a connection, or a connection is shut
+pub data Deed : Type 0 where
+  writing : ℕ → List ℕ → Deed
+  shutting : ℕ → Deed
+
+-- the texts are written to the connection in order, and it is shut after them, where it is closed
+abbrev pub deeds : ℕ → List (List ℕ) → Bool → List Deed
+deeds n texts closed = map (writing n) texts ++ (if closed then shutting n ∷ [] else [])
+
+-- an event fails so, and changes nothing
+abbrev pub IsDenied : HubFault → Hall → Result (List Deed) HubFault → Hall → Type 0
+IsDenied fault hall result next = (result ≡ Err fault) × (next ≡ hall)
+
+-- the connection of the number is this one now, and this is the store; all other connections are as they were
+abbrev pub Becomes : ℕ → Connection → Store → Hall → Hall → Type 0
+Becomes n connection store hall next = next ≡ record { connections = set n connection hall.connections; store = store }
+
+-- a connection joins under a number: where there was none, it is joined, and nothing has come of it
+abbrev pub Joins : Connection → ℕ → Hall → Result (List Deed) HubFault → Hall → Type 0
+Joins absent n hall result next = ((result ≡ Ok []) × Becomes n (joined [] []) hall.store hall next) ⊎ IsDenied NoMemory hall result next
+Joins _ n hall result next = IsDenied AlreadyJoined hall result next
+
+-- a connection leaves: there is none of its number then
+abbrev pub Leaves : Connection → ℕ → Hall → Result (List Deed) HubFault → Hall → Type 0
+Leaves absent n hall result next = IsDenied Unknown hall result next
+Leaves _ n hall result next = (result ≡ Ok []) × Becomes n absent hall.store hall next
+
+module _ (policy : List Rule) (base : List ℕ) (entries : List Entry) where
+  -- the stream has these items as its next, and they are answered; the connection is shut after them, or goes on
+  pub record IsTaken (stamp : Stamp) (n : ℕ) (stream : List ℕ) (items : List Item) (hall : Hall) (result : Result (List Deed) HubFault) (next : Hall) : Type 0 where
+    pub new : List Item
+    pub has_items : HasItems stream (items ++ new)
+    pub texts : List (List ℕ)
+    pub closed : Bool
+    pub store : Store
+    pub answered : AreAnswered policy base entries stamp 0 new hall.store texts closed store
+    pub result_is : result ≡ Ok (deeds n texts closed)
+    pub becomes : Becomes n (if closed then shut else joined stream (items ++ new)) store hall next
+
+  -- some of the next items of the stream, up to one of them, have been answered, and this is the store then
+  pub record AreBegun (stamp : Stamp) (stream : List ℕ) (items : List Item) (old store : Store) : Type 0 where
+    pub front : List Item
+    pub back : List Item
+    pub has_items : HasItems stream (items ++ (front ++ back))
+    pub texts : List (List ℕ)
+    pub closed : Bool
+    pub answered : AreAnswered policy base entries stamp 0 front old texts closed store
+
+  -- memory was wanting: the connection is shut, and what was to be done is lost; the store is as it was, or as some of the items left it
+  pub record IsCutOff (stamp : Stamp) (n : ℕ) (stream : List ℕ) (items : List Item) (hall : Hall) (result : Result (List Deed) HubFault) (next : Hall) : Type 0 where
+    pub store : Store
+    pub changed : (store ≡ hall.store) ⊎ AreBegun stamp stream items hall.store store
+    pub result_is : result ≡ Err NoMemory
+    pub becomes : Becomes n shut store hall next
+
+  -- a piece comes of the stream of a connection
+  abbrev pub Takes : Connection → Stamp → ℕ → List ℕ → Hall → Result (List Deed) HubFault → Hall → Type 0
+  Takes absent stamp n bytes hall result next = IsDenied Unknown hall result next
+  Takes shut stamp n bytes hall result next = IsDenied Closed hall result next
+  Takes (joined stream items) stamp n bytes hall result next =
+      IsTaken stamp n (stream ++ bytes) items hall result next ⊎ IsCutOff stamp n (stream ++ bytes) items hall result next
+
+  -- what happens to the connection of a number
+  abbrev pub Meets : Happening → Stamp → ℕ → Hall → Result (List Deed) HubFault → Hall → Type 0
+  Meets Joined stamp n hall result next = Joins (hall.connections n) n hall result next
+  Meets (Piece bytes) stamp n hall result next = Takes (hall.connections n) stamp n bytes.now hall result next
+  Meets Left stamp n hall result next = Leaves (hall.connections n) n hall result next
+
+  -- an event is answered so, and this is the hall after it
+  abbrev pub Hears : Event → Hall → Result (List Deed) HubFault → Hall → Type 0
+  Hears event hall result next = Meets event.happening event.stamp event.connection hall result next
+
+  -- events are answered so, one after another, and this is the hall after the last
+  abbrev pub Runs : Hall → List Event → List (Result (List Deed) HubFault) → Hall → Type 0
+  Runs hall events results next =
+      FoldsTo (λ h (pair : Event × Result (List Deed) HubFault) t. Hears pair.0 h pair.1 t) hall (zip events results) next

@@ -1,0 +1,42 @@
+-- Which hall a hub stands for, and what it does.
+use Rattle.std.specs.Prelude.{ℕ, List, map, Option, None, Some, Result, Ok, Err, string_bytes}
+use Rattle.std.specs.Ordering.{nat_cmp}
+use Rattle.std.specs.BTreeMap.{get}
+use Rattle.std.specs.Global.{Vec}
+use Rattle.scim_shelf.specs.Stores.{Store, IsStore}
+use Rattle.scim_wire.specs.Wires.{StandsFor}
+use Rattle.scim_hub.specs.declared.connections.Connection as code
+use Rattle.scim_hub.specs.declared.connections.Connection.TheVariants.{Open, Shut}
+use Rattle.scim_hub.specs.declared.connections.Connections.{Connections}
+use Rattle.scim_hub.specs.declared.events.HubFault.{HubFault}
+use Rattle.scim_hub.specs.declared.events.Output.{Output}
+use Rattle.scim_hub.specs.declared.events.Output.TheVariants as output
+use Rattle.scim_hub.specs.declared.hubs.Hub.{Hub}
+use Rattle.scim_hub.specs.Events.{Connection, absent, joined, shut, Hall, Deed, writing, shutting}
+
+-- what is kept of a connection stands for it
+abbrev pub IsKept : Option code.Connection → Connection → Type 0
+IsKept None absent = Unit {0}
+IsKept (Some (Open wire)) (joined stream items) = StandsFor wire stream items
+IsKept (Some Shut) shut = Unit {0}
+IsKept _ _ = ⊥
+
+-- these are the connections
+abbrev pub AreConnections : Connections → (ℕ → Connection) → Type 0
+AreConnections kept connections = (n : ℕ) → IsKept (get nat_cmp kept.by_number n) (connections n)
+
+-- a hub stands for the hall: its shelf for the store, whose resources stand below its base, and what it keeps for the connections
+pub record IsHall {H : Type 0} (Stands : H → Store → Type 0) (hub : Hub H) (hall : Hall) : Type 0 where
+  pub store : Stands hub.service.shelf hall.store
+  pub is_store : IsStore hub.service.base hall.store
+  pub connections : AreConnections hub.connections hall.connections
+
+-- what is done by an output
+abbrev pub deed_of : Output → Deed
+deed_of (output.Write n text) = writing n (string_bytes text)
+deed_of (output.Shut n) = shutting n
+
+-- what is done for an event, or why nothing is
+abbrev pub done : Result (Vec Output) HubFault → Result (List Deed) HubFault
+done (Ok outputs) = Ok (map deed_of outputs.items)
+done (Err fault) = Err fault

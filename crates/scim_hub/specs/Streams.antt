@@ -1,0 +1,144 @@
+-- What comes of serving one stream: the pieces that were read of it, and what was written for them.
+use Rattle.std.specs.Prelude.{◌≡◌, ◌⊎◌, ⊤, ℕ, ◌+◌, ◌-◌, ◌^◌, min, Bool, false, true, not, List, [], ◌∷◌, ◌++◌, map, Option, None, Some, Result, Ok, Err, All, IfOk, OnOk, MatchResult, count_by}
+use Rattle.std.specs.List.{FoldsTo, flat_map, list_any}
+use Rattle.std.specs.Str.{bytes_eq}
+use Rattle.std.specs.Io.KnownBytes.{Appends, Consumes, IsAtEnd}
+use Rattle.scim_policy.specs.Rules.{Rule}
+use Rattle.scim_wire.specs.Streams.{AppendsFront}
+use Rattle.scim_token.specs.TokenFile.{Entry}
+use Rattle.scim_hub.specs.declared.events.Event.{Event}
+use Rattle.scim_hub.specs.declared.events.Happening.{Happening}
+use Rattle.scim_hub.specs.declared.events.Happening.TheVariants.{Piece}
+use Rattle.scim_hub.specs.declared.events.HubFault.{HubFault}
+use Rattle.scim_hub.specs.declared.events.Stamp.{Stamp}
+use Rattle.scim_hub.specs.declared.io_faults.IoFault.{IoFault}
+use Rattle.scim_hub.specs.declared.io_faults.IoFault.TheVariants.{Hub}
+use Rattle.scim_hub.specs.declared.streams.Served.{Served}
+use Rattle.scim_hub.specs.Answering.{continue_text}
+use Rattle.scim_hub.specs.Events.{Hall, Deed, writing, shutting, Joins, Leaves, Hears}
+
+-- known stamps grow by these
+abbrev pub Grows : Option (List Stamp) → Option (List Stamp) → List Stamp → Type 0
+Grows None new stamps = ⊤
+Grows (Some xs) None stamps = ⊥
+Grows (Some xs) (Some ys) stamps = ys ≡ xs ++ stamps
+
+-- an event, and what was done for it
+pub record Turn : Type 0 where
+  pub event : Event
+  pub done : Result (List Deed) HubFault
+
+-- the bytes that come with what happens
+abbrev pub bytes_in : Happening → List ℕ
+bytes_in (Piece bytes) = bytes.now
+bytes_in _ = []
+
+-- the bytes of turns, in order
+abbrev pub bytes_of : List Turn → List ℕ
+bytes_of turns = flat_map (λ t. bytes_in t.event.happening) turns
+
+-- the text that a deed writes
+abbrev pub text_in : Deed → List ℕ
+text_in (writing n text) = text
+text_in (shutting n) = []
+
+-- the text that is written for an event
+abbrev pub text_done : Result (List Deed) HubFault → List ℕ
+text_done (Ok deeds) = flat_map text_in deeds
+text_done (Err fault) = []
+
+-- the text that is written in turns, in order
+abbrev pub text_of : List Turn → List ℕ
+text_of turns = flat_map (λ t. text_done t.done) turns
+
+-- whether a deed writes a reply: a text that isn't 100 (Continue)
+abbrev pub is_reply : Deed → Bool
+is_reply (writing n text) = not (bytes_eq text continue_text)
+is_reply (shutting n) = false
+
+-- how many replies are written for an event, and in turns
+abbrev pub replies_done : Result (List Deed) HubFault → ℕ
+replies_done (Ok deeds) = count_by is_reply deeds
+replies_done (Err fault) = 0
+
+abbrev pub replies_of : List Turn → ℕ
+replies_of [] = 0
+replies_of (t ∷ turns) = replies_done t.done + replies_of turns
+
+-- whether a deed shuts the connection, and whether one for an event does, or one in turns
+abbrev pub is_shutting : Deed → Bool
+is_shutting (writing n text) = false
+is_shutting (shutting n) = true
+
+abbrev pub shuts : Result (List Deed) HubFault → Bool
+shuts (Ok deeds) = list_any is_shutting deeds
+shuts (Err fault) = false
+
+abbrev pub is_shut : List Turn → Bool
+is_shut turns = list_any (λ t. shuts t.done) turns
+
+-- a piece of the stream
+abbrev pub IsPiece : Happening → Type 0
+IsPiece (Piece bytes) = ⊤
+IsPiece _ = ⊥
+
+-- a turn of a piece of the connection's stream
+abbrev pub IsPieceOf : ℕ → Turn → Type 0
+IsPieceOf n turn = (turn.event.connection ≡ n) × IsPiece turn.event.happening
+
+-- the text was written, or a front of it where that failed
+abbrev pub IsWritten : {T : Type 0} → Option (List ℕ) → Option (List ℕ) → List ℕ → Result T IoFault → Type 0
+IsWritten old new text result = MatchResult result (λ _. Appends old new text) (λ _. AppendsFront old new text)
+
+-- the bytes are those of the turns, or more where there was no stamp for the last of them
+pub record AreBytesOf {T : Type 0} (turns : List Turn) (bytes : List ℕ) (result : Result T IoFault) : Type 0 where
+  pub lost : List ℕ
+  pub split : bytes ≡ bytes_of turns ++ lost
+  pub none : OnOk result (lost ≡ [])
+
+module _ (policy : List Rule) (base : List ℕ) (entries : List Entry) (n : ℕ) where
+  -- the turns of pieces lead from one hall to another: one after another, each with its stamp, and their text was written
+  pub record AreServed {T : Type 0} (hall next : Hall) (turns : List Turn) (bytes : List ℕ) (given given_then : Option (List Stamp)) (contents contents_then : Option (List ℕ))
+      (result : Result T IoFault) : Type 0 where
+    pub runs : FoldsTo (λ h t u. Hears policy base entries t.event h t.done u) hall turns next
+    pub pieces : All (IsPieceOf n) turns
+    pub brings : AreBytesOf turns bytes result
+    pub stamps : Grows given given_then (map (λ t. t.event.stamp) turns)
+    pub written : IsWritten contents contents_then (text_of turns) result
+
+  -- the stream is read and served: to its end, or until the connection is shut; or up to a fault
+  pub record IsStreamServed (hall next : Hall) (remaining remaining_then : Option (List ℕ)) (given given_then : Option (List Stamp)) (contents contents_then : Option (List ℕ))
+      (result : Result Served IoFault) : Type 0 where
+    pub turns : List Turn
+    pub bytes : List ℕ
+    pub consumed : Consumes remaining remaining_then bytes
+    pub served : AreServed hall next turns bytes given given_then contents contents_then result
+    pub ended : OnOk result (IsAtEnd remaining_then ⊎ (is_shut turns ≡ true))
+    pub replies : IfOk result (λ s. s.replies ≡ min (2 ^ 64 - 1) (replies_of turns))
+
+  -- the connection doesn't join, and nothing is read or written
+  pub record IsTurnedAway (hall next : Hall) (remaining remaining_then : Option (List ℕ)) (given given_then : Option (List Stamp)) (contents contents_then : Option (List ℕ))
+      (result : Result Served IoFault) : Type 0 where
+    pub fault : HubFault
+    pub joins : Joins (hall.connections n) n hall (Err fault) next
+    pub unread : remaining_then ≡ remaining
+    pub unstamped : given_then ≡ given
+    pub unwritten : contents_then ≡ contents
+    pub result_is : result ≡ Err (Hub fault)
+
+  -- the connection joins, its stream is served, and it leaves
+  pub record IsServedWhole (hall next : Hall) (remaining remaining_then : Option (List ℕ)) (given given_then : Option (List Stamp)) (contents contents_then : Option (List ℕ))
+      (result : Result Served IoFault) : Type 0 where
+    pub joined_at : Hall
+    pub deeds : List Deed
+    pub joins : Joins (hall.connections n) n hall (Ok deeds) joined_at
+    pub served_at : Hall
+    pub served : IsStreamServed joined_at served_at remaining remaining_then given given_then contents contents_then result
+    pub left : Result (List Deed) HubFault
+    pub leaves : Leaves (served_at.connections n) n served_at left next
+
+  -- what comes of serving a stream
+  abbrev pub IsVisit : Hall → Hall → Option (List ℕ) → Option (List ℕ) → Option (List Stamp) → Option (List Stamp) → Option (List ℕ) → Option (List ℕ) → Result Served IoFault → Type 0
+  IsVisit hall next remaining remaining_then given given_then contents contents_then result =
+      IsTurnedAway hall next remaining remaining_then given given_then contents contents_then result
+      ⊎ IsServedWhole hall next remaining remaining_then given given_then contents contents_then result

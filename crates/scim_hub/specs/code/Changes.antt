@@ -1,0 +1,60 @@
+-- What the changes of connections leave.
+use Rattle.std.specs.Prelude.{◌≡◌, ℕ, List, [], ◌++◌, Option, Some, Result, Ok, Err, MatchResult}
+use Rattle.std.specs.Global.{Vec}
+use Rattle.scim_policy.specs.Rules.{Rule}
+use Rattle.scim_wire.specs.declared.messages.Item.{Item}
+use Rattle.scim_wire.specs.Messages.{HasItems}
+use Rattle.scim_wire.specs.Wires.{StandsFor}
+use Rattle.scim_token.specs.TokenFile.{Entry}
+use Rattle.scim_hub.specs.declared.connections.Connection as code
+use Rattle.scim_hub.specs.declared.connections.Connection.TheVariants.{Open, Shut}
+use Rattle.scim_hub.specs.declared.connections.Connections.{Connections}
+use Rattle.scim_hub.specs.declared.events.HubFault.{HubFault}
+use Rattle.scim_hub.specs.declared.events.HubFault.TheVariants.{AlreadyJoined, Unknown, Closed, NoMemory}
+use Rattle.scim_hub.specs.declared.events.Stamp.{Stamp}
+use Rattle.scim_hub.specs.Events.{Connection, absent, joined, shut, set, Hall, Deed, Takes}
+use Rattle.scim_hub.specs.Halls.{AreConnections, IsKept}
+
+-- an open connection took a piece, or memory was wanting and it is shut
+abbrev pub IsReadOn : List ℕ → List Item → List ℕ → Result (Vec Item) HubFault → Option code.Connection → Type 0
+IsReadOn stream items bytes (Ok new) kept = IsKept kept (joined (stream ++ bytes) (items ++ new.items))
+IsReadOn stream items bytes (Err fault) kept = (fault ≡ NoMemory) × (kept ≡ Some Shut)
+
+-- a connection took a piece, or can't be read any more
+abbrev pub IsRead : code.Connection → List ℕ → Result (Vec Item) HubFault → code.Connection → Type 0
+IsRead (Open wire) bytes result new =
+    (stream : List ℕ) (items : List Item) → StandsFor wire stream items
+    → MatchResult result (λ more. IsKept (Some new) (joined (stream ++ bytes) (items ++ more.items))) (λ fault. fault ≡ NoMemory)
+IsRead Shut bytes result new = result ≡ Err Closed
+
+-- a connection took a piece, or is shut
+abbrev pub IsFed : code.Connection → List ℕ → Result (Vec Item) HubFault → code.Connection → Type 0
+IsFed (Open wire) bytes result new = (stream : List ℕ) (items : List Item) → StandsFor wire stream items → IsReadOn stream items bytes result (Some new)
+IsFed Shut bytes result new = (result ≡ Err Closed) × (new ≡ Shut)
+
+-- a connection of the number joined
+abbrev pub IsJoined : Connection → ℕ → (ℕ → Connection) → Result Unit HubFault → Connections → Type 0
+IsJoined absent n connections (Ok x) new = AreConnections new (set n (joined [] []) connections)
+IsJoined absent n connections (Err fault) new = (fault ≡ NoMemory) × AreConnections new connections
+IsJoined _ n connections (Ok x) new = ⊥
+IsJoined _ n connections (Err fault) new = (fault ≡ AlreadyJoined) × AreConnections new connections
+
+-- the connection of the number left
+abbrev pub IsGone : Connection → ℕ → (ℕ → Connection) → Result Unit HubFault → Connections → Type 0
+IsGone absent n connections (Ok x) new = ⊥
+IsGone absent n connections (Err fault) new = (fault ≡ Unknown) × AreConnections new connections
+IsGone _ n connections (Ok x) new = AreConnections new (set n absent connections)
+IsGone _ n connections (Err fault) new = ⊥
+
+-- the connection of the number took a piece
+abbrev pub IsPieceTaken : Connection → ℕ → List ℕ → (ℕ → Connection) → Result (Vec Item) HubFault → Connections → Type 0
+IsPieceTaken (joined stream items) n bytes connections (Ok new) kept =
+    HasItems (stream ++ bytes) (items ++ new.items) × AreConnections kept (set n (joined (stream ++ bytes) (items ++ new.items)) connections)
+IsPieceTaken (joined stream items) n bytes connections (Err fault) kept = (fault ≡ NoMemory) × AreConnections kept (set n shut connections)
+IsPieceTaken absent n bytes connections (Err fault) kept = (fault ≡ Unknown) × AreConnections kept connections
+IsPieceTaken shut n bytes connections (Err fault) kept = (fault ≡ Closed) × AreConnections kept connections
+IsPieceTaken _ n bytes connections (Ok new) kept = ⊥
+
+-- a piece comes of the stream of the connection of a number
+abbrev pub TakesPiece : List Rule → List ℕ → List Entry → Stamp → ℕ → List ℕ → Hall → Result (List Deed) HubFault → Hall → Type 0
+TakesPiece policy base entries stamp n bytes hall result next = Takes policy base entries (hall.connections n) stamp n bytes hall result next

@@ -1,0 +1,202 @@
+//! What the items of an event are answered.
+ghost use Rattle.std.specs.Prelude.{◌≡◌, ◌||◌, false, List};
+ghost use Rattle.std.specs.Option.{option_copied};
+ghost use Rattle.scim_token.specs.TokenFile.{Entry};
+ghost use Rattle.scim_token.specs.Tokens.{Knows};
+ghost use Rattle.scim_shelf.specs.Stores.{Store, IsStore};
+ghost use Rattle.scim_hub.specs.Answering as spec;
+ghost use Rattle.scim_hub.specs.Answering.{Arrives};
+ghost use Rattle.scim_exchange.specs.Replies.{answer_text};
+ghost use Rattle.scim_hub.specs.code.Replies.{Says, IsReplyToItem, IsReplyToMessage, AreReplies};
+
+use crate::events::{Output, Stamp};
+use scim_cell::Id;
+use scim_exchange::{Answer, Arrival, answer};
+use scim_service::Service;
+use scim_shelf::Shelf;
+use scim_text::NoMemory;
+use scim_token::Tokens;
+use scim_wire::{Item, Message};
+use std::alloc::Global;
+use uuid::Uuid;
+
+/// What is written where a client waits to send a body (RFC 9110 section 15.2.1).
+pub(crate) const CONTINUE: &str = "HTTP/1.1 100 Continue\r\n\r\n";
+
+/// What an item is answered.
+#[derive(Drop)]
+struct Reply {
+    text: String,
+    /// Whether the connection is closed after it.
+    closes: bool,
+}
+
+/// What the items of an event are answered.
+#[derive(Drop)]
+pub(crate) struct Replies {
+    pub(crate) outputs: Vec<Output>,
+    /// Whether the connection is closed after them.
+    pub(crate) closed: bool,
+}
+
+/// The id whose number is that of the first plus the count, modulo 2^128.
+#[tactic(auto, unfolding(crate::specs::Answering::id_after))]
+fn id_after(first: Id, count: usize) -> Id
+    ensures { result ≡ spec.id_after first count }
+{
+    let number = first.uuid().as_u128();
+    Id::of(Uuid::from_u128(number.wrapping_add(count as u128)))
+}
+
+/// The client that has the token of a message; None where no client has it, or there is none.
+fn client_of<'t>(tokens: &'t Tokens, message: &Message) -> Option<&'t str>
+    ensures { (entries : List Entry) → Knows entries tokens.now → option_copied result ≡ spec.client_of entries message.now.token }
+{
+    match &message.token {
+        Some(token) => tokens.client_of(token.as_slice()),
+        None => None,
+    }
+}
+
+/// How a message arrives that so many whole messages of its event came before.
+fn arrival_of<'t>(tokens: &'t Tokens, stamp: &Stamp, count: usize, message: &Message) -> Arrival<'t>
+    ensures { (entries : List Entry) → Knows entries tokens.now → Arrives entries stamp.now count message.now result }
+{
+    Arrival {
+        client: client_of(tokens, message),
+        moment: stamp.moment,
+        fresh: id_after(stamp.first, count),
+    }
+}
+
+/// Whether it is a refusal that closes the connection by itself.
+fn closes_by_itself(answer: &Answer) -> bool
+    ensures { result ≡ spec.closes_by_itself answer.now }
+{
+    let refusal = match answer {
+        Answer::Refused(refusal) => Some(*refusal),
+        Answer::Page(_) => None,
+        Answer::Served(reply) => reply.refusal(),
+    };
+    match refusal {
+        Some(refusal) => refusal.closes(),
+        None => false,
+    }
+}
+
+/// The reply with an answer. With `close` the connection is closed after it in any case.
+fn reply_with(alloc: Global, answer: &Answer, close: bool) -> Result<Reply, NoMemory>
+    ensures { Says result (answer_text answer.now close) (close || spec.closes_by_itself answer.now) }
+{
+    let text = answer.text(alloc, close)?;
+    let closes = close || closes_by_itself(answer);
+    Ok(Reply { text, closes })
+}
+
+/// Says to a client that waits to send a body that it may. NoMemory where none was to be had.
+#[tactic(auto, unfolding(crate::specs::Answering::continue_text))]
+fn continue_reply(alloc: Global) -> Result<Reply, NoMemory>
+    ensures { Says result spec.continue_text false }
+{
+    let text = String::from_str(alloc, CONTINUE)?;
+    Ok(Reply {
+        text,
+        closes: false,
+    })
+}
+
+/// Answers a message that arrives so. NoMemory where none was to be had for the text: what it changed stands.
+fn answer_message<S: Shelf>(
+    alloc: Global,
+    service: &mut Service<S>,
+    arrival: &Arrival<'_>,
+    message: &Message,
+) -> Result<Reply, NoMemory>
+    ensures policy { service.new.policy ≡ service.old.policy }
+    ensures base { service.new.base ≡ service.old.base }
+    ensures answered { (store : Store) → S.stands service.old.shelf store → S.is_honest service.new.shelf → IsStore service.old.base store
+        → (next : Store) × S.stands service.new.shelf next × IsStore service.old.base next
+        × IsReplyToMessage service.old.policy service.old.base arrival.now message.now store result next }
+    ensures honest { S.is_honest service.new.shelf → S.is_honest service.old.shelf }
+{
+    let answer = answer(alloc, service, arrival, message);
+    reply_with(alloc, &answer, message.close)
+}
+
+/// Answers an item that so many whole messages of its event came before. NoMemory where none was to be had for the text: what
+/// it changed stands.
+fn answer_item<S: Shelf>(
+    alloc: Global,
+    service: &mut Service<S>,
+    tokens: &Tokens,
+    stamp: &Stamp,
+    count: usize,
+    item: &Item,
+) -> Result<Reply, NoMemory>
+    ensures policy { service.new.policy ≡ service.old.policy }
+    ensures base { service.new.base ≡ service.old.base }
+    ensures answered { (entries : List Entry) (store : Store) → Knows entries tokens.now → S.stands service.old.shelf store
+        → S.is_honest service.new.shelf → IsStore service.old.base store
+        → (next : Store) × S.stands service.new.shelf next × IsStore service.old.base next
+        × IsReplyToItem service.old.policy service.old.base entries stamp.now count item.now store result next }
+    ensures honest { S.is_honest service.new.shelf → S.is_honest service.old.shelf }
+{
+    match item {
+        Item::Continue => continue_reply(alloc),
+        Item::Whole(message) => {
+            let arrival = arrival_of(tokens, stamp, count, message);
+            answer_message(alloc, service, &arrival, message)
+        }
+        Item::Refused(refusal) => reply_with(alloc, &Answer::Refused(*refusal), true),
+    }
+}
+
+/// How many whole messages an item is.
+fn whole_count(item: &Item) -> usize
+    ensures { result ≡ spec.whole_count item.now }
+{
+    match item {
+        Item::Whole(_) => 1,
+        _ => 0,
+    }
+}
+
+/// Answers the items of an event of the connection in order, up to the first after whose reply it is closed.
+///
+/// NoMemory where none was to be had: what the items up to one of them changed stands.
+pub(crate) fn answer_items<S: Shelf>(
+    alloc: Global,
+    service: &mut Service<S>,
+    tokens: &Tokens,
+    stamp: &Stamp,
+    connection: u64,
+    items: &[Item],
+) -> Result<Replies, NoMemory>
+    ensures policy { service.new.policy ≡ service.old.policy }
+    ensures base { service.new.base ≡ service.old.base }
+    ensures answered { (entries : List Entry) (store : Store) → Knows entries tokens.now → S.stands service.old.shelf store
+        → S.is_honest service.new.shelf → IsStore service.old.base store
+        → (next : Store) × S.stands service.new.shelf next × IsStore service.old.base next
+        × AreReplies service.old.policy service.old.base entries stamp.now connection items.now store result next }
+    ensures honest { S.is_honest service.new.shelf → S.is_honest service.old.shelf }
+{
+    let mut outputs = Vec::new(alloc);
+    let mut count = 0;
+    for item in items {
+        let reply = answer_item(alloc, service, tokens, stamp, count, item)?;
+        let Reply { text, closes } = reply;
+        outputs.push(Output::Write(connection, text))?;
+        if closes {
+            outputs.push(Output::Shut(connection))?;
+            return Ok(Replies {
+                outputs,
+                closed: true,
+            });
+        }
+        count += whole_count(item);
+    }
+    Ok(Replies {
+        outputs,
+        closed: false,
+    })
+}

@@ -1,0 +1,18 @@
+//! Many connections over one service: what each event of a connection is answered, and how the connections stand after it
+//! (RFC 9112 section 9).
+#![tactic(auto)]
+
+mod answering;
+mod connections;
+mod events;
+mod hubs;
+mod io_faults;
+mod stamps;
+mod streams;
+mod writing;
+
+pub use events::{Event, Happening, HubFault, Output, Stamp};
+pub use hubs::Hub;
+pub use io_faults::IoFault;
+pub use stamps::{NoStamp, Stamps};
+pub use streams::{Served, serve_stream};

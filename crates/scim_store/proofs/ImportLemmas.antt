@@ -1,0 +1,119 @@
+-- The rows of resources that are brought into an empty database.
+use Rattle.std.proofs.Common.{◌≡◌, ℕ, ◌+◌, ◌<◌, refl, sym, ◌∙◌, ap, subst, Bool, true, false, ◌&&◌, List, [], ◌∷◌, ◌++◌, map, filter, length, take, get_or, inr, IsTrue, arith}
+use Rattle.std.specs.Prelude.{All, None, Some, IsPermutation, string_bytes}
+use Rattle.std.specs.List.{flat_map}
+use Rattle.std.proofs.lemmas.List.{append-nil, take_more}
+use Rattle.std.proofs.lemmas.List.Elements.{All-nil, All-cons}
+use Rattle.std.proofs.lemmas.List.Sorted.{IsPermutation-refl, IsPermutation-cons, IsPermutation-middle, IsPermutation-trans, IsPermutation-sym, IsPermutation-map, All-permutation}
+use Rattle.sqlite_trees.proofs.ListLemmas.{IsPermutation-same, IsPermutation-flat_map, map-map, pull_back}
+use Rattle.sqlite.specs.Effect.{Database}
+use Rattle.sqlite.specs.State.{State, HasCleanDisk, Survives}
+use Rattle.sqlite.specs.Tree.{Trees}
+use Rattle.sqlite.specs.Held.{Held, state}
+use Rattle.sqlite.proofs.Callers.{survives_begin}
+use Rattle.sqlite.proofs.StateLemmas.{survives_then, survives_weaker}
+use Rattle.sqlite_trees.specs.declared.store.Store.{Ghosts}
+use Rattle.scim_cell.specs.Content.{Content}
+use Rattle.scim_value.specs.Resource.{HasBase}
+use Rattle.scim_value.specs.Uniqueness.{name_of, unique_names}
+use Rattle.scim_shelf.specs.Stores.{Store, IsNewStore}
+use Rattle.scim_tables.specs.Lists.{Lists, Are, no_rows, resource_values}
+use Rattle.scim_tables.specs.Reading.{Rests}
+use Rattle.scim_tables.specs.Steps.{Became, Undoes, Leaves}
+use Rattle.scim_tables.specs.Tables.{no_schema}
+use Rattle.scim_store.specs.declared.edits.Edits.{Edits}
+use Rattle.scim_store.specs.Audit.{kind_number}
+use Rattle.scim_store.specs.Committing.{HasStore, AreOf}
+use Rattle.scim_store.specs.Edits.{rows_of_names, rows_of_members, rows_of_document, Replaces}
+use Rattle.scim_store.specs.Importing.{HoldRowsOf, Fills, LeavesImported}
+use Rattle.scim_store.specs.Stands.{Entry, StandsFor, IsEntry, lists_of, resource_row, name_row, name_rows, member_rows}
+use Rattle.scim_store.proofs.RowLemmas.{reordered}
+use Rattle.scim_store.proofs.StandLemmas.{document_rows}
+
+-- ---- no rows, and more
+
+pub hold_none : (base : List ℕ) (db : Database) → Are db no_rows → HoldRowsOf base [] db
+hold_none base db are = record { entries = []; resources = IsPermutation-refl []; sound = All-nil (IsEntry base); tables = are }
+
+all_stay : {X : Type 0} (xs : List X) → filter (λ x. true) xs ≡ xs
+all_stay [] = refl
+all_stay (x ∷ xs) = ap (λ l. x ∷ l) (all_stay xs)
+
+and_true : (b : Bool) → (b && true) ≡ b
+and_true true = refl
+and_true false = refl
+
+-- the edits of a resource that isn't there put in its rows
+pub hold_more : (base : List ℕ) (cs : List Content) (c : Content) (e : Edits) (old new : Database) → Replaces base c.id None (Some c) e
+    → ((lists : Lists) → Are old lists
+    → Are new (record lists { resources = rows_of_document e ++ lists.resources; taken = rows_of_names e.id e.names_come.items ++ lists.taken; member = rows_of_members e.id e.members_come.items ++ lists.member }))
+    → HoldRowsOf base cs old → HoldRowsOf base (c ∷ cs) new
+hold_more base cs c e old new replaces did hold =
+    let written = replaces.document in
+    let es : List Entry = hold.entries in
+    let entry : Entry = record { content = c; document = written.1; members = e.members_come.items } in
+    let document : rows_of_document e ≡ resource_row entry ∷ [] =
+    document_rows string_bytes e.document e.id (kind_number e.kind) written.1 written.2 ∙ (λ i. resource_values (replaces.text i) (kind_number (written.0 i)) written.1 ∷ []) in
+    let names : rows_of_names e.id e.names_come.items ≡ name_rows entry =
+    ap (λ t. rows_of_names t e.names_come.items) replaces.text
+    ∙ sym (map-map (name_row c.id) name_of e.names_come.items)
+    ∙ ap (map (name_row c.id)) (replaces.names_come ∙ all_stay (unique_names c)) in
+    let members : rows_of_members e.id e.members_come.items ≡ member_rows entry = ap (λ t. rows_of_members t e.members_come.items) replaces.text in
+    record {
+      entries = entry ∷ es;
+      resources = IsPermutation-cons _ _ _ hold.resources;
+      sound = All-cons (IsEntry base) entry es (record { document = written.3; members = record { once = replaces.once; listed = λ v. replaces.members_come v ∙ and_true _ } }) hold.sound;
+      tables = subst (Are new) (λ i. record { resources = document i ++ map resource_row es; taken = names i ++ flat_map name_rows es; member = members i ++ flat_map member_rows es; audit = [] }) (did (lists_of es []) hold.tables);
+    }
+
+-- resources in another order have the same rows
+pub hold_reordered : (base : List ℕ) (cs ds : List Content) (db : Database) → IsPermutation cs ds → HoldRowsOf base cs db → HoldRowsOf base ds db
+hold_reordered base cs ds db same hold = record { entries = hold.entries; resources = IsPermutation-trans _ _ _ hold.resources same; sound = hold.sound; tables = hold.tables }
+
+-- one more of the resources, behind those so far
+pub hold_next : (base : List ℕ) (cs : List Content) (i : ℕ) (c : Content) (db : Database) → i < length cs → c ≡ get_or cs i c → HoldRowsOf base (c ∷ take i cs) db → HoldRowsOf base (take (i + 1) cs) db
+hold_next base cs i c db low is =
+    let front : take (i + 1) cs ≡ take i cs ++ c ∷ [] = take_more cs i c low ∙ ap (λ d. take i cs ++ d ∷ []) (sym is) in
+    let moved : IsPermutation (c ∷ take i cs) (take i cs ++ c ∷ []) =
+    IsPermutation-sym _ _ (IsPermutation-trans _ _ _ (IsPermutation-middle (take i cs) c []) (IsPermutation-same _ _ (ap (λ l. c ∷ l) (append-nil (take i cs))))) in
+    hold_reordered base (c ∷ take i cs) (take (i + 1) cs) db (IsPermutation-trans _ _ _ moved (IsPermutation-same _ _ (sym front)))
+
+-- ---- what a crash leaves
+
+-- a transaction that fills the database, and its commit
+pub fill_survives : {S : Type 0} (g : Ghosts S) (cs : List Content) (old : Held S) (last end : State) → Survives (state g (record old { in_transaction = true })) last (λ _. ⊥) → (HasCleanDisk last → Fills cs (state g old).now last.now)
+    → Survives last end (λ trees. trees ≡ last.now.trees) → Survives (state g old) end (Leaves (Fills cs) (state g old).now)
+fill_survives g cs old last end filled ran commits =
+    survives_then (state g old) last end _ _ _ (λ _ trees none. absurd none) (λ clean trees is. (last.now, is, ran (omega (arith, commits.clean)))) (survives_begin g old last _ filled) commits
+
+-- ---- a new store
+
+-- the tables with the rows of resources are those of each new store of them
+pub stands_new : (base : List ℕ) (cs : List Content) (db : Database) (store : Store) → HoldRowsOf base cs db → IsNewStore cs store → StandsFor base db store
+stands_new base cs db store hold new =
+    let pulled = pull_back (λ (e : Entry). e.content) _ _ (IsPermutation-trans _ _ _ hold.resources new.members) hold.entries refl in
+    record {
+      entries = pulled.0;
+      resources = sym pulled.2;
+      sound = All-permutation (IsEntry base) _ _ pulled.1 hold.sound;
+      keyed = new.keyed;
+      tables = subst (λ audit. Are db (lists_of pulled.0 audit)) (sym new.no_rows)
+          (reordered db _ _ hold.tables (IsPermutation-map resource_row _ _ pulled.1) (IsPermutation-flat_map name_rows _ _ pulled.1) (IsPermutation-flat_map member_rows _ _ pulled.1) (IsPermutation-refl _));
+    }
+
+module _ (base : List ℕ) (cs : List Content) (old new : State) (empty : old.now.schema ≡ no_schema) (below : All (HasBase base) cs) where
+  pub import_made : Became old new (Fills cs) → (old.now.schema ≡ no_schema) × ((store : Store) → IsNewStore cs store → HasStore base new store)
+  import_made became = (empty, λ store is. record { stands = λ _. stands_new base cs new.now store (became.changed empty base below) is; settled = λ _. became.settled })
+
+  -- the law is the store's: what a crash leaves of an open one is its last commit
+  pub import_lasts : ((trees : Trees) → IsTrue new.is_open → new.may_leave trees → trees ≡ new.committed.trees) → Became old new (Fills cs)
+      → (store : Store) → IsNewStore cs store → (trees : Trees) → new.may_leave trees → AreOf base store trees
+  import_lasts law became store is trees left =
+      (new.now, law trees became.is_open left ∙ ap (λ (db : Database). db.trees) (sym became.settled), stands_new base cs new.now store (became.changed empty base below) is)
+
+  pub import_survives : Survives old new (Leaves (Fills cs) old.now) → Survives old new (LeavesImported base cs old)
+  import_survives = survives_weaker old new _ _ (λ _ trees leaves.
+      (let hold = leaves.2 empty base below in (empty, (leaves.0, leaves.1, hold, λ store is. stands_new base cs leaves.0 store hold is))))
+
+pub rests_undone : (old new : State) → Undoes old new → Rests old new
+rests_undone old new undoes = record { was_open = undoes.was_open; now = λ o. inr (undoes.now o); committed = undoes.committed }
