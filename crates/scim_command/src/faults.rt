@@ -39,7 +39,7 @@ pub enum DatabaseFault {
     /// It belongs to another program, or its tables stand for no store though the rows of each id hold, or it can't be
     /// read or written.
     Unusable,
-    /// It has resources or rows of the audit, where the command fills an empty one.
+    /// It has a table, an index or a view, where the command fills an empty one.
     NotEmpty,
 }
 
