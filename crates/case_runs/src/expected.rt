@@ -1,14 +1,18 @@
 //! What a case says that it gives.
+use crate::outputs::outputs_text;
 use crate::requests::{message_text, push_lines};
 use crate::stores::{Store, goes_to, stores_of};
 use case_values::{Case, CaseFault, said};
 use serde_json::Value;
 
-/// What the case says that it gives: the replies of whole requests; else a text as it stands, or all else as compact JSON
+/// What the case says that it gives: the replies of whole requests; what is to be done for events; else a text as it stands, or all else as compact JSON
 /// with keys in order.
 pub fn expected(case: &Case<'_>) -> Result<String, CaseFault> {
     if case.value.get("steps").is_some() {
         return replies(case);
+    }
+    if case.value.get("outputs").is_some() {
+        return outputs_text(case);
     }
     match case.value.get("gives").or(case.value.get("said")) {
         Some(Value::String(text)) => said(case.alloc, text.as_str()),

@@ -5,6 +5,7 @@
 mod expected;
 mod faults;
 mod folder;
+mod outputs;
 mod requests;
 mod runs;
 mod stores;

@@ -10,6 +10,7 @@ mod faults;
 mod services;
 mod steps;
 
+pub use audited::push_rows_after;
 use case_values::{Case, CaseFault};
 pub use database_calls::prepared;
 pub use databases::{opened, shelf_of};

@@ -5,7 +5,8 @@ use scim_audit::leaf_path;
 use scim_cell::Id;
 use scim_command::{
     AuditOptions, CheckOptions, CommandFault, DatabaseFault, ExplainOptions, ExportOptions,
-    ImportOptions, OnceOptions, RunFault, Setting, check, command, once,
+    ImportOptions, OnceOptions, ReplayOptions, RunFault, ServeOptions, Setting, check, command,
+    once,
 };
 use scim_samples::{BASE, POLICY, USERS};
 use scim_schema::Leaf;
@@ -84,6 +85,8 @@ fn matches_text(alloc: Global, matches: &ArgMatches<'_>) -> Result<String, CaseF
     match matches.subcommand() {
         Some(("once", matches)) => once_options(alloc, matches),
         Some(("check", matches)) => check_options(alloc, matches),
+        Some(("replay", matches)) => replay_options(alloc, matches),
+        Some(("serve", matches)) => serve_options(alloc, matches),
         Some(("audit", matches)) => audit_options(alloc, matches),
         Some(("export", matches)) => export_options(alloc, matches),
         Some(("import", matches)) => import_options(alloc, matches),
@@ -115,6 +118,55 @@ fn check_options(alloc: Global, matches: &ArgMatches<'_>) -> Result<String, Case
         }
         Err(fault) => line_and_status(alloc, &fault),
     }
+}
+
+fn replay_options(alloc: Global, matches: &ArgMatches<'_>) -> Result<String, CaseFault> {
+    match ReplayOptions::of(matches) {
+        Ok(options) => {
+            let words = [
+                "policy ",
+                options.policy,
+                ", tokens ",
+                options.tokens,
+                ", users ",
+                options.users,
+                ", events ",
+                options.events,
+                ", base ",
+                options.base,
+            ];
+            joined(alloc, &words)
+        }
+        Err(fault) => line_and_status(alloc, &fault),
+    }
+}
+
+fn serve_options(alloc: Global, matches: &ArgMatches<'_>) -> Result<String, CaseFault> {
+    match ServeOptions::of(matches) {
+        Ok(options) => served_text(alloc, &options),
+        Err(fault) => line_and_status(alloc, &fault),
+    }
+}
+
+/// The options of `serve`; 0 connections where it doesn't end.
+fn served_text(alloc: Global, options: &ServeOptions<'_>) -> Result<String, CaseFault> {
+    let port = shown(alloc, &options.port)?;
+    let connections = shown(alloc, &options.connections.unwrap_or(0))?;
+    let words = [
+        "policy ",
+        options.policy,
+        ", tokens ",
+        options.tokens,
+        ", db ",
+        options.database,
+        ", port ",
+        port.as_str(),
+        ", base ",
+        options.base,
+        ", connections ",
+        connections.as_str(),
+    ];
+    joined(alloc, &words)
 }
 
 fn audit_options(alloc: Global, matches: &ArgMatches<'_>) -> Result<String, CaseFault> {

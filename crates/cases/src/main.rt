@@ -46,6 +46,9 @@ struct AllCalls;
 
 impl Calls for AllCalls {
     fn answer(&self, case: &Case<'_>) -> Result<String, CaseFault> {
+        if case.value.get("outputs").is_some() {
+            return case_replays::answered(case);
+        }
         let call = case.call()?;
         if let Some(found) = case_values::answer(case, call) {
             return found;
@@ -60,6 +63,9 @@ impl Calls for AllCalls {
             return found;
         }
         if let Some(found) = case_stores::answer(case, call) {
+            return found;
+        }
+        if let Some(found) = case_replays::answer(case, call) {
             return found;
         }
         if let Some(found) = database_commands::answer(case, call) {

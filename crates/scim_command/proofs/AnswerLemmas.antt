@@ -3,15 +3,13 @@ use Rattle.std.proofs.Common.{◌≡◌, subst, inl, inr, ℕ, List, Result, Ok,
 use Rattle.std.specs.Option.{option_copied}
 use Rattle.std.specs.Bool.{⊤}
 use Rattle.std.specs.declared.alloc.Global.{Global}
-use Rattle.std.proofs.lemmas.List.Sorted.{All-permutation}
 use Rattle.scim_text.specs.declared.memory.NoMemory.{NoMemory}
 use Rattle.scim_text.specs.declared.memory.Failed.{Failed}
 use Rattle.scim_audit.specs.declared.refusals.Refusal.{Refusal}
-use Rattle.scim_json.specs.Stored.{IsResourceBelow}
 use Rattle.scim_policy.specs.Rules.{Rule}
 use Rattle.scim_policy.specs.File.{policy_of}
 use Rattle.scim_shelf.specs.declared.faults.ShelfFault.{ShelfFault}
-use Rattle.scim_shelf.specs.Stores.{Store, IsStore}
+use Rattle.scim_shelf.specs.Stores.{Store}
 use Rattle.scim_wire.specs.declared.messages.Message.{Message}
 use Rattle.scim_route.specs.declared.routes.Route.{Route}
 use Rattle.scim_route.specs.declared.routes.Found.{Found}
@@ -64,13 +62,6 @@ pub answers_first : (policy : List Rule) (base : List ℕ) (arrival : Arrival) (
 answers_first policy base arrival store None first reply opens is = tt
 answers_first policy base arrival store (Some input) first (Ok t) opens is = inl (first, opens, is)
 answers_first policy base arrival store (Some input) first (Err e) opens is = inr refl
-
--- the store of a users file is a store of resources below the base
-pub is_store : (base text : List ℕ) (store : Store) → IsStoreOf base text store → IsStore base store
-is_store base text store of = record {
-  sound = All-permutation (IsResourceBelow base) of.resources store.resources of.is_new.members of.documents.0.below;
-  keyed = of.is_new.keyed;
-}
 
 -- an answer over that store is the answer by the two files
 pub answers_files : (s : Setting) (policy : List Rule) (base : List ℕ) (store : Store) (known : Option (List ℕ)) (text : List ℕ)

@@ -20,3 +20,9 @@ of_document failed.NoMemory = NoMemory
 abbrev pub of_shelf : Failed ShelfFault → RunFault
 of_shelf (failed.Because fault) = Database Unusable
 of_shelf failed.NoMemory = NoMemory
+
+-- a fault of the users file, or want of memory
+abbrev pub IsOfUsers : RunFault → Type 0
+IsOfUsers (Users n) = Unit {0}
+IsOfUsers NoMemory = Unit {0}
+IsOfUsers _ = ⊥

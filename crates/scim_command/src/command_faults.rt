@@ -12,6 +12,10 @@ pub enum CommandFault {
     BadOption,
     /// The file of this path cannot be read.
     CannotRead(String),
+    /// The port can't be listened on.
+    CannotListen,
+    /// Connections can't be served: the system doesn't tell what happens to them, or what time it is, or gives no random bytes.
+    CannotServe,
     /// The command gave up.
     Run(RunFault),
 }
@@ -29,7 +33,10 @@ impl CommandFault {
     pub fn exit_status(&self) -> u8 {
         match self {
             CommandFault::NotText | CommandFault::BadOption => 2,
-            CommandFault::CannotRead(_) | CommandFault::Run(_) => 1,
+            CommandFault::CannotRead(_)
+            | CommandFault::CannotListen
+            | CommandFault::CannotServe
+            | CommandFault::Run(_) => 1,
         }
     }
 }
@@ -40,6 +47,8 @@ impl fmt::Display for CommandFault {
             CommandFault::NotText => write!(f, "an argument is not in UTF-8"),
             CommandFault::BadOption => write!(f, "bad option"),
             CommandFault::CannotRead(path) => write!(f, "cannot read {}", OneLine(path.as_str())),
+            CommandFault::CannotListen => write!(f, "cannot listen"),
+            CommandFault::CannotServe => write!(f, "cannot serve"),
             CommandFault::Run(fault) => write!(f, "{fault}"),
         }
     }

@@ -108,7 +108,7 @@ impl<'a> ImportOptions<'a> {
 }
 
 /// The number that digits say; BadOption where the text is anything else, or says more than 64 bits hold.
-fn number_of(text: &str) -> Result<u64, CommandFault> {
+pub(crate) fn number_of(text: &str) -> Result<u64, CommandFault> {
     if text.starts_with('+') {
         return Err(CommandFault::BadOption);
     }

@@ -15,6 +15,10 @@ pub enum RunFault {
     /// The item of the users file with this number, from 1, is no document of a user or a group or repeats
     /// an id or a unique name; 0 where the file is no JSON list.
     Users(usize),
+    /// The line of the token file with this number, from 1, is faulty; 0 where the file is no text.
+    Tokens(usize),
+    /// The line of the events file with this number, from 1, tells no event; 0 where the file is no text.
+    Events(usize),
     /// The input ended before the head of a request did.
     InputEnded,
     /// The input could not be read.
@@ -65,6 +69,8 @@ impl fmt::Display for RunFault {
         match self {
             RunFault::Policy { rule, cause } => write!(f, "policy: rule {rule}: {cause}"),
             RunFault::Users(number) => write!(f, "users: item {number}"),
+            RunFault::Tokens(number) => write!(f, "tokens: line {number}"),
+            RunFault::Events(number) => write!(f, "events: line {number}"),
             RunFault::InputEnded | RunFault::InputFailed => write!(f, "input ended early"),
             RunFault::Database(fault) => write!(f, "database: {fault}"),
             RunFault::Absent => write!(f, "absent"),

@@ -3,6 +3,8 @@ use crate::command_faults::CommandFault;
 use crate::database_options::{audit_command, export_command, import_command};
 use crate::explain_options::explain_command;
 use crate::faults::RunFault;
+use crate::replay_options::replay_command;
+use crate::serve_options::serve_command;
 use clap::{Arg, ArgAction, ArgMatches, Command};
 use scim_cell::Id;
 use scim_policy::is_client_name;
@@ -24,6 +26,13 @@ pub(crate) const USERS_HELP: &str = "The users: a JSON list of resources as they
 /// What is said of the option for the policy file.
 pub(crate) const POLICY_HELP: &str =
     "The policy: a JSON file of rules, of which the first that fits decides";
+
+/// What is said of the option for the base.
+pub(crate) const BASE_HELP: &str = "That below which the resources stand";
+
+/// What is said of the option for the token file.
+pub(crate) const TOKENS_HELP: &str =
+    "The tokens: a line for each, of a client's name and the SHA-256 of its token in hex";
 
 /// What is said of the option for the client.
 pub(crate) const CLIENT_HELP: &str = "The client, as the policy names it";
@@ -66,6 +75,8 @@ pub fn command<'a>(alloc: Global) -> Result<Command<'a>, AllocError> {
         .arg_required_else_help(true);
     let root = with(root, once_command(alloc))?;
     let root = with(root, check_command(alloc))?;
+    let root = with(root, serve_command(alloc))?;
+    let root = with(root, replay_command(alloc))?;
     let root = with(root, explain_command(alloc))?;
     let root = with(root, import_command(alloc))?;
     let root = with(root, export_command(alloc))?;
@@ -91,13 +102,7 @@ fn once_command<'a>(alloc: Global) -> Result<Command<'a>, AllocError> {
         .arg(required(alloc, "policy", "FILE", POLICY_HELP))?
         .arg(required(alloc, "users", "FILE", USERS_HELP))?
         .arg(required(alloc, "client", "NAME", CLIENT_HELP))?
-        .arg(with_default(
-            alloc,
-            "base",
-            "URL",
-            DEFAULT_BASE,
-            "That below which the resources stand",
-        ))?
+        .arg(with_default(alloc, "base", "URL", DEFAULT_BASE, BASE_HELP))?
         .arg(with_default(
             alloc,
             "at",

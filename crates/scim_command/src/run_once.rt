@@ -1,5 +1,5 @@
 //! `once`: one request, answered over a users file in memory.
-ghost use Rattle.std.specs.Prelude.{◌≡◌, ◌≢◌, ℕ, false, List, Err, IsOk, IfOk, IfErr, IfSome, OnOk, OnErr};
+ghost use Rattle.std.specs.Prelude.{◌≡◌, ◌≢◌, ℕ, false, List, Ok, Err, IsOk, IfOk, IfErr, IfSome, OnOk, OnErr};
 ghost use Rattle.std.specs.Io.KnownBytes.{Appends};
 ghost use Rattle.scim_json.specs.Documents.{IsDamagedAt};
 ghost use Rattle.scim_policy.specs.File.{policy_of};
@@ -11,17 +11,17 @@ ghost use Rattle.scim_audit.specs.declared.refusals.Refusal.{Refusal};
 ghost use Rattle.uuid.specs.Parts.{zero_bytes};
 ghost use Rattle.scim_exchange.specs.Replies as replies;
 ghost use Rattle.scim_command.specs.Inputs.{IsUnended};
-ghost use Rattle.scim_command.specs.code.Exits.{IsOfFiles, IsOfUsers, IsOfInput, text_or_store};
+ghost use Rattle.scim_command.specs.code.Exits.{IsOfFiles, IsOfInput, text_or_store};
 ghost use Rattle.scim_command.specs.Once.{Answers, AreSound, IsStoreOf, IsAnswer};
 
 use crate::answers::{refusal_text, reply_text};
 use crate::faults::RunFault;
 use crate::inputs::{InputFault, read_first};
+use crate::services::service_over;
 use crate::writing::write_or_fault;
 use scim_audit::Refusal;
-use scim_cell::{Id, Text};
+use scim_cell::Id;
 use scim_exchange::Arrival;
-use scim_json::read_documents;
 use scim_policy::read_policy;
 use scim_service::Service;
 use scim_shelf::{MemoryShelf, Shelf};
@@ -106,7 +106,7 @@ pub fn once<R: Read, W: Write>(
         × AppendsFront (W.contents writer.old) (W.contents writer.new) output) }
     ensures silent { IfErr result (λ f. f ≢ RunFault.Output → writer.new ≡ writer.old) }
 {
-    let mut service = service_over(alloc, setting)?;
+    let mut service = service_by(alloc, setting)?;
     let store = refusal_text(alloc, Refusal::Store, false)?;
     let arrival = Arrival {
         client: Some(setting.client),
@@ -121,7 +121,7 @@ pub fn once<R: Read, W: Write>(
 ///
 /// Policy, where the policy file is faulty; else Users, where the users file is damaged; NoMemory where none
 /// was to be had.
-fn service_over(alloc: Global, setting: &Setting<'_>) -> Result<Service<MemoryShelf>, RunFault>
+fn service_by(alloc: Global, setting: &Setting<'_>) -> Result<Service<MemoryShelf>, RunFault>
     ensures service { IfOk result (λ service. (store : Store)
         × IsStoreOf setting.now.base.now setting.now.users.now store
         × ⟦<MemoryShelf as Shelf>⟧.stands service.shelf store
@@ -134,9 +134,7 @@ fn service_over(alloc: Global, setting: &Setting<'_>) -> Result<Service<MemorySh
     ensures fault { IfErr result IsOfFiles }
 {
     let policy = read_policy(alloc, setting.policy)?;
-    let shelf = read_shelf(alloc, setting.base, setting.users)?;
-    let base = Text::copy_of(alloc, setting.base)?;
-    Ok(Service::new(policy, base, shelf))
+    service_over(alloc, policy, setting.users, setting.base)
 }
 
 /// The reply to the message that the reader opens with; NoMemory in it stands for the reply that
@@ -182,17 +180,4 @@ fn write_reply<W: Write>(
         Ok(text) => write_or_fault(text.as_str(), writer),
         Err(NoMemory) => write_or_fault(store, writer),
     }
-}
-
-/// A shelf of the resources of a users file.
-///
-/// Users, where it is damaged; NoMemory where none was to be had.
-fn read_shelf(alloc: Global, base: &str, text: &str) -> Result<MemoryShelf, RunFault>
-    ensures shelf { IfOk result (λ shelf. (store : Store)
-        × IsStoreOf base.now text.now store × ⟦<MemoryShelf as Shelf>⟧.stands shelf store) }
-    ensures damaged { (n : ℕ) → result ≡ Err (RunFault.Users n) → IsDamagedAt base.now text.now n }
-    ensures fault { IfErr result IsOfUsers }
-{
-    let resources = read_documents(alloc, base, text)?;
-    Ok(MemoryShelf::new(alloc, resources)?)
 }

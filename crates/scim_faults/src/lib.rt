@@ -3,6 +3,8 @@
 #![tactic(auto)]
 
 #[cfg(test)]
+mod served;
+#[cfg(test)]
 mod streams;
 #[cfg(test)]
 mod tests;

@@ -10,7 +10,6 @@ use Rattle.std.proofs.lemmas.List.Elements.{All-append, All-nil, All-cons}
 use Rattle.scim_policy.specs.Rules.{Rule}
 use Rattle.scim_wire.specs.Streams.{AppendsFront}
 use Rattle.scim_token.specs.TokenFile.{Entry}
-use Rattle.scim_hub.specs.declared.events.Event.{Event}
 use Rattle.scim_hub.specs.declared.events.HubFault.{HubFault}
 use Rattle.scim_hub.specs.declared.events.Output.{Output}
 use Rattle.scim_hub.specs.declared.events.Stamp.{Stamp}
@@ -19,7 +18,7 @@ use Rattle.scim_hub.specs.declared.streams.Served.{Served}
 use Rattle.scim_hub.specs.Halls.{deed_of}
 use Rattle.scim_hub.specs.code.Servings.{IsPieceServed}
 use Rattle.scim_hub.specs.declared.io_faults.IoFault.{IoFault}
-use Rattle.scim_hub.specs.Events.{Hall, Deed, Hears}
+use Rattle.scim_hub.specs.Events.{Seen, Hall, Deed, Hears}
 use Rattle.scim_hub.specs.Streams.{Grows, Turn, bytes_in, bytes_of, text_done, text_of, replies_of, is_shut, shuts, is_reply, is_shutting, text_in, IsPiece, IsPieceOf, IsWritten, AreBytesOf, AreServed, IsStreamServed}
 
 pub folds_on : {P A : Type 0} (R : P → A → P → Type 0) (p : P) (xs ys : List A) (m q : P) → FoldsTo R p xs m → FoldsTo R m ys q → FoldsTo R p (xs ++ ys) q
@@ -88,7 +87,7 @@ bytes_on xs ys bytes more result before after = record {
       ap (λ (l : List ℕ). l ++ more) (before.split ∙ ap (λ (l : List ℕ). bytes_of xs ++ l) before.none ∙ append-nil (bytes_of xs))
       ∙ ap (λ (l : List ℕ). bytes_of xs ++ l) after.split
       ∙ sym (append_assoc (bytes_of xs) (bytes_of ys) after.lost)
-      ∙ ap (λ (l : List ℕ). l ++ after.lost) (sym (flat_map-append (λ (t : Turn). bytes_in t.event.happening) xs ys));
+      ∙ ap (λ (l : List ℕ). l ++ after.lost) (sym (flat_map-append (λ (t : Turn). bytes_in t.event.happened) xs ys));
   none = after.none;
 }
 
@@ -173,15 +172,15 @@ module _ (policy : List Rule) (base : List ℕ) (entries : List Entry) (n : ℕ)
   always (Err e) P p = tt
 
   -- one turn of a piece
-  pub one_served : {T : Type 0} (hall next : Hall) (event : Event) (done : Result (List Deed) HubFault) (piece : List ℕ) (g h : Option (List Stamp)) (a b : Option (List ℕ)) (result : Result T IoFault)
-      → Hears policy base entries event hall done next → event.connection ≡ n → IsPiece event.happening → bytes_in event.happening ≡ piece → Grows g h (event.stamp ∷ [])
+  pub one_served : {T : Type 0} (hall next : Hall) (event : Seen) (done : Result (List Deed) HubFault) (piece : List ℕ) (g h : Option (List Stamp)) (a b : Option (List ℕ)) (result : Result T IoFault)
+      → Hears policy base entries event hall done next → event.connection ≡ n → IsPiece event.happened → bytes_in event.happened ≡ piece → Grows g h (event.stamp ∷ [])
       → IsWritten a b (text_done done) result → AreServed policy base entries n hall next (record { event = event; done = done } ∷ []) piece g h a b result
   one_served hall next event done piece g h a b result hears number is_piece brings stamped wrote = record {
     runs = (next, hears, refl);
     pieces = All-cons (IsPieceOf n) (record { event = event; done = done }) [] (number, is_piece) (All-nil (IsPieceOf n));
     brings = record {
       lost = [];
-      split = sym brings ∙ sym (append-nil (bytes_in event.happening)) ∙ sym (append-nil (bytes_in event.happening ++ []));
+      split = sym brings ∙ sym (append-nil (bytes_in event.happened)) ∙ sym (append-nil (bytes_in event.happened ++ []));
       none = always result ([] ≡ []) refl;
     };
     stamps = stamped;
@@ -204,8 +203,8 @@ module _ (policy : List Rule) (base : List ℕ) (entries : List Entry) (n : ℕ)
   }
 
   -- a piece that the hub answers a fault
-  pub piece_denied : (hall next : Hall) (event : Event) (fault : HubFault) (piece : List ℕ) (g h : Option (List Stamp)) (a : Option (List ℕ)) (told : IoFault)
-      → Hears policy base entries event hall (Err fault) next → event.connection ≡ n → IsPiece event.happening → bytes_in event.happening ≡ piece → Grows g h (event.stamp ∷ [])
+  pub piece_denied : (hall next : Hall) (event : Seen) (fault : HubFault) (piece : List ℕ) (g h : Option (List Stamp)) (a : Option (List ℕ)) (told : IoFault)
+      → Hears policy base entries event hall (Err fault) next → event.connection ≡ n → IsPiece event.happened → bytes_in event.happened ≡ piece → Grows g h (event.stamp ∷ [])
       → IsPieceServed policy base entries n hall next piece g h a a (Err told)
   piece_denied hall next event fault piece g h a told hears number is_piece brings stamped = record {
     turns = record { event = event; done = Err fault } ∷ [];
@@ -214,8 +213,8 @@ module _ (policy : List Rule) (base : List ℕ) (entries : List Entry) (n : ℕ)
   }
 
   -- a piece whose answer can't be written
-  pub piece_unwritten : (hall next : Hall) (event : Event) (deeds : List Deed) (piece : List ℕ) (g h : Option (List Stamp)) (a b : Option (List ℕ)) (told : IoFault)
-      → Hears policy base entries event hall (Ok deeds) next → event.connection ≡ n → IsPiece event.happening → bytes_in event.happening ≡ piece → Grows g h (event.stamp ∷ [])
+  pub piece_unwritten : (hall next : Hall) (event : Seen) (deeds : List Deed) (piece : List ℕ) (g h : Option (List Stamp)) (a b : Option (List ℕ)) (told : IoFault)
+      → Hears policy base entries event hall (Ok deeds) next → event.connection ≡ n → IsPiece event.happened → bytes_in event.happened ≡ piece → Grows g h (event.stamp ∷ [])
       → AppendsFront a b (flat_map text_in deeds) → IsPieceServed policy base entries n hall next piece g h a b (Err told)
   piece_unwritten hall next event deeds piece g h a b told hears number is_piece brings stamped wrote = record {
     turns = record { event = event; done = Ok deeds } ∷ [];
@@ -224,8 +223,8 @@ module _ (policy : List Rule) (base : List ℕ) (entries : List Entry) (n : ℕ)
   }
 
   -- a piece that is answered
-  pub piece_served : (hall next : Hall) (event : Event) (outputs : List Output) (piece : List ℕ) (g h : Option (List Stamp)) (a b : Option (List ℕ)) (w : Written)
-      → Hears policy base entries event hall (Ok (map deed_of outputs)) next → event.connection ≡ n → IsPiece event.happening → bytes_in event.happening ≡ piece → Grows g h (event.stamp ∷ [])
+  pub piece_served : (hall next : Hall) (event : Seen) (outputs : List Output) (piece : List ℕ) (g h : Option (List Stamp)) (a b : Option (List ℕ)) (w : Written)
+      → Hears policy base entries event hall (Ok (map deed_of outputs)) next → event.connection ≡ n → IsPiece event.happened → bytes_in event.happened ≡ piece → Grows g h (event.stamp ∷ [])
       → Appends a b (flat_map text_in (map deed_of outputs)) → w.replies ≡ count_by (λ o. is_reply (deed_of o)) outputs → w.shut ≡ list_any (λ o. is_shutting (deed_of o)) outputs
       → IsPieceServed policy base entries n hall next piece g h a b (Ok w)
   piece_served hall next event outputs piece g h a b w hears number is_piece brings stamped wrote replies shut = record {

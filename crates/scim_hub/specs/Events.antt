@@ -1,19 +1,27 @@
 -- What events of many connections come to: what is to be done for each connection, and how the connections and the store stand
 -- after it.
-use Rattle.std.specs.Prelude.{◌≡◌, ◌⊎◌, ℕ, ◌==◌, Bool, List, [], ◌∷◌, ◌++◌, map, zip, Result, Ok, Err, if◌then◌else◌}
-use Rattle.std.specs.List.{FoldsTo}
+use Rattle.std.specs.Prelude.{◌≡◌, ◌⊎◌, ℕ, ◌==◌, Bool, List, [], ◌∷◌, ◌++◌, map, Result, Ok, Err, if◌then◌else◌}
 use Rattle.scim_policy.specs.Rules.{Rule}
 use Rattle.scim_shelf.specs.Stores.{Store}
 use Rattle.scim_wire.specs.declared.messages.Item.{Item}
 use Rattle.scim_wire.specs.Messages.{HasItems}
 use Rattle.scim_token.specs.TokenFile.{Entry}
 use Rattle.scim_hub.specs.declared.events.Stamp.{Stamp}
-use Rattle.scim_hub.specs.declared.events.Event.{Event}
-use Rattle.scim_hub.specs.declared.events.Happening.{Happening}
-use Rattle.scim_hub.specs.declared.events.Happening.TheVariants.{Joined, Piece, Left}
 use Rattle.scim_hub.specs.declared.events.HubFault.{HubFault}
 use Rattle.scim_hub.specs.declared.events.HubFault.TheVariants.{AlreadyJoined, Unknown, Closed, NoMemory}
 use Rattle.scim_hub.specs.Answering.{AreAnswered}
+
+-- What happens to a connection: it is opened; the next piece of its stream comes, which has these bytes; or it is gone.
+pub data Happened : Type 0 where
+  joining : Happened
+  sending : List ℕ → Happened
+  leaving : Happened
+
+-- an event: what happens to the connection of a number, when, and with which id for what it makes
+pub record Seen : Type 0 where
+  pub connection : ℕ
+  pub stamp : Stamp
+  pub happened : Happened
 
 -- A connection: there is none of the number; or one of which this has come, which gave these items; or one of which nothing more
 -- is read.
@@ -98,16 +106,18 @@ module _ (policy : List Rule) (base : List ℕ) (entries : List Entry) where
       IsTaken stamp n (stream ++ bytes) items hall result next ⊎ IsCutOff stamp n (stream ++ bytes) items hall result next
 
   -- what happens to the connection of a number
-  abbrev pub Meets : Happening → Stamp → ℕ → Hall → Result (List Deed) HubFault → Hall → Type 0
-  Meets Joined stamp n hall result next = Joins (hall.connections n) n hall result next
-  Meets (Piece bytes) stamp n hall result next = Takes (hall.connections n) stamp n bytes.now hall result next
-  Meets Left stamp n hall result next = Leaves (hall.connections n) n hall result next
+  abbrev pub Meets : Happened → Stamp → ℕ → Hall → Result (List Deed) HubFault → Hall → Type 0
+  Meets joining stamp n hall result next = Joins (hall.connections n) n hall result next
+  Meets (sending bytes) stamp n hall result next = Takes (hall.connections n) stamp n bytes hall result next
+  Meets leaving stamp n hall result next = Leaves (hall.connections n) n hall result next
 
   -- an event is answered so, and this is the hall after it
-  abbrev pub Hears : Event → Hall → Result (List Deed) HubFault → Hall → Type 0
-  Hears event hall result next = Meets event.happening event.stamp event.connection hall result next
+  abbrev pub Hears : Seen → Hall → Result (List Deed) HubFault → Hall → Type 0
+  Hears seen hall result next = Meets seen.happened seen.stamp seen.connection hall result next
 
-  -- events are answered so, one after another, and this is the hall after the last
-  abbrev pub Runs : Hall → List Event → List (Result (List Deed) HubFault) → Hall → Type 0
-  Runs hall events results next =
-      FoldsTo (λ h (pair : Event × Result (List Deed) HubFault) t. Hears pair.0 h pair.1 t) hall (zip events results) next
+  -- events are answered so, one after another, each by one result, and this is the hall after the last
+  abbrev pub Runs : Hall → List Seen → List (Result (List Deed) HubFault) → Hall → Type 0
+  Runs hall [] results next = (results ≡ []) × (next ≡ hall)
+  Runs hall (seen ∷ events) results next =
+      (result : Result (List Deed) HubFault) × (mid : Hall) × (rest : List (Result (List Deed) HubFault))
+      × (results ≡ result ∷ rest) × Hears seen hall result mid × Runs mid events rest next

@@ -8,11 +8,17 @@ use Rattle.scim_wire.specs.Wires.{StandsFor}
 use Rattle.scim_hub.specs.declared.connections.Connection as code
 use Rattle.scim_hub.specs.declared.connections.Connection.TheVariants.{Open, Shut}
 use Rattle.scim_hub.specs.declared.connections.Connections.{Connections}
+use Rattle.scim_hub.specs.declared.events.Event.{Event}
+use Rattle.scim_hub.specs.declared.events.Happening.{Happening}
+use Rattle.scim_hub.specs.declared.events.Happening.TheVariants.{Joined, Piece, Left}
 use Rattle.scim_hub.specs.declared.events.HubFault.{HubFault}
 use Rattle.scim_hub.specs.declared.events.Output.{Output}
 use Rattle.scim_hub.specs.declared.events.Output.TheVariants as output
 use Rattle.scim_hub.specs.declared.hubs.Hub.{Hub}
-use Rattle.scim_hub.specs.Events.{Connection, absent, joined, shut, Hall, Deed, writing, shutting}
+use Rattle.scim_hub.specs.declared.recorded.Happened as kept
+use Rattle.scim_hub.specs.declared.recorded.Happened.TheVariants as kept_variant
+use Rattle.scim_hub.specs.declared.recorded.Recorded.{Recorded}
+use Rattle.scim_hub.specs.Events.{Happened, joining, sending, leaving, Seen, Connection, absent, joined, shut, Hall, Deed, writing, shutting}
 
 -- what is kept of a connection stands for it
 abbrev pub IsKept : Option code.Connection → Connection → Type 0
@@ -30,6 +36,25 @@ pub record IsHall {H : Type 0} (Stands : H → Store → Type 0) (hub : Hub H) (
   pub store : Stands hub.service.shelf hall.store
   pub is_store : IsStore hub.service.base hall.store
   pub connections : AreConnections hub.connections hall.connections
+
+-- what happens to a connection, with the bytes of a piece
+abbrev pub happened_of : Happening → Happened
+happened_of Joined = joining
+happened_of (Piece bytes) = sending bytes.now
+happened_of Left = leaving
+
+-- the event, with the bytes of a piece
+abbrev pub seen_of : Event → Seen
+seen_of event = record { connection = event.connection; stamp = event.stamp; happened = happened_of event.happening }
+
+-- the same of an event that is kept
+abbrev pub kept_happened : kept.Happened → Happened
+kept_happened kept_variant.Joined = joining
+kept_happened (kept_variant.Piece bytes) = sending bytes.items
+kept_happened kept_variant.Left = leaving
+
+abbrev pub recorded_of : Recorded → Seen
+recorded_of r = record { connection = r.connection; stamp = r.stamp; happened = kept_happened r.happened }
 
 -- what is done by an output
 abbrev pub deed_of : Output → Deed

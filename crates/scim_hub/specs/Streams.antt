@@ -6,16 +6,13 @@ use Rattle.std.specs.Io.KnownBytes.{Appends, Consumes, IsAtEnd}
 use Rattle.scim_policy.specs.Rules.{Rule}
 use Rattle.scim_wire.specs.Streams.{AppendsFront}
 use Rattle.scim_token.specs.TokenFile.{Entry}
-use Rattle.scim_hub.specs.declared.events.Event.{Event}
-use Rattle.scim_hub.specs.declared.events.Happening.{Happening}
-use Rattle.scim_hub.specs.declared.events.Happening.TheVariants.{Piece}
 use Rattle.scim_hub.specs.declared.events.HubFault.{HubFault}
 use Rattle.scim_hub.specs.declared.events.Stamp.{Stamp}
 use Rattle.scim_hub.specs.declared.io_faults.IoFault.{IoFault}
 use Rattle.scim_hub.specs.declared.io_faults.IoFault.TheVariants.{Hub}
 use Rattle.scim_hub.specs.declared.streams.Served.{Served}
 use Rattle.scim_hub.specs.Answering.{continue_text}
-use Rattle.scim_hub.specs.Events.{Hall, Deed, writing, shutting, Joins, Leaves, Hears}
+use Rattle.scim_hub.specs.Events.{Happened, sending, Seen, Hall, Deed, writing, shutting, Joins, Leaves, Hears}
 
 -- known stamps grow by these
 abbrev pub Grows : Option (List Stamp) → Option (List Stamp) → List Stamp → Type 0
@@ -25,17 +22,17 @@ Grows (Some xs) (Some ys) stamps = ys ≡ xs ++ stamps
 
 -- an event, and what was done for it
 pub record Turn : Type 0 where
-  pub event : Event
+  pub event : Seen
   pub done : Result (List Deed) HubFault
 
 -- the bytes that come with what happens
-abbrev pub bytes_in : Happening → List ℕ
-bytes_in (Piece bytes) = bytes.now
+abbrev pub bytes_in : Happened → List ℕ
+bytes_in (sending bytes) = bytes
 bytes_in _ = []
 
 -- the bytes of turns, in order
 abbrev pub bytes_of : List Turn → List ℕ
-bytes_of turns = flat_map (λ t. bytes_in t.event.happening) turns
+bytes_of turns = flat_map (λ t. bytes_in t.event.happened) turns
 
 -- the text that a deed writes
 abbrev pub text_in : Deed → List ℕ
@@ -78,13 +75,13 @@ abbrev pub is_shut : List Turn → Bool
 is_shut turns = list_any (λ t. shuts t.done) turns
 
 -- a piece of the stream
-abbrev pub IsPiece : Happening → Type 0
-IsPiece (Piece bytes) = ⊤
+abbrev pub IsPiece : Happened → Type 0
+IsPiece (sending bytes) = ⊤
 IsPiece _ = ⊥
 
 -- a turn of a piece of the connection's stream
 abbrev pub IsPieceOf : ℕ → Turn → Type 0
-IsPieceOf n turn = (turn.event.connection ≡ n) × IsPiece turn.event.happening
+IsPieceOf n turn = (turn.event.connection ≡ n) × IsPiece turn.event.happened
 
 -- the text was written, or a front of it where that failed
 abbrev pub IsWritten : {T : Type 0} → Option (List ℕ) → Option (List ℕ) → List ℕ → Result T IoFault → Type 0

@@ -1,10 +1,10 @@
 //! The hub: connections over one service.
-ghost use Rattle.std.specs.Prelude.{◌≡◌, List, IfOk, OnErr, length, map};
+ghost use Rattle.std.specs.Prelude.{◌≡◌, List, IfOk, OnErr, map};
 ghost use Rattle.scim_token.specs.TokenFile.{Entry};
 ghost use Rattle.scim_token.specs.Tokens.{Knows};
 ghost use Rattle.scim_shelf.specs.Stores.{Store, IsStore};
 ghost use Rattle.scim_hub.specs.Events.{Hall, Hears, Runs, none_joined};
-ghost use Rattle.scim_hub.specs.Halls.{IsHall, done};
+ghost use Rattle.scim_hub.specs.Halls.{IsHall, seen_of, done};
 ghost use Rattle.scim_hub.specs.code.Changes.{TakesPiece};
 
 use crate::answering::{Replies, answer_items};
@@ -58,7 +58,7 @@ impl<S: Shelf> Hub<S> {
         ensures base { self.new.service.base ≡ self.old.service.base }
         ensures tokens { self.new.tokens ≡ self.old.tokens }
         ensures heard { (entries : List Entry) (hall : Hall) → Knows entries self.old.tokens → IsHall S.stands self.old hall → S.is_honest self.new.service.shelf
-            → (next : Hall) × IsHall S.stands self.new next × Hears self.old.service.policy self.old.service.base entries event.now hall (done result) next }
+            → (next : Hall) × IsHall S.stands self.new next × Hears self.old.service.policy self.old.service.base entries (seen_of event.now) hall (done result) next }
         ensures honest { S.is_honest self.new.service.shelf → S.is_honest self.old.service.shelf }
     {
         match event.happening {
@@ -131,8 +131,7 @@ impl<S: Shelf> Hub<S> {
         ensures ran { IfOk result (λ results. (entries : List Entry) (hall : Hall) → Knows entries self.old.tokens → IsHall S.stands self.old hall
             → S.is_honest self.new.service.shelf
             → (next : Hall) × IsHall S.stands self.new next
-            × Runs self.old.service.policy self.old.service.base entries hall events.now (map done results.items) next) }
-        ensures each { IfOk result (λ results. length results.items ≡ length events.now) }
+            × Runs self.old.service.policy self.old.service.base entries hall (map seen_of events.now) (map done results.items) next) }
         ensures nothing { OnErr result (self.new ≡ self.old) }
         ensures honest { S.is_honest self.new.service.shelf → S.is_honest self.old.service.shelf }
     {

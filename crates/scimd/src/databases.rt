@@ -98,12 +98,20 @@ fn open(rt: &HostRuntime, path: &str) -> Result<Connection<FileStore<File>>, Run
 /// Opens the store in the database at a path, where there is one. Documents don't hold the base of their resources: it is
 /// the one that is meant where nothing else is said.
 fn open_shelf(rt: &HostRuntime, path: &str) -> Result<SqlShelf<FileStore<File>>, CommandFault> {
-    let alloc = rt.alloc();
     if !matches!(fs::exists(rt, path), Ok(true)) {
-        return Err(CommandFault::cannot_read(alloc, path));
+        return Err(CommandFault::cannot_read(rt.alloc(), path));
     }
+    open_store(rt, path, DEFAULT_BASE)
+}
+
+/// Opens the store in the database at a path, which is made where there is none. Its resources stand below the base.
+pub(crate) fn open_store(
+    rt: &HostRuntime,
+    path: &str,
+    base: &str,
+) -> Result<SqlShelf<FileStore<File>>, CommandFault> {
     let connection = open(rt, path)?;
-    match SqlShelf::open(alloc, connection, DEFAULT_BASE) {
+    match SqlShelf::open(rt.alloc(), connection, base) {
         Ok(shelf) => Ok(shelf),
         Err((fault, connection)) => {
             close(connection);
@@ -114,6 +122,6 @@ fn open_shelf(rt: &HostRuntime, path: &str) -> Result<SqlShelf<FileStore<File>>,
 
 /// Closes a database. Nothing is lost where that fails: what was committed stands in its log, which is read when it is
 /// opened again.
-fn close(connection: Connection<FileStore<File>>) {
+pub(crate) fn close(connection: Connection<FileStore<File>>) {
     let _closed = connection.close();
 }

@@ -1,6 +1,7 @@
 //! The files that a command is given.
-use scim_command::{CommandFault, OnceOptions, RunFault, Setting};
+use scim_command::{CommandFault, OnceOptions, ReplayOptions, RunFault, Setting};
 use scim_policy::{Cause, read_policy};
+use scim_replay::Recording;
 use std::alloc::Global;
 use std::fs;
 use std::rt::Files;
@@ -46,6 +47,42 @@ pub(crate) fn read_texts(
     }
 }
 
+/// The texts of the files of `replay`.
+#[derive(Drop)]
+pub(crate) struct ReplayTexts {
+    policy: String,
+    tokens: String,
+    users: String,
+    events: String,
+}
+
+impl ReplayTexts {
+    /// The texts of the files that the options name. The fault is that of the first that cannot be read, or is no text.
+    pub(crate) fn read(
+        rt: &(impl Files + AllocGlobal),
+        alloc: Global,
+        options: &ReplayOptions<'_>,
+    ) -> Result<ReplayTexts, CommandFault> {
+        Ok(ReplayTexts {
+            policy: read_policy_text(rt, alloc, options.policy)?,
+            tokens: read_tokens_text(rt, alloc, options.tokens)?,
+            users: read_users_text(rt, alloc, options.users)?,
+            events: read_text(rt, alloc, options.events, RunFault::Events(0))?,
+        })
+    }
+
+    /// What `replay` answers, below the base.
+    pub(crate) fn recording<'a>(&'a self, base: &'a str) -> Recording<'a> {
+        Recording {
+            policy: self.policy.as_str(),
+            tokens: self.tokens.as_str(),
+            users: self.users.as_str(),
+            events: self.events.as_str(),
+            base,
+        }
+    }
+}
+
 /// The text of the policy file at this path.
 pub(crate) fn read_policy_text(
     rt: &(impl Files + AllocGlobal),
@@ -57,6 +94,15 @@ pub(crate) fn read_policy_text(
         cause: Cause::Json,
     };
     read_text(rt, alloc, path, not_text)
+}
+
+/// The text of the token file at this path.
+pub(crate) fn read_tokens_text(
+    rt: &(impl Files + AllocGlobal),
+    alloc: Global,
+    path: &str,
+) -> Result<String, CommandFault> {
+    read_text(rt, alloc, path, RunFault::Tokens(0))
 }
 
 /// The text of the users file at this path.

@@ -5,11 +5,16 @@
 
 mod databases;
 mod files;
+mod servers;
 
 use anyhow::Result;
 use clap::{ArgMatches, Error};
 use databases::{run_audit, run_explain, run_export, run_import};
-use scim_command::{CheckOptions, CommandFault, OnceOptions, RunFault, check, command, once};
+use scim_command::{
+    CheckOptions, CommandFault, OnceOptions, ReplayOptions, RunFault, check, command, once,
+};
+use scim_replay::replay;
+use servers::run_serve;
 use std::env;
 use std::io::ErrorKind;
 use std::process::ExitCode;
@@ -55,6 +60,8 @@ fn run_matches(rt: &HostRuntime, matches: &ArgMatches<'_>) -> Result<ExitCode> {
     let done = match matches.subcommand() {
         Some(("once", matches)) => run_once(rt, matches),
         Some(("check", matches)) => run_check(rt, matches),
+        Some(("replay", matches)) => run_replay(rt, matches),
+        Some(("serve", matches)) => run_serve(rt, matches),
         Some(("explain", matches)) => run_explain(rt, matches),
         Some(("audit", matches)) => run_audit(rt, matches),
         Some(("export", matches)) => run_export(rt, matches),
@@ -82,6 +89,15 @@ fn run_once(rt: &HostRuntime, matches: &ArgMatches<'_>) -> Result<(), CommandFau
     let texts = files::read_texts(rt, alloc, options.policy, options.users)?;
     let setting = texts.setting(&options);
     once(alloc, &setting, &mut rt.stdin(), &mut rt.stdout())?;
+    Ok(())
+}
+
+/// `replay`: answers the events of a file.
+fn run_replay(rt: &HostRuntime, matches: &ArgMatches<'_>) -> Result<(), CommandFault> {
+    let options = ReplayOptions::of(matches)?;
+    let texts = files::ReplayTexts::read(rt, rt.alloc(), &options)?;
+    let recording = texts.recording(options.base);
+    replay(rt.alloc(), &recording, &mut rt.stdout())?;
     Ok(())
 }
 

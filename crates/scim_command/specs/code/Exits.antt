@@ -3,15 +3,10 @@ use Rattle.std.specs.Prelude.{ℕ, false, List, Result, Ok, Err, String, string_
 use Rattle.std.specs.declared.alloc.Global.{Global}
 use Rattle.scim_text.specs.declared.memory.NoMemory.{NoMemory}
 use Rattle.scim_command.specs.declared.faults.RunFault.{RunFault}
-use Rattle.scim_command.specs.declared.faults.RunFault.TheVariants.{Policy, Users, InputEnded, InputFailed, NoMemory as WantOfMemory}
+use Rattle.scim_command.specs.declared.faults.RunFault.TheVariants.{Policy, InputEnded, InputFailed, NoMemory as WantOfMemory}
+use Rattle.scim_command.specs.Faults.{IsOfUsers}
 use Rattle.scim_audit.specs.declared.refusals.Refusal.TheVariants.{Store}
 use Rattle.scim_exchange.specs.Replies.{refusal_text}
-
--- a fault of the users file, or want of memory
-abbrev pub IsOfUsers : RunFault → Type 0
-IsOfUsers (Users n) = Unit {0}
-IsOfUsers WantOfMemory = Unit {0}
-IsOfUsers _ = ⊥
 
 -- a fault of the input
 abbrev pub IsOfInput : RunFault → Type 0

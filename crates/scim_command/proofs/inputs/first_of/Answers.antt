@@ -1,4 +1,4 @@
-use Rattle.std.proofs.Common.{◌≡◌, ◌∙◌, sym, [], ◌∷◌, ◌++◌, Ok, Err}
+use Rattle.std.proofs.Common.{◌∙◌, sym, [], ◌∷◌, ◌++◌, Ok, Err}
 use Rattle.std.proofs.iter.Next.{Yields-more}
 use Rattle.std.specs.Vec.Iter.{into_iter_items, into_iter_steps}
 use Rattle.scim_command.proofs.InputLemmas.{first_at, taken_front}

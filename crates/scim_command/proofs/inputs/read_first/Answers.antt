@@ -1,4 +1,4 @@
-use Rattle.std.proofs.Common.{rules, ◌≡◌, ap, List, ℕ, [], ◌++◌, take}
+use Rattle.std.proofs.Common.{rules, ◌≡◌, ap, ◌++◌, take}
 use Rattle.std.proofs.KnownBytes.{Consumes-trans}
 use Rattle.std.proofs.lemmas.List.Elements.{All-append}
 use Rattle.scim_wire.proofs.Facts.{items_from_stands}

@@ -7,7 +7,8 @@ use Rattle.scim_wire.specs.Streams.{AppendsFront}
 use Rattle.scim_exchange.specs.Replies.{refusal_text}
 use Rattle.scim_command.specs.Once.{Answers}
 use Rattle.scim_command.specs.code.Exits.{text_or_store}
-use Rattle.scim_command.proofs.AnswerLemmas.{is_store, answers_files, written, sound_files}
+use Rattle.scim_command.proofs.AnswerLemmas.{answers_files, written, sound_files}
+use Rattle.scim_command.proofs.Facts.{is_store}
 use Rattle.scim_command.proofs.run_once.once.Goals as goal
 
 pub returns-in_err-service-clause-users : goal.returns-in_err-service-clause-users

@@ -1,4 +1,4 @@
-use Rattle.std.proofs.Common.{Ok, Err}
+use Rattle.std.proofs.Common.{Ok}
 use Rattle.scim_command.proofs.AnswerLemmas.{answers_first}
 use Rattle.scim_command.proofs.run_once.reply_to.Goals as goal
 

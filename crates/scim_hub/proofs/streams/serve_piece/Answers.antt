@@ -3,9 +3,8 @@ use Rattle.std.specs.List.{flat_map}
 use Rattle.std.specs.Io.KnownBytes.{Appends}
 use Rattle.std.proofs.lemmas.Result.{err_from_is_err_and}
 use Rattle.scim_wire.specs.Streams.{AppendsFront}
-use Rattle.scim_hub.specs.declared.events.Event.{Event}
-use Rattle.scim_hub.specs.declared.events.Happening.TheVariants.{Piece}
 use Rattle.scim_hub.specs.declared.events.Output.{Output}
+use Rattle.scim_hub.specs.Events.{Seen, sending}
 use Rattle.scim_hub.specs.Halls.{deed_of}
 use Rattle.scim_hub.specs.Streams.{text_in}
 use Rattle.scim_hub.proofs.StreamLemmas.{not_served, piece_denied, piece_unwritten, piece_served}
@@ -18,7 +17,7 @@ returns-in_err-stamp-clause-served g c entries hall knows is honest =
 
 pub returns-in_err-outputs-clause-served : goal.returns-in_err-outputs-clause-served
 returns-in_err-outputs-clause-served g c entries hall knows is honest =
-    let event : Event = record { connection = c.args.connection; stamp = c.in_ok-stamp.stamp; happening = Piece c.args.piece } in
+    let event : Seen = record { connection = c.args.connection; stamp = c.in_ok-stamp.stamp; happened = sending c.args.piece.now } in
     let step = c.in_err-outputs.ensures.heard entries hall knows is honest in
     let p = err_from_is_err_and c.from_residual-in_err-outputs.result c.from_residual-in_err-outputs.ensures.1 in (
       step.0,
@@ -29,7 +28,7 @@ returns-in_err-outputs-clause-served g c entries hall knows is honest =
 
 pub returns-in_err-write_outputs-clause-served : goal.returns-in_err-write_outputs-clause-served
 returns-in_err-write_outputs-clause-served g c entries hall knows is honest =
-    let event : Event = record { connection = c.args.connection; stamp = c.in_ok-stamp.stamp; happening = Piece c.args.piece } in
+    let event : Seen = record { connection = c.args.connection; stamp = c.in_ok-stamp.stamp; happened = sending c.args.piece.now } in
     let outputs = c.in_ok-outputs.outputs.items in
     let step = c.in_ok-outputs.ensures.heard entries hall knows is honest in
     let p = err_from_is_err_and c.from_residual-in_err-write_outputs.result c.from_residual-in_err-write_outputs.ensures.1 in
@@ -43,7 +42,7 @@ returns-in_err-write_outputs-clause-served g c entries hall knows is honest =
 
 pub returns-clause-served : goal.returns-clause-served
 returns-clause-served g c entries hall knows is honest =
-    let event : Event = record { connection = c.args.connection; stamp = c.in_ok-stamp.stamp; happening = Piece c.args.piece } in
+    let event : Seen = record { connection = c.args.connection; stamp = c.in_ok-stamp.stamp; happened = sending c.args.piece.now } in
     let outputs = c.in_ok-outputs.outputs.items in
     let step = c.in_ok-outputs.ensures.heard entries hall knows is honest in
     let wrote = subst (λ (xs : List Output). Appends (g.W.Write.contents c.args.writer.now) (g.W.Write.contents c.write_outputs.new.writer) (flat_map text_in (map deed_of xs)))

@@ -1,0 +1,109 @@
+//! The events of a case as the text of an events file.
+use case_runs::request_bytes;
+use case_values::{Case, CaseFault, push_all, said, shown};
+use serde_json::Value;
+use std::alloc::Global;
+
+/// When an event comes, where the case doesn't say it.
+const NOON: &str = "2024-06-01T12:00:00Z";
+
+/// The id for what its first message makes, where the case doesn't say it.
+const FRESH: &str = "00000000-0000-4000-8000-0000000000e1";
+
+/// The lines of the list `events`. An event is a line as it stands; or an object with the connection `on` which `joins`, `leaves`, or
+/// sends a `request`; or an object with a list `interleaved` of such that send, which do so by turns, a byte each. `at` and
+/// `first` are its stamp.
+pub(crate) fn events_text(case: &Case<'_>) -> Result<String, CaseFault> {
+    let mut text = String::new(case.alloc);
+    for value in case.list("events") {
+        let event = Case {
+            alloc: case.alloc,
+            value,
+        };
+        let lines = event_lines(&event)?;
+        text.push_str(lines.as_str())?;
+    }
+    Ok(text)
+}
+
+fn event_lines(event: &Case<'_>) -> Result<String, CaseFault> {
+    if let Value::String(line) = event.value {
+        return line_of(event.alloc, &[line.as_str()]);
+    }
+    if event.value.get("interleaved").is_some() {
+        return interleaved(event);
+    }
+    if event.is_true("joins") {
+        return change_line(event, "joined", "");
+    }
+    if event.is_true("leaves") {
+        return change_line(event, "left", "");
+    }
+    piece_line(event, request_bytes(event)?.as_slice())
+}
+
+/// The line of these words, with its end.
+fn line_of(alloc: Global, words: &[&str]) -> Result<String, CaseFault> {
+    let mut line = String::new(alloc);
+    push_all(&mut line, words)?;
+    line.push_str("\n")?;
+    Ok(line)
+}
+
+/// The line of what happens to the connection of an event, with what stands behind its number.
+fn change_line(event: &Case<'_>, name: &str, behind: &str) -> Result<String, CaseFault> {
+    let connection = shown(event.alloc, &event.count("on")?)?;
+    let at = event.text_or("at", NOON);
+    let first = event.text_or("first", FRESH);
+    let words = [at, " ", first, " ", name, " ", connection.as_str(), behind];
+    line_of(event.alloc, &words)
+}
+
+/// The line of a piece.
+pub(crate) fn piece_line(event: &Case<'_>, bytes: &[u8]) -> Result<String, CaseFault> {
+    let digits = hex::encode(event.alloc, bytes)?;
+    let mut behind = said(event.alloc, " ")?;
+    behind.push_str(digits.as_str())?;
+    change_line(event, "piece", behind.as_str())
+}
+
+/// The lines of two streams that come by turns, a byte each.
+fn interleaved(event: &Case<'_>) -> Result<String, CaseFault> {
+    let [first, second] = event.list("interleaved") else {
+        return Err(CaseFault::Missing("interleaved"));
+    };
+    let first = Case {
+        alloc: event.alloc,
+        value: first,
+    };
+    let second = Case {
+        alloc: event.alloc,
+        value: second,
+    };
+    by_turns(&first, &second)
+}
+
+fn by_turns(first: &Case<'_>, second: &Case<'_>) -> Result<String, CaseFault> {
+    let ones = request_bytes(first)?;
+    let others = request_bytes(second)?;
+    let mut text = String::new(first.alloc);
+    for index in 0..ones.len().max(others.len()) {
+        push_byte(first, ones.as_slice(), index, &mut text)?;
+        push_byte(second, others.as_slice(), index, &mut text)?;
+    }
+    Ok(text)
+}
+
+/// Adds the line of a stream's byte at an index, if it has one there.
+fn push_byte(
+    event: &Case<'_>,
+    bytes: &[u8],
+    index: usize,
+    text: &mut String,
+) -> Result<(), CaseFault> {
+    if let Some(byte) = bytes.get(index) {
+        let line = piece_line(event, &[*byte])?;
+        text.push_str(line.as_str())?;
+    }
+    Ok(())
+}

@@ -1,0 +1,56 @@
+//! What is to be done for the events of a case.
+use crate::requests::{message_text, push_lines};
+use case_values::{Case, CaseFault, push_all, said, shown};
+use serde_json::Value;
+
+/// The lines of the list `outputs`, and then those of `audit`. An output is a line as `replay` writes it; or an object with the
+/// connection `to` which a text is written, and the text as a `reply` of whole requests. A list in the list holds lines.
+pub(crate) fn outputs_text(case: &Case<'_>) -> Result<String, CaseFault> {
+    let mut text = String::new(case.alloc);
+    for value in case.list("outputs") {
+        let output = Case {
+            alloc: case.alloc,
+            value,
+        };
+        let lines = output_lines(&output)?;
+        text.push_str(lines.as_str())?;
+    }
+    push_lines(case, "audit", ";", &mut text)?;
+    Ok(text)
+}
+
+/// The lines of an output.
+fn output_lines(output: &Case<'_>) -> Result<String, CaseFault> {
+    match output.value {
+        Value::String(line) => with_end(output, line.as_str()),
+        Value::Array(lines) => lines_of(output, lines.as_slice()),
+        _ => write_line(output),
+    }
+}
+
+fn with_end(output: &Case<'_>, line: &str) -> Result<String, CaseFault> {
+    let mut text = said(output.alloc, line)?;
+    text.push_str("\n")?;
+    Ok(text)
+}
+
+fn lines_of(output: &Case<'_>, lines: &[Value]) -> Result<String, CaseFault> {
+    let mut text = String::new(output.alloc);
+    for line in lines {
+        push_all(&mut text, &[line.as_str().unwrap_or("no line"), "\n"])?;
+    }
+    Ok(text)
+}
+
+/// The line that a reply is written by.
+fn write_line(output: &Case<'_>) -> Result<String, CaseFault> {
+    let connection = shown(output.alloc, &output.count("to")?)?;
+    let reply = message_text(output, "reply", "gives", false)?;
+    let digits = hex::encode(output.alloc, reply.as_str())?;
+    let mut text = String::new(output.alloc);
+    push_all(
+        &mut text,
+        &["write ", connection.as_str(), " ", digits.as_str(), "\n"],
+    )?;
+    Ok(text)
+}

@@ -1,0 +1,4 @@
+pub mod EventFiles
+pub mod Outputs
+pub mod Replays
+pub mod code

@@ -1,0 +1,29 @@
+-- What is written for the results of events.
+use Rattle.std.specs.Prelude.{ℕ, List, [], ◌∷◌, ◌++◌, codes, decimal, Result, Ok, Err}
+use Rattle.std.specs.List.{flat_map}
+use Rattle.hex.specs.Hex.{encode_lower}
+use Rattle.scim_hub.specs.declared.events.HubFault.{HubFault}
+use Rattle.scim_hub.specs.declared.events.HubFault.TheVariants.{AlreadyJoined, Unknown, Closed, NoMemory}
+use Rattle.scim_hub.specs.Events.{Deed, writing, shutting, Seen}
+
+-- a line for what is to be done: a text that is written to a connection, in hex, or a connection that is shut
+abbrev pub deed_line : Deed → List ℕ
+deed_line (writing n text) = codes "write " ++ decimal n ++ codes " " ++ encode_lower text ++ codes "\n"
+deed_line (shutting n) = codes "close " ++ decimal n ++ codes "\n"
+
+-- why an event isn't answered
+abbrev pub fault_words : HubFault → List ℕ
+fault_words AlreadyJoined = codes "already joined"
+fault_words Unknown = codes "unknown"
+fault_words Closed = codes "closed"
+fault_words NoMemory = codes "out of memory"
+
+-- the lines for the result of an event of a connection: what is to be done, or why nothing is
+abbrev pub result_lines : ℕ → Result (List Deed) HubFault → List ℕ
+result_lines n (Ok deeds) = flat_map deed_line deeds
+result_lines n (Err fault) = codes "fault " ++ decimal n ++ codes " " ++ fault_words fault ++ codes "\n"
+
+-- the lines for the results of events, in order
+abbrev pub results_text : List Seen → List (Result (List Deed) HubFault) → List ℕ
+results_text (event ∷ events) (result ∷ results) = result_lines event.connection result ++ results_text events results
+results_text _ _ = []

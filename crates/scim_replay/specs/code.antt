@@ -1,0 +1,3 @@
+-- How the functions of the replay end.
+pub mod Exits
+pub mod Findings

@@ -1,0 +1,4 @@
+pub mod EventLemmas
+pub mod FitLemmas
+pub mod LevelLemmas
+pub mod WholeLemmas

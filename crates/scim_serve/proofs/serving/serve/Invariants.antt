@@ -1,0 +1,26 @@
+use Rattle.std.proofs.Common.{◌≡◌, ℕ, List, [], IsTrue}
+use Rattle.std.specs.Prelude.{Result}
+use Rattle.scim_token.specs.TokenFile.{Entry}
+use Rattle.scim_token.specs.Tokens.{Knows}
+use Rattle.scim_hub.specs.declared.events.HubFault.{HubFault}
+use Rattle.scim_hub.specs.Events.{Deed, Hall, Runs}
+use Rattle.scim_hub.specs.Halls.{IsHall}
+use Rattle.scim_serve.specs.Serving.{due}
+use Rattle.scim_serve.specs.code.Levels.{IsLevel}
+use Rattle.scim_serve.specs.code.Wholes.{IsWhole}
+use Rattle.scim_serve.proofs.serving.serve.Given as goal
+
+-- the events so far were answered, and what was written and what waits are what is due
+abbrev pub invariant-loop : goal.invariant-loop
+invariant-loop g l = record {
+  policy : l.hub.service.policy ≡ l.fn.hub.service.policy;
+  base : l.hub.service.base ≡ l.fn.hub.service.base;
+  tokens : l.hub.tokens ≡ l.fn.hub.tokens;
+  served : IsTrue g.P.Peers.is_known → (entries : List Entry) (hall : Hall) → g.P.Peers.seen l.fn.peers ≡ [] → ((m : ℕ) → g.P.Peers.written l.fn.peers m ≡ [])
+      → Knows entries l.fn.hub.tokens → IsHall g.S.Shelf.stands l.fn.hub hall → g.S.Shelf.is_honest l.hub.service.shelf
+      → (results : List (Result (List Deed) HubFault)) × (next : Hall) × IsHall g.S.Shelf.stands l.hub next
+      × Runs l.fn.hub.service.policy l.fn.hub.service.base entries hall (g.P.Peers.seen l.peers) results next
+      × IsLevel (g.P.Peers.written l.peers) l.waiting (λ m. due m results)
+      × IsWhole hall next (g.P.Peers.seen l.peers) (g.P.Peers.takes_all l.peers) (g.P.Peers.is_closed l.peers) l.waiting (λ m. due m results);
+  honest : g.S.Shelf.is_honest l.hub.service.shelf → g.S.Shelf.is_honest l.fn.hub.service.shelf;
+}

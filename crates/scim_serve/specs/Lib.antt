@@ -1,0 +1,3 @@
+pub mod Peers
+pub mod Serving
+pub mod code

@@ -1,0 +1,17 @@
+-- What connections tell.
+use Rattle.std.specs.Prelude.{Bool, true, false, List, [], ◌∷◌, Option, None, Some, Result, Ok}
+use Rattle.scim_hub.specs.Events.{Seen}
+use Rattle.scim_hub.specs.Halls.{recorded_of}
+use Rattle.scim_serve.specs.declared.peers.Incident.{Incident}
+use Rattle.scim_serve.specs.declared.peers.Incident.TheVariants.{Event}
+use Rattle.scim_serve.specs.declared.peers.PeersFault.{PeersFault}
+
+-- the event that was told, if one was
+abbrev pub told_by : Result (Option Incident) PeersFault → List Seen
+told_by (Ok (Some (Event event))) = recorded_of event ∷ []
+told_by _ = []
+
+-- whether it was told that all is over
+abbrev pub ends : Result (Option Incident) PeersFault → Bool
+ends (Ok None) = true
+ends _ = false

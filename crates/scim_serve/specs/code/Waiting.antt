@@ -1,0 +1,19 @@
+-- What waits for which connection.
+use Rattle.std.specs.Prelude.{◌≡◌, ℕ, ◌==◌, List, Option, if◌then◌else◌}
+use Rattle.std.specs.Ordering.{nat_cmp}
+use Rattle.std.specs.BTreeMap.{get}
+use Rattle.scim_serve.specs.declared.waiting.Waiting.{Waiting}
+
+-- what waits for a connection, if it may be written to
+abbrev pub waiting_for : Waiting → ℕ → Option (List ℕ)
+waiting_for waiting m = get nat_cmp waiting.by_number m
+
+-- this waits for the connection of the number now; for all others what did
+pub record Becomes (n : ℕ) (rest : Option (List ℕ)) (old new : Waiting) : Type 0 where
+  pub waits : (m : ℕ) → waiting_for new m ≡ (if n == m then rest else waiting_for old m)
+  pub next : new.next ≡ old.next
+
+-- the same waits for each
+pub record Stays (old new : Waiting) : Type 0 where
+  pub waits : (m : ℕ) → waiting_for new m ≡ waiting_for old m
+  pub next : new.next ≡ old.next

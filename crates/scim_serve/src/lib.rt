@@ -1,0 +1,9 @@
+//! Many connections served on one thread by a hub.
+#![tactic(auto)]
+
+mod peers;
+mod serving;
+mod waiting;
+
+pub use peers::{Incident, Peers, PeersFault};
+pub use serving::serve;

@@ -1,0 +1,223 @@
+//! The loop of a server.
+ghost use Rattle.std.specs.Prelude.{◌≡◌, ◌<◌, ◌==◌, if◌then◌else◌, ◌++◌, ◌∷◌, ℕ, List, [], IsTrue, OnOk, Result, Option, None, IsSome, false, true, map};
+ghost use Rattle.std.specs.List.{flat_map};
+ghost use Rattle.scim_token.specs.TokenFile.{Entry};
+ghost use Rattle.scim_token.specs.Tokens.{Knows};
+ghost use Rattle.scim_hub.specs.declared.events.HubFault.{HubFault};
+ghost use Rattle.scim_hub.specs.Events.{Seen, absent, Deed, Hall, Hears, Runs, joining};
+ghost use Rattle.scim_hub.specs.Halls.{IsHall, deed_of, done, recorded_of};
+ghost use Rattle.scim_serve.specs.Serving.{IsFront, text_to, due_for, due, leaves, has_left};
+ghost use Rattle.scim_serve.specs.code.Levels.{Fits, IsLevel, Keeps, Grows};
+ghost use Rattle.scim_serve.specs.code.Waiting.{waiting_for};
+ghost use Rattle.scim_serve.specs.code.Wholes.{AllTaken, StaysOpen, IsWhole};
+
+use crate::peers::{Incident, Peers, PeersFault};
+use crate::waiting::Waiting;
+use scim_hub::{Happened, Hub, HubFault, Output, Recorded};
+use scim_shelf::Shelf;
+use scim_text::NoMemory;
+use std::alloc::Global;
+
+/// Closes a connection, and drops what waits for it.
+fn close<P: Peers>(peers: &mut P, waiting: &mut Waiting, connection: u64)
+    ensures seen { IsTrue P.is_known → P.seen peers.new ≡ P.seen peers.old }
+    ensures written { IsTrue P.is_known → (m : ℕ) → P.written peers.new m ≡ P.written peers.old m }
+    ensures kept { IsTrue P.is_known → Keeps (P.written peers.old) waiting.old (P.written peers.new) waiting.new }
+    ensures gone { waiting_for waiting.new connection ≡ None }
+    ensures taken { IsTrue P.is_known → (m : ℕ) → AllTaken (waiting_for waiting.old m) (P.takes_all peers.old m) → AllTaken (waiting_for waiting.new m) (P.takes_all peers.new m) }
+    ensures stays { IsTrue P.is_known → (m : ℕ) → StaysOpen (waiting_for waiting.old m) (P.is_closed peers.old m) (waiting_for waiting.new m) (P.is_closed peers.new m) }
+    ensures closed { IsTrue P.is_known → P.is_closed peers.new connection ≡ true }
+    ensures next { waiting.new.next ≡ waiting.old.next }
+{
+    waiting.leave(connection);
+    peers.close(connection);
+}
+
+/// Offers a connection what waits for it, if anything does.
+fn offer<P: Peers>(peers: &mut P, waiting: &mut Waiting, connection: u64)
+    ensures seen { IsTrue P.is_known → P.seen peers.new ≡ P.seen peers.old }
+    ensures kept { IsTrue P.is_known → Keeps (P.written peers.old) waiting.old (P.written peers.new) waiting.new }
+    ensures taken { IsTrue P.is_known → (m : ℕ) → ((connection ≡ m → ⊥) → AllTaken (waiting_for waiting.old m) (P.takes_all peers.old m)) → AllTaken (waiting_for waiting.new m) (P.takes_all peers.new m) }
+    ensures stays { IsTrue P.is_known → (m : ℕ) → StaysOpen (waiting_for waiting.old m) (P.is_closed peers.old m) (waiting_for waiting.new m) (P.is_closed peers.new m) }
+    ensures closed { IsTrue P.is_known → (m : ℕ) → P.is_closed peers.new m ≡ P.is_closed peers.old m }
+    ensures next { waiting.new.next ≡ waiting.old.next }
+{
+    let Some(rest) = waiting.rest(connection) else {
+        return;
+    };
+    if rest.is_empty() {
+        return;
+    }
+    let count = peers.write(connection, rest);
+    waiting.take(connection, count);
+}
+
+/// Offers a connection what waits for it, and closes it, if it has all and is to be closed.
+fn flush<P: Peers>(peers: &mut P, waiting: &mut Waiting, connection: u64)
+    ensures seen { IsTrue P.is_known → P.seen peers.new ≡ P.seen peers.old }
+    ensures kept { IsTrue P.is_known → Keeps (P.written peers.old) waiting.old (P.written peers.new) waiting.new }
+    ensures taken { IsTrue P.is_known → (m : ℕ) → ((connection ≡ m → ⊥) → AllTaken (waiting_for waiting.old m) (P.takes_all peers.old m)) → AllTaken (waiting_for waiting.new m) (P.takes_all peers.new m) }
+    ensures stays { IsTrue P.is_known → (m : ℕ) → StaysOpen (waiting_for waiting.old m) (P.is_closed peers.old m) (waiting_for waiting.new m) (P.is_closed peers.new m) }
+    ensures finished { IsTrue P.is_known → (due : List ℕ) → Fits (waiting_for waiting.old connection) (P.written peers.old connection) due
+        → P.is_closed peers.old connection ≡ false → P.is_closed peers.new connection ≡ true → P.written peers.new connection ≡ due }
+    ensures next { waiting.new.next ≡ waiting.old.next }
+{
+    offer(peers, waiting, connection);
+    if waiting.is_done(connection) {
+        close(peers, waiting, connection);
+    }
+}
+
+/// Puts the text of an output behind what waits for its connection; or the connection is to be closed after that. Where memory
+/// is wanting, it's closed at once.
+fn queue_one<P: Peers>(peers: &mut P, waiting: &mut Waiting, output: &Output)
+    ensures seen { IsTrue P.is_known → P.seen peers.new ≡ P.seen peers.old }
+    ensures queued { IsTrue P.is_known → Grows (λ m. text_to m (deed_of output.now)) (P.written peers.old) waiting.old (P.written peers.new) waiting.new }
+    ensures taken { IsTrue P.is_known → (m : ℕ) → text_to m (deed_of output.now) ≡ [] → AllTaken (waiting_for waiting.old m) (P.takes_all peers.old m) → AllTaken (waiting_for waiting.new m) (P.takes_all peers.new m) }
+    ensures stays { IsTrue P.is_known → (m : ℕ) → StaysOpen (waiting_for waiting.old m) (P.is_closed peers.old m) (waiting_for waiting.new m) (P.is_closed peers.new m) }
+    ensures next { waiting.new.next ≡ waiting.old.next }
+{
+    match output {
+        Output::Write(connection, text) => {
+            if waiting.add(*connection, text.as_bytes()).is_err() {
+                close(peers, waiting, *connection);
+            }
+        }
+        Output::Shut(connection) => waiting.close_after(*connection),
+    }
+}
+
+/// Puts the texts of outputs behind what waits for their connections.
+fn queue<P: Peers>(peers: &mut P, waiting: &mut Waiting, outputs: &[Output])
+    ensures seen { IsTrue P.is_known → P.seen peers.new ≡ P.seen peers.old }
+    ensures queued { IsTrue P.is_known → Grows (λ m. flat_map (text_to m) (map deed_of outputs.now)) (P.written peers.old) waiting.old (P.written peers.new) waiting.new }
+    ensures taken { IsTrue P.is_known → (m : ℕ) → flat_map (text_to m) (map deed_of outputs.now) ≡ [] → AllTaken (waiting_for waiting.old m) (P.takes_all peers.old m) → AllTaken (waiting_for waiting.new m) (P.takes_all peers.new m) }
+    ensures stays { IsTrue P.is_known → (m : ℕ) → StaysOpen (waiting_for waiting.old m) (P.is_closed peers.old m) (waiting_for waiting.new m) (P.is_closed peers.new m) }
+    ensures next { waiting.new.next ≡ waiting.old.next }
+{
+    for output in outputs {
+        queue_one(peers, waiting, output);
+    }
+}
+
+/// A connection joins: it may be written to, if no connection had its number before. Else, and where memory is wanting, it's
+/// closed.
+fn welcome<P: Peers>(alloc: Global, peers: &mut P, waiting: &mut Waiting, connection: u64)
+    ensures seen { IsTrue P.is_known → P.seen peers.new ≡ P.seen peers.old }
+    ensures level { IsTrue P.is_known → (due : ℕ → List ℕ) → IsLevel (P.written peers.old) waiting.old due → IsLevel (P.written peers.new) waiting.new due }
+    ensures taken { IsTrue P.is_known → (m : ℕ) → AllTaken (waiting_for waiting.old m) (P.takes_all peers.old m) → AllTaken (waiting_for waiting.new m) (P.takes_all peers.new m) }
+    ensures stays { IsTrue P.is_known → (m : ℕ) → StaysOpen (waiting_for waiting.old m) (P.is_closed peers.old m) (waiting_for waiting.new m) (P.is_closed peers.new m) }
+    ensures entered { IsTrue P.is_known → P.is_closed peers.new connection ≡ false → IsSome (waiting_for waiting.new connection) }
+    ensures noted { connection < waiting.new.next }
+{
+    if !waiting.note(connection) || waiting.enter(alloc, connection).is_err() {
+        close(peers, waiting, connection);
+    }
+}
+
+/// What an event means for what is written, before the hub hears of it.
+fn prepare<P: Peers>(alloc: Global, peers: &mut P, waiting: &mut Waiting, event: &Recorded)
+    ensures seen { IsTrue P.is_known → P.seen peers.new ≡ P.seen peers.old }
+    ensures level { IsTrue P.is_known → (due : ℕ → List ℕ) → IsLevel (P.written peers.old) waiting.old due → IsLevel (P.written peers.new) waiting.new due }
+    ensures taken { IsTrue P.is_known → (m : ℕ) → AllTaken (waiting_for waiting.old m) (P.takes_all peers.old m) → AllTaken (waiting_for waiting.new m) (P.takes_all peers.new m) }
+    ensures stays { IsTrue P.is_known → (m : ℕ) → leaves m (recorded_of event.now) ≡ false → StaysOpen (waiting_for waiting.old m) (P.is_closed peers.old m) (waiting_for waiting.new m) (P.is_closed peers.new m) }
+    ensures entered { IsTrue P.is_known → (recorded_of event.now).happened ≡ joining → P.is_closed peers.new event.now.connection ≡ false → IsSome (waiting_for waiting.new event.now.connection) }
+    ensures noted { event.now.connection < waiting.new.next }
+{
+    match &event.happened {
+        Happened::Joined => welcome(alloc, peers, waiting, event.connection),
+        Happened::Piece(_) => {
+            waiting.note(event.connection);
+        }
+        Happened::Left => {
+            waiting.note(event.connection);
+            waiting.leave(event.connection);
+        }
+    }
+}
+
+/// Does what the hub wants done for an event of a connection. Where the hub couldn't answer, the connection is closed: its piece
+/// is lost, or it couldn't join.
+fn settle<P: Peers>(
+    peers: &mut P,
+    waiting: &mut Waiting,
+    connection: u64,
+    answer: &Result<Vec<Output>, HubFault>,
+)
+    ensures seen { IsTrue P.is_known → P.seen peers.new ≡ P.seen peers.old }
+    ensures settled { IsTrue P.is_known → Grows (λ m. due_for m (done answer.now)) (P.written peers.old) waiting.old (P.written peers.new) waiting.new }
+    ensures taken { IsTrue P.is_known → (m : ℕ) → ((connection ≡ m → ⊥) → due_for m (done answer.now) ≡ []) → AllTaken (waiting_for waiting.old m) (P.takes_all peers.old m) → AllTaken (waiting_for waiting.new m) (P.takes_all peers.new m) }
+    ensures stays { IsTrue P.is_known → (m : ℕ) → StaysOpen (waiting_for waiting.old m) (P.is_closed peers.old m) (waiting_for waiting.new m) (P.is_closed peers.new m) }
+    ensures next { waiting.new.next ≡ waiting.old.next }
+{
+    match answer {
+        Ok(outputs) => {
+            queue(peers, waiting, outputs.as_slice());
+            flush(peers, waiting, connection);
+        }
+        Err(HubFault::NoMemory | HubFault::AlreadyJoined) => close(peers, waiting, connection),
+        Err(HubFault::Unknown | HubFault::Closed) => (),
+    }
+}
+
+/// Lets the hub hear an event, and does what it wants done.
+fn hear<P: Peers, S: Shelf>(
+    alloc: Global,
+    peers: &mut P,
+    hub: &mut Hub<S>,
+    waiting: &mut Waiting,
+    event: &Recorded,
+)
+    ensures policy { hub.new.service.policy ≡ hub.old.service.policy }
+    ensures base { hub.new.service.base ≡ hub.old.service.base }
+    ensures tokens { hub.new.tokens ≡ hub.old.tokens }
+    ensures seen { IsTrue P.is_known → P.seen peers.new ≡ P.seen peers.old }
+    ensures heard { IsTrue P.is_known → (entries : List Entry) (hall : Hall) → Knows entries hub.old.tokens → IsHall S.stands hub.old hall → S.is_honest hub.new.service.shelf
+        → (result : Result (List Deed) HubFault) × (next : Hall) × IsHall S.stands hub.new next
+        × Hears hub.old.service.policy hub.old.service.base entries (recorded_of event.now) hall result next
+        × ((due : ℕ → List ℕ) → IsLevel (P.written peers.old) waiting.old due → IsLevel (P.written peers.new) waiting.new (λ m. due m ++ due_for m result))
+        × ((first : Hall) (seen : List Seen) (due : ℕ → List ℕ) → IsWhole first hall seen (P.takes_all peers.old) (P.is_closed peers.old) waiting.old due
+        → IsWhole first next (seen ++ recorded_of event.now ∷ []) (P.takes_all peers.new) (P.is_closed peers.new) waiting.new (λ m. due m ++ due_for m result)) }
+    ensures honest { S.is_honest hub.new.service.shelf → S.is_honest hub.old.service.shelf }
+{
+    prepare(alloc, peers, waiting, event);
+    let answer = hub.event(alloc, &event.event());
+    settle(peers, waiting, event.connection, &answer);
+}
+
+/// Serves connections by a hub until all is over: whatever happens to a connection, the hub hears of it, and what it has to say is
+/// written to the connection, as it takes it. A connection that is shut is closed once it has taken all.
+///
+/// A connection that leaves isn't written to any more, and neither is one that joins under a number that a connection had before,
+/// or for which memory was wanting: it is closed, and the others go on. PeersFault, where nothing more can be told of the
+/// connections, or 2^64 - 1 incidents were told.
+pub fn serve<P: Peers, S: Shelf>(
+    alloc: Global,
+    peers: &mut P,
+    hub: &mut Hub<S>,
+) -> Result<(), PeersFault>
+    ensures policy { hub.new.service.policy ≡ hub.old.service.policy }
+    ensures base { hub.new.service.base ≡ hub.old.service.base }
+    ensures tokens { hub.new.tokens ≡ hub.old.tokens }
+    ensures fronts { IsTrue P.is_known → (entries : List Entry) (hall : Hall) → P.seen peers.old ≡ [] → ((m : ℕ) → P.written peers.old m ≡ [])
+        → Knows entries hub.old.tokens → IsHall S.stands hub.old hall → S.is_honest hub.new.service.shelf
+        → (results : List (Result (List Deed) HubFault)) × (next : Hall) × IsHall S.stands hub.new next
+        × Runs hub.old.service.policy hub.old.service.base entries hall (P.seen peers.new) results next
+        × ((m : ℕ) → IsFront (P.written peers.new m) (due m results))
+        × ((m : ℕ) → hall.connections m ≡ absent → has_left m (P.seen peers.new) ≡ false → P.is_closed peers.new m ≡ false → P.takes_all peers.new m ≡ true
+        → P.written peers.new m ≡ due m results) }
+    ensures over { IsTrue P.is_known → OnOk result (P.is_over peers.new ≡ true) }
+    ensures honest { S.is_honest hub.new.service.shelf → S.is_honest hub.old.service.shelf }
+{
+    let mut waiting = Waiting::new(alloc);
+    for _ in 0..u64::MAX {
+        let Some(incident) = peers.next(alloc)? else {
+            return Ok(());
+        };
+        match &incident {
+            Incident::Event(event) => hear(alloc, peers, hub, &mut waiting, event),
+            Incident::Ready(connection) => flush(peers, &mut waiting, *connection),
+        }
+    }
+    Err(PeersFault)
+}

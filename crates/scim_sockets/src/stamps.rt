@@ -1,0 +1,50 @@
+//! When an event comes, and the random id that it has.
+ghost use Rattle.std.specs.Prelude.{◌≡◌, min, IfOk};
+ghost use Rattle.scim_text.specs.Moments.{last_moment};
+ghost use Rattle.uuid.specs.Uuid.{version_num};
+
+use scim_cell::Id;
+use scim_hub::Stamp;
+use scim_serve::PeersFault;
+use scim_text::Moment;
+use std::io;
+use std::random::RandomSource;
+use std::time::{Clock, SystemTime, UNIX_EPOCH};
+use uuid::{Builder, Uuid};
+
+/// A random UUID (RFC 9562 section 5.4).
+fn fresh(rt: &impl RandomSource) -> io::Result<Uuid>
+    ensures { IfOk result (λ uuid. version_num uuid ≡ 4) }
+{
+    let mut bytes = [0u8; 16];
+    rt.fill_bytes(&mut bytes)?;
+    Ok(Builder::from_random_bytes(bytes).into_uuid())
+}
+
+/// The moment that many seconds after 1970-01-01T00:00:00Z, or the last, where it is later.
+fn moment_at(seconds: u64) -> Moment
+    ensures { result ≡ min seconds last_moment }
+{
+    let seconds = seconds.min(Moment::LAST as u64);
+    match Moment::new(seconds as i64) {
+        Some(moment) => moment,
+        None => unreachable!(),
+    }
+}
+
+/// The second that the clock shows.
+fn present(rt: &impl Clock) -> io::Result<Moment> {
+    match SystemTime::now(rt)?.duration_since(UNIX_EPOCH) {
+        Ok(since) => Ok(moment_at(since.as_secs())),
+        Err(_) => Ok(moment_at(0)),
+    }
+}
+
+/// A stamp for what happens now. PeersFault, where the clock can't be read or no random bytes are to be had.
+pub(crate) fn stamp_now<R: Clock + RandomSource>(rt: &R) -> Result<Stamp, PeersFault> {
+    let (Ok(moment), Ok(uuid)) = (present(rt), fresh(rt)) else {
+        return Err(PeersFault);
+    };
+    let first = Id::of(uuid);
+    Ok(Stamp { moment, first })
+}

@@ -1,0 +1,80 @@
+//! `serve`: a database, served to many clients.
+use crate::databases::{close, open_store};
+use crate::files::{read_policy_text, read_tokens_text};
+use clap::ArgMatches;
+use scim_cell::Text;
+use scim_command::{CommandFault, DatabaseFault, RunFault, ServeOptions};
+use scim_hub::Hub;
+use scim_policy::{Policy, read_policy};
+use scim_replay::read_tokens;
+use scim_serve::serve;
+use scim_service::Service;
+use scim_shelf::Shelf;
+use scim_sockets::Sockets;
+use scim_store::SqlShelf;
+use scim_text::Failed;
+use scim_token::Tokens;
+use sqlite::{File, FileStore};
+
+/// `serve`: serves a database, which is made where there is none. The files are looked through before it is opened.
+pub(crate) fn run_serve(rt: &HostRuntime, matches: &ArgMatches<'_>) -> Result<(), CommandFault> {
+    let options = ServeOptions::of(matches)?;
+    let policy = policy_at(rt, options.policy)?;
+    let tokens = tokens_at(rt, options.tokens)?;
+    let Ok(base) = Text::copy_of(rt.alloc(), options.base) else {
+        return Err(CommandFault::Run(RunFault::NoMemory));
+    };
+    let shelf = open_store(rt, options.database, options.base)?;
+    let hub = Hub::new(rt.alloc(), Service::new(policy, base, shelf), tokens);
+    serve_and_close(rt, &options, hub)
+}
+
+/// The policy in the file at a path.
+fn policy_at(rt: &HostRuntime, path: &str) -> Result<Policy, CommandFault> {
+    let text = read_policy_text(rt, rt.alloc(), path)?;
+    match read_policy(rt.alloc(), text.as_str()) {
+        Ok(policy) => Ok(policy),
+        Err(fault) => Err(CommandFault::Run(fault.into())),
+    }
+}
+
+/// The tokens in the file at a path.
+fn tokens_at(rt: &HostRuntime, path: &str) -> Result<Tokens, CommandFault> {
+    let text = read_tokens_text(rt, rt.alloc(), path)?;
+    match read_tokens(rt.alloc(), text.as_str()) {
+        Ok(tokens) => Ok(tokens),
+        Err(fault) => Err(CommandFault::Run(fault)),
+    }
+}
+
+/// Serves by a hub, and closes its database then.
+fn serve_and_close(
+    rt: &HostRuntime,
+    options: &ServeOptions<'_>,
+    hub: Hub<SqlShelf<FileStore<File>>>,
+) -> Result<(), CommandFault> {
+    let mut hub = hub;
+    let done = serve_at_port(rt, options, &mut hub);
+    close(hub.into_service().into_shelf().into_connection());
+    done
+}
+
+/// Listens at the port, says so, and serves whoever connects.
+fn serve_at_port<S: Shelf>(
+    rt: &HostRuntime,
+    options: &ServeOptions<'_>,
+    hub: &mut Hub<S>,
+) -> Result<(), CommandFault> {
+    let mut sockets = match Sockets::listen(rt, rt.alloc(), options.port, options.connections) {
+        Ok(sockets) => sockets,
+        Err(Failed::Because(_)) => return Err(CommandFault::CannotListen),
+        Err(Failed::NoMemory) => return Err(CommandFault::Run(RunFault::NoMemory)),
+    };
+    if println!(rt; "listening on 127.0.0.1:{}", sockets.port()).is_err() {
+        return Err(CommandFault::Run(RunFault::Output));
+    }
+    match serve(rt.alloc(), &mut sockets, hub) {
+        Ok(()) => Ok(()),
+        Err(_) => Err(CommandFault::CannotServe),
+    }
+}
