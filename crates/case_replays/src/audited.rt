@@ -1,4 +1,5 @@
 //! The audit of what happens to connections.
+use crate::recordings::Texts;
 use case_stores::push_rows_after;
 use case_values::CaseFault;
 use scim_command::{DatabaseFault, RunFault, service_over};
@@ -10,8 +11,9 @@ use scim_token::Tokens;
 use std::alloc::Global;
 
 /// The lines of the audit after what a recording tells.
-pub(crate) fn audit_lines(alloc: Global, recording: &Recording<'_>) -> Result<String, CaseFault> {
-    let mut hub = hub_of(alloc, recording)?;
+pub(crate) fn audit_lines(alloc: Global, texts: &Texts) -> Result<String, CaseFault> {
+    let recording = texts.recording();
+    let mut hub = hub_of(alloc, &recording)?;
     run_events(alloc, &mut hub, recording.events)?;
     let shelf = hub.into_service().into_shelf();
     let mut text = String::new(alloc);

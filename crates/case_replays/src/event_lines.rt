@@ -1,6 +1,6 @@
 //! The events of a case as the text of an events file.
 use case_runs::request_bytes;
-use case_values::{Case, CaseFault, push_all, said, shown};
+use case_values::{Case, CaseFault, said, shown};
 use serde_json::Value;
 use std::alloc::Global;
 
@@ -28,7 +28,7 @@ pub(crate) fn events_text(case: &Case<'_>) -> Result<String, CaseFault> {
 
 fn event_lines(event: &Case<'_>) -> Result<String, CaseFault> {
     if let Value::String(line) = event.value {
-        return line_of(event.alloc, &[line.as_str()]);
+        return line_of(event.alloc, line.as_str());
     }
     if event.value.get("interleaved").is_some() {
         return interleaved(event);
@@ -42,21 +42,32 @@ fn event_lines(event: &Case<'_>) -> Result<String, CaseFault> {
     piece_line(event, request_bytes(event)?.as_slice())
 }
 
-/// The line of these words, with its end.
-fn line_of(alloc: Global, words: &[&str]) -> Result<String, CaseFault> {
-    let mut line = String::new(alloc);
-    push_all(&mut line, words)?;
-    line.push_str("\n")?;
-    Ok(line)
+/// A line with its end.
+fn line_of(alloc: Global, line: &str) -> Result<String, CaseFault> {
+    let mut text = said(alloc, line)?;
+    text.push_str("\n")?;
+    Ok(text)
 }
 
 /// The line of what happens to the connection of an event, with what stands behind its number.
 fn change_line(event: &Case<'_>, name: &str, behind: &str) -> Result<String, CaseFault> {
     let connection = shown(event.alloc, &event.count("on")?)?;
-    let at = event.text_or("at", NOON);
-    let first = event.text_or("first", FRESH);
-    let words = [at, " ", first, " ", name, " ", connection.as_str(), behind];
-    line_of(event.alloc, &words)
+    let mut line = stamp_text(event)?;
+    line.push_str(name)?;
+    line.push_str(" ")?;
+    line.push_str(connection.as_str())?;
+    line.push_str(behind)?;
+    line.push_str("\n")?;
+    Ok(line)
+}
+
+/// The stamp of an event, and a space behind it.
+fn stamp_text(event: &Case<'_>) -> Result<String, CaseFault> {
+    let mut text = said(event.alloc, event.text_or("at", NOON))?;
+    text.push_str(" ")?;
+    text.push_str(event.text_or("first", FRESH))?;
+    text.push_str(" ")?;
+    Ok(text)
 }
 
 /// The line of a piece.

@@ -1,75 +1,82 @@
 //! The events of a case, answered as `replay` does.
 use crate::audited::audit_lines;
 use crate::event_lines::{events_text, piece_line};
-use crate::recordings::Files;
+use crate::recordings::Texts;
 use case_runs::request_bytes;
 use case_values::{Case, CaseFault, joined, said, shown};
 use scim_command::RunFault;
-use scim_replay::{Recording, replay};
+use scim_replay::replay;
 use std::alloc::Global;
 
 /// What is to be done for the events of a case, in lines as `replay` writes them; and behind them the lines of the audit, where the
 /// case has `audit`.
 pub fn answered(case: &Case<'_>) -> Result<String, CaseFault> {
-    let files = Files::of(case)?;
-    let events = events_text(case)?;
-    let recording = files.recording(case, events.as_str());
-    let lines = replayed(case.alloc, &recording, "")?;
-    if case.value.get("audit").is_none() {
-        return Ok(lines);
+    let texts = Texts::of(case, events_text(case)?)?;
+    let mut lines = replayed(case.alloc, &texts, "")?;
+    if case.value.get("audit").is_some() {
+        let audit = audit_lines(case.alloc, &texts)?;
+        lines.push_str(audit.as_str())?;
     }
-    let audit = audit_lines(case.alloc, &recording)?;
-    joined(case.alloc, &[lines.as_str(), audit.as_str()])
+    Ok(lines)
 }
 
 /// What `replay` writes behind `before` of the text `events`, and the line of the fault where there is one.
 pub(crate) fn replay_call(case: &Case<'_>) -> Result<String, CaseFault> {
-    let files = Files::of(case)?;
-    let recording = files.recording(case, case.text("events")?);
-    replayed(case.alloc, &recording, case.text_or("before", ""))
+    let texts = Texts::of(case, said(case.alloc, case.text("events")?)?)?;
+    replayed(case.alloc, &texts, case.text_or("before", ""))
 }
 
 /// What is to be done where the request of a case comes on a connection, if that is the same where it comes in two pieces, wherever
 /// it is cut; else also what is done instead.
 pub(crate) fn cut_call(case: &Case<'_>) -> Result<String, CaseFault> {
-    let files = Files::of(case)?;
     let request = request_bytes(case)?;
-    let whole = sent(case, &files, request.as_slice(), 0)?;
+    let mut whole = sent(case, request.as_slice(), 0)?;
     for place in 1..request.len() {
-        let cut = sent(case, &files, request.as_slice(), place)?;
+        let cut = sent(case, request.as_slice(), place)?;
         if cut != whole {
-            let place = shown(case.alloc, &place)?;
-            return joined(
-                case.alloc,
-                &[
-                    whole.as_str(),
-                    "cut at ",
-                    place.as_str(),
-                    ": ",
-                    cut.as_str(),
-                ],
-            );
+            push_cut(case.alloc, place, cut.as_str(), &mut whole)?;
+            return Ok(whole);
         }
     }
     Ok(whole)
 }
 
+/// Adds what is done where a request is cut at a place.
+fn push_cut(alloc: Global, place: usize, cut: &str, text: &mut String) -> Result<(), CaseFault> {
+    let place = shown(alloc, &place)?;
+    text.push_str("cut at ")?;
+    text.push_str(place.as_str())?;
+    text.push_str(": ")?;
+    Ok(text.push_str(cut)?)
+}
+
 /// What is to be done where a request comes in two pieces, of which the first ends at a place; in one, where that is 0.
-fn sent(case: &Case<'_>, files: &Files, request: &[u8], place: usize) -> Result<String, CaseFault> {
-    let (front, back) = request.split_at(place.min(request.len()));
+fn sent(case: &Case<'_>, request: &[u8], place: usize) -> Result<String, CaseFault> {
     let mut events = events_text(case)?;
+    push_pieces(case, request, place, &mut events)?;
+    let texts = Texts::of(case, events)?;
+    replayed(case.alloc, &texts, "")
+}
+
+/// Adds the lines of a request in two pieces, or in one.
+fn push_pieces(
+    case: &Case<'_>,
+    request: &[u8],
+    place: usize,
+    events: &mut String,
+) -> Result<(), CaseFault> {
+    let (front, back) = request.split_at(place.min(request.len()));
     if !front.is_empty() {
         let line = piece_line(case, front)?;
         events.push_str(line.as_str())?;
     }
     let line = piece_line(case, back)?;
-    events.push_str(line.as_str())?;
-    replayed(case.alloc, &files.recording(case, events.as_str()), "")
+    Ok(events.push_str(line.as_str())?)
 }
 
-fn replayed(alloc: Global, recording: &Recording<'_>, before: &str) -> Result<String, CaseFault> {
+fn replayed(alloc: Global, texts: &Texts, before: &str) -> Result<String, CaseFault> {
     let mut written = before.as_bytes().to_vec(alloc)?;
-    let done = replay(alloc, recording, &mut written);
+    let done = replay(alloc, &texts.recording(), &mut written);
     end_text(alloc, written.as_slice(), done)
 }
 

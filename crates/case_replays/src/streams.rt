@@ -1,6 +1,6 @@
 //! Streams that are served whole.
 use crate::audited::hub_of;
-use crate::recordings::Files;
+use crate::recordings::Texts;
 use case_runs::request_bytes;
 use case_values::{Case, CaseFault, joined, said, shown};
 use scim_cell::Id;
@@ -27,12 +27,13 @@ impl Stamps for OneStamp {
 
 /// What is written for the request of a case, as a stream that ends behind it, and how many replies that were.
 pub(crate) fn stream_call(case: &Case<'_>) -> Result<String, CaseFault> {
-    let files = Files::of(case)?;
     let request = request_bytes(case)?;
-    let mut hub = hub_of(case.alloc, &files.recording(case, ""))?;
-    let mut stamps = OneStamp {
-        stamp: stamp(case.alloc)?,
+    let texts = Texts::of(case, String::new(case.alloc))?;
+    let mut hub = hub_of(case.alloc, &texts.recording())?;
+    let Some(stamp) = stamp(case.alloc) else {
+        return Err(CaseFault::NoMemory);
     };
+    let mut stamps = OneStamp { stamp };
     let mut reader = request.as_slice();
     let mut written = Vec::new(case.alloc);
     let done = serve_stream(
@@ -46,13 +47,15 @@ pub(crate) fn stream_call(case: &Case<'_>) -> Result<String, CaseFault> {
     told(case.alloc, written.as_slice(), done)
 }
 
-/// Noon of 2024-06-01, and the id for what the first message makes.
-fn stamp(alloc: Global) -> Result<Stamp, CaseFault> {
-    let Some(moment) = read_printed_moment(alloc, "2024-06-01T12:00:00Z")? else {
-        return Err(CaseFault::Missing("at"));
-    };
-    let first = Id::of(Uuid::from_u128(0x0000_0000_0000_4000_8000_0000_0000_00e1));
-    Ok(Stamp { moment, first })
+/// Noon of 2024-06-01, and the id for what the first message makes; None where no memory was to be had.
+fn stamp(alloc: Global) -> Option<Stamp> {
+    match read_printed_moment(alloc, "2024-06-01T12:00:00Z") {
+        Ok(Some(moment)) => Some(Stamp {
+            moment,
+            first: Id::of(Uuid::from_u128(0x0000_0000_0000_4000_8000_0000_0000_00e1)),
+        }),
+        _ => None,
+    }
 }
 
 /// What was written, and how many replies, or the fault.

@@ -11,7 +11,8 @@ use scim_database::{Question, explain, export, import, open_fault, print_audit};
 use scim_json::read_documents;
 use scim_policy::{Policy, read_policy};
 use scim_store::SqlShelf;
-use sqlite::{Connection, Error, ErrorCode, File, FileStore};
+use sqlite::{Alter, Connection, Error, ErrorCode, File, FileStore};
+use std::alloc::Global;
 use std::fs;
 
 /// `explain`: says why a decision fell. The policy file is looked through before the database is opened.
@@ -30,6 +31,21 @@ fn explain_by(
     policy: &Policy,
     options: &ExplainOptions<'_>,
 ) -> Result<(), CommandFault> {
+    let connection = open_there(rt, options.database)?;
+    let (done, connection) = explain_over(rt, policy, options, connection);
+    close(connection);
+    done
+}
+
+/// Says why a decision falls, by the store of a database.
+fn explain_over<S: Alter + Drop>(
+    rt: &HostRuntime,
+    policy: &Policy,
+    options: &ExplainOptions<'_>,
+    connection: Connection<S>,
+) -> (Result<(), CommandFault>, Connection<S>)
+    requires { connection.in_transaction ≡ false }
+{
     let question = Question {
         client: options.client,
         op: options.op,
@@ -37,34 +53,73 @@ fn explain_by(
         id: options.id,
         leaf: options.leaf,
     };
-    let mut shelf = open_shelf(rt, options.database)?;
-    let done = explain(rt.alloc(), policy, &mut shelf, &question, &mut rt.stdout());
-    close(shelf.into_connection());
-    done.map_err(CommandFault::Run)
+    match open_store(rt.alloc(), connection, DEFAULT_BASE) {
+        Ok(shelf) => {
+            let mut shelf = shelf;
+            let done = explain(rt.alloc(), policy, &mut shelf, &question, &mut rt.stdout());
+            (done.map_err(CommandFault::Run), shelf.into_connection())
+        }
+        Err((fault, connection)) => (Err(fault), connection),
+    }
 }
 
 /// `audit`: writes rows of the audit.
 pub(crate) fn run_audit(rt: &HostRuntime, matches: &ArgMatches<'_>) -> Result<(), CommandFault> {
     let options = AuditOptions::of(matches)?;
-    let mut shelf = open_shelf(rt, options.database)?;
-    let done = print_audit(
-        rt.alloc(),
-        &mut shelf,
-        options.from,
-        options.count,
-        &mut rt.stdout(),
-    );
-    close(shelf.into_connection());
-    done.map_err(CommandFault::Run)
+    let connection = open_there(rt, options.database)?;
+    let (done, connection) = audit_over(rt, &options, connection);
+    close(connection);
+    done
+}
+
+/// Writes rows of the audit of a database.
+fn audit_over<S: Alter + Drop>(
+    rt: &HostRuntime,
+    options: &AuditOptions<'_>,
+    connection: Connection<S>,
+) -> (Result<(), CommandFault>, Connection<S>)
+    requires { connection.in_transaction ≡ false }
+{
+    match open_store(rt.alloc(), connection, DEFAULT_BASE) {
+        Ok(shelf) => {
+            let mut shelf = shelf;
+            let done = print_audit(
+                rt.alloc(),
+                &mut shelf,
+                options.from,
+                options.count,
+                &mut rt.stdout(),
+            );
+            (done.map_err(CommandFault::Run), shelf.into_connection())
+        }
+        Err((fault, connection)) => (Err(fault), connection),
+    }
 }
 
 /// `export`: writes the users file of a store.
 pub(crate) fn run_export(rt: &HostRuntime, matches: &ArgMatches<'_>) -> Result<(), CommandFault> {
     let options = ExportOptions::of(matches)?;
-    let mut shelf = open_shelf(rt, options.database)?;
-    let done = export(rt.alloc(), &mut shelf, &mut rt.stdout());
-    close(shelf.into_connection());
-    done.map_err(CommandFault::Run)
+    let connection = open_there(rt, options.database)?;
+    let (done, connection) = export_over(rt, connection);
+    close(connection);
+    done
+}
+
+/// Writes the users file of the store of a database.
+fn export_over<S: Alter + Drop>(
+    rt: &HostRuntime,
+    connection: Connection<S>,
+) -> (Result<(), CommandFault>, Connection<S>)
+    requires { connection.in_transaction ≡ false }
+{
+    match open_store(rt.alloc(), connection, DEFAULT_BASE) {
+        Ok(shelf) => {
+            let mut shelf = shelf;
+            let done = export(rt.alloc(), &mut shelf, &mut rt.stdout());
+            (done.map_err(CommandFault::Run), shelf.into_connection())
+        }
+        Err((fault, connection)) => (Err(fault), connection),
+    }
 }
 
 /// `import`: brings the resources of a users file into an empty database. The file is looked through before the database
@@ -85,7 +140,7 @@ pub(crate) fn run_import(rt: &HostRuntime, matches: &ArgMatches<'_>) -> Result<(
 /// Opens the database at a path, which is made where there is none.
 ///
 /// Database, where it can't be opened; NoMemory where none was to be had.
-fn open(rt: &HostRuntime, path: &str) -> Result<Connection<FileStore<File>>, RunFault>
+pub(crate) fn open(rt: &HostRuntime, path: &str) -> Result<Connection<FileStore<File>>, RunFault>
     ensures { IfOk result (λ connection. connection.in_transaction ≡ false) }
 {
     match Connection::open(rt, path) {
@@ -95,28 +150,32 @@ fn open(rt: &HostRuntime, path: &str) -> Result<Connection<FileStore<File>>, Run
     }
 }
 
-/// Opens the store in the database at a path, where there is one. Documents don't hold the base of their resources: it is
-/// the one that is meant where nothing else is said.
-fn open_shelf(rt: &HostRuntime, path: &str) -> Result<SqlShelf<FileStore<File>>, CommandFault> {
+/// Opens the database at a path, where there is one.
+fn open_there(rt: &HostRuntime, path: &str) -> Result<Connection<FileStore<File>>, CommandFault>
+    ensures { IfOk result (λ connection. connection.in_transaction ≡ false) }
+{
     if !matches!(fs::exists(rt, path), Ok(true)) {
         return Err(CommandFault::cannot_read(rt.alloc(), path));
     }
-    open_store(rt, path, DEFAULT_BASE)
+    match open(rt, path) {
+        Ok(connection) => Ok(connection),
+        Err(fault) => Err(CommandFault::Run(fault)),
+    }
 }
 
-/// Opens the store in the database at a path, which is made where there is none. Its resources stand below the base.
-pub(crate) fn open_store(
-    rt: &HostRuntime,
-    path: &str,
+/// Opens the store in a database, whose resources stand below the base. What is done over a database is generic in its files, and
+/// gives the connection back to be closed: a function that holds a connection to the system's files where it may end in several
+/// ways costs its proof a minute.
+pub(crate) fn open_store<S: Alter + Drop>(
+    alloc: Global,
+    connection: Connection<S>,
     base: &str,
-) -> Result<SqlShelf<FileStore<File>>, CommandFault> {
-    let connection = open(rt, path)?;
-    match SqlShelf::open(rt.alloc(), connection, base) {
+) -> Result<SqlShelf<S>, (CommandFault, Connection<S>)>
+    requires { connection.in_transaction ≡ false }
+{
+    match SqlShelf::open(alloc, connection, base) {
         Ok(shelf) => Ok(shelf),
-        Err((fault, connection)) => {
-            close(connection);
-            Err(CommandFault::Run(open_fault(fault)))
-        }
+        Err((fault, connection)) => Err((CommandFault::Run(open_fault(fault)), connection)),
     }
 }
 

@@ -1,5 +1,7 @@
 //! `serve`: a database, served to many clients.
-use crate::databases::{close, open_store};
+ghost use Rattle.std.specs.Prelude.{◌≡◌, false};
+
+use crate::databases::{close, open, open_store};
 use crate::files::{read_policy_text, read_tokens_text};
 use clap::ArgMatches;
 use scim_cell::Text;
@@ -11,22 +13,52 @@ use scim_serve::serve;
 use scim_service::Service;
 use scim_shelf::Shelf;
 use scim_sockets::Sockets;
-use scim_store::SqlShelf;
 use scim_text::Failed;
 use scim_token::Tokens;
-use sqlite::{File, FileStore};
+use sqlite::{Alter, Connection};
 
 /// `serve`: serves a database, which is made where there is none. The files are looked through before it is opened.
 pub(crate) fn run_serve(rt: &HostRuntime, matches: &ArgMatches<'_>) -> Result<(), CommandFault> {
     let options = ServeOptions::of(matches)?;
     let policy = policy_at(rt, options.policy)?;
     let tokens = tokens_at(rt, options.tokens)?;
+    serve_at(rt, &options, policy, tokens)
+}
+
+/// Serves the database at its path, and closes it then.
+fn serve_at(
+    rt: &HostRuntime,
+    options: &ServeOptions<'_>,
+    policy: Policy,
+    tokens: Tokens,
+) -> Result<(), CommandFault> {
+    let connection = open(rt, options.database)?;
+    let (done, connection) = serve_over(rt, options, policy, tokens, connection);
+    close(connection);
+    done
+}
+
+/// Serves a database.
+fn serve_over<S: Alter + Drop>(
+    rt: &HostRuntime,
+    options: &ServeOptions<'_>,
+    policy: Policy,
+    tokens: Tokens,
+    connection: Connection<S>,
+) -> (Result<(), CommandFault>, Connection<S>)
+    requires { connection.in_transaction ≡ false }
+{
     let Ok(base) = Text::copy_of(rt.alloc(), options.base) else {
-        return Err(CommandFault::Run(RunFault::NoMemory));
+        return (Err(CommandFault::Run(RunFault::NoMemory)), connection);
     };
-    let shelf = open_store(rt, options.database, options.base)?;
-    let hub = Hub::new(rt.alloc(), Service::new(policy, base, shelf), tokens);
-    serve_and_close(rt, &options, hub)
+    match open_store(rt.alloc(), connection, options.base) {
+        Ok(shelf) => {
+            let mut hub = Hub::new(rt.alloc(), Service::new(policy, base, shelf), tokens);
+            let done = serve_at_port(rt, options, &mut hub);
+            (done, hub.into_service().into_shelf().into_connection())
+        }
+        Err((fault, connection)) => (Err(fault), connection),
+    }
 }
 
 /// The policy in the file at a path.
@@ -45,18 +77,6 @@ fn tokens_at(rt: &HostRuntime, path: &str) -> Result<Tokens, CommandFault> {
         Ok(tokens) => Ok(tokens),
         Err(fault) => Err(CommandFault::Run(fault)),
     }
-}
-
-/// Serves by a hub, and closes its database then.
-fn serve_and_close(
-    rt: &HostRuntime,
-    options: &ServeOptions<'_>,
-    hub: Hub<SqlShelf<FileStore<File>>>,
-) -> Result<(), CommandFault> {
-    let mut hub = hub;
-    let done = serve_at_port(rt, options, &mut hub);
-    close(hub.into_service().into_shelf().into_connection());
-    done
 }
 
 /// Listens at the port, says so, and serves whoever connects.
