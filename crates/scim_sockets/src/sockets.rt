@@ -19,8 +19,9 @@ use std::random::RandomSource;
 use std::time::{Clock, Duration, Instant};
 use thiserror::Error;
 
-/// The most bytes that are read at a time.
-const PIECE: usize = 16384;
+/// The most bytes that are read at a time. All requests that a piece completes are answered before another connection has its
+/// turn, so that it is short.
+const PIECE: usize = 4096;
 
 /// How many of the system's reports are taken at a time: all that there can be, for the listener and each connection.
 const REPORTS: usize = 1025;
