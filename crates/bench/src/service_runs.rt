@@ -236,7 +236,7 @@ fn pass(rt: &impl Clock, alloc: Global, service: &mut Service<MemoryShelf>) -> R
         get: figure(rt, alloc, service, Asked::Get, TURNS)?,
         create: figure(rt, alloc, service, Asked::Create, TURNS)?,
         remove: figure(rt, alloc, service, Asked::Remove, TURNS)?,
-        search: figure(rt, alloc, service, Asked::Search, 2)?,
+        search: figure(rt, alloc, service, Asked::Search, TURNS)?,
     })
 }
 

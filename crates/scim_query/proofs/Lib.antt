@@ -5,3 +5,4 @@ pub mod PagerLemmas
 pub mod PlacedLemmas
 pub mod ArrangedLemmas
 pub mod Facts
+pub mod NeededLemmas

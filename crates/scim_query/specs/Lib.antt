@@ -2,6 +2,7 @@ pub mod Arranged
 pub mod ClientSearches
 pub mod SortKeys
 pub mod Keys
+pub mod Needed
 pub mod Order
 pub mod Pages
 pub mod Pagers

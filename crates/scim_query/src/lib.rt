@@ -7,6 +7,7 @@ mod entries;
 mod kept_parts;
 mod keys;
 mod laws;
+mod needed_texts;
 mod pagers;
 mod queries;
 mod sort_keys;

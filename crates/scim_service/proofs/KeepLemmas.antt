@@ -1,37 +1,27 @@
 -- After a turn a store is a store.
-use Rattle.std.proofs.Common.{◌≡◌, refl, sym, subst, ℕ, Bool, true, false, List, [], ◌∷◌, inl, inr}
+use Rattle.std.proofs.Common.{◌≡◌, sym, subst, ℕ, Bool, true, false, List, [], ◌∷◌, inl, inr}
 use Rattle.std.specs.Prelude.{All, not, find, Option, None, Some, is_none, option_and_then, Result, Ok, Err}
 use Rattle.std.proofs.lemmas.Bool.{cases_Bool, and_parts, not-true}
 use Rattle.std.proofs.lemmas.List.Elements.{All-head, All-tail, All-weaker}
 use denote.Enum.Bare.{sameb, same_true}
-use Rattle.scim_schema.specs.declared.Op.{Op}
-use Rattle.scim_schema.specs.declared.Leaf.{Leaf}
-use Rattle.scim_schema.specs.declared.Attribute.TheVariants.{Id}
 use Rattle.scim_schema.specs.contracts.Kind.{the_type as the_kind}
 use Rattle.scim_schema.specs.Mutability.{is_fixed}
-use Rattle.scim_schema.specs.Units.{simple, units}
+use Rattle.scim_schema.specs.Units.{units}
 use Rattle.scim_cell.specs.Content.{Content}
-use Rattle.scim_cell.specs.Rows.{rows}
 use Rattle.scim_audit.specs.declared.refusals.Refusal.{Refusal}
 use Rattle.scim_body.specs.declared.drafts.UseFor.TheVariants.{Creating}
 use Rattle.scim_body.specs.contracts.drafts.UseFor.{the_type as the_use_for}
-use Rattle.scim_body.specs.Drafts.{Draft, IsDraft}
-use Rattle.scim_change.specs.Replace.{changes, replaced}
 use Rattle.scim_change.proofs.Facts.{IsSound, created_sound, replaced_sound}
-use Rattle.scim_steps.specs.declared.steps.StepFault.{StepFault}
-use Rattle.scim_patch.specs.Patch.{Patch, IsPatch, touched, applied}
 use Rattle.scim_patch.specs.Kept.{patch_of}
 use Rattle.scim_patch.proofs.Facts.{applied_sound}
 use Rattle.scim_policy.specs.Rules.{Rule}
-use Rattle.scim_policy.specs.declared.rules.Decision.{Decision}
-use Rattle.scim_policy.specs.Access.{Access, forbidding, widening}
-use Rattle.scim_view.specs.declared.projection.Wanted.{Wanted}
-use Rattle.scim_view.specs.View.{Viewer, read_decision, visible}
-use Rattle.scim_shelf.specs.Stores.{Store, IsStore, is_at, is_taken, is_used, without, after}
+use Rattle.scim_policy.specs.Access.{forbidding}
+use Rattle.scim_view.specs.View.{Viewer}
+use Rattle.scim_shelf.specs.Stores.{Store, IsStore, is_at, after}
 use Rattle.scim_service.specs.declared.requests.Ask.{Ask}
 use Rattle.scim_service.specs.declared.requests.Ask.TheVariants.{Get, Search, Create, Replace, Patch as PatchOne, Remove}
 use Rattle.scim_service.specs.declared.requests.Turn.{Turn}
-use Rattle.scim_service.specs.Step.{refused, absent, hidden, denied, got, listed, delete_decision, removed, new_resource, first_denied, made_if_free, made_if_allowed, is_for, creating, access_to, first_unit_denied, is_writable, writable, changed_if_narrow, changed_if_free, changed_if_complete, written_if_allowed, replacing, first_forbidden, patched_with, patched_if_allowed, patching, sought, at_seen, planned, viewer_at, plan, next_store}
+use Rattle.scim_service.specs.Step.{absent, access_to, is_writable, writable, sought, planned, viewer_at, next_store}
 use Rattle.scim_service.proofs.StepLemmas.{Keeps, KeepsSound, can_keep, planned_change, stays_store}
 use Rattle.scim_service.specs.laws.Requests.{IsAsk, IsTurn}
 use Rattle.scim_view.proofs.Facts.{passing}

@@ -81,7 +81,7 @@ not_both : (name : Name) (c d : Content) → AreApart c d → has_name name c �
 not_both name c d apart has also =
     apart.names name (Contains-from_any same_name name (unique_names c) has) (Contains-from_any same_name name (unique_names d) also)
 
-unnamed_later : (d : Content) (ds : List Content) (name : Name) → All (AreApart d) ds → has_name name d ≡ true → is_in_use ds name ≡ false
+pub unnamed_later : (d : Content) (ds : List Content) (name : Name) → All (AreApart d) ds → has_name name d ≡ true → is_in_use ds name ≡ false
 unnamed_later d ds name apart has =
     list_any_none (has_name name) ds
     (All-weaker (AreApart d) (λ e. has_name name e ≡ false) (λ e h. false_from_ne_true (has_name name e) (not_both name d e h has)) ds apart)

@@ -1,9 +1,9 @@
 -- What is planned where a resource is replaced.
-use Rattle.std.proofs.Common.{◌≡◌, refl, sym, ap, subst, ℕ, Bool, true, false, List, [], ◌∷◌, inl, inr, is_some, All, filter}
-use Rattle.std.specs.Prelude.{Option, None, Some, option_and_then, find, Result, Ok, Err, IfOk}
+use Rattle.std.proofs.Common.{◌≡◌, refl, ap, ℕ, Bool, true, false, List, [], ◌∷◌, inl, inr, is_some, All, filter}
+use Rattle.std.specs.Prelude.{Option, None, Some}
 use Rattle.std.specs.List.{list_any}
 use Rattle.std.proofs.lemmas.Bool.{cases_Bool}
-use Rattle.std.proofs.lemmas.List.Elements.{All-head, All-tail, All-weaker, filter_passes}
+use Rattle.std.proofs.lemmas.List.Elements.{All-weaker, filter_passes}
 use denote.Enum.Bare.{sameb}
 use Rattle.scim_schema.specs.contracts.Kind.{the_type as the_kind}
 use Rattle.scim_schema.specs.declared.Kind.{Kind}
@@ -22,9 +22,8 @@ use Rattle.scim_change.specs.Replace.{changes, replaced}
 use Rattle.scim_policy.specs.declared.rules.Decision.{Decision}
 use Rattle.scim_policy.specs.Access.{Access, forbidding, widening}
 use Rattle.scim_view.specs.declared.projection.Wanted.{Wanted}
-use Rattle.scim_value.specs.Resource.{IsResource, HasBase}
 use Rattle.scim_view.specs.View.{Viewer, read_decision, visible}
-use Rattle.scim_shelf.specs.Stores.{Store, IsStore, is_at, is_taken, without}
+use Rattle.scim_shelf.specs.Stores.{is_taken, without}
 use Rattle.scim_service.specs.declared.requests.Turn.{Turn}
 use Rattle.scim_service.specs.declared.plans.Plan.{Plan}
 use Rattle.scim_service.specs.code.Questions.{is_in_question}

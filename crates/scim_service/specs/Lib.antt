@@ -1,3 +1,4 @@
+pub mod Lookups
 pub mod Replies
 pub mod Step
 pub mod Visits

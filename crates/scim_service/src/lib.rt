@@ -5,6 +5,7 @@
 mod changed;
 mod creations;
 pub mod laws;
+mod lookups;
 mod names;
 mod patches;
 mod plans;

@@ -15,6 +15,7 @@ ghost use Rattle.scim_shelf.specs.Stores.{IsStore, AreOf};
 ghost use Rattle.scim_service.specs.Step as spec;
 
 use crate::creations::plan_create;
+use crate::lookups::{needed_name, page_named};
 use crate::patches::plan_patch;
 use crate::replacements::plan_replace;
 use crate::replies::Reply;
@@ -419,6 +420,41 @@ fn page<S: Shelf>(
     Ok(search.end()?)
 }
 
+/// The page that the client's query asks for of all resources of a kind.
+fn page_of_all<S: Shelf>(
+    alloc: Global,
+    viewer: &Viewer<'_>,
+    shelf: &mut S,
+    kind: Kind,
+    query: &Query,
+) -> Result<Page, Failed<ShelfFault>>
+    ensures page { IfOk result (Answers S.stands S.is_honest shelf.old shelf.new (λ store page. (base : List ℕ) → IsStore base store
+        → IsPage (views (viewer_of viewer.now) (of_kind Kind.Group store.resources) (of_kind kind store.resources)) query.now page)) }
+    ensures read { OnlyReads S.stands S.is_honest S.failures shelf.old shelf.new result }
+{
+    let index = groups_for(alloc, viewer, shelf, kind)?;
+    page(alloc, viewer, shelf, kind, &index, query)
+}
+
+/// The page that the client's query asks for of the resources of a kind: where the query asks for a unique name, the
+/// one that has it is looked up, else all are looked at.
+fn found_page<S: Shelf>(
+    alloc: Global,
+    viewer: &Viewer<'_>,
+    shelf: &mut S,
+    kind: Kind,
+    query: &Query,
+) -> Result<Page, Failed<ShelfFault>>
+    ensures page { IfOk result (Answers S.stands S.is_honest shelf.old shelf.new (λ store page. (base : List ℕ) → IsStore base store
+        → IsPage (views (viewer_of viewer.now) (of_kind Kind.Group store.resources) (of_kind kind store.resources)) query.now page)) }
+    ensures read { OnlyReads S.stands S.is_honest S.failures shelf.old shelf.new result }
+{
+    match needed_name(alloc, kind, query)? {
+        Some(name) => page_named(alloc, viewer, shelf, kind, &name, query),
+        None => page_of_all(alloc, viewer, shelf, kind, query),
+    }
+}
+
 /// The JSON of a page of a client's view, each item as the query wants it.
 fn list_text(alloc: Global, found: Page, query: &Query) -> Result<Text, NoMemory>
     ensures { IfOk result (λ text. (view : List Content) → IsPage view query.now found → text ≡ spec.list_text query.now view) }
@@ -441,8 +477,7 @@ fn plan_search<S: Shelf>(
         → plan ≡ spec.listed (viewer_of viewer.now) turn.now store.resources query.now)) }
     ensures read { OnlyReads S.stands S.is_honest S.failures shelf.old shelf.new result }
 {
-    let index = groups_for(alloc, viewer, shelf, turn.request.kind)?;
-    let found = page(alloc, viewer, shelf, turn.request.kind, &index, query)?;
+    let found = found_page(alloc, viewer, shelf, turn.request.kind, query)?;
     let text = list_text(alloc, found, query)?;
     let finding = Finding {
         decided: Decided::Allow,

@@ -2,4 +2,5 @@
 pub use Rattle.scim_view.proofs.IndexLemmas.{seen_more, and_those_append}
 pub use Rattle.scim_view.proofs.ListLemmas.{views_more}
 pub use Rattle.scim_view.proofs.NarrowedLemmas.{narrowed_groups, narrowed_view}
+pub use Rattle.scim_view.proofs.SeenRowsLemmas.{seen_stands}
 pub use Rattle.scim_view.proofs.WritableLemmas.{passing, readable_leaf, none_denied, not_wider}

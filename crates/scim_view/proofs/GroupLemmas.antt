@@ -151,7 +151,7 @@ lists_visible d id g valid =
     ∙ text_left (shows d g.kind) (leaf_at Members Value) (id_text id) (values (whole Members) (rows g))
 
 -- a unit that is a leaf has no other leaf
-one_leaf : (l m : Leaf) → is_multi_valued l.attribute ≡ false → unit_of m ≡ unit_of l → m ≡ l
+pub one_leaf : (l m : Leaf) → is_multi_valued l.attribute ≡ false → unit_of m ≡ unit_of l → m ≡ l
 one_leaf l m n e =
     let a : m.attribute ≡ l.attribute = ap (λ (u : AttributeUnit). u.attribute) e in
     let k : is_multi_valued m.attribute ≡ false = ap is_multi_valued a ∙ n in
@@ -247,14 +247,19 @@ restricted_own keeps r h = (
 )
 
 -- the values of `groups` that are left may be put in
-pub membership_values : (keeps : Test) (base : List ℕ) (gs : List (Bor SeenGroup)) → AreValues User (whole Groups) (restricted keeps (map (membership_at base) gs))
-membership_values keeps base gs =
-    let made : All IsOwn (map (membership_at base) gs) = All-map IsOwn (membership_at base) gs (λ k d l. (refl, membership_sound base _ _)) in
-    let left : List Row = map (restricted_row keeps) (map (membership_at base) gs) in
-    let own : All IsOwn left = All-map IsOwn (restricted_row keeps) (map (membership_at base) gs) (All-weaker IsOwn (λ r. IsOwn (restricted_row keeps r)) (restricted_own keeps) (map (membership_at base) gs) made) in
+own_values : (keeps : Test) (ms : List Row) → All IsOwn ms → AreValues User (whole Groups) (restricted keeps ms)
+own_values keeps ms made =
+    let left : List Row = map (restricted_row keeps) ms in
+    let own : All IsOwn left = All-map IsOwn (restricted_row keeps) ms (All-weaker IsOwn (λ r. IsOwn (restricted_row keeps r)) (restricted_own keeps) ms made) in
     let some = filter_passes has_fields left in
     let kept : All IsOwn (filter has_fields left) = All-filter has_fields IsOwn left own in
     record { few = inl refl; own = λ k d l. ((kept k d l).0, some k d l, (kept k d l).1) }
+
+pub membership_values : (keeps : Test) (base : List ℕ) (gs : List (Bor SeenGroup)) → AreValues User (whole Groups) (restricted keeps (map (membership_at base) gs))
+membership_values keeps base gs = own_values keeps (map (membership_at base) gs) (All-map IsOwn (membership_at base) gs (λ k d l. (refl, membership_sound base _ _)))
+
+pub seen_values : (keeps : Test) (base : List ℕ) (gs : List Content) → AreValues User (whole Groups) (restricted keeps (map (membership base) gs))
+seen_values keeps base gs = own_values keeps (map (membership base) gs) (All-map IsOwn (membership base) gs (λ k d l. (refl, membership_sound base _ _)))
 
 -- what is visible of a user, with values of `groups`
 pub user_visible : (d : Leaf → Decision) (ms : List Row) (c : Content) → IsPart c → c.kind ≡ User

@@ -4,6 +4,7 @@ pub mod ShownLemmas
 pub mod NamesLemmas
 pub mod SortLemmas
 pub mod GroupLemmas
+pub mod SeenRowsLemmas
 pub mod NarrowedLemmas
 pub mod MemberLemmas
 pub mod IndexLemmas

@@ -1,7 +1,4 @@
-use Rattle.std.proofs.Common.{subst, List}
-use Rattle.scim_cell.specs.Content.{Content}
 use Rattle.scim_view.specs.View.{viewer_of}
-use Rattle.scim_query.specs.Pages.{IsPage}
 use Rattle.scim_service.specs.Step.{view_of_kind}
 use Rattle.scim_service.proofs.PlanLemmas.{listed_is}
 use Rattle.scim_service.proofs.plans.plan_search.Goals as goal
@@ -9,8 +6,6 @@ use Rattle.scim_service.proofs.plans.plan_search.Goals as goal
 pub returns-clause-plan : goal.returns-clause-plan
 returns-clause-plan g c store stands honest base is =
     let viewer = viewer_of c.args.viewer.now in
-    let index = c.in_ok-index.ensures.index store stands (c.in_ok-found.ensures.read.honest honest) in
-    let found = c.in_ok-found.ensures.page store (c.in_ok-index.ensures.read.store store stands) honest index.0 base index.1 is in
-    let page = subst (λ (view : List Content). IsPage view c.args.query.now c.in_ok-found.found) index.2 found in
+    let page = c.in_ok-found.ensures.page store stands honest base is in
     listed_is viewer c.args.turn.now store.resources c.args.query.now c.in_ok-text.text c.in_ok-row_of.field-0
     (c.in_ok-text.ensures (view_of_kind viewer c.args.turn.now store.resources) page) c.in_ok-row_of.ensures

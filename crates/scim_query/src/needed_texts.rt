@@ -1,0 +1,57 @@
+//! Texts without which no part matches, by which the one that may can be looked up.
+ghost use Rattle.std.specs.Prelude.{◌≡◌, true, List, IfSome};
+ghost use Rattle.scim_cell.specs.Rows.{Row};
+ghost use Rattle.scim_filter.specs.Tree.{view};
+ghost use Rattle.scim_filter.specs.Truth.{compares, truth};
+ghost use Rattle.scim_query.specs.Needed as spec;
+
+use crate::queries::Query;
+use scim_filter::{Literal, Meant, Node, Operator, StringLiteral};
+use scim_schema::Leaf;
+
+/// The text of a term that holds only where it stands at the leaf.
+fn text_compared(
+    meant: Meant,
+    operator: Operator,
+    literal: &Literal,
+    leaf: Leaf,
+) -> Option<&StringLiteral>
+    ensures { IfSome result (λ text. (rs : List Row) → compares meant operator literal.now rs ≡ true → spec.has_text leaf text.now rs ≡ true) }
+{
+    match literal {
+        Literal::Text(text) if operator == Operator::Eq && meant.compared_leaf() == Some(leaf) => {
+            Some(text)
+        }
+        _ => None,
+    }
+}
+
+/// The text that stands at the leaf wherever the filter holds.
+fn text_needed(node: &Node, leaf: Leaf) -> Option<&StringLiteral>
+    ensures { IfSome result (λ text. (rs : List Row) → truth (view node.now) rs ≡ true → spec.has_text leaf text.now rs ≡ true) }
+{
+    match node {
+        Node::And(first, second) => match text_needed(first, leaf) {
+            Some(text) => Some(text),
+            None => text_needed(second, leaf),
+        },
+        Node::Compare(path, operator, literal) => {
+            text_compared(path.meant, *operator, literal, leaf)
+        }
+        _ => None,
+    }
+}
+
+impl Query {
+    /// The text without which no part matches at the leaf, as `eq` compares texts there (RFC 7644 section
+    /// 3.4.2.2): where the filter is `leaf eq "text"`, or a conjunction one of whose terms is. None where the
+    /// filter asks for no such text.
+    pub fn needed_text(&self, leaf: Leaf) -> Option<&StringLiteral>
+        ensures { IfSome result (λ text. spec.NeedsText self.now.filter leaf text.now) }
+    {
+        match &self.filter {
+            Some(filter) => text_needed(filter.tree(), leaf),
+            None => None,
+        }
+    }
+}

@@ -1,0 +1,174 @@
+-- A search over the resources that can match finds what a search over all finds.
+use Rattle.std.proofs.Common.{◌≡◌, refl, sym, ◌∙◌, ap, subst, ℕ, zero, suc, Bool, true, false, List, [], ◌∷◌, ◌++◌, filter, length, ◌≤◌, inl, inr, arith}
+use Rattle.std.specs.Prelude.{All, AllPairs, Option, None, Some, find}
+use Rattle.std.specs.List.{list_any}
+use Rattle.std.specs.List.Sorted.{IsSorted}
+use Rattle.std.specs.Ordering.{nat_cmp, is_eq}
+use Rattle.std.specs.declared.cmp.Ordering.{Ordering}
+use Rattle.std.specs.declared.cmp.Ordering.TheVariants.{Less, Equal, Greater}
+use Rattle.std.specs.Cmp.Lexicographic.{slice_cmp, bytes_decides}
+use Rattle.std.proofs.lemmas.Map.Lookups.{exact_bytes}
+use Rattle.std.proofs.lemmas.Bool.{cases_Bool, or_parts, false_from_ne_true}
+use Rattle.std.proofs.lemmas.List.Elements.{All-head, All-tail, All-cons, All-filter, filter-append, filter_passes}
+use denote.Enum.Bare.{same_true}
+use Rattle.scim_schema.specs.declared.Kind.{Kind}
+use Rattle.scim_schema.specs.contracts.Kind.{the_type as the_kind}
+use Rattle.scim_schema.specs.declared.Kind.TheVariants.{User, Group}
+use Rattle.scim_schema.specs.declared.Attribute.TheVariants.{Id, UserName}
+use Rattle.scim_schema.specs.declared.Leaf.{Leaf}
+use Rattle.scim_schema.specs.Units.{simple}
+use Rattle.scim_schema.specs.Characteristics.{is_case_exact}
+use Rattle.scim_schema.specs.UniqueLeaves.{unique_leaves}
+use Rattle.scim_text.specs.Names.{folded}
+use Rattle.scim_cell.specs.declared.atoms.Atom.{Atom}
+use Rattle.scim_cell.specs.declared.atoms.Atom.TheVariants.{Text, Truth, Moment}
+use Rattle.scim_cell.specs.Content.{Content}
+use Rattle.scim_cell.specs.Kinds.{is_of, of_kind}
+use Rattle.scim_cell.specs.Order.{id_cmp}
+use Rattle.scim_value.specs.Resource.{IsResource, HasBase, IsFilled, IsNamed, IsNamedAs, first_at}
+use Rattle.scim_value.specs.Uniqueness.{Name, AreApart, unique_names}
+use Rattle.scim_filter.specs.declared.tree.Filter.{Filter}
+use Rattle.scim_policy.specs.declared.rules.Decision.{Decision}
+use Rattle.scim_view.specs.View.{Viewer, read_decision, sees}
+use Rattle.scim_view.specs.Groups.{and_those, with_groups, view_with_groups, views}
+use Rattle.scim_filter.specs.declared.tree.Literal.TheVariants as literal
+use Rattle.scim_filter.specs.declared.tree.Operator.TheVariants.{Eq}
+use Rattle.scim_filter.specs.Relation.{cased, stands}
+use Rattle.scim_query.specs.Needed.{NeedsText}
+use Rattle.scim_view.proofs.Facts.{and_those_append, seen_stands}
+use Rattle.scim_query.specs.declared.queries.Query.{Query}
+use Rattle.scim_query.specs.declared.queries.Page.{Page}
+use Rattle.scim_query.specs.Pages.{is_match, matching, IsPage}
+use Rattle.scim_shelf.specs.Stores.{Store, IsStore, has_name}
+use Rattle.scim_service.specs.Lookups.{OnlyThose}
+use Rattle.scim_service.proofs.NameLemmas.{unnamed_later}
+use Rattle.scim_service.proofs.RowLemmas.{filter_swap}
+
+-- of what is seen of a list, what is seen of its first resource comes first
+first_apart : (f : Option Filter) (o : Option Content) (xs : List Content) → matching f (and_those o xs) ≡ matching f (and_those o []) ++ matching f xs
+first_apart f o xs = ap (matching f) (and_those_append o [] xs) ∙ filter-append (is_match f) (and_those o []) xs
+
+-- what is seen of a resource that doesn't match so doesn't match
+none_matching : (f : Option Filter) (v : Viewer) (gs : List Content) (c : Content) → is_match f (with_groups v gs c) ≡ false → matching f (and_those (view_with_groups v gs c) []) ≡ []
+none_matching f v gs c not' = elim (cases_Bool (sees v c)) [ inl t ↦ rw t (rw not' refl) | inr u ↦ rw u refl ]
+
+-- the resources that can match are seen to match as all are
+pub narrowed : (f : Option Filter) (v : Viewer) (gs : List Content) (passes : Content → Bool) (cs : List Content)
+    → All (λ c. is_match f (with_groups v gs c) ≡ true → passes c ≡ true) cs → matching f (views v gs (filter passes cs)) ≡ matching f (views v gs cs)
+narrowed f v gs passes [] only = refl
+narrowed f v gs passes (c ∷ cs) only =
+    let Only : Content → Type 0 = λ d. is_match f (with_groups v gs d) ≡ true → passes d ≡ true in
+    let rest = narrowed f v gs passes cs (All-tail Only c cs only) in
+    let all = first_apart f (view_with_groups v gs c) (views v gs cs) in
+    elim (cases_Bool (passes c)) [
+      | inl t ↦ rw t (first_apart f (view_with_groups v gs c) (views v gs (filter passes cs)) ∙ ap (λ (xs : List Content). matching f (and_those (view_with_groups v gs c) []) ++ xs) rest ∙ sym all)
+      | inr u ↦
+          let differs : is_match f (with_groups v gs c) ≡ false = false_from_ne_true _ (λ is. (let both : passes c ≡ true = All-head Only c cs only is in let contra : true ≡ false = sym both ∙ u in cc)) in
+          rw u (rest ∙ sym (all ∙ ap (λ (xs : List Content). xs ++ matching f (views v gs cs)) (none_matching f v gs c differs)))
+    ]
+
+-- so the page is that of the resources that can match
+pub page_narrowed : (kind : Kind) (f : Option Filter) (passes : Content → Bool) (v : Viewer) (gs : List Content) (base : List ℕ) (store : Store)
+    → IsStore base store → OnlyThose kind f passes
+    → matching f (views v gs (filter passes (of_kind kind store.resources))) ≡ matching f (views v gs (of_kind kind store.resources))
+page_narrowed kind f passes v gs base store is only =
+    let cs = of_kind kind store.resources in
+    let sound : All (λ c. IsResource c × HasBase base c) cs = All-filter (is_of kind) (λ c. IsResource c × HasBase base c) store.resources is.sound in
+    let own : All (λ c. is_of kind c ≡ true) cs = filter_passes (is_of kind) store.resources in
+    narrowed f v gs passes cs (λ k c lt matches. only v gs _ (same_true the_kind tt _ kind (own k c lt)) (sound k c lt).0 matches)
+
+-- a page of a list is one of any list of which the same matches
+pub page_of_matching : (xs ys : List Content) (query : Query) (page : Page) → matching query.filter xs ≡ matching query.filter ys → IsPage xs query page → IsPage ys query page
+page_of_matching xs ys query page same is = record {
+  total = rw (← same) is.total;
+  start = is.start;
+  sorted = is.sorted;
+  is_sorted = rw (← same) is.is_sorted;
+  items = is.items;
+}
+
+-- of resources that are apart one at most has a name
+none_passing : (test : Content → Bool) (cs : List Content) → list_any test cs ≡ false → filter test cs ≡ []
+none_passing test [] none = refl
+none_passing test (c ∷ cs) none = let parts = or_parts (test c) (list_any test cs) none in rw parts.0 (none_passing test cs parts.1)
+
+only_owner : (name : Name) (cs : List Content) → AllPairs AreApart cs → filter (has_name name) cs ≡ and_those (find (has_name name) cs) []
+only_owner name [] apart = refl
+only_owner name (c ∷ cs) apart =
+    let first : All (AreApart c) cs = λ k e h. apart zero (suc k) e (omega arith) (omega arith) in
+    let rest : AllPairs AreApart cs = λ i j e h k. apart (suc i) (suc j) e (omega arith) (omega arith) in
+    elim (cases_Bool (has_name name c)) [
+      | inl t ↦ rw t (ap (λ (xs : List Content). c ∷ xs) (none_passing (has_name name) cs (unnamed_later c cs name first t)))
+      | inr u ↦ rw u (only_owner name cs rest)
+    ]
+
+pub named_of_kind : (kind : Kind) (name : Name) (cs : List Content) → AllPairs AreApart cs
+    → filter (has_name name) (of_kind kind cs) ≡ of_kind kind (and_those (find (has_name name) cs) [])
+named_of_kind kind name cs apart = filter_swap (is_of kind) (has_name name) cs ∙ ap (of_kind kind) (only_owner name cs apart)
+
+-- what is seen of the one that is found
+pub seen_found : (kind : Kind) (name : Name) (v : Viewer) (gs cs found : List Content) → AllPairs AreApart cs → and_those (find (has_name name) cs) [] ≡ found
+    → views v gs (of_kind kind found) ≡ views v gs (filter (has_name name) (of_kind kind cs))
+seen_found kind name v gs cs found apart is = ap (views v gs) (sym (named_of_kind kind name cs apart ∙ ap (of_kind kind) is))
+
+-- one that is of another kind, or that isn't seen, shows nothing
+pub of_another_kind : (kind : Kind) (v : Viewer) (gs : List Content) (c : Content) → is_of kind c ≡ false → [] ≡ views v gs (of_kind kind (c ∷ []))
+of_another_kind kind v gs c other = rw other refl
+
+pub unseen : (kind : Kind) (v : Viewer) (gs : List Content) (c : Content) (d : Decision) → d ≡ read_decision v c (simple Id) → d.allow ≡ false
+    → [] ≡ views v gs (of_kind kind (c ∷ []))
+unfolding sees
+unseen kind v gs c d decides denied =
+    let unseen' : (read_decision v c (simple Id)).allow ≡ false = ap (λ (e : Decision). e.allow) (sym decides) ∙ denied in
+    elim (cases_Bool (is_of kind c)) [ inl t ↦ rw t (rw unseen' refl) | inr u ↦ rw u refl ]
+
+-- one that is seen is shown with its groups
+pub seen_alone : (kind : Kind) (v : Viewer) (gs hs : List Content) (c part : Content) (d : Decision) → is_of kind c ≡ true → d ≡ read_decision v c (simple Id) → d.allow ≡ true
+    → part ≡ with_groups v hs c → with_groups v hs c ≡ with_groups v gs c → part ∷ [] ≡ views v gs (of_kind kind (c ∷ []))
+unfolding sees
+seen_alone kind v gs hs c part d own decides allows is same =
+    let seen : (read_decision v c (simple Id)).allow ≡ true = ap (λ (e : Decision). e.allow) (sym decides) ∙ allows in
+    rw own (rw seen (ap (λ (w : Content). w ∷ []) (is ∙ same)))
+
+-- a list of one is in order
+pub one_in_order : (cs : List Content) → length cs ≤ 1 → IsSorted id_cmp cs
+one_in_order cs few k d low high = absurd (omega arith)
+
+-- where no part matches in which a text doesn't stand at a unique leaf, only a resource with that name can match
+abbrev pub NamesByText : Kind → Leaf → Type 0
+NamesByText kind leaf = (f : Option Filter) (text : List ℕ) → NeedsText f leaf text → OnlyThose kind f (has_name (record { leaf = leaf; text = cased (is_case_exact leaf) text }))
+
+-- the unique name of a user
+name_of_user : (c : Content) (s : List ℕ) → c.kind ≡ User → first_at (simple UserName) c ≡ Some (Text s) → unique_names c ≡ record { leaf = simple UserName; text = folded s } ∷ []
+unfolding unique_leaves
+name_of_user c s is found = rw is (rw found refl)
+
+is_equal : (o : Ordering) → is_eq o ≡ true → o ≡ Equal
+is_equal Less e = cc
+is_equal Equal e = refl
+is_equal Greater e = cc
+
+-- texts that `eq` holds of at `userName` fold alike, and no moment or truth stands there
+folds_alike : (o : Option Atom) (a : Atom) (text : List ℕ) → IsFilled o → o ≡ Some a → stands (is_case_exact (simple UserName)) Eq a (literal.Text text) ≡ true
+    → (s : List ℕ) × (o ≡ Some (Text s)) × (folded s ≡ folded text)
+folds_alike None a text filled is e = absurd filled
+folds_alike (Some (Truth b)) a text filled is e = absurd filled
+folds_alike (Some (Moment m)) a text filled is e = absurd filled
+folds_alike (Some (Text s)) a text filled is e =
+    let one : Text s ≡ a = cc in
+    let equal : is_eq (slice_cmp nat_cmp (folded s) (folded text)) ≡ true = ap (λ (b : Atom). stands (is_case_exact (simple UserName)) Eq b (literal.Text text)) one ∙ e in
+    (s, refl, exact_bytes (folded s) (folded text) (is_equal _ equal))
+
+named_as_user : (c : Content) → c.kind ≡ User → IsNamed c → IsFilled (first_at (simple UserName) c)
+named_as_user c is named = subst (λ (k : Kind). IsNamedAs k c) is named
+
+user_named : NamesByText User (simple UserName)
+user_named f text needs v gs c is sound matches =
+    let found = seen_stands (λ (a : Atom). stands (is_case_exact (simple UserName)) Eq a (literal.Text text)) (simple UserName) v gs c refl refl sound.part (needs (with_groups v gs c) matches) in
+    let known = folds_alike (first_at (simple UserName) c) found.0 text (named_as_user c is sound.named) found.1 found.2 in
+    rw (name_of_user c known.0 is known.1) (rw known.2 (rw ((bytes_decides (folded text) (folded text)).1 refl) refl))
+
+pub names_by_text : (kind : Kind) → All (NamesByText kind) (unique_leaves kind)
+unfolding unique_leaves
+names_by_text User = All-cons (NamesByText User) (simple UserName) [] user_named (λ k d lt. absurd (omega (arith, lt)))
+names_by_text Group = λ k d lt. absurd (omega (arith, lt))

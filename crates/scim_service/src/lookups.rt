@@ -1,0 +1,138 @@
+//! Searches whose filter asks for a unique name: the one resource that can match is looked up by it.
+ghost use Rattle.std.specs.Prelude.{◌≡◌, ◌∷◌, ℕ, List, [], IfOk, IfSome, filter};
+ghost use Rattle.scim_schema.specs.declared.Kind.{Kind};
+ghost use Rattle.scim_schema.specs.Characteristics.{is_case_exact};
+ghost use Rattle.scim_cell.specs.Kinds.{of_kind};
+ghost use Rattle.scim_value.specs.Uniqueness.{name_of};
+ghost use Rattle.scim_filter.specs.Relation.{cased};
+ghost use Rattle.scim_view.specs.View.{viewer_of};
+ghost use Rattle.scim_view.specs.Groups.{and_those, views};
+ghost use Rattle.scim_query.specs.Pages.{IsPage};
+ghost use Rattle.scim_shelf.specs.Shelves.{Answers, OnlyReads};
+ghost use Rattle.scim_shelf.specs.Stores.{IsStore, has_name};
+ghost use Rattle.scim_service.specs.Lookups as spec;
+
+use crate::plans::groups_beside;
+use scim_filter::StringLiteral;
+use scim_query::{Page, Pager, Query};
+use scim_schema::{Attribute, Kind, Leaf, is_case_exact, unique_leaves};
+use scim_shelf::{Shelf, ShelfFault};
+use scim_text::{Failed, NoMemory};
+use scim_value::{Part, Resource, UniqueName};
+use scim_view::Viewer;
+use std::alloc::Global;
+
+/// The unique name by which a text is known at a leaf (RFC 7643 section 2.2).
+fn known_name(alloc: Global, leaf: Leaf, text: &StringLiteral) -> Result<UniqueName, NoMemory>
+    ensures leaf { IfOk result (λ name. name.leaf ≡ leaf) }
+    ensures text { IfOk result (λ name. (name_of name).text ≡ cased (is_case_exact leaf) text.now) }
+{
+    let known = if is_case_exact(leaf) {
+        text.as_str()
+    } else {
+        text.folded()
+    };
+    Ok(UniqueName {
+        leaf,
+        text: String::from_str(alloc, known)?,
+    })
+}
+
+/// The unique name without which no resource of the kind matches; None where the query asks for none.
+pub(crate) fn needed_name(
+    alloc: Global,
+    kind: Kind,
+    query: &Query,
+) -> Result<Option<UniqueName>, NoMemory>
+    ensures { IfOk result (λ o. IfSome o (λ name. spec.OnlyThose kind query.now.filter (has_name (name_of name)))) }
+{
+    for leaf in unique_leaves(kind) {
+        if let Some(text) = query.needed_text(*leaf) {
+            return Ok(Some(known_name(alloc, *leaf, text)?));
+        }
+    }
+    Ok(None)
+}
+
+/// What the client sees of the resource with its groups; None where it isn't of the kind, or the client doesn't see it.
+fn seen_part<S: Shelf>(
+    alloc: Global,
+    viewer: &Viewer<'_>,
+    shelf: &mut S,
+    kind: Kind,
+    resource: &Resource,
+) -> Result<Option<Part>, Failed<ShelfFault>>
+    ensures part { IfOk result (Answers S.stands S.is_honest shelf.old shelf.new (λ store part. (base : List ℕ) → IsStore base store
+        → and_those part [] ≡ views (viewer_of viewer.now) (of_kind Kind.Group store.resources) (of_kind kind (resource.now ∷ [])))) }
+    ensures read { OnlyReads S.stands S.is_honest S.failures shelf.old shelf.new result }
+{
+    if resource.kind() != kind {
+        return Ok(None);
+    }
+    let decisions = viewer.decisions(alloc, resource)?;
+    let seen = decisions.of(Leaf::simple(Attribute::Id));
+    if !seen.allow {
+        return Ok(None);
+    }
+    let groups = groups_beside(alloc, shelf, resource)?;
+    let part = viewer.with_groups_by(alloc, &decisions, groups.as_slice(), resource)?;
+    Ok(Some(part))
+}
+
+/// What the client sees of the resource of the kind that has the name; None where there is none, or the client
+/// doesn't see it.
+fn seen_owner<S: Shelf>(
+    alloc: Global,
+    viewer: &Viewer<'_>,
+    shelf: &mut S,
+    kind: Kind,
+    name: &UniqueName,
+) -> Result<Option<Part>, Failed<ShelfFault>>
+    ensures part { IfOk result (Answers S.stands S.is_honest shelf.old shelf.new (λ store part. (base : List ℕ) → IsStore base store
+        → and_those part [] ≡ views (viewer_of viewer.now) (of_kind Kind.Group store.resources)
+        (filter (has_name (name_of name.now)) (of_kind kind store.resources)))) }
+    ensures read { OnlyReads S.stands S.is_honest S.failures shelf.old shelf.new result }
+{
+    match shelf.name_owner(alloc, name)? {
+        Some(owner) => seen_part(alloc, viewer, shelf, kind, &owner),
+        None => Ok(None),
+    }
+}
+
+/// The page of this part alone.
+fn page_of_one(alloc: Global, part: Part, query: &Query) -> Result<Page, NoMemory>
+    ensures { IfOk result (λ page. IsPage (part ∷ []) query.now page) }
+{
+    let mut pager = Pager::new(alloc, query);
+    pager.push(part)?;
+    pager.end()
+}
+
+/// The page of this part, or of none.
+fn page_of(alloc: Global, part: Option<Part>, query: &Query) -> Result<Page, NoMemory>
+    ensures { IfOk result (λ page. IsPage (and_those part []) query.now page) }
+{
+    match part {
+        Some(part) => page_of_one(alloc, part, query),
+        None => Pager::new(alloc, query).end(),
+    }
+}
+
+/// The page that the client's query asks for of the resources of a kind, where only one with the name can match:
+/// that one alone is read, and the groups that list it.
+pub(crate) fn page_named<S: Shelf>(
+    alloc: Global,
+    viewer: &Viewer<'_>,
+    shelf: &mut S,
+    kind: Kind,
+    name: &UniqueName,
+    query: &Query,
+) -> Result<Page, Failed<ShelfFault>>
+    requires { spec.OnlyThose kind query.now.filter (has_name (name_of name.now)) }
+    ensures page { IfOk result (Answers S.stands S.is_honest shelf.old shelf.new (λ store page. (base : List ℕ) → IsStore base store
+        → IsPage (views (viewer_of viewer.now) (of_kind Kind.Group store.resources) (of_kind kind store.resources)) query.now page)) }
+    ensures read { OnlyReads S.stands S.is_honest S.failures shelf.old shelf.new result }
+{
+    let part = seen_owner(alloc, viewer, shelf, kind, name)?;
+    Ok(page_of(alloc, part, query)?)
+}
