@@ -39,7 +39,7 @@ impl Decided {
 }
 
 /// What the audit keeps of a request of a client. Its number is its place among the rows, from 1.
-#[derive(Debug, Drop)]
+#[derive(Debug)]
 pub struct AuditRow {
     /// When the request came.
     pub moment: Moment,
@@ -59,6 +59,23 @@ pub struct AuditRow {
     pub leaf: Option<Leaf>,
     /// The refusal that was answered; None where the request was carried out.
     pub refusal: Option<Refusal>,
+}
+
+/// One call, wherever a row of the audit is dropped, in place of a look at all that it has.
+impl Drop for AuditRow {
+    fn drop(self) {
+        let AuditRow {
+            moment: _moment,
+            client: _client,
+            op: _op,
+            kind: _kind,
+            id: _id,
+            decided: _decided,
+            rule: _rule,
+            leaf: _leaf,
+            refusal: _refusal,
+        } = self;
+    }
 }
 
 impl AuditRow {

@@ -6,9 +6,16 @@ use std::alloc::Global;
 use std::marker::Model;
 
 /// A text of its own, which contracts see as its bytes.
-#[derive(Debug, Drop)]
+#[derive(Debug)]
 pub struct Text {
     text: String,
+}
+
+/// One call, wherever a text is dropped, in place of a look at all that it has.
+impl Drop for Text {
+    fn drop(self) {
+        let Text { text: _text } = self;
+    }
 }
 
 impl Model for Text {
@@ -86,7 +93,7 @@ impl Eq for Text {
 }
 
 /// The value of a cell.
-#[derive(Debug, Drop)]
+#[derive(Debug)]
 pub enum Atom {
     /// A string, a binary value or a reference (RFC 7643 sections 2.3.1, 2.3.6 and 2.3.7).
     Text(Text),
@@ -94,6 +101,17 @@ pub enum Atom {
     Truth(bool),
     /// A DateTime (RFC 7643 section 2.3.5).
     Moment(Moment),
+}
+
+/// One call, wherever an atom is dropped, in place of a look at all that it has.
+impl Drop for Atom {
+    fn drop(self) {
+        match self {
+            Atom::Text(_held) => (),
+            Atom::Truth(_held) => (),
+            Atom::Moment(_held) => (),
+        }
+    }
 }
 
 impl Atom {

@@ -10,18 +10,38 @@ use std::alloc::Global;
 use std::marker::Model;
 
 /// A leaf of a value, and the atom that the value has there.
-#[derive(Debug, Drop)]
+#[derive(Debug)]
 pub struct Field {
     pub leaf: Leaf,
     pub atom: Atom,
 }
 
+/// One call, wherever a field is dropped, in place of a look at all that it has.
+impl Drop for Field {
+    fn drop(self) {
+        let Field {
+            leaf: _leaf,
+            atom: _atom,
+        } = self;
+    }
+}
+
 /// One value of a unit: a value of a multi-valued attribute with the fields that it has, in order
 /// of sub-attribute; or the one field of a leaf that is a unit of its own.
-#[derive(Debug, Drop)]
+#[derive(Debug)]
 pub struct Row {
     unit: Unit,
     fields: Vec<Field>,
+}
+
+/// One call, wherever a row is dropped, in place of a look at all that it has.
+impl Drop for Row {
+    fn drop(self) {
+        let Row {
+            unit: _unit,
+            fields: _fields,
+        } = self;
+    }
 }
 
 impl Model for Row {

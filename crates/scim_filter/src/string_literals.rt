@@ -10,11 +10,22 @@ use std::marker::Model;
 
 /// The text that a JSON string in a filter stands for. It is folded, and read as a moment, once for all
 /// resources that it is compared with. Contracts see the text.
-#[derive(Debug, Drop)]
+#[derive(Debug)]
 pub struct StringLiteral {
     text: Text,
     folded: Text,
     moment: Option<Reading>,
+}
+
+/// One call, wherever a literal is dropped, in place of a look at all that it has.
+impl Drop for StringLiteral {
+    fn drop(self) {
+        let StringLiteral {
+            text: _text,
+            folded: _folded,
+            moment: _moment,
+        } = self;
+    }
 }
 
 impl Model for StringLiteral {

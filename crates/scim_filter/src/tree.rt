@@ -25,13 +25,25 @@ pub enum Operator {
 }
 
 /// What values are compared with.
-#[derive(Debug, Drop)]
+#[derive(Debug)]
 pub enum Literal {
     /// What a JSON string stands for.
     Text(StringLiteral),
     Number(i64),
     Truth(bool),
     Null,
+}
+
+/// One call, wherever a literal is dropped, in place of a look at all that it has.
+impl Drop for Literal {
+    fn drop(self) {
+        match self {
+            Literal::Text(_held) => (),
+            Literal::Number(_held) => (),
+            Literal::Truth(_held) => (),
+            Literal::Null => (),
+        }
+    }
 }
 
 /// What a path names in the attribute table of a kind.

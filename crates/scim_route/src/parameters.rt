@@ -11,7 +11,6 @@ use std::alloc::Global;
 
 /// What a query string gives: of each parameter that a request may have the first; None where it isn't there
 /// (RFC 7644 sections 3.4.2 and 3.9).
-#[derive(Drop)]
 pub struct Parameters {
     /// `attributes`
     pub attributes: Option<Text>,
@@ -27,6 +26,21 @@ pub struct Parameters {
     pub start_index: Option<Text>,
     /// `count`
     pub count: Option<Text>,
+}
+
+/// One call, wherever parameters are dropped, in place of a look at each.
+impl Drop for Parameters {
+    fn drop(self) {
+        let Parameters {
+            attributes: _attributes,
+            excluded_attributes: _excluded_attributes,
+            filter: _filter,
+            sort_by: _sort_by,
+            sort_order: _sort_order,
+            start_index: _start_index,
+            count: _count,
+        } = self;
+    }
 }
 
 /// The text that a name or a value of a form stands for.

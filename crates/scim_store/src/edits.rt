@@ -5,7 +5,7 @@ use scim_schema::Kind;
 use scim_value::UniqueName;
 
 /// What goes from the tables and comes into them, where one resource changes.
-#[derive(Debug, Drop)]
+#[derive(Debug)]
 pub struct Edits {
     /// The text of the resource's id.
     pub id: Text,
@@ -21,4 +21,19 @@ pub struct Edits {
     pub members_gone: Vec<Text>,
     /// The values that it lists among its members, and didn't before, each once.
     pub members_come: Vec<Text>,
+}
+
+/// One call, wherever edits are dropped, in place of a look at each.
+impl Drop for Edits {
+    fn drop(self) {
+        let Edits {
+            id: _id,
+            kind: _kind,
+            document: _document,
+            names_gone: _names_gone,
+            names_come: _names_come,
+            members_gone: _members_gone,
+            members_come: _members_come,
+        } = self;
+    }
 }

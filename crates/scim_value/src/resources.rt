@@ -21,9 +21,16 @@ use std::marker::Model;
 /// keeps to this server's limits. `validity::is_resource` tells which parts are.
 ///
 /// Contracts see its part, of which they know that it is a resource.
-#[derive(Debug, Drop)]
+#[derive(Debug)]
 pub struct Resource {
     part: Part,
+}
+
+/// One call, wherever a resource is dropped, in place of a look at all that it has.
+impl Drop for Resource {
+    fn drop(self) {
+        let Resource { part: _part } = self;
+    }
 }
 
 /// Where the resource of a kind and an id is found below a base, as

@@ -13,10 +13,20 @@ use std::alloc::Global;
 
 /// A name that a resource has alone: a leaf, and the text by which the name is known there. That is
 /// the folded text, unless the attribute is caseExact.
-#[derive(Debug, PartialEq, Eq, Hash, Drop)]
+#[derive(Debug, PartialEq, Eq, Hash)]
 pub struct UniqueName {
     pub leaf: Leaf,
     pub text: String,
+}
+
+/// One call, wherever a name is dropped, in place of a look at all that it has.
+impl Drop for UniqueName {
+    fn drop(self) {
+        let UniqueName {
+            leaf: _leaf,
+            text: _text,
+        } = self;
+    }
 }
 
 /// The unique names of a resource, in the order of the table. NoMemory where none was to be had.
