@@ -7,6 +7,7 @@ use scim_body::UseFor;
 use scim_schema::{Kind, Op};
 use scim_service::{Ask, Service, Turn};
 use scim_shelf::MemoryShelf;
+use scim_text::push;
 use scim_view::Wanted;
 use std::alloc::Global;
 use std::io::Print;
@@ -94,7 +95,7 @@ fn turns_of(alloc: Global, kind: Kind, bodies: [&str; 2]) -> Result<Vec<Turn>> {
     for place in 0..TURNS {
         let [one, other] = bodies;
         let body = if place % 2 == 0 { one } else { other };
-        turns.push(turn_of(alloc, kind, UseFor::Replacing, body)?)?;
+        push(&mut turns, turn_of(alloc, kind, UseFor::Replacing, body)?)?;
     }
     Ok(turns)
 }

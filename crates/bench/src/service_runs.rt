@@ -11,6 +11,7 @@ use scim_samples::BASE;
 use scim_schema::{Kind, Op};
 use scim_service::{Ask, Service, Turn};
 use scim_shelf::MemoryShelf;
+use scim_text::push;
 use scim_view::Wanted;
 use std::alloc::Global;
 use std::io::Print;
@@ -173,7 +174,7 @@ fn turns_of(alloc: Global, asked: Asked, first: usize, count: usize) -> Result<V
 
 fn push_turn(alloc: Global, asked: Asked, number: usize, turns: &mut Vec<Turn>) -> Result<()> {
     let turn = turn_of(alloc, asked, number)?;
-    Ok(turns.push(turn)?)
+    Ok(push(turns, turn)?)
 }
 
 /// A service by a policy file over a store without resources.

@@ -7,6 +7,7 @@ use scim_policy::{Policy, read_policy};
 use scim_query::{Page, Query, search_view};
 use scim_samples::{BASE, resource};
 use scim_schema::{Attribute, Kind, Leaf, SubAttribute};
+use scim_text::push;
 use scim_value::Resource;
 use scim_view::{Viewer, Wanted};
 use std::alloc::Global;
@@ -59,7 +60,7 @@ fn named_user(alloc: Global, number: usize) -> Result<Resource> {
 
 fn push_user(alloc: Global, number: usize, users: &mut Vec<Resource>) -> Result<()> {
     let user = named_user(alloc, number)?;
-    Ok(users.push(user)?)
+    Ok(push(users, user)?)
 }
 
 fn users_of(alloc: Global, count: usize) -> Result<Vec<Resource>> {
@@ -77,7 +78,7 @@ fn push_group(
     groups: &mut Vec<Resource>,
 ) -> Result<()> {
     let group = group(alloc, number, users)?;
-    Ok(groups.push(group)?)
+    Ok(push(groups, group)?)
 }
 
 fn groups_of(alloc: Global, users: usize) -> Result<Vec<Resource>> {

@@ -7,6 +7,7 @@ use crate::timing::fastest;
 use anyhow::{Result, bail};
 use scim_filter::{Filter, holds, read_filter};
 use scim_schema::Kind;
+use scim_text::push;
 use scim_value::Part;
 use std::alloc::Global;
 use std::io::Print;
@@ -178,7 +179,7 @@ fn short_filters_on(rt: &(impl Clock + Print), alloc: Global, user: &Part) -> Re
 
 fn push_user(alloc: Global, number: usize, users: &mut Vec<Part>) -> Result<()> {
     let user = user(alloc, number, "Jensen")?;
-    users.push(user.into_part())?;
+    push(users, user.into_part())?;
     Ok(())
 }
 

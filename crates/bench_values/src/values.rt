@@ -1,7 +1,7 @@
 //! The JSON of a part as a value of serde_json, as a server without a writer of its own makes it.
 use scim_cell::{Atom, Field, Row};
 use scim_schema::{Attribute, Schema, core_schema, extension_of, extensions, is_multi_valued};
-use scim_text::{NoMemory, print_moment};
+use scim_text::{NoMemory, print_moment, push};
 use scim_value::Part;
 use serde_json::{Map, Value};
 use std::alloc::Global;
@@ -44,7 +44,7 @@ fn add_extension(
 
 fn push_text(alloc: Global, written: &str, values: &mut Vec<Value>) -> Result<(), NoMemory> {
     let value = text(alloc, written)?;
-    Ok(values.push(value)?)
+    Ok(push(values, value)?)
 }
 
 /// The members of the attributes of an extension, or of no extension.

@@ -5,6 +5,7 @@ use case_values::{Case, CaseFault, push_all};
 use scim_audit::{AuditRow, print_row};
 use scim_shelf::{MemoryShelf, Shelf};
 use scim_store::SqlShelf;
+use scim_text::push;
 use sqlite::Alter;
 use std::alloc::Global;
 
@@ -57,7 +58,7 @@ fn copied_after(
 ) -> Result<Vec<AuditRow>, CaseFault> {
     let mut copies = Vec::new(alloc);
     for row in rows.iter().skip(known) {
-        copies.push(row.try_copy(alloc)?)?;
+        push(&mut copies, row.try_copy(alloc)?)?;
     }
     Ok(copies)
 }

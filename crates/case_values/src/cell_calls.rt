@@ -8,6 +8,7 @@ use scim_cell::{
 };
 use scim_samples::{atom_text, leaf_text, read_cells, read_leaf, row_text};
 use scim_schema::{characteristics_of, unit_of};
+use scim_text::push;
 use std::alloc::Global;
 
 /// What a call of `scim_cell` gives; None where it isn't one.
@@ -137,7 +138,7 @@ fn field_of(cell: Cell) -> Field {
 fn fields(alloc: Global, text: &str) -> Result<Vec<Field>, CaseFault> {
     let mut fields = Vec::new(alloc);
     for cell in read_cells(alloc, text)? {
-        fields.push(field_of(cell))?;
+        push(&mut fields, field_of(cell))?;
     }
     Ok(fields)
 }
@@ -155,7 +156,7 @@ pub fn rows(case: &Case<'_>) -> Result<Vec<Row>, CaseFault> {
     let mut rows = Vec::new(case.alloc);
     for value in case.list("rows") {
         if let Some(text) = value.as_str() {
-            rows.push(row(case.alloc, text)?)?;
+            push(&mut rows, row(case.alloc, text)?)?;
         }
     }
     Ok(rows)
@@ -185,7 +186,7 @@ fn fields_text(alloc: Global, row: &Row) -> Result<String, CaseFault> {
 fn copied_fields(alloc: Global, row: &Row) -> Result<String, CaseFault> {
     let mut copies = Vec::new(alloc);
     for field in row.fields() {
-        copies.push(field.try_copy(alloc)?)?;
+        push(&mut copies, field.try_copy(alloc)?)?;
     }
     fields_text(alloc, &Row::new(row.unit(), copies))
 }

@@ -4,6 +4,7 @@ use crate::case::Case;
 use crate::faults::CaseFault;
 use scim_samples::{part, resource, sample, sample_groups, sample_users};
 use scim_schema::Kind;
+use scim_text::push;
 use scim_value::{Part, Resource};
 use serde_json::Value;
 use std::alloc::Global;
@@ -15,7 +16,7 @@ pub fn texts<'c>(case: &'c Case<'_>, name: &'static str) -> Result<Vec<&'c str>,
         let Some(text) = value.as_str() else {
             return Err(CaseFault::Missing("texts"));
         };
-        texts.push(text)?;
+        push(&mut texts, text)?;
     }
     Ok(texts)
 }
@@ -33,7 +34,7 @@ pub fn spaced_text(case: &Case<'_>, name: &'static str) -> Result<String, CaseFa
 pub fn parts_of(case: &Case<'_>) -> Result<Vec<Part>, CaseFault> {
     let mut parts = Vec::new(case.alloc);
     for value in case.list("parts") {
-        parts.push(part_of(case, value.as_str().unwrap_or(""))?)?;
+        push(&mut parts, part_of(case, value.as_str().unwrap_or(""))?)?;
     }
     Ok(parts)
 }
@@ -52,7 +53,7 @@ pub fn resources(
 ) -> Result<Vec<Resource>, CaseFault> {
     let mut resources = Vec::new(case.alloc);
     for value in case.list(name) {
-        resources.push(resource_of(case.alloc, kind, value)?)?;
+        push(&mut resources, resource_of(case.alloc, kind, value)?)?;
     }
     Ok(resources)
 }
@@ -86,7 +87,7 @@ pub fn resources_of(case: &Case<'_>) -> Result<Vec<Resource>, CaseFault> {
 fn numbered_users(alloc: Global, number: i64) -> Result<Vec<Resource>, CaseFault> {
     let mut users = Vec::new(alloc);
     for index in 0..number {
-        users.push(numbered_user(alloc, index)?)?;
+        push(&mut users, numbered_user(alloc, index)?)?;
     }
     Ok(users)
 }

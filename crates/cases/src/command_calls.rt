@@ -10,7 +10,7 @@ use scim_command::{
 };
 use scim_samples::{BASE, POLICY, USERS};
 use scim_schema::Leaf;
-use scim_text::print_moment;
+use scim_text::{print_moment, push};
 use std::alloc::Global;
 
 /// What a call of `scim_command` gives; None where it isn't one.
@@ -65,7 +65,7 @@ fn words(case: &Case<'_>) -> Result<Vec<String>, CaseFault> {
     let mut words = Vec::new(case.alloc);
     for value in case.list("words") {
         if let Some(word) = value.as_str() {
-            words.push(said(case.alloc, word)?)?;
+            push(&mut words, said(case.alloc, word)?)?;
         }
     }
     Ok(words)

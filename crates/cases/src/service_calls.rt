@@ -9,7 +9,7 @@ use scim_cell::{Id, Text};
 use scim_samples::BASE;
 use scim_service::{Ask, Reply, Request, Service, Turn};
 use scim_shelf::MemoryShelf;
-use scim_text::{Failed, Moment};
+use scim_text::{Failed, Moment, push};
 use std::alloc::Global;
 
 /// 2024-06-01T12:00:00Z, when all turns are.
@@ -68,7 +68,7 @@ fn turns_of(case: &Case<'_>) -> Result<Vec<Turn>, CaseFault> {
             alloc: case.alloc,
             value,
         };
-        turns.push(turn_of(&turn)?)?;
+        push(&mut turns, turn_of(&turn)?)?;
     }
     Ok(turns)
 }

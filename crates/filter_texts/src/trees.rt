@@ -7,7 +7,7 @@ use scim_filter::{Meant, Node, Operator, Path};
 use scim_schema::{
     Attribute, AttributeType, Kind, Schema, SubAttribute, attributes, schema_of, sub_attributes,
 };
-use scim_text::NoMemory;
+use scim_text::{NoMemory, push};
 use std::alloc::Global;
 
 /// Names that no kind has, some of which are keywords too.
@@ -210,7 +210,7 @@ fn joined(
 fn join_two(alloc: Global, dice: &mut Dice, nodes: &mut Vec<Box<Node>>) -> Result<(), NoMemory> {
     if let (Some(a), Some(b)) = (take_any(dice, nodes), take_any(dice, nodes)) {
         let node = pair(alloc, dice, a, b)?;
-        nodes.push(node)?;
+        push(nodes, node)?;
     }
     Ok(())
 }
@@ -251,7 +251,7 @@ fn push_inner_term(
     terms: &mut Vec<Box<Node>>,
 ) -> Result<(), NoMemory> {
     let term = inner_term(alloc, dice, outer)?;
-    Ok(terms.push(term)?)
+    Ok(push(terms, term)?)
 }
 
 fn inner_term(alloc: Global, dice: &mut Dice, outer: Meant) -> Result<Box<Node>, NoMemory> {
@@ -305,7 +305,7 @@ fn push_term(
     terms: &mut Vec<Box<Node>>,
 ) -> Result<(), NoMemory> {
     let term = random_term(alloc, dice, kind)?;
-    Ok(terms.push(term)?)
+    Ok(push(terms, term)?)
 }
 
 /// A tree of up to six terms.

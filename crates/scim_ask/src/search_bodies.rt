@@ -19,7 +19,7 @@ use scim_audit::Refusal;
 use scim_body::{given_named, is_absent, is_twice};
 use scim_query::Query;
 use scim_schema::Kind;
-use scim_text::Failed;
+use scim_text::{Failed, push};
 use serde_json::{Map, Value};
 use std::alloc::Global;
 use std::slice;
@@ -79,7 +79,7 @@ fn add_item<'r>(value: &'r Value, texts: &mut Vec<&'r str>) -> Result<(), Failed
     }
     match value.as_str() {
         Some(text) => {
-            texts.push(text)?;
+            push(texts, text)?;
             Ok(())
         }
         None => Err(Failed::Because(Refusal::MessageValue)),

@@ -23,7 +23,7 @@ use scim_schema::{
     Attribute, JsonShape, Kind, Leaf, Schema, Unit, attributes, characteristics_of, extension_of,
     is_read_only, is_write_only, shape_of, unit_of,
 };
-use scim_text::{Failed, NoMemory};
+use scim_text::{Failed, NoMemory, push};
 use serde_json::{Map, Value};
 use std::alloc::Global;
 use thiserror::Error;
@@ -278,7 +278,7 @@ fn read_simple(
     if attribute == Attribute::UserName && is_empty(&atom) {
         return Err(Failed::Because(WrongValue));
     }
-    given.push(field_given(alloc, kind, Field { leaf, atom })?)?;
+    push(given, field_given(alloc, kind, Field { leaf, atom })?)?;
     Ok(())
 }
 
@@ -303,8 +303,8 @@ pub fn field_given(alloc: Global, kind: Kind, field: Field) -> Result<UnitGiven,
         return Ok(UnitGiven { unit, values });
     }
     let mut fields = Vec::new(alloc);
-    fields.push(field)?;
-    values.push(Row::new(unit, fields))?;
+    push(&mut fields, field)?;
+    push(&mut values, Row::new(unit, fields))?;
     Ok(UnitGiven { unit, values })
 }
 
@@ -338,7 +338,7 @@ fn push_fields(
         ≡ units_given given.old.items ++ map (spec.field_given kind) fields.items) }
 {
     for field in fields {
-        given.push(field_given(alloc, kind, field)?)?;
+        push(given, field_given(alloc, kind, field)?)?;
     }
     Ok(())
 }
@@ -361,7 +361,7 @@ fn read_multi_valued(
     let values = read_values(alloc, value, kind, attribute)?;
     if !values.is_empty() {
         let unit = Unit::whole(attribute);
-        given.push(UnitGiven { unit, values })?;
+        push(given, UnitGiven { unit, values })?;
     }
     Ok(())
 }
@@ -398,7 +398,7 @@ fn parts_of(alloc: Global, given: Vec<UnitGiven>) -> Result<(Vec<Unit>, Vec<Row>
     let mut rows = Vec::new(alloc);
     for one in given {
         let UnitGiven { unit, mut values } = one;
-        units.push(unit)?;
+        push(&mut units, unit)?;
         rows.append(&mut values)?;
     }
     Ok((units, rows))

@@ -17,7 +17,7 @@ use scim_schema::{
     Attribute, AttributeType, Kind, Leaf, SubAttribute, Unit, characteristics_of, is_read_only,
     sub_attributes,
 };
-use scim_text::{Failed, same_name};
+use scim_text::{Failed, push, same_name};
 use serde_json::{Map, Value};
 use std::alloc::Global;
 use std::slice;
@@ -125,7 +125,8 @@ fn read_sub_attribute(
     let Some(value) = given_named(members, sub_attribute.name()) else {
         return Ok(());
     };
-    fields.push(read_field(alloc, value, kind, attribute, sub_attribute)?)?;
+    let field = read_field(alloc, value, kind, attribute, sub_attribute)?;
+    push(fields, field)?;
     Ok(())
 }
 
@@ -178,7 +179,8 @@ fn read_alone(
         return Err(Failed::Because(WrongValue));
     }
     let mut fields = Vec::new(alloc);
-    fields.push(read_field(alloc, value, kind, attribute, SubAttribute::Value)?)?;
+    let field = read_field(alloc, value, kind, attribute, SubAttribute::Value)?;
+    push(&mut fields, field)?;
     Ok(fields)
 }
 
@@ -222,7 +224,7 @@ fn read_value(
     if fields.is_empty() {
         return Ok(());
     }
-    values.push(Row::new(Unit::whole(attribute), fields))?;
+    push(values, Row::new(Unit::whole(attribute), fields))?;
     Ok(())
 }
 

@@ -5,7 +5,7 @@ ghost use Rattle.scim_cell.specs.Rows as spec;
 
 use crate::atoms::Atom;
 use scim_schema::{Leaf, SubAttribute, Unit};
-use scim_text::NoMemory;
+use scim_text::{NoMemory, push};
 use std::alloc::Global;
 use std::marker::Model;
 
@@ -164,7 +164,7 @@ fn copy_fields(alloc: Global, fields: &[Field]) -> Result<Vec<Field>, NoMemory>
 {
     let mut copies = Vec::with_capacity(alloc, fields.len())?;
     for field in fields {
-        copies.push(field.try_copy(alloc)?)?;
+        push(&mut copies, field.try_copy(alloc)?)?;
     }
     Ok(copies)
 }
@@ -175,7 +175,7 @@ fn kept_fields<T: RowTest>(alloc: Global, row: &Row, test: &T) -> Result<Vec<Fie
     let mut copies = Vec::new(alloc);
     for field in row.fields() {
         if test.is_kept(row, field.leaf) {
-            copies.push(field.try_copy(alloc)?)?;
+            push(&mut copies, field.try_copy(alloc)?)?;
         }
     }
     Ok(copies)

@@ -10,7 +10,7 @@ ghost use Rattle.scim_change.specs.Create as spec;
 use scim_body::{Draft, UseFor};
 use scim_cell::{Atom, Field, Id, Row, Text};
 use scim_schema::{Attribute, Kind, Leaf, SubAttribute, unit_of};
-use scim_text::{Moment, NoMemory};
+use scim_text::{Moment, NoMemory, push};
 use scim_value::{Part, Resource, location};
 use std::alloc::Global;
 
@@ -41,7 +41,7 @@ fn row_of(alloc: Global, leaf: Leaf, atom: Atom) -> Result<Row, NoMemory>
     ensures { IfOk result (λ r. r ≡ spec.row_of leaf atom) }
 {
     let mut fields = Vec::new(alloc);
-    fields.push(Field { leaf, atom })?;
+    push(&mut fields, Field { leaf, atom })?;
     Ok(Row::new(unit_of(leaf), fields))
 }
 
@@ -82,10 +82,12 @@ fn meta_rows(
     let mut rows = Vec::with_capacity(alloc, 4)?;
     let kind_name = Text::copy_of(alloc, kind.name())?;
     let place = location(alloc, base, kind, id)?;
-    rows.push(text_row(alloc, SubAttribute::ResourceType, kind_name)?)?;
-    rows.push(moment_row(alloc, SubAttribute::Created, moment)?)?;
-    rows.push(moment_row(alloc, SubAttribute::LastModified, moment)?)?;
-    rows.push(text_row(alloc, SubAttribute::Location, place)?)?;
+    let resource_type = text_row(alloc, SubAttribute::ResourceType, kind_name)?;
+    push(&mut rows, resource_type)?;
+    push(&mut rows, moment_row(alloc, SubAttribute::Created, moment)?)?;
+    let last_modified = moment_row(alloc, SubAttribute::LastModified, moment)?;
+    push(&mut rows, last_modified)?;
+    push(&mut rows, text_row(alloc, SubAttribute::Location, place)?)?;
     Ok(rows)
 }
 
@@ -97,7 +99,7 @@ fn all_rows(alloc: Global, id: Id, values: &[Row], mut meta: Vec<Row>) -> Result
 {
     let text = Atom::Text(id.text(alloc)?);
     let mut rows = Vec::with_capacity(alloc, 1)?;
-    rows.push(row_of(alloc, Leaf::simple(Attribute::Id), text)?)?;
+    push(&mut rows, row_of(alloc, Leaf::simple(Attribute::Id), text)?)?;
     push_copies(alloc, values, &mut rows)?;
     rows.append(&mut meta)?;
     Ok(rows)
@@ -108,7 +110,7 @@ fn push_copies(alloc: Global, values: &[Row], rows: &mut Vec<Row>) -> Result<(),
     ensures { OnOk result (rows.new.items ≡ rows.old.items ++ values.now) }
 {
     for row in values {
-        rows.push(row.try_copy(alloc)?)?;
+        push(rows, row.try_copy(alloc)?)?;
     }
     Ok(())
 }

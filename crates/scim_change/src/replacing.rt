@@ -12,7 +12,7 @@ use crate::creating::moment_row;
 use scim_body::{Draft, lacks_required};
 use scim_cell::Row;
 use scim_schema::{Attribute, Leaf, Mutability, SubAttribute, Unit, mutability_of, unit_of};
-use scim_text::{Failed, Moment, NoMemory};
+use scim_text::{Failed, Moment, NoMemory, push};
 use scim_value::{Part, Resource, copy_rows, values_among};
 use std::alloc::Global;
 use thiserror::Error;
@@ -128,7 +128,8 @@ pub fn modified_at(alloc: Global, part: Part, moment: Moment) -> Result<Part, No
     ensures bound { IfOk result (λ p. moment ≤ last_moment) }
 {
     let mut values = Vec::with_capacity(alloc, 1)?;
-    values.push(moment_row(alloc, SubAttribute::LastModified, moment)?)?;
+    let last_modified = moment_row(alloc, SubAttribute::LastModified, moment)?;
+    push(&mut values, last_modified)?;
     let leaf = Leaf::of(Attribute::Meta, SubAttribute::LastModified);
     part.put(unit_of(leaf), values)
 }

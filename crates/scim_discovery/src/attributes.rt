@@ -10,7 +10,7 @@ use scim_schema::{
     Attribute, AttributeType, Characteristics, Kind, SubAttribute, attribute_characteristics,
     sub_attribute_characteristics, sub_attributes,
 };
-use scim_text::NoMemory;
+use scim_text::{NoMemory, push};
 use serde_json::{Map, Value, put};
 use std::alloc::Global;
 
@@ -62,7 +62,8 @@ fn sub_attribute_values(alloc: Global, attribute: Attribute) -> Result<Vec<Value
 {
     let mut values = Vec::new(alloc);
     for sub_attribute in sub_attributes(attribute) {
-        values.push(sub_attribute_value(alloc, attribute, *sub_attribute)?)?;
+        let value = sub_attribute_value(alloc, attribute, *sub_attribute)?;
+        push(&mut values, value)?;
     }
     Ok(values)
 }

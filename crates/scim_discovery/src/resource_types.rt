@@ -6,7 +6,7 @@ ghost use Rattle.scim_discovery.specs.ResourceTypes as spec;
 
 use crate::members::put_text;
 use scim_schema::{Kind, Schema, core_schema, extensions};
-use scim_text::NoMemory;
+use scim_text::{NoMemory, push};
 use serde_json::{Map, Value, json, put};
 use std::alloc::Global;
 
@@ -22,7 +22,7 @@ fn extension_values(alloc: Global, schemas: &[Schema]) -> Result<Vec<Value>, NoM
 {
     let mut values = Vec::new(alloc);
     for schema in schemas {
-        values.push(extension_value(alloc, *schema)?)?;
+        push(&mut values, extension_value(alloc, *schema)?)?;
     }
     Ok(values)
 }
@@ -62,7 +62,7 @@ pub(crate) fn resource_type_values(alloc: Global) -> Result<Vec<Value>, NoMemory
 {
     let mut values = Vec::new(alloc);
     for kind in Kind::all() {
-        values.push(resource_type_value(alloc, *kind)?)?;
+        push(&mut values, resource_type_value(alloc, *kind)?)?;
     }
     Ok(values)
 }

@@ -8,7 +8,7 @@ ghost use Rattle.scim_discovery.specs.code.Listed as listed;
 
 use crate::attributes::attribute_value;
 use scim_schema::{Attribute, Kind, Schema, attributes, schema_of};
-use scim_text::NoMemory;
+use scim_text::{NoMemory, push};
 use serde_json::{Value, json};
 use std::alloc::Global;
 
@@ -51,7 +51,7 @@ fn attribute_values(alloc: Global, schema: Schema) -> Result<Vec<Value>, NoMemor
     let mut values = Vec::new(alloc);
     for attribute in attributes(kind) {
         if !is_common(*attribute) && schema_of(kind, *attribute) == schema {
-            values.push(attribute_value(alloc, kind, *attribute)?)?;
+            push(&mut values, attribute_value(alloc, kind, *attribute)?)?;
         }
     }
     Ok(values)
@@ -78,7 +78,7 @@ pub(crate) fn schema_values(alloc: Global) -> Result<Vec<Value>, NoMemory>
 {
     let mut values = Vec::new(alloc);
     for schema in Schema::all() {
-        values.push(schema_value(alloc, *schema)?)?;
+        push(&mut values, schema_value(alloc, *schema)?)?;
     }
     Ok(values)
 }

@@ -4,7 +4,7 @@ ghost use Rattle.scim_explain.specs.Explain as spec;
 
 use scim_policy::{Decision, Misfit, Policy};
 use scim_schema::{Leaf, Op};
-use scim_text::NoMemory;
+use scim_text::{NoMemory, push};
 use scim_value::Resource;
 use std::alloc::Global;
 use std::marker::Model;
@@ -66,7 +66,7 @@ pub fn explain(
     for rule in policy.rules() {
         number += 1;
         match rule.misfit(alloc, client, op, resource, leaf)? {
-            Some(misfit) => misfits.push(misfit)?,
+            Some(misfit) => push(&mut misfits, misfit)?,
             None => {
                 let decision = Decision {
                     rule: number,

@@ -9,7 +9,7 @@ ghost use Rattle.scim_explain.specs.Idle as spec;
 use crate::texts::rule_line;
 use scim_policy::{ClientName, Policy, PolicyPath, Rule};
 use scim_schema::{Kind, Op};
-use scim_text::NoMemory;
+use scim_text::{NoMemory, push};
 use std::alloc::Global;
 
 /// A rule that can never decide, since a rule before it has no target and covers all that it covers.
@@ -35,7 +35,7 @@ pub fn idle_rules(alloc: Global, policy: &Policy) -> Result<Vec<IdleRule>, NoMem
     let mut idle = Vec::new(alloc);
     for (index, rule) in rules.iter().enumerate() {
         if let Some(found) = idle_behind(&rules[..index], rule) {
-            idle.push(found)?;
+            push(&mut idle, found)?;
         }
     }
     Ok(idle)

@@ -12,7 +12,7 @@ use crate::texts::{effect_word, rule_line};
 use scim_audit::leaf_path;
 use scim_policy::{ClientName, Policy, PolicyPath, Rule, Target};
 use scim_schema::{Kind, Leaf, Op};
-use scim_text::NoMemory;
+use scim_text::{NoMemory, push};
 use std::alloc::Global;
 
 /// The rules of the policy in lines, each with a line feed at its end: `rule N: `, and whether it allows or
@@ -57,7 +57,7 @@ fn clients_text(alloc: Global, clients: &[ClientName]) -> Result<String, NoMemor
 {
     let mut words = Vec::new(alloc);
     for client in clients {
-        words.push(String::from_str(alloc, client_word(client))?)?;
+        push(&mut words, String::from_str(alloc, client_word(client))?)?;
     }
     listed(alloc, words.as_slice())
 }
@@ -78,7 +78,7 @@ fn ops_text(alloc: Global, ops: &[Op]) -> Result<String, NoMemory>
 {
     let mut words = Vec::new(alloc);
     for op in ops {
-        words.push(String::from_str(alloc, op.name())?)?;
+        push(&mut words, String::from_str(alloc, op.name())?)?;
     }
     listed(alloc, words.as_slice())
 }
@@ -90,7 +90,7 @@ fn kinds_text(alloc: Global, rule: &Rule) -> Result<String, NoMemory>
     let kinds = rule.kinds();
     let mut clauses = Vec::new(alloc);
     for kind in kinds {
-        clauses.push(kind_clause(alloc, rule, *kind)?)?;
+        push(&mut clauses, kind_clause(alloc, rule, *kind)?)?;
     }
     joined(alloc, clauses.as_slice(), "; ", "; ")
 }
@@ -130,7 +130,7 @@ fn paths_text(alloc: Global, paths: &[PolicyPath]) -> Result<String, NoMemory>
 {
     let mut words = Vec::new(alloc);
     for path in paths {
-        words.push(path_word(alloc, *path)?)?;
+        push(&mut words, path_word(alloc, *path)?)?;
     }
     listed(alloc, words.as_slice())
 }

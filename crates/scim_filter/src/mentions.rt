@@ -8,7 +8,7 @@ ghost use Rattle.scim_filter.specs.Tree.{tree_of, view};
 use crate::tree::{Filter, Meant, Node, Path};
 use scim_cell::Text;
 use scim_schema::Attribute;
-use scim_text::NoMemory;
+use scim_text::{NoMemory, push};
 use std::alloc::Global;
 
 /// A name in a filter.
@@ -52,10 +52,11 @@ fn text_of(alloc: Global, path: &Path) -> Result<Text, NoMemory>
 fn add_name(alloc: Global, path: &Path, names: &mut Vec<Named>) -> Result<(), NoMemory>
     ensures { OnOk result (names.new.items ≡ names.old.items ++ (spec.named path.now ∷ [])) }
 {
-    names.push(Named {
+    let named = Named {
         text: text_of(alloc, path)?,
         attribute: path.meant.mentioned_attribute(),
-    })?;
+    };
+    push(names, named)?;
     Ok(())
 }
 

@@ -9,7 +9,7 @@ ghost use Rattle.scim_filter.specs.declared.faults.FilterFault.{FilterFault};
 use crate::bytes::{skip_one, skip_string, split_word};
 use crate::faults::FilterFault;
 use crate::limits::LONGEST_TEXT;
-use scim_text::Failed;
+use scim_text::{Failed, push};
 use std::alloc::Global;
 
 /// A token of a filter's text, from its first byte up to the one behind its last.
@@ -67,11 +67,12 @@ pub fn read_tokens<'a>(alloc: Global, text: &'a str) -> Result<Vec<Token<'a>>, F
             return Err(Failed::Because(FilterFault::Syntax(start)));
         };
         let end = text.len() - behind.len();
-        tokens.push(Token {
+        let token = Token {
             start,
             end,
             slice: &text[start..end],
-        })?;
+        };
+        push(&mut tokens, token)?;
         rest = behind;
     }
     Ok(tokens)

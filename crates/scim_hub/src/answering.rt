@@ -14,7 +14,7 @@ use scim_cell::Id;
 use scim_exchange::{Answer, Arrival, answer};
 use scim_service::Service;
 use scim_shelf::Shelf;
-use scim_text::NoMemory;
+use scim_text::{NoMemory, push};
 use scim_token::Tokens;
 use scim_wire::{Item, Message};
 use std::alloc::Global;
@@ -185,9 +185,9 @@ pub(crate) fn answer_items<S: Shelf>(
     for item in items {
         let reply = answer_item(alloc, service, tokens, stamp, count, item)?;
         let Reply { text, closes } = reply;
-        outputs.push(Output::Write(connection, text))?;
+        push(&mut outputs, Output::Write(connection, text))?;
         if closes {
-            outputs.push(Output::Shut(connection))?;
+            push(&mut outputs, Output::Shut(connection))?;
             return Ok(Replies {
                 outputs,
                 closed: true,

@@ -13,7 +13,7 @@ ghost use Rattle.scim_json.specs.code.Taken.{Records};
 use crate::faults::{Damaged, DamagedItem};
 use crate::reading::{parse, read_document};
 use scim_cell::Id;
-use scim_text::{Failed, NoMemory};
+use scim_text::{Failed, NoMemory, push};
 use scim_value::{Resource, UniqueName, unique_names};
 use serde_json::Value;
 use std::alloc::Global;
@@ -79,7 +79,7 @@ fn read_items(
         if !taken.add(alloc, &resource)? {
             return Err(Failed::Because(DamagedItem(position + 1)));
         }
-        resources.push(resource)?;
+        push(&mut resources, resource)?;
     }
     Ok(resources)
 }

@@ -22,7 +22,7 @@ use scim_schema::{
     Attribute, AttributeType, JsonShape, Kind, Leaf, SubAttribute, attributes, characteristics_of,
     extension_of, shape_of,
 };
-use scim_text::{Failed, NoMemory, read_printed_moment};
+use scim_text::{Failed, NoMemory, push, read_printed_moment};
 use scim_value::{Invalid, Part, Resource, location};
 use serde_json::Value;
 use std::alloc::Global;
@@ -157,11 +157,12 @@ fn part_in(
 {
     let mut cells = Vec::new(alloc);
     read_attributes(alloc, value, kind, attributes(kind), &mut cells)?;
-    cells.push(Cell {
+    let cell = Cell {
         leaf: Leaf::of(Attribute::Meta, SubAttribute::Location),
         position: 0,
         atom: Atom::Text(location(alloc, base, kind, id)?),
-    })?;
+    };
+    push(&mut cells, cell)?;
     match Part::of_sorted(alloc, kind, id, cells) {
         Ok(part) => Ok(part),
         Err(Failed::Because(Invalid)) => Err(Failed::Because(Damaged)),
@@ -272,11 +273,12 @@ fn read_cell(
 {
     let attribute_type = characteristics_of(kind, leaf).attribute_type;
     if let Some(atom) = atom_of(alloc, value, attribute_type)? {
-        cells.push(Cell {
+        let cell = Cell {
             leaf,
             position,
             atom,
-        })?;
+        };
+        push(cells, cell)?;
     }
     Ok(())
 }

@@ -8,7 +8,7 @@ use crate::keys::key;
 use crate::same_values::{has_same_among, is_same_value};
 use scim_cell::Row;
 use scim_schema::Attribute;
-use scim_text::NoMemory;
+use scim_text::{NoMemory, push};
 use std::alloc::Global;
 use std::collections::BTreeMap;
 
@@ -45,7 +45,7 @@ fn with_few(
 {
     for value in given {
         if !has_same_among(attribute, values.as_slice(), &value) {
-            values.push(value)?;
+            push(&mut values, value)?;
         }
     }
     Ok(values)
@@ -109,7 +109,7 @@ fn add_value(
         Some(place) if has_same(attribute, values.as_slice(), place, &value) => {
             let _ = places.insert(key(alloc, attribute, &value)?, place)?;
         }
-        _ => values.push(value)?,
+        _ => push(values, value)?,
     }
     Ok(())
 }

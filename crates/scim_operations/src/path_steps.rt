@@ -19,7 +19,7 @@ use scim_schema::{
     is_read_only, mutability_of, shape_of, sub_attributes, unit_of,
 };
 use scim_steps::Change;
-use scim_text::{Failed, NoMemory};
+use scim_text::{Failed, NoMemory, push};
 use serde_json::Value;
 use std::alloc::Global;
 
@@ -128,7 +128,7 @@ fn value_texts(alloc: Global, attribute: Attribute, values: &[Row]) -> Result<Ve
     let mut texts = Vec::new(alloc);
     for value in values {
         if let Some(Atom::Text(text)) = value.get(leaf) {
-            texts.push(text.try_copy(alloc)?)?;
+            push(&mut texts, text.try_copy(alloc)?)?;
         }
     }
     Ok(texts)

@@ -12,7 +12,7 @@ use scim_body::UnitGiven;
 use scim_patch::Step;
 use scim_schema::Unit;
 use scim_steps::Change;
-use scim_text::NoMemory;
+use scim_text::{NoMemory, push};
 use std::alloc::Global;
 
 /// The steps that were read, and the fault that counts first of those that were found.
@@ -60,7 +60,7 @@ impl Reading {
     pub(crate) fn push(&mut self, unit: Unit, change: Change) -> Result<(), NoMemory>
         ensures { OnOk result (read_of self.new ≡ both (read_of self.old) (Ok (step_of (Step.Of unit change) ∷ []))) }
     {
-        self.steps.push(Step::Of(unit, change))?;
+        push(&mut self.steps, Step::Of(unit, change))?;
         Ok(())
     }
 
@@ -68,7 +68,7 @@ impl Reading {
     pub(crate) fn push_pathless(&mut self) -> Result<(), NoMemory>
         ensures { OnOk result (read_of self.new ≡ both (read_of self.old) (Ok (step_of Step.Pathless ∷ []))) }
     {
-        self.steps.push(Step::Pathless)?;
+        push(&mut self.steps, Step::Pathless)?;
         Ok(())
     }
 

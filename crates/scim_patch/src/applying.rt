@@ -17,7 +17,7 @@ use scim_cell::{Row, compare_units};
 use scim_change::{Changed, modified_at};
 use scim_schema::{Kind, Unit};
 use scim_steps::{Change, StepFault, values_after};
-use scim_text::{Failed, Moment, NoMemory};
+use scim_text::{Failed, Moment, NoMemory, push};
 use scim_value::{Part, Resource};
 use std::alloc::Global;
 use std::cmp::Ordering;
@@ -41,9 +41,9 @@ fn parted(alloc: Global, rows: Vec<Row>, unit: Unit) -> Result<Apart, NoMemory>
     let mut behind = Vec::new(alloc);
     for row in rows {
         match compare_units(row.unit(), unit) {
-            Ordering::Less => before.push(row)?,
-            Ordering::Equal => own.push(row)?,
-            Ordering::Greater => behind.push(row)?,
+            Ordering::Less => push(&mut before, row)?,
+            Ordering::Equal => push(&mut own, row)?,
+            Ordering::Greater => push(&mut behind, row)?,
         }
     }
     Ok(Apart {

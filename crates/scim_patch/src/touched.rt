@@ -13,7 +13,7 @@ use crate::patches::{Patch, Step};
 use scim_cell::Row;
 use scim_schema::{Kind, Mutability, Unit, mutability_of};
 use scim_steps::Change;
-use scim_text::NoMemory;
+use scim_text::{NoMemory, push};
 use scim_value::{Part, values_among};
 use std::alloc::Global;
 
@@ -42,7 +42,7 @@ fn units_of(alloc: Global, steps: &[Step]) -> Result<Vec<Unit>, NoMemory>
     let mut units = Vec::new(alloc);
     for step in steps {
         if let Step::Of(unit, _) = step {
-            units.push(*unit)?;
+            push(&mut units, *unit)?;
         }
     }
     Ok(units)
@@ -62,7 +62,7 @@ fn rows_of(alloc: Global, units: &[Unit], rows: &[Row]) -> Result<Vec<Row>, NoMe
     let mut copies = Vec::new(alloc);
     for row in rows {
         if is_one_of(units, row.unit()) {
-            copies.push(row.try_copy(alloc)?)?;
+            push(&mut copies, row.try_copy(alloc)?)?;
         }
     }
     Ok(copies)

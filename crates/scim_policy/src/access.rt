@@ -17,11 +17,22 @@ use std::alloc::Global;
 /// What a policy decides of a client's reading, modifying and deleting of one resource, leaf by leaf.
 ///
 /// Made in one walk over the rules, which tries each rule's target at most once.
-#[derive(Debug, Drop)]
+#[derive(Debug)]
 pub struct Rights {
     read: Decisions,
     modify: Decisions,
     delete: Decisions,
+}
+
+/// One call, wherever rights are dropped, in place of a look at each decision.
+impl Drop for Rights {
+    fn drop(self) {
+        let Rights {
+            read: _read,
+            modify: _modify,
+            delete: _delete,
+        } = self;
+    }
 }
 
 impl Policy {

@@ -12,7 +12,7 @@ ghost use Rattle.scim_policy.specs.declared.rules.PolicyPath.{PolicyPath};
 use crate::fits::is_op;
 use crate::rules::{Decision, Policy, PolicyPath, Rule};
 use scim_schema::{Attribute, Kind, Leaf, Op, SubAttribute};
-use scim_text::NoMemory;
+use scim_text::{NoMemory, push};
 use scim_value::Resource;
 use std::alloc::Global;
 
@@ -20,10 +20,20 @@ use std::alloc::Global;
 ///
 /// It is made at once for all leaves, since a rule that fits the client, the operation and the
 /// resource fits them for each leaf that it covers.
-#[derive(Debug, Drop)]
+#[derive(Debug)]
 pub struct Decisions {
     attributes: Vec<AttributeDecisions>,
     rest: Option<Decision>,
+}
+
+/// One call, wherever decisions are dropped, in place of a look at all that there are.
+impl Drop for Decisions {
+    fn drop(self) {
+        let Decisions {
+            attributes: _attributes,
+            rest: _rest,
+        } = self;
+    }
 }
 
 /// What is decided of an attribute: of sub-attributes alone, and after them of the whole.
@@ -276,10 +286,11 @@ fn grow(alloc: Global, entries: &mut Vec<AttributeDecisions>, number: usize) -> 
         → table.in_attributes n sub entries.new.items ≡ table.in_attributes n sub entries.old.items) }
 {
     while entries.len() <= number {
-        entries.push(AttributeDecisions {
+        let undecided = AttributeDecisions {
             sub_attributes: Vec::new(alloc),
             whole: None,
-        })?;
+        };
+        push(entries, undecided)?;
     }
     Ok(())
 }
@@ -316,7 +327,7 @@ impl AttributeDecisions {
             ≡ or_else (table.in_attribute sub self.old) (walk.by_name sub_attribute decision sub)) }
     {
         if self.decided(Some(sub_attribute)).is_none() {
-            self.sub_attributes.push((sub_attribute, decision))?;
+            push(&mut self.sub_attributes, (sub_attribute, decision))?;
         }
         Ok(())
     }

@@ -8,7 +8,7 @@ use crate::rules::{ClientName, KindPaths, PolicyPath};
 use scim_cell::Text;
 use scim_filter::{Meant, attribute_path};
 use scim_schema::Kind;
-use scim_text::NoMemory;
+use scim_text::{NoMemory, push};
 use std::alloc::Global;
 
 /// Whether the text may be the name of a client: 1 to 64 ASCII letters, digits, `-`, `_` and `.`.
@@ -101,7 +101,7 @@ fn paths_for(alloc: Global, texts: &[&str], kind: Kind) -> Result<KindPaths, NoM
     let mut paths = Vec::new(alloc);
     for text in texts {
         if let Some(path) = path_named(text, kind) {
-            paths.push(path)?;
+            push(&mut paths, path)?;
         }
     }
     Ok(KindPaths::new(kind, paths))
@@ -122,7 +122,7 @@ pub(crate) fn paths_named(
     }
     let mut paths = Vec::new(alloc);
     for kind in kinds {
-        paths.push(paths_for(alloc, texts, *kind)?)?;
+        push(&mut paths, paths_for(alloc, texts, *kind)?)?;
     }
     Ok(Some(paths))
 }

@@ -17,7 +17,7 @@ use crate::rules::{ClientName, Policy, Rule};
 use crate::targets::targets_for;
 use json::{Error, Scratch, Value};
 use scim_schema::{Kind, Op};
-use scim_text::{Failed, NoMemory};
+use scim_text::{Failed, NoMemory, push};
 use std::alloc::Global;
 
 /// The most rules that a policy has.
@@ -213,7 +213,7 @@ fn read_rules(alloc: Global, values: &[Value<'_>]) -> Result<Vec<Rule>, Failed<P
     let mut number = 0;
     for value in values {
         number += 1;
-        rules.push(read_rule(alloc, value, number)?)?;
+        push(&mut rules, read_rule(alloc, value, number)?)?;
     }
     Ok(rules)
 }
@@ -354,7 +354,7 @@ fn texts_of<'t>(alloc: Global, items: &[Value<'t>]) -> Result<Option<Vec<&'t str
         let Some(text) = item.as_str() else {
             return Ok(None);
         };
-        texts.push(text)?;
+        push(&mut texts, text)?;
     }
     Ok(Some(texts))
 }
@@ -364,11 +364,19 @@ fn texts_of<'t>(alloc: Global, items: &[Value<'t>]) -> Result<Option<Vec<&'t str
 fn rule_named(alloc: Global, written: &WrittenRule<'_>) -> Result<Rule, Failed<Cause>>
     ensures { Gives (λ r. r) result (spec.rule_named (rule_view written.now)) }
 {
-    let clients = clients_named(alloc, &written.clients)?.ok_or(NO_NAME)?;
-    let ops = ops_named(alloc, &written.ops)?.ok_or(NO_NAME)?;
-    let kinds = kinds_named(alloc, &written.types)?.ok_or(NO_NAME)?;
+    let Some(clients) = clients_named(alloc, &written.clients)? else {
+        return Err(NO_NAME);
+    };
+    let Some(ops) = ops_named(alloc, &written.ops)? else {
+        return Err(NO_NAME);
+    };
+    let Some(kinds) = kinds_named(alloc, &written.types)? else {
+        return Err(NO_NAME);
+    };
     let targets = targets_for(alloc, &kinds, written.target)?;
-    let paths = paths_named(alloc, &kinds, &written.paths)?.ok_or(NO_NAME)?;
+    let Some(paths) = paths_named(alloc, &kinds, &written.paths)? else {
+        return Err(NO_NAME);
+    };
     Ok(Rule::new(written.allow, clients, ops, kinds, targets, paths))
 }
 
@@ -381,7 +389,7 @@ fn clients_named(alloc: Global, texts: &[&str]) -> Result<Option<Vec<ClientName>
         let Some(client) = client_named(alloc, text)? else {
             return Ok(None);
         };
-        clients.push(client)?;
+        push(&mut clients, client)?;
     }
     Ok(Some(clients))
 }
@@ -395,7 +403,7 @@ fn ops_named(alloc: Global, texts: &[&str]) -> Result<Option<Vec<Op>>, NoMemory>
         let Some(op) = Op::named(text) else {
             return Ok(None);
         };
-        ops.push(op)?;
+        push(&mut ops, op)?;
     }
     Ok(Some(ops))
 }
@@ -409,7 +417,7 @@ fn kinds_named(alloc: Global, texts: &[&str]) -> Result<Option<Vec<Kind>>, NoMem
         let Some(kind) = Kind::named(text) else {
             return Ok(None);
         };
-        kinds.push(kind)?;
+        push(&mut kinds, kind)?;
     }
     Ok(Some(kinds))
 }

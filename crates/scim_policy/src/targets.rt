@@ -9,7 +9,7 @@ use crate::faults::Cause;
 use crate::rules::Target;
 use scim_filter::{Named, mentioned_names, read_filter};
 use scim_schema::{Attribute, Kind};
-use scim_text::{Failed, NoMemory};
+use scim_text::{Failed, NoMemory, push};
 use std::alloc::Global;
 
 /// What a target is for a rule on these kinds; nothing where there is no target.
@@ -53,7 +53,7 @@ fn targets_on(alloc: Global, kinds: &[Kind], text: &str) -> Result<Option<Vec<Ta
         let Some(target) = target_on(alloc, *kind, text)? else {
             return Ok(None);
         };
-        targets.push(target)?;
+        push(&mut targets, target)?;
     }
     Ok(Some(targets))
 }
@@ -75,7 +75,7 @@ fn names_of(alloc: Global, targets: &[Target]) -> Result<Vec<Vec<Named>>, NoMemo
 {
     let mut lists = Vec::new(alloc);
     for target in targets {
-        lists.push(mentioned_names(alloc, target.filter())?)?;
+        push(&mut lists, mentioned_names(alloc, target.filter())?)?;
     }
     Ok(lists)
 }

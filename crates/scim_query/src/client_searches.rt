@@ -6,7 +6,7 @@ ghost use Rattle.scim_view.specs.Shown.{shown};
 ghost use Rattle.scim_query.specs.ClientSearches as spec;
 
 use crate::queries::{Page, Query, search};
-use scim_text::NoMemory;
+use scim_text::{NoMemory, push};
 use scim_value::{Part, Resource};
 use scim_view::{Viewer, Wanted, project};
 use std::alloc::Global;
@@ -57,7 +57,7 @@ fn shown_items(alloc: Global, parts: Vec<Part>, wanted: &Wanted) -> Result<Vec<P
 {
     let mut items = Vec::with_capacity(alloc, parts.len())?;
     for part in parts {
-        items.push(project(alloc, part, wanted)?)?;
+        push(&mut items, project(alloc, part, wanted)?)?;
     }
     Ok(items)
 }

@@ -9,7 +9,7 @@ use crate::keys::{compare_ranks, key_by};
 use crate::queries::Query;
 use scim_cell::Atom;
 use scim_filter::holds;
-use scim_text::NoMemory;
+use scim_text::{NoMemory, push};
 use scim_value::Part;
 use std::alloc::Global;
 use std::cmp::Ordering;
@@ -45,7 +45,7 @@ fn push_matching<'a>(
 {
     if is_matching(alloc, query, part)? {
         let key = key_by(alloc, query.sort_by, part)?;
-        entries.push(Entry { key, part })?;
+        push(entries, Entry { key, part })?;
     }
     Ok(())
 }
@@ -97,7 +97,7 @@ pub(crate) fn copy_parts(alloc: Global, entries: &[Entry<'_>]) -> Result<Vec<Par
 {
     let mut copies = Vec::with_capacity(alloc, entries.len())?;
     for entry in entries {
-        copies.push(entry.part.try_copy(alloc)?)?;
+        push(&mut copies, entry.part.try_copy(alloc)?)?;
     }
     Ok(copies)
 }

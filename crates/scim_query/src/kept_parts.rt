@@ -8,7 +8,7 @@ ghost use Rattle.scim_query.specs.code.Kept as code;
 use crate::keys::{compare_ranks, key_by};
 use crate::queries::Query;
 use scim_cell::Atom;
-use scim_text::NoMemory;
+use scim_text::{NoMemory, push};
 use scim_value::Part;
 use std::alloc::Global;
 
@@ -56,7 +56,7 @@ fn keep_on_page(
     ensures refused { OnErr result (held.new.items ≡ held.old.items) }
 {
     if query.start.saturating_sub(1) <= before && held.len() < query.count {
-        held.push(part)?;
+        push(held, part)?;
     }
     Ok(())
 }

@@ -7,7 +7,7 @@ ghost use Rattle.scim_hub.specs.Halls.{recorded_of};
 
 use crate::event_lines::read_line;
 use scim_hub::Recorded;
-use scim_text::Failed;
+use scim_text::{Failed, push};
 use std::alloc::Global;
 use thiserror::Error;
 
@@ -42,7 +42,7 @@ fn events_of_lines(alloc: Global, lines: &[&str]) -> Result<Vec<Recorded>, Faile
     let mut events = Vec::new(alloc);
     for index in 0..lines.len() {
         match read_line(alloc, lines[index])? {
-            Some(event) => events.push(event)?,
+            Some(event) => push(&mut events, event)?,
             None => return Err(Failed::Because(FaultyLine(index + 1))),
         }
     }

@@ -8,7 +8,7 @@ use crate::faults::SampleFault;
 use crate::texts::{joined, push_all};
 use scim_cell::{Atom, Cell, Field, Row, Text};
 use scim_schema::{Attribute, Kind, Leaf, attribute_named, is_multi_valued, sub_attribute_named};
-use scim_text::{Moment, NoMemory, print_moment, read_printed_moment};
+use scim_text::{Moment, NoMemory, print_moment, push, read_printed_moment};
 use scim_value::Part;
 use std::alloc::Global;
 use std::ops::Range;
@@ -54,11 +54,12 @@ fn push_cells(alloc: Global, cells: &mut Vec<Cell>, text: &str) -> Result<(), Sa
     let (positions, sub_name) = rest.split_once(']').unwrap_or(("0", ""));
     let leaf = leaf_at(alloc, name, sub_name)?;
     for position in read_positions(positions)? {
-        cells.push(Cell {
+        let cell = Cell {
             leaf,
             position,
             atom: read_atom(alloc, value)?,
-        })?;
+        };
+        push(cells, cell)?;
     }
     Ok(())
 }

@@ -4,6 +4,7 @@ use crate::faults::SampleFault;
 use crate::texts::{ALICE, BASE, BOB, STRASSE, TEAM, joined};
 use scim_cell::Id;
 use scim_schema::Kind;
+use scim_text::push;
 use scim_value::{Part, Resource, location};
 use std::alloc::Global;
 
@@ -66,7 +67,7 @@ fn samples(alloc: Global, names: &[&str]) -> Result<Vec<Resource>, SampleFault> 
     let mut resources = Vec::new(alloc);
     for name in names {
         if let Some(resource) = sample(alloc, name)? {
-            resources.push(resource)?;
+            push(&mut resources, resource)?;
         }
     }
     Ok(resources)

@@ -18,7 +18,7 @@ use scim_change::{MissingRequired, agrees, replace};
 use scim_policy::{Decision, Rights};
 use scim_schema::{Attribute, Kind, Leaf, Mutability, Unit, mutability_of, units};
 use scim_shelf::{Shelf, ShelfFault};
-use scim_text::{Failed, NoMemory};
+use scim_text::{Failed, NoMemory, push};
 use scim_value::{Part, Resource};
 use scim_view::{Viewer, Wanted};
 use std::alloc::Global;
@@ -42,7 +42,7 @@ fn writable_of(
     let mut writable = Vec::new(alloc);
     for unit in units {
         if is_writable(rights, kind, *unit) {
-            writable.push(*unit)?;
+            push(&mut writable, *unit)?;
         }
     }
     Ok(writable)

@@ -16,7 +16,7 @@ use scim_audit::Refusal;
 use scim_cell::Text;
 use scim_policy::Policy;
 use scim_shelf::{Shelf, ShelfFault};
-use scim_text::{Failed, NoMemory};
+use scim_text::{Failed, NoMemory, push};
 use scim_view::Viewer;
 use std::alloc::Global;
 
@@ -139,7 +139,7 @@ fn reserved(alloc: Global, count: usize) -> Result<Vec<Reply>, NoMemory>
 {
     let mut replies = Vec::with_capacity(alloc, count)?;
     for _ in 0..count {
-        replies.push(Reply::Done)?;
+        push(&mut replies, Reply::Done)?;
     }
     Ok(replies)
 }

@@ -20,7 +20,7 @@ use crate::owners::Owners;
 use crate::shelf::Visitor;
 use scim_cell::{Id, Row, Text};
 use scim_schema::Kind;
-use scim_text::NoMemory;
+use scim_text::{NoMemory, push};
 use scim_value::{Resource, UniqueName, unique_names};
 use std::alloc::Global;
 use std::collections::{BTreeMap, BTreeSet};
@@ -216,7 +216,7 @@ impl Collection {
             → groups.new.items ≡ groups.old.items ++ before (if_passes (is_group_with value.now) (find (has_id id) cs)) []) }
     {
         if let Some(group) = self.group_with(id, value) {
-            groups.push(group.try_copy(alloc)?)?;
+            push(groups, group.try_copy(alloc)?)?;
         }
         Ok(())
     }

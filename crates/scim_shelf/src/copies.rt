@@ -6,7 +6,7 @@ ghost use Rattle.scim_shelf.specs.Shelves.{Answers, OnlyReads};
 use crate::faults::ShelfFault;
 use crate::shelf::{Shelf, Visitor};
 use scim_schema::Kind;
-use scim_text::{Failed, NoMemory};
+use scim_text::{Failed, NoMemory, push};
 use scim_value::Resource;
 use std::alloc::Global;
 
@@ -23,7 +23,7 @@ impl Visitor for Copies {
 
     fn take(&mut self, alloc: Global, resource: &Resource) -> Result<(), NoMemory> {
         let copy = resource.try_copy(alloc)?;
-        self.resources.push(copy)?;
+        push(&mut self.resources, copy)?;
         Ok(())
     }
 }

@@ -7,7 +7,7 @@ ghost use Rattle.scim_shelf.specs.code.Members.{is_found, is_one_of, is_in, is_v
 
 use scim_cell::{Atom, Row, Text};
 use scim_schema::{Attribute, Kind, Leaf, SubAttribute, Unit};
-use scim_text::NoMemory;
+use scim_text::{NoMemory, push};
 use scim_value::Resource;
 use std::alloc::Global;
 use std::collections::BTreeSet;
@@ -117,7 +117,7 @@ fn values_missing(alloc: Global, members: &[Row], group: &Resource) -> Result<Ve
     for member in members {
         if let Some(value) = value_of(member) {
             if !listed.contains(value) {
-                gone.push(Text::copy_of(alloc, value)?)?;
+                push(&mut gone, Text::copy_of(alloc, value)?)?;
             }
         }
     }

@@ -13,7 +13,7 @@ use crate::shelf::{Shelf, Visitor};
 use scim_audit::AuditRow;
 use scim_cell::Id;
 use scim_schema::Kind;
-use scim_text::{Failed, NoMemory};
+use scim_text::{Failed, NoMemory, push};
 use scim_value::{Resource, UniqueName};
 use std::alloc::Global;
 
@@ -141,7 +141,7 @@ impl Shelf for MemoryShelf {
         if self.audit.len() as u64 >= LAST_NUMBER {
             return Err(Failed::Because(ShelfFault::Full));
         }
-        self.audit.push(row)?;
+        push(&mut self.audit, row)?;
         match make(&mut self.collection, alloc, change) {
             Ok(()) => Ok(()),
             Err(_) => {

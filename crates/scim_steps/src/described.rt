@@ -12,7 +12,7 @@ use scim_filter::{Filter, Literal, Meant, Node, Operator, StringLiteral, truth_o
 use scim_schema::{
     Attribute, AttributeType, Leaf, SubAttribute, sub_attribute_characteristics, sub_attributes,
 };
-use scim_text::NoMemory;
+use scim_text::{NoMemory, push};
 use std::alloc::Global;
 
 /// How many bytes a text of a resource may have.
@@ -88,7 +88,7 @@ fn push_equality(
     match field_for(alloc, attribute, sub_attribute, literal)? {
         None => Ok(false),
         Some(field) => {
-            fields.push(field)?;
+            push(fields, field)?;
             Ok(true)
         }
     }

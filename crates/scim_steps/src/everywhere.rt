@@ -8,7 +8,7 @@ use crate::fields::{row_over, row_without};
 use crate::positions::Position;
 use scim_cell::{Atom, Field, Row};
 use scim_schema::{Leaf, SubAttribute, Unit};
-use scim_text::NoMemory;
+use scim_text::{NoMemory, push};
 use std::alloc::Global;
 
 /// A value of the unit with copies of these fields. NoMemory where none was to be had.
@@ -17,7 +17,7 @@ pub(crate) fn value_of(alloc: Global, unit: Unit, fields: &[Field]) -> Result<Ro
 {
     let mut copies = Vec::with_capacity(alloc, fields.len())?;
     for field in fields {
-        copies.push(field.try_copy(alloc)?)?;
+        push(&mut copies, field.try_copy(alloc)?)?;
     }
     Ok(Row::new(unit, copies))
 }
@@ -43,7 +43,7 @@ pub(crate) fn set_everywhere(
     if values.is_empty() {
         let value = value_of(alloc, unit, given)?;
         let mut positions = Vec::with_capacity(alloc, 1)?;
-        positions.push(made(value))?;
+        push(&mut positions, made(value))?;
         return Ok(positions);
     }
     set_each(alloc, given, values)
@@ -55,7 +55,7 @@ fn set_each(alloc: Global, given: &[Field], values: Vec<Row>) -> Result<Vec<Posi
 {
     let mut positions = Vec::with_capacity(alloc, values.len())?;
     for value in values {
-        positions.push(set_over(alloc, given, value)?)?;
+        push(&mut positions, set_over(alloc, given, value)?)?;
     }
     Ok(positions)
 }
@@ -93,7 +93,7 @@ pub(crate) fn clear_everywhere(
 {
     let mut left = Vec::with_capacity(alloc, values.len())?;
     for value in values {
-        left.push(row_without(leaf, value))?;
+        push(&mut left, row_without(leaf, value))?;
     }
     Ok(left)
 }

@@ -7,7 +7,7 @@ ghost use Rattle.scim_steps.specs.Fields as spec;
 
 use scim_cell::{Atom, Field, Place, Row};
 use scim_schema::{Leaf, SubAttribute};
-use scim_text::NoMemory;
+use scim_text::{NoMemory, push};
 use std::alloc::Global;
 use std::cmp::Ordering;
 
@@ -39,9 +39,9 @@ impl Sides {
             ≡ self.old.behind.items ++ filter (λ f. is_gt (spec.field_cmp f field.now)) (other ∷ [])) }
     {
         match place_of(&other).compare(place_of(field)) {
-            Ordering::Less => self.before.push(other)?,
+            Ordering::Less => push(&mut self.before, other)?,
             Ordering::Equal => (),
-            Ordering::Greater => self.behind.push(other)?,
+            Ordering::Greater => push(&mut self.behind, other)?,
         }
         Ok(())
     }

@@ -5,7 +5,7 @@ ghost use Rattle.scim_steps.specs.code.Listed.{HoldsTexts};
 
 use scim_cell::{Atom, Row, Text};
 use scim_schema::{Leaf, SubAttribute};
-use scim_text::NoMemory;
+use scim_text::{NoMemory, push};
 use std::alloc::Global;
 use std::collections::BTreeSet;
 
@@ -42,7 +42,7 @@ pub(crate) fn remove_listed(
     let mut left = Vec::new(alloc);
     for value in values {
         if !is_listed(&set, &value) {
-            left.push(value)?;
+            push(&mut left, value)?;
         }
     }
     Ok(left)

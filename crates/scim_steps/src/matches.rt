@@ -12,7 +12,7 @@ use crate::positions::{Position, keep};
 use scim_cell::{Field, Row};
 use scim_filter::{Filter, holds_of};
 use scim_schema::{Leaf, SubAttribute, Unit};
-use scim_text::NoMemory;
+use scim_text::{NoMemory, push};
 use std::alloc::Global;
 
 /// Whether some value is a match. NoMemory where none was to be had.
@@ -50,7 +50,7 @@ pub(crate) fn set_at_matches(
                 chosen: false,
             }
         };
-        positions.push(position)?;
+        push(&mut positions, position)?;
     }
     Ok(positions)
 }
@@ -71,7 +71,7 @@ pub(crate) fn replace_matches(
         } else {
             value
         };
-        left.push(value)?;
+        push(&mut left, value)?;
     }
     Ok(left)
 }
@@ -87,7 +87,7 @@ pub(crate) fn remove_matches(
     let mut left = Vec::new(alloc);
     for value in values {
         if !holds_of(alloc, matching, &value)? {
-            left.push(value)?;
+            push(&mut left, value)?;
         }
     }
     Ok(left)
@@ -109,7 +109,7 @@ pub(crate) fn clear_at_matches(
         } else {
             value
         };
-        left.push(value)?;
+        push(&mut left, value)?;
     }
     Ok(left)
 }

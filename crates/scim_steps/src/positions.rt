@@ -8,7 +8,7 @@ ghost use Rattle.scim_steps.specs.Table as spec;
 use scim_cell::Row;
 use scim_lists::{is_same_value, with_values};
 use scim_schema::Attribute;
-use scim_text::NoMemory;
+use scim_text::{NoMemory, push};
 use std::alloc::Global;
 
 /// A value after a step, and whether the step chose it as the primary one.
@@ -24,10 +24,11 @@ pub(crate) fn keep(alloc: Global, values: Vec<Row>) -> Result<Vec<Position>, NoM
 {
     let mut positions = Vec::with_capacity(alloc, values.len())?;
     for value in values {
-        positions.push(Position {
+        let position = Position {
             value,
             chosen: false,
-        })?;
+        };
+        push(&mut positions, position)?;
     }
     Ok(positions)
 }
@@ -39,7 +40,7 @@ fn primary_ones(alloc: Global, given: &[Row]) -> Result<Vec<Row>, NoMemory>
     let mut primary = Vec::new(alloc);
     for value in given {
         if value.is_primary() {
-            primary.push(value.try_copy(alloc)?)?;
+            push(&mut primary, value.try_copy(alloc)?)?;
         }
     }
     Ok(primary)
@@ -79,7 +80,7 @@ pub(crate) fn mark(
     let mut positions = Vec::with_capacity(alloc, values.len())?;
     for value in values {
         let chosen = has_same(attribute, primary, &value);
-        positions.push(Position { value, chosen })?;
+        push(&mut positions, Position { value, chosen })?;
     }
     Ok(positions)
 }

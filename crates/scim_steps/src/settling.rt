@@ -14,7 +14,7 @@ use crate::steps::StepFault;
 use scim_cell::Row;
 use scim_lists::{MOST_VALUES, is_nameless};
 use scim_schema::Attribute;
-use scim_text::{Failed, NoMemory};
+use scim_text::{Failed, NoMemory, push};
 use std::alloc::Global;
 
 /// Whether the value has a field.
@@ -34,7 +34,7 @@ fn close_up(alloc: Global, positions: Vec<Position>) -> Result<Vec<Position>, No
     let mut left = Vec::with_capacity(alloc, positions.len())?;
     for position in positions {
         if has_fields(&position.value) {
-            left.push(position)?;
+            push(&mut left, position)?;
         }
     }
     Ok(left)
@@ -77,7 +77,7 @@ fn demote_others(alloc: Global, positions: Vec<Position>) -> Result<Vec<Row>, No
         } else {
             demoted(alloc, value)?
         };
-        values.push(value)?;
+        push(&mut values, value)?;
     }
     Ok(values)
 }
@@ -88,7 +88,7 @@ fn values_of(alloc: Global, positions: Vec<Position>) -> Result<Vec<Row>, NoMemo
 {
     let mut values = Vec::with_capacity(alloc, positions.len())?;
     for position in positions {
-        values.push(position.value)?;
+        push(&mut values, position.value)?;
     }
     Ok(values)
 }

@@ -15,7 +15,7 @@ use scim_cell::{Atom, Id, Row, Text};
 use scim_json::stored_text;
 use scim_schema::{Attribute, Kind, Leaf, SubAttribute, Unit};
 use scim_shelf::Change;
-use scim_text::NoMemory;
+use scim_text::{NoMemory, push};
 use scim_value::{Resource, UniqueName, unique_names};
 use std::alloc::Global;
 use std::collections::BTreeSet;
@@ -88,7 +88,7 @@ fn values_beyond<'v>(
 {
     let mut beyond = Vec::new(alloc);
     for value in values.difference(others) {
-        beyond.push(Text::copy_of(alloc, value)?)?;
+        push(&mut beyond, Text::copy_of(alloc, value)?)?;
     }
     Ok(beyond)
 }

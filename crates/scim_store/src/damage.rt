@@ -23,7 +23,7 @@ use crate::columns::kind_number;
 use crate::owners::{has_text, have_owners, note_owners, rows_of, value_in};
 use scim_cell::{Id, Text};
 use scim_json::read_stored;
-use scim_text::{Failed, NoMemory};
+use scim_text::{Failed, NoMemory, push};
 use scim_value::{Resource, UniqueName, unique_names};
 use sqlite::Row;
 use sqlite::types::ValueRef;
@@ -128,7 +128,7 @@ fn listed_values(alloc: Global, resource: &Resource) -> Result<Vec<Text>, NoMemo
     let values = values_of(alloc, resource)?;
     let mut listed = Vec::new(alloc);
     for value in &values {
-        listed.push(Text::copy_of(alloc, value)?)?;
+        push(&mut listed, Text::copy_of(alloc, value)?)?;
     }
     Ok(listed)
 }

@@ -11,7 +11,7 @@ use crate::fields::{
 };
 use scim_audit::AuditRow;
 use scim_cell::Text;
-use scim_text::NoMemory;
+use scim_text::{NoMemory, push};
 use sqlite::Row;
 use std::alloc::Global;
 
@@ -73,7 +73,7 @@ pub fn are_audit_rows(
         let Some(audit_row) = read_audit_row(alloc, number, row)? else {
             return Ok(None);
         };
-        read.push(audit_row)?;
+        push(&mut read, audit_row)?;
         number += 1;
     }
     Ok(Some(read))

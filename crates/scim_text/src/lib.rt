@@ -13,7 +13,7 @@ pub use laws::{
     moment_in_is_spelled, one_reading, printed_moments_are_ordered, printed_moments_are_read,
     printed_reads_back, readings_are_ordered,
 };
-pub use memory::{Failed, NoMemory};
+pub use memory::{Failed, NoMemory, push};
 pub use moments::{Moment, print_moment, read_printed_moment};
 pub use names::{fold, same_name};
 pub use readings::{BadMoment, Reading, read_moment};

@@ -1,4 +1,6 @@
-//! The error of what asks for memory.
+//! What asks for memory, and its error.
+ghost use Rattle.std.specs.Prelude.{◌≡◌, ◌++◌, ◌∷◌, [], if◌then◌else◌, is_ok};
+
 use std::alloc::{AllocError, AllocFailed};
 use std::error::Error as StdError;
 use std::fmt;
@@ -20,6 +22,17 @@ impl<T: Drop> From<AllocFailed<T>> for NoMemory {
     fn from(_error: AllocFailed<T>) -> NoMemory {
         NoMemory
     }
+}
+
+/// Puts a value behind the others. NoMemory where none was to be had: they are as they were then, and the value is dropped.
+///
+/// It is for whoever has no use for the value then: `Vec::push` gives it back, and to let go of it costs the proof of each
+/// caller more than all else that a push does.
+pub fn push<T: Drop>(values: &mut Vec<T>, value: T) -> Result<(), NoMemory>
+    ensures items { values.new.items ≡ (if is_ok result then values.old.items ++ value ∷ [] else values.old.items) }
+{
+    values.push(value)?;
+    Ok(())
 }
 
 /// Why there is no answer: what was asked is at fault, or memory was wanting. It is the error of whatever

@@ -15,7 +15,7 @@ use crate::part_of_cells::rows_from;
 use crate::parts::Part;
 use scim_cell::{Atom, Cell, Field, Place, Row};
 use scim_schema::{Leaf, Unit, is_multi_valued};
-use scim_text::{Failed, NoMemory};
+use scim_text::{Failed, NoMemory, push};
 use std::alloc::Global;
 
 impl Part {
@@ -93,11 +93,12 @@ fn append_fields(
 {
     for field in fields {
         let atom = field.atom.try_copy(alloc)?;
-        cells.push(Cell {
+        let cell = Cell {
             leaf: field.leaf,
             position,
             atom,
-        })?;
+        };
+        push(cells, cell)?;
     }
     Ok(())
 }

@@ -12,7 +12,7 @@ use crate::faults::Invalid;
 use crate::parts::Part;
 use scim_cell::{Cell, Field, Id, Place, Row};
 use scim_schema::{Kind, is_multi_valued, unit_of};
-use scim_text::{Failed, NoMemory};
+use scim_text::{Failed, NoMemory, push};
 use std::alloc::Global;
 
 impl Part {
@@ -97,14 +97,14 @@ fn group_cell(
         if let Some(last) = rows.pop() {
             let unit = last.unit();
             let mut fields = last.into_fields();
-            fields.push(field)?;
-            rows.push(Row::new(unit, fields))?;
+            push(&mut fields, field)?;
+            push(rows, Row::new(unit, fields))?;
             return Ok(());
         }
     }
     let mut fields = Vec::new(alloc);
-    fields.push(field)?;
-    rows.push(Row::new(unit_of(leaf), fields))?;
+    push(&mut fields, field)?;
+    push(rows, Row::new(unit_of(leaf), fields))?;
     Ok(())
 }
 

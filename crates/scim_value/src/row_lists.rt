@@ -3,7 +3,7 @@ ghost use Rattle.std.specs.Prelude.{◌≡◌, IfOk};
 ghost use Rattle.scim_cell.specs.Rows as spec;
 
 use scim_cell::{Row, RowTest};
-use scim_text::NoMemory;
+use scim_text::{NoMemory, push};
 use std::alloc::Global;
 
 /// What the test leaves of rows, those without a field left out.
@@ -18,7 +18,7 @@ pub(crate) fn kept_rows<T: RowTest>(
     for row in own {
         let rest = row.restrict(alloc, test)?;
         if !rest.fields().is_empty() {
-            copies.push(rest)?;
+            push(&mut copies, rest)?;
         }
     }
     Ok(copies)
@@ -30,7 +30,7 @@ pub fn copy_rows(alloc: Global, own: &[Row]) -> Result<Vec<Row>, NoMemory>
 {
     let mut copies = Vec::with_capacity(alloc, own.len())?;
     for row in own {
-        copies.push(row.try_copy(alloc)?)?;
+        push(&mut copies, row.try_copy(alloc)?)?;
     }
     Ok(copies)
 }

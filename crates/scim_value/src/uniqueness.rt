@@ -8,7 +8,7 @@ ghost use Rattle.scim_value.specs.Uniqueness.{name_of};
 use crate::resources::Resource;
 use scim_cell::Atom;
 use scim_schema::{Kind, Leaf, characteristics_of, unique_leaves};
-use scim_text::{NoMemory, fold};
+use scim_text::{NoMemory, fold, push};
 use std::alloc::Global;
 
 /// A name that a resource has alone: a leaf, and the text by which the name is known there. That is
@@ -50,7 +50,7 @@ fn push_names(
     for leaf in leaves {
         if let Some(Atom::Text(text)) = resource.get(*leaf, 0) {
             let text = known_text(alloc, resource.kind(), *leaf, text.as_str())?;
-            names.push(UniqueName { leaf: *leaf, text })?;
+            push(names, UniqueName { leaf: *leaf, text })?;
         }
     }
     Ok(())

@@ -20,7 +20,7 @@ use crate::views::{MayBeSeen, visible_by};
 use scim_cell::{Atom, Id, Row, Text};
 use scim_policy::Decisions;
 use scim_schema::{Attribute, Kind, Leaf, SubAttribute, Unit};
-use scim_text::NoMemory;
+use scim_text::{NoMemory, push};
 use scim_value::{Part, Resource};
 use std::alloc::Global;
 
@@ -119,7 +119,7 @@ fn memberships(
     for group in groups {
         let value = membership(alloc, &shown, base, group.id, group.display.as_ref())?;
         if !value.fields().is_empty() {
-            values.push(value)?;
+            push(&mut values, value)?;
         }
     }
     Ok(values)
@@ -201,7 +201,7 @@ fn references(alloc: Global, groups: &[SeenGroup]) -> Result<Vec<&SeenGroup>, No
 {
     let mut lent = Vec::with_capacity(alloc, groups.len())?;
     for group in groups {
-        lent.push(group)?;
+        push(&mut lent, group)?;
     }
     Ok(lent)
 }
@@ -245,7 +245,7 @@ fn seen_groups(
     let mut seen = Vec::new(alloc);
     for group in groups {
         if let Some(listing) = seen_where_listed(alloc, viewer, group, member)? {
-            seen.push(listing)?;
+            push(&mut seen, listing)?;
         }
     }
     Ok(seen)

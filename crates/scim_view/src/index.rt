@@ -15,7 +15,7 @@ use crate::viewers::Viewer;
 use scim_cell::{Atom, Id, Row};
 use scim_policy::Decisions;
 use scim_schema::{Attribute, Leaf, SubAttribute, Unit};
-use scim_text::NoMemory;
+use scim_text::{NoMemory, push};
 use scim_value::Resource;
 use std::alloc::Global;
 use std::collections::HashMap;
@@ -83,7 +83,7 @@ impl GroupIndex {
         let mut groups = Vec::new(alloc);
         for position in self.positions_of(id) {
             if let Some(group) = self.groups.get(*position) {
-                groups.push(group)?;
+                push(&mut groups, group)?;
             }
         }
         Ok(groups)
@@ -116,7 +116,7 @@ impl GroupIndex {
         {
             self.add_members(alloc, members)?;
         }
-        self.groups.push(seen)?;
+        push(&mut self.groups, seen)?;
         Ok(())
     }
 
@@ -162,7 +162,7 @@ fn note(positions: &mut Vec<usize>, position: usize) -> Result<(), NoMemory>
     ensures { OnOk result (positions.new.items ≡ spec.noted position positions.old.items) }
 {
     if positions.last().copied() != Some(position) {
-        positions.push(position)?;
+        push(positions, position)?;
     }
     Ok(())
 }

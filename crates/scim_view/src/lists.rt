@@ -10,7 +10,7 @@ use crate::groups::{SeenGroup, put_in_order, visible_with};
 use crate::index::GroupIndex;
 use crate::viewers::Viewer;
 use scim_schema::{Attribute, Kind, Leaf};
-use scim_text::NoMemory;
+use scim_text::{NoMemory, push};
 use scim_value::{Part, Resource};
 use std::alloc::Global;
 
@@ -31,7 +31,7 @@ impl Viewer<'_> {
         for resource in resources {
             let view = self.view_by_index(alloc, &index, resource)?;
             if let Some(view) = view {
-                views.push(view)?;
+                push(&mut views, view)?;
             }
         }
         Ok(views)

@@ -12,7 +12,7 @@ ghost use Rattle.scim_view.specs.code.Memberships.{shown_fields};
 use crate::views::MayBeSeen;
 use scim_cell::{Atom, Field, Id, Row, Text};
 use scim_schema::{Attribute, Kind, Leaf, SubAttribute, Unit};
-use scim_text::NoMemory;
+use scim_text::{NoMemory, push};
 use scim_value::location;
 use std::alloc::Global;
 
@@ -106,9 +106,10 @@ fn add_field(
 ) -> Result<(), NoMemory>
     ensures { OnOk result (fields.new.items ≡ fields.old.items ++ spec.field sub_attribute text ∷ []) }
 {
-    fields.push(Field {
+    let field = Field {
         leaf: Leaf::of(Attribute::Groups, sub_attribute),
         atom: Atom::Text(text),
-    })?;
+    };
+    push(fields, field)?;
     Ok(())
 }

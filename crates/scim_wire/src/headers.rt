@@ -2,7 +2,7 @@
 ghost use Rattle.std.specs.Prelude.{◌≡◌, map, IfOk};
 ghost use Rattle.scim_wire.specs.Headers.{same_name, header_parts, texts, values_named};
 
-use scim_text::NoMemory;
+use scim_text::{NoMemory, push};
 use std::alloc::Global;
 
 /// A name and a value.
@@ -30,7 +30,7 @@ pub fn values_named<'b>(
     let mut values = Vec::new(alloc);
     for header in headers {
         if same_name(header.name, name) {
-            values.push(header.value)?;
+            push(&mut values, header.value)?;
         }
     }
     Ok(values)

@@ -14,7 +14,7 @@ use crate::texts::spans_of;
 use crate::tokens::token_of;
 use httparse::spans::{EMPTY_HEADER_SPAN, HeaderSpan};
 use scim_audit::Refusal;
-use scim_text::{Failed, NoMemory};
+use scim_text::{Failed, NoMemory, push};
 use std::alloc::Global;
 
 /// The headers that the spans cover.
@@ -32,7 +32,7 @@ fn headers_at<'b>(
             name: span.name.of(text),
             value: span.value.of(text),
         };
-        headers.push(header)?;
+        push(&mut headers, header)?;
     }
     Ok(headers)
 }

@@ -4,7 +4,7 @@ ghost use Rattle.scim_wire.specs.Wires.{IsShut, StandsFor};
 
 use crate::messages::Item;
 use crate::states::State;
-use scim_text::NoMemory;
+use scim_text::{NoMemory, push};
 use std::alloc::Global;
 use std::mem;
 
@@ -23,7 +23,7 @@ fn add(items: &mut Vec<Item>, item: Option<Item>) -> Result<(), NoMemory>
     ensures { OnOk result (items.new.items ≡ items.old.items ++ option_to_list item) }
 {
     if let Some(item) = item {
-        items.push(item)?;
+        push(items, item)?;
     }
     Ok(())
 }

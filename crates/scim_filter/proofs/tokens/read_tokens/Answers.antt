@@ -60,7 +60,7 @@ loop-rest-preserved c =
     let some : past_token (slice_index rest 0) (drop 1 rest) ≡ Some after = rw c.skip_one-others.ensures.rest at (sym c.in-Some.ensures.rest) in
     let before = spans c.loop-rest.tokens.items in
     let span : Span = (total - length rest, total - length after) in
-    let pushed : spans c.push.new.self.items ≡ before ++ span ∷ [] = rw c.in_ok-push.ensures.items (map_push _ c.loop-rest.tokens.items _) in
+    let pushed : spans c.push.new.values.items ≡ before ++ span ∷ [] = rw c.in_ok-push.ensures.items (map_push _ c.loop-rest.tokens.items _) in
     record {
       left = rest_behind_token c.args.text.now rest after c.loop-rest.invariant.left lt some;
       in_range = search rules;

@@ -57,8 +57,8 @@ returns-then-closes-clause-answered g c entries store knows stands honest is =
       s.0,
       s.5,
       s.6,
-      closed_by c.args.service.now.policy c.args.service.now.base entries c.args.stamp.now n items i item store s.2 c.loop-item.count s.1 s.3 s.4 s.0 c.loop-item.outputs.items c.push.new.self.items
-          c.push-then-closes.new.self.items c.in_ok-reply.reply.text c.in_ok-push.ensures.items c.in_ok-push-2.ensures.items more s.7 s.9 s.8 s.10.0 closes,
+      closed_by c.args.service.now.policy c.args.service.now.base entries c.args.stamp.now n items i item store s.2 c.loop-item.count s.1 s.3 s.4 s.0 c.loop-item.outputs.items c.push.new.values.items
+          c.push-then-closes.new.values.items c.in_ok-reply.reply.text c.in_ok-push.ensures.items c.in_ok-push-2.ensures.items more s.7 s.9 s.8 s.10.0 closes,
     )
 
 pub loop-item-preserved : goal.loop-item-preserved
@@ -80,7 +80,7 @@ loop-item-preserved g c =
           let s = next_answered g.S.Shelf.stands _ _ _ _ _ _ entries _ n (take i items) store _ c.loop-item.outputs.items item (Ok reply) inv.policy inv.base
           (inv.answered entries store knows stands (c.in_ok-reply.ensures.honest honest) is) (λ mid at sound. c.in_ok-reply.ensures.answered entries mid knows at honest sound) in
           reached_more g.S.Shelf.stands c.answer_item.new.service.shelf c.args.service.now.policy c.args.service.now.base entries c.args.stamp.now n items i item store k (k + c.whole_count-count.result)
-          c.loop-item.outputs.items c.push.new.self.items reply c.in_ok-push.ensures.items more (ap (λ (m : ℕ). k + m) c.whole_count-count.ensures) c.if-closes.false s;
+          c.loop-item.outputs.items c.push.new.values.items reply c.in_ok-push.ensures.items more (ap (λ (m : ℕ). k + m) c.whole_count-count.ensures) c.if-closes.false s;
     }
 
 pub returns-clause-answered : goal.returns-clause-answered

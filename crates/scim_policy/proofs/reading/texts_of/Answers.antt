@@ -13,7 +13,7 @@ loop-item-preserved c =
     let item = c.item-item.result in
     let text = c.in-Some.text in
     let gives : as_str (value_view (get_or c.args.items.now i item)) ≡ Some text.now = ap (λ w. as_str (value_view w)) (sym c.item-item.is) ∙ sym c.in-Some.ensures in
-    let items : map text_at c.push.new.self.items ≡ map text_at texts ++ text.now ∷ [] = ap (map text_at) c.in_ok-push.ensures.items ∙ map-append text_at texts (text ∷ []) in
+    let items : map text_at c.push.new.values.items ≡ map text_at texts ++ text.now ∷ [] = ap (map text_at) c.in_ok-push.ensures.items ∙ map-append text_at texts (text ∷ []) in
     let more = made_more value_view as_str (map text_at texts) i c.args.items.now item text.now c.loop-item-test.true gives c.loop-item.invariant in
     subst (λ (all : List (List ℕ)). IsMade value_view as_str all (i + 1) c.args.items.now) (sym items) more
 

@@ -11,5 +11,5 @@ returns-in-None-clause-faulty c =
 pub loop-index-preserved : goal.loop-index-preserved
 loop-index-preserved c =
     let inside : c.loop-index.index < length c.args.lines.now = omega (arith, c.loop-index-test.true) in
-    told_more c.args.lines.now c.loop-index.index _ c.loop-index.events.items c.push.new.self.items c.in-Some.event inside c.in_ok-push-in-Some.ensures.items c.loop-index.invariant
+    told_more c.args.lines.now c.loop-index.index _ c.loop-index.events.items c.push.new.values.items c.in-Some.event inside c.in_ok-push-in-Some.ensures.items c.loop-index.invariant
     (rw c.in-Some.is at c.in_ok-event.ensures)

@@ -12,7 +12,7 @@ returns-in_default c =
 pub loop-row-preserved : goal.loop-row-preserved
 loop-row-preserved c =
     let found = rw c.in-Some.is at c.in_ok-audit_row.ensures in
-    let pushed : c.push.new.self.items ≡ c.loop-row.read.items ++ c.in-Some.audit_row ∷ [] = search rules in
+    let pushed : c.push.new.values.items ≡ c.loop-row.read.items ++ c.in-Some.audit_row ∷ [] = search rules in
     record {
       number = omega (arith, c.loop-row.invariant.number);
       read = rw pushed (more_read c.args.first c.loop-row.number c.loop-row.row-index c.args.rows.now c.row-item.result c.loop-row.read.items c.in-Some.audit_row (omega arith) c.row-item.is c.loop-row.invariant.number c.loop-row.invariant.read found.1);
