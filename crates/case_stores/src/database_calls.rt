@@ -2,26 +2,47 @@
 ghost use Rattle.std.specs.Prelude.{◌≡◌, false, IfOk};
 
 use crate::audited::Audited;
-use crate::databases::{base_of, fill, new_database};
+use crate::databases::{OverDatabase, base_of, fill, over_new_database};
 use crate::faults::{StoreFault, told_or_fault};
 use case_values::{Case, CaseFault, between, joined, said};
 use scim_store::{OpenFault, SqlShelf};
-use sqlite::{Connection, MemStore};
+use sqlite::{Alter, Connection};
 use std::alloc::Global;
 
 /// What the opening of a database gives that has the users of the argument `users`, after the statements of the list
 /// `sql`: that it opens, and how many rows its audit has; or what keeps it from being opened. With `empty` it has no
 /// tables but those that the statements make.
 pub fn database_call(case: &Case<'_>) -> Result<String, CaseFault> {
-    told_or_fault(case.alloc, told_of_opening(case))
+    told_or_fault(case.alloc, over_new_database(case, &Opening))
 }
 
-/// A database that has the users of the argument `users`, after the statements of the list `sql`. With `empty` it has no
-/// tables but those that the statements make.
-pub fn prepared(case: &Case<'_>) -> Result<Connection<MemStore>, StoreFault>
+/// To open a database.
+struct Opening;
+
+impl OverDatabase for Opening {
+    fn over<S: Alter + Drop>(
+        &self,
+        case: &Case<'_>,
+        connection: Connection<S>,
+    ) -> Result<String, StoreFault> {
+        let connection = prepared(case, connection)?;
+        match SqlShelf::open(case.alloc, connection, base_of(case)) {
+            Ok(shelf) => told_of_audit(case.alloc, shelf),
+            Err((fault, _connection)) => Ok(told_of_fault(case.alloc, fault)?),
+        }
+    }
+}
+
+/// An empty database with the users of the argument `users`, after the statements of the list `sql`. With `empty` it has
+/// no tables but those that the statements make.
+pub fn prepared<S: Alter + Drop>(
+    case: &Case<'_>,
+    connection: Connection<S>,
+) -> Result<Connection<S>, StoreFault>
+    requires { connection.in_transaction ≡ false }
     ensures { IfOk result (λ connection. connection.in_transaction ≡ false) }
 {
-    let mut connection = new_database(case)?;
+    let mut connection = connection;
     if !case.is_true("empty") {
         fill(case, "users", &mut connection)?;
     }
@@ -32,18 +53,10 @@ pub fn prepared(case: &Case<'_>) -> Result<Connection<MemStore>, StoreFault>
     Ok(connection)
 }
 
-fn told_of_opening(case: &Case<'_>) -> Result<String, StoreFault> {
-    let connection = prepared(case)?;
-    match SqlShelf::open(case.alloc, connection, base_of(case)) {
-        Ok(shelf) => told_of_audit(case.alloc, shelf),
-        Err((fault, _connection)) => Ok(told_of_fault(case.alloc, fault)?),
-    }
-}
-
 /// Runs the statements of the list `sql`.
-fn run_statements(
+fn run_statements<S: Alter>(
     case: &Case<'_>,
-    connection: &mut Connection<MemStore>,
+    connection: &mut Connection<S>,
 ) -> Result<(), StoreFault> {
     for value in case.list("sql") {
         let statement = value.as_str().unwrap_or("");

@@ -1,5 +1,5 @@
 //! Stores of the users of a case: in memory, and in a database.
-ghost use Rattle.std.specs.Prelude.{◌≡◌, false, IfOk};
+ghost use Rattle.std.specs.Prelude.{◌≡◌, false};
 
 use crate::faults::StoreFault;
 use case_values::{Case, CaseFault, text_or_json};
@@ -7,7 +7,7 @@ use scim_json::read_documents;
 use scim_samples::{BASE, USERS};
 use scim_shelf::MemoryShelf;
 use scim_store::{SqlShelf, import};
-use sqlite::{Alter, Connection, MemStore};
+use sqlite::{Alter, Connection};
 
 /// That below which the resources of a case stand: its argument `base`.
 pub fn base_of<'c>(case: &'c Case<'_>) -> &'c str {
@@ -55,16 +55,35 @@ pub fn opened<S: Alter + Drop>(
     }
 }
 
-/// A shelf over a new database in memory that has the users of that argument.
-pub fn database_of(case: &Case<'_>, name: &'static str) -> Result<SqlShelf<MemStore>, StoreFault> {
-    let mut connection = new_database(case)?;
+/// A shelf over an empty database, which gets the users of that argument.
+pub fn filled<S: Alter + Drop>(
+    case: &Case<'_>,
+    name: &'static str,
+    connection: Connection<S>,
+) -> Result<SqlShelf<S>, StoreFault>
+    requires { connection.in_transaction ≡ false }
+{
+    let mut connection = connection;
     fill(case, name, &mut connection)?;
     opened(case, connection)
 }
 
-/// A new database in memory.
-pub fn new_database(case: &Case<'_>) -> Result<Connection<MemStore>, CaseFault>
-    ensures { IfOk result (λ connection. connection.in_transaction ≡ false) }
-{
-    Ok(Connection::open_in_memory(case.alloc)?)
+/// What is done over a database.
+pub trait OverDatabase {
+    /// Does it over a connection to a new one, and says what came of it.
+    fn over<S: Alter + Drop>(
+        &self,
+        case: &Case<'_>,
+        connection: Connection<S>,
+    ) -> Result<String, StoreFault>
+        requires { connection.in_transaction ≡ false };
+}
+
+/// What comes of it over a new database in memory. All else is generic in what a database lies in: a function that holds a
+/// connection to one that is known is dear to prove.
+pub fn over_new_database<W: OverDatabase>(case: &Case<'_>, work: &W) -> Result<String, StoreFault> {
+    match Connection::open_in_memory(case.alloc) {
+        Ok(connection) => work.over(case, connection),
+        Err(_) => Err(StoreFault::Case(CaseFault::NoMemory)),
+    }
 }

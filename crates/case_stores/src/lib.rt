@@ -13,7 +13,7 @@ mod steps;
 pub use audited::push_rows_after;
 use case_values::{Case, CaseFault};
 pub use database_calls::prepared;
-pub use databases::{opened, shelf_of};
+pub use databases::{OverDatabase, opened, over_new_database, shelf_of};
 pub use exchanges::FRESH;
 pub use faults::{StoreFault, told_or_fault};
 

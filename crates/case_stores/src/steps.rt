@@ -1,6 +1,6 @@
 //! The steps of a case, over a store in memory and over one in a database.
 use crate::audited::{Audited, push_rows_after};
-use crate::databases::{database_of, shelf_of};
+use crate::databases::{OverDatabase, filled, over_new_database, shelf_of};
 use crate::exchanges::push_replies;
 use crate::faults::{StoreFault, told_or_fault};
 use crate::services::service_over;
@@ -10,6 +10,7 @@ use case_values::{Case, CaseFault, joined};
 use scim_service::Service;
 use scim_shelf::Shelf;
 use scim_token::Tokens;
+use sqlite::{Alter, Connection};
 
 /// What the steps are answered over a store in memory; and behind it, where that is another text, what they are over one
 /// in a database.
@@ -40,8 +41,8 @@ fn told_in_memory(case: &Case<'_>, tokens: &Tokens) -> Result<String, StoreFault
 fn told_in_database(case: &Case<'_>, tokens: &Tokens) -> Result<String, StoreFault> {
     let mut text = String::new(case.alloc);
     for store in stores_of(case) {
-        let shelf = database_of(case, store.users)?;
-        push_steps(case, &Asked { store, tokens }, shelf, &mut text)?;
+        let told = over_new_database(case, &Asked { store, tokens })?;
+        text.push_str(told.as_str())?;
     }
     Ok(text)
 }
@@ -51,6 +52,19 @@ fn told_in_database(case: &Case<'_>, tokens: &Tokens) -> Result<String, StoreFau
 struct Asked<'a> {
     store: &'a Store,
     tokens: &'a Tokens,
+}
+
+impl OverDatabase for Asked<'_> {
+    fn over<S: Alter + Drop>(
+        &self,
+        case: &Case<'_>,
+        connection: Connection<S>,
+    ) -> Result<String, StoreFault> {
+        let shelf = filled(case, self.store.users, connection)?;
+        let mut text = String::new(case.alloc);
+        push_steps(case, self, shelf, &mut text)?;
+        Ok(text)
+    }
 }
 
 /// Adds what the steps of a case are answered by a store, which is let go then.

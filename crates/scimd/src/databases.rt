@@ -1,5 +1,5 @@
 //! The commands over a database, which is a file.
-ghost use Rattle.std.specs.Prelude.{◌≡◌, false, IfOk};
+ghost use Rattle.std.specs.Prelude.{◌≡◌, false};
 
 use crate::files::{read_policy_text, read_users_text};
 use clap::ArgMatches;
@@ -11,161 +11,59 @@ use scim_database::{Question, explain, export, import, open_fault, print_audit};
 use scim_json::read_documents;
 use scim_policy::{Policy, read_policy};
 use scim_store::SqlShelf;
-use sqlite::{Alter, Connection, Error, ErrorCode, File, FileStore};
+use sqlite::{Alter, Connection, Error, ErrorCode};
 use std::alloc::Global;
 use std::fs;
 
-/// `explain`: says why a decision fell. The policy file is looked through before the database is opened.
-pub(crate) fn run_explain(rt: &HostRuntime, matches: &ArgMatches<'_>) -> Result<(), CommandFault> {
-    let options = ExplainOptions::of(matches)?;
-    let text = read_policy_text(rt, rt.alloc(), options.policy)?;
-    match read_policy(rt.alloc(), text.as_str()) {
-        Ok(policy) => explain_by(rt, &policy, &options),
-        Err(fault) => Err(CommandFault::Run(fault.into())),
-    }
-}
-
-/// Says why a decision falls by this policy.
-fn explain_by(
-    rt: &HostRuntime,
-    policy: &Policy,
-    options: &ExplainOptions<'_>,
-) -> Result<(), CommandFault> {
-    let connection = open_there(rt, options.database)?;
-    let (done, connection) = explain_over(rt, policy, options, connection);
-    close(connection);
-    done
-}
-
-/// Says why a decision falls, by the store of a database.
-fn explain_over<S: Alter + Drop>(
-    rt: &HostRuntime,
-    policy: &Policy,
-    options: &ExplainOptions<'_>,
-    connection: Connection<S>,
-) -> (Result<(), CommandFault>, Connection<S>)
-    requires { connection.in_transaction ≡ false }
-{
-    let question = Question {
-        client: options.client,
-        op: options.op,
-        kind: options.kind,
-        id: options.id,
-        leaf: options.leaf,
-    };
-    match open_store(rt.alloc(), connection, DEFAULT_BASE) {
-        Ok(shelf) => {
-            let mut shelf = shelf;
-            let done = explain(rt.alloc(), policy, &mut shelf, &question, &mut rt.stdout());
-            (done.map_err(CommandFault::Run), shelf.into_connection())
-        }
-        Err((fault, connection)) => (Err(fault), connection),
-    }
-}
-
-/// `audit`: writes rows of the audit.
-pub(crate) fn run_audit(rt: &HostRuntime, matches: &ArgMatches<'_>) -> Result<(), CommandFault> {
-    let options = AuditOptions::of(matches)?;
-    let connection = open_there(rt, options.database)?;
-    let (done, connection) = audit_over(rt, &options, connection);
-    close(connection);
-    done
-}
-
-/// Writes rows of the audit of a database.
-fn audit_over<S: Alter + Drop>(
-    rt: &HostRuntime,
-    options: &AuditOptions<'_>,
-    connection: Connection<S>,
-) -> (Result<(), CommandFault>, Connection<S>)
-    requires { connection.in_transaction ≡ false }
-{
-    match open_store(rt.alloc(), connection, DEFAULT_BASE) {
-        Ok(shelf) => {
-            let mut shelf = shelf;
-            let done = print_audit(
-                rt.alloc(),
-                &mut shelf,
-                options.from,
-                options.count,
-                &mut rt.stdout(),
-            );
-            (done.map_err(CommandFault::Run), shelf.into_connection())
-        }
-        Err((fault, connection)) => (Err(fault), connection),
-    }
-}
-
-/// `export`: writes the users file of a store.
-pub(crate) fn run_export(rt: &HostRuntime, matches: &ArgMatches<'_>) -> Result<(), CommandFault> {
-    let options = ExportOptions::of(matches)?;
-    let connection = open_there(rt, options.database)?;
-    let (done, connection) = export_over(rt, connection);
-    close(connection);
-    done
-}
-
-/// Writes the users file of the store of a database.
-fn export_over<S: Alter + Drop>(
-    rt: &HostRuntime,
-    connection: Connection<S>,
-) -> (Result<(), CommandFault>, Connection<S>)
-    requires { connection.in_transaction ≡ false }
-{
-    match open_store(rt.alloc(), connection, DEFAULT_BASE) {
-        Ok(shelf) => {
-            let mut shelf = shelf;
-            let done = export(rt.alloc(), &mut shelf, &mut rt.stdout());
-            (done.map_err(CommandFault::Run), shelf.into_connection())
-        }
-        Err((fault, connection)) => (Err(fault), connection),
-    }
-}
-
-/// `import`: brings the resources of a users file into an empty database. The file is looked through before the database
-/// is opened, so that none is made for a damaged one.
-pub(crate) fn run_import(rt: &HostRuntime, matches: &ArgMatches<'_>) -> Result<(), CommandFault> {
-    let alloc = rt.alloc();
-    let options = ImportOptions::of(matches)?;
-    let users = read_users_text(rt, alloc, options.users)?;
-    if let Err(fault) = read_documents(alloc, DEFAULT_BASE, users.as_str()) {
-        return Err(CommandFault::Run(fault.into()));
-    }
-    let mut connection = open(rt, options.database)?;
-    let done = import(alloc, &mut connection, DEFAULT_BASE, users.as_str());
-    close(connection);
-    done.map_err(CommandFault::Run)
-}
-
-/// Opens the database at a path, which is made where there is none.
+/// What is done over a database.
 ///
-/// Database, where it can't be opened; NoMemory where none was to be had.
-pub(crate) fn open(rt: &HostRuntime, path: &str) -> Result<Connection<FileStore<File>>, RunFault>
-    ensures { IfOk result (λ connection. connection.in_transaction ≡ false) }
-{
+/// It is generic in the database's files, and gives the connection back to be closed: a function that holds a connection to
+/// the system's files costs its proof a minute, so that `with_database` alone does.
+pub(crate) trait Work {
+    /// Does it over a connection to a database.
+    fn over<S: Alter + Drop>(
+        self,
+        rt: &HostRuntime,
+        connection: Connection<S>,
+    ) -> (Result<(), CommandFault>, Connection<S>)
+        requires { connection.in_transaction ≡ false };
+}
+
+/// Opens the database at a path, which is made where there is none; does what is to be done over it, and closes it.
+///
+/// Database, where it can't be opened; NoMemory where none was to be had; else what the work comes to. Nothing is lost where the
+/// closing fails: what was committed stands in the log, which is read when the database is opened again.
+pub(crate) fn with_database<W: Work + Drop>(
+    rt: &HostRuntime,
+    path: &str,
+    work: W,
+) -> Result<(), CommandFault> {
     match Connection::open(rt, path) {
-        Ok(connection) => Ok(connection),
-        Err(Error::SqliteFailure(ErrorCode::OutOfMemory)) => Err(RunFault::NoMemory),
-        Err(_) => Err(RunFault::Database(DatabaseFault::Unusable)),
+        Ok(connection) => {
+            let (done, connection) = work.over(rt, connection);
+            let _closed = connection.close();
+            done
+        }
+        Err(Error::SqliteFailure(ErrorCode::OutOfMemory)) => {
+            Err(CommandFault::Run(RunFault::NoMemory))
+        }
+        Err(_) => Err(CommandFault::Run(RunFault::Database(DatabaseFault::Unusable))),
     }
 }
 
-/// Opens the database at a path, where there is one.
-fn open_there(rt: &HostRuntime, path: &str) -> Result<Connection<FileStore<File>>, CommandFault>
-    ensures { IfOk result (λ connection. connection.in_transaction ≡ false) }
-{
+/// The same with the database at a path where there is one.
+fn with_database_there<W: Work + Drop>(
+    rt: &HostRuntime,
+    path: &str,
+    work: W,
+) -> Result<(), CommandFault> {
     if !matches!(fs::exists(rt, path), Ok(true)) {
         return Err(CommandFault::cannot_read(rt.alloc(), path));
     }
-    match open(rt, path) {
-        Ok(connection) => Ok(connection),
-        Err(fault) => Err(CommandFault::Run(fault)),
-    }
+    with_database(rt, path, work)
 }
 
-/// Opens the store in a database, whose resources stand below the base. What is done over a database is generic in its files, and
-/// gives the connection back to be closed: a function that holds a connection to the system's files where it may end in several
-/// ways costs its proof a minute.
+/// Opens the store in a database, whose resources stand below the base.
 pub(crate) fn open_store<S: Alter + Drop>(
     alloc: Global,
     connection: Connection<S>,
@@ -179,8 +77,125 @@ pub(crate) fn open_store<S: Alter + Drop>(
     }
 }
 
-/// Closes a database. Nothing is lost where that fails: what was committed stands in its log, which is read when it is
-/// opened again.
-pub(crate) fn close(connection: Connection<FileStore<File>>) {
-    let _closed = connection.close();
+/// To say why a decision falls by a policy.
+#[derive(Drop)]
+struct Explaining<'o> {
+    policy: Policy,
+    options: ExplainOptions<'o>,
+}
+
+impl Work for Explaining<'_> {
+    fn over<S: Alter + Drop>(
+        self,
+        rt: &HostRuntime,
+        connection: Connection<S>,
+    ) -> (Result<(), CommandFault>, Connection<S>) {
+        let question = Question {
+            client: self.options.client,
+            op: self.options.op,
+            kind: self.options.kind,
+            id: self.options.id,
+            leaf: self.options.leaf,
+        };
+        match open_store(rt.alloc(), connection, DEFAULT_BASE) {
+            Ok(shelf) => {
+                let mut shelf = shelf;
+                let (alloc, policy) = (rt.alloc(), &self.policy);
+                let done = explain(alloc, policy, &mut shelf, &question, &mut rt.stdout());
+                (done.map_err(CommandFault::Run), shelf.into_connection())
+            }
+            Err((fault, connection)) => (Err(fault), connection),
+        }
+    }
+}
+
+/// `explain`: says why a decision fell. The policy file is looked through before the database is opened.
+pub(crate) fn run_explain(rt: &HostRuntime, matches: &ArgMatches<'_>) -> Result<(), CommandFault> {
+    let options = ExplainOptions::of(matches)?;
+    let path = options.database;
+    let text = read_policy_text(rt, rt.alloc(), options.policy)?;
+    match read_policy(rt.alloc(), text.as_str()) {
+        Ok(policy) => with_database_there(rt, path, Explaining { policy, options }),
+        Err(fault) => Err(CommandFault::Run(fault.into())),
+    }
+}
+
+/// Writes rows of the audit.
+impl Work for AuditOptions<'_> {
+    fn over<S: Alter + Drop>(
+        self,
+        rt: &HostRuntime,
+        connection: Connection<S>,
+    ) -> (Result<(), CommandFault>, Connection<S>) {
+        match open_store(rt.alloc(), connection, DEFAULT_BASE) {
+            Ok(shelf) => {
+                let mut shelf = shelf;
+                let (alloc, from, count) = (rt.alloc(), self.from, self.count);
+                let done = print_audit(alloc, &mut shelf, from, count, &mut rt.stdout());
+                (done.map_err(CommandFault::Run), shelf.into_connection())
+            }
+            Err((fault, connection)) => (Err(fault), connection),
+        }
+    }
+}
+
+/// `audit`: writes rows of the audit.
+pub(crate) fn run_audit(rt: &HostRuntime, matches: &ArgMatches<'_>) -> Result<(), CommandFault> {
+    let options = AuditOptions::of(matches)?;
+    with_database_there(rt, options.database, options)
+}
+
+/// Writes the users file of a store.
+impl Work for ExportOptions<'_> {
+    fn over<S: Alter + Drop>(
+        self,
+        rt: &HostRuntime,
+        connection: Connection<S>,
+    ) -> (Result<(), CommandFault>, Connection<S>) {
+        match open_store(rt.alloc(), connection, DEFAULT_BASE) {
+            Ok(shelf) => {
+                let mut shelf = shelf;
+                let done = export(rt.alloc(), &mut shelf, &mut rt.stdout());
+                (done.map_err(CommandFault::Run), shelf.into_connection())
+            }
+            Err((fault, connection)) => (Err(fault), connection),
+        }
+    }
+}
+
+/// `export`: writes the users file of a store.
+pub(crate) fn run_export(rt: &HostRuntime, matches: &ArgMatches<'_>) -> Result<(), CommandFault> {
+    let options = ExportOptions::of(matches)?;
+    with_database_there(rt, options.database, options)
+}
+
+/// To bring the resources of a users file into an empty database.
+#[derive(Drop)]
+struct Importing {
+    users: String,
+}
+
+impl Work for Importing {
+    fn over<S: Alter + Drop>(
+        self,
+        rt: &HostRuntime,
+        connection: Connection<S>,
+    ) -> (Result<(), CommandFault>, Connection<S>) {
+        let mut connection = connection;
+        let users = self.users.as_str();
+        let done = import(rt.alloc(), &mut connection, DEFAULT_BASE, users);
+        (done.map_err(CommandFault::Run), connection)
+    }
+}
+
+/// `import`: brings the resources of a users file into an empty database. The file is looked through before the database
+/// is opened, so that none is made for a damaged one.
+pub(crate) fn run_import(rt: &HostRuntime, matches: &ArgMatches<'_>) -> Result<(), CommandFault> {
+    let alloc = rt.alloc();
+    let options = ImportOptions::of(matches)?;
+    let users = read_users_text(rt, alloc, options.users)?;
+    if let Err(fault) = read_documents(alloc, DEFAULT_BASE, users.as_str()) {
+        return Err(CommandFault::Run(fault.into()));
+    }
+    with_database(rt, options.database, Importing { users })
 }

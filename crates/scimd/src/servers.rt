@@ -1,11 +1,9 @@
 //! `serve`: a database, served to many clients.
-ghost use Rattle.std.specs.Prelude.{◌≡◌, false};
-
-use crate::databases::{close, open, open_store};
+use crate::databases::{Work, open_store, with_database};
 use crate::files::{read_policy_text, read_tokens_text};
 use clap::ArgMatches;
 use scim_cell::Text;
-use scim_command::{CommandFault, DatabaseFault, RunFault, ServeOptions};
+use scim_command::{CommandFault, RunFault, ServeOptions};
 use scim_hub::Hub;
 use scim_policy::{Policy, read_policy};
 use scim_replay::read_tokens;
@@ -17,48 +15,50 @@ use scim_text::Failed;
 use scim_token::Tokens;
 use sqlite::{Alter, Connection};
 
+/// To serve a database by a policy, to those who have the tokens.
+#[derive(Drop)]
+struct Serving<'o> {
+    options: ServeOptions<'o>,
+    policy: Policy,
+    tokens: Tokens,
+}
+
+impl Work for Serving<'_> {
+    fn over<S: Alter + Drop>(
+        self,
+        rt: &HostRuntime,
+        connection: Connection<S>,
+    ) -> (Result<(), CommandFault>, Connection<S>) {
+        let Serving {
+            options,
+            policy,
+            tokens,
+        } = self;
+        let Ok(base) = Text::copy_of(rt.alloc(), options.base) else {
+            return (Err(CommandFault::Run(RunFault::NoMemory)), connection);
+        };
+        match open_store(rt.alloc(), connection, options.base) {
+            Ok(shelf) => {
+                let mut hub = Hub::new(rt.alloc(), Service::new(policy, base, shelf), tokens);
+                let done = serve_at_port(rt, &options, &mut hub);
+                (done, hub.into_service().into_shelf().into_connection())
+            }
+            Err((fault, connection)) => (Err(fault), connection),
+        }
+    }
+}
+
 /// `serve`: serves a database, which is made where there is none. The files are looked through before it is opened.
 pub(crate) fn run_serve(rt: &HostRuntime, matches: &ArgMatches<'_>) -> Result<(), CommandFault> {
     let options = ServeOptions::of(matches)?;
     let policy = policy_at(rt, options.policy)?;
     let tokens = tokens_at(rt, options.tokens)?;
-    serve_at(rt, &options, policy, tokens)
-}
-
-/// Serves the database at its path, and closes it then.
-fn serve_at(
-    rt: &HostRuntime,
-    options: &ServeOptions<'_>,
-    policy: Policy,
-    tokens: Tokens,
-) -> Result<(), CommandFault> {
-    let connection = open(rt, options.database)?;
-    let (done, connection) = serve_over(rt, options, policy, tokens, connection);
-    close(connection);
-    done
-}
-
-/// Serves a database.
-fn serve_over<S: Alter + Drop>(
-    rt: &HostRuntime,
-    options: &ServeOptions<'_>,
-    policy: Policy,
-    tokens: Tokens,
-    connection: Connection<S>,
-) -> (Result<(), CommandFault>, Connection<S>)
-    requires { connection.in_transaction ≡ false }
-{
-    let Ok(base) = Text::copy_of(rt.alloc(), options.base) else {
-        return (Err(CommandFault::Run(RunFault::NoMemory)), connection);
+    let serving = Serving {
+        options,
+        policy,
+        tokens,
     };
-    match open_store(rt.alloc(), connection, options.base) {
-        Ok(shelf) => {
-            let mut hub = Hub::new(rt.alloc(), Service::new(policy, base, shelf), tokens);
-            let done = serve_at_port(rt, options, &mut hub);
-            (done, hub.into_service().into_shelf().into_connection())
-        }
-        Err((fault, connection)) => (Err(fault), connection),
-    }
+    with_database(rt, options.database, serving)
 }
 
 /// The policy in the file at a path.
