@@ -14,12 +14,10 @@ use anyhow::{Result, bail};
 use bench_values::print_heading;
 use std::alloc::Global;
 use std::env;
-use std::io::Print;
-use std::time::Clock;
 
 /// What there is to measure.
 const SCENARIOS: &str =
-    "bench documents: writing and reading the JSON of a user, beside serde_json, and users files\nbench parts: making, copying, restricting and looking up parts of 10, 1,000 and 40,000 cells\nbench decisions: what policies of 10 and of 1,000 rules decide of a user, and what a client sees by them\nbench filters: reading filters, and holding them on users and on groups of 1,000 and of 10,000 members\nbench filter-texts: 1,000,000 generated texts, each read as a filter, and what is read checked\nbench once: one GET over users files of 10,000 and of 100,000 users, beside serde_json's reading of the file\nbench pages: a page of 100 out of 10,000 and out of 100,000 users with groups, and by policies of 10 and of 1,000 rules\nbench patch: PATCHes that add one member to groups of 99 and of 9,999, 1,000 and 10,000 members to an empty one, and remove a tenth of 1,000 and of 10,000\nbench put: PUTs of a user by policies of 10 and of 1,000 rules, and of groups of 100 and of 10,000 members\nbench service: turns over 1,000 and over 100,000 users in memory, and bodies of 1,000 and of 10,000 emails\nbench wire: messages with bodies of 100 KiB and of 1 MiB in pieces of 64 KiB and byte by byte, and what a GET takes beside the service";
+    "bench documents: writing and reading the JSON of a user, beside serde_json, and users files\nbench parts: making, copying, restricting and looking up parts of 10, 1,000 and 40,000 cells\nbench decisions: what policies of 10 and of 1,000 rules decide of a user, and what a client sees by them\nbench filters: reading filters, and holding them on users and on groups of 1,000 and of 10,000 members\nbench filter-texts: 1,000,000 generated texts, each read as a filter, and what is read checked\nbench once: one GET over users files of 10,000 and of 100,000 users, beside serde_json's reading of the file\nbench pages: a page of 100 out of 10,000 and out of 100,000 users with groups, and by policies of 10 and of 1,000 rules\nbench patch: PATCHes that add one member to groups of 99 and of 9,999, 1,000 and 10,000 members to an empty one, and remove a tenth of 1,000 and of 10,000\nbench put: PUTs of a user by policies of 10 and of 1,000 rules, and of groups of 100 and of 10,000 members\nbench serve: requests over sockets of a server of 2,000 and of 100,000 users in memory and in a database, beside what their events take the hub\nbench service: turns over 1,000 and over 100,000 users in memory, and bodies of 1,000 and of 10,000 emails\nbench wire: messages with bodies of 100 KiB and of 1 MiB in pieces of 64 KiB and byte by byte, and what a GET takes beside the service";
 
 fn main(rt: HostRuntime) -> Result<()> {
     match env::args(&rt)?.nth(1) {
@@ -29,7 +27,7 @@ fn main(rt: HostRuntime) -> Result<()> {
 }
 
 /// Runs the scenario of a name.
-fn run(rt: &(impl Clock + Print), alloc: Global, name: &str) -> Result<()> {
+fn run(rt: &HostRuntime, alloc: Global, name: &str) -> Result<()> {
     match name {
         "documents" => bench_values::run_documents(rt, alloc),
         "decisions" => bench_policies::run_decisions(rt, alloc),
@@ -40,6 +38,7 @@ fn run(rt: &(impl Clock + Print), alloc: Global, name: &str) -> Result<()> {
         "parts" => bench_values::run_parts(rt, alloc),
         "patch" => patch_runs::run(rt, alloc),
         "put" => put_runs::run(rt, alloc),
+        "serve" => bench_servers::run_servers(rt),
         "service" => service_runs::run(rt, alloc),
         "wire" => wire_runs::run(rt, alloc),
         _ => bail!("there is no such scenario"),

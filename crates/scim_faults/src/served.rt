@@ -1,5 +1,5 @@
-//! What `serve_stream` does where a read or a write fails, or where there is no stamp.
-use crate::streams::{Stutter, Trickle};
+//! What `serve_stream` does where a read or a write fails, where there is no stamp, and where a stream comes to no end.
+use crate::streams::{EmptyLines, Stutter, Trickle};
 use scim_cell::Id;
 use scim_command::service_over;
 use scim_hub::{Hub, IoFault, NoStamp, Served, Stamp, Stamps, serve_stream};
@@ -13,10 +13,10 @@ use std::io::{ErrorKind, Read};
 use uuid::Uuid;
 
 /// To ask twice for what isn't served, which needs no token.
-const REQUESTS: &str = "GET /Me HTTP/1.1\r\n\r\nGET /Me HTTP/1.1\r\n\r\n";
+pub(crate) const REQUESTS: &str = "GET /Me HTTP/1.1\r\n\r\nGET /Me HTTP/1.1\r\n\r\n";
 
 /// What is answered to that.
-const REPLIES: &str =
+pub(crate) const REPLIES: &str =
     "HTTP/1.1 501 Not Implemented\r\nContent-Type: application/scim+json\r\nContent-Length: 100\r\n\r\n{\"detail\":\"Not supported.\",\"schemas\":[\"urn:ietf:params:scim:api:messages:2.0:Error\"],\"status\":\"501\"}HTTP/1.1 501 Not Implemented\r\nContent-Type: application/scim+json\r\nContent-Length: 100\r\n\r\n{\"detail\":\"Not supported.\",\"schemas\":[\"urn:ietf:params:scim:api:messages:2.0:Error\"],\"status\":\"501\"}";
 
 /// Gives so many stamps, and then none.
@@ -46,7 +46,7 @@ impl Stamps for Few {
 }
 
 /// A hub over no users; None where there is none.
-fn hub(alloc: Global) -> Option<Hub<MemoryShelf>> {
+pub(crate) fn hub(alloc: Global) -> Option<Hub<MemoryShelf>> {
     let (Ok(policy), Ok(tokens)) = (read_policy(alloc, POLICY), Tokens::read(alloc, "")) else {
         return None;
     };
@@ -118,4 +118,21 @@ fn a_piece_without_a_stamp_is_not_answered(rt: HostRuntime) {
     let writer = Stutter::new(rt.alloc(), 7, u32::MAX, ErrorKind::Other);
     let told = Err(IoFault::Stamp);
     assert!(rt; comes_to(rt.alloc(), &mut REQUESTS.as_bytes(), writer, 0, told, 0));
+}
+
+#[test]
+fn a_stream_is_read_a_million_times_and_no_more(rt: HostRuntime) {
+    let rows = [
+        (999_999, Ok(Served { replies: 0 })),
+        (1_000_000, Err(IoFault::Turns)),
+        (u32::MAX, Err(IoFault::Turns)),
+    ];
+    for (left, told) in rows {
+        let mut reader = EmptyLines { left };
+        let writer = Stutter::new(rt.alloc(), 7, u32::MAX, ErrorKind::Other);
+        assert!(rt;
+            comes_to(rt.alloc(), &mut reader, writer, u32::MAX, told, 0),
+            "{left} lines"
+        );
+    }
 }

@@ -1,4 +1,4 @@
-//! A reader and a writer that fail when they are told to.
+//! Readers and a writer that fail, or come to no end, as they are told to.
 use std::alloc::Global;
 use std::io;
 use std::io::{ErrorKind, Read, Write};
@@ -60,5 +60,23 @@ impl Write for Stutter {
 
     fn flush(&mut self) -> io::Result<()> {
         Ok(())
+    }
+}
+
+/// Gives an empty line at each read, so many times, and then nothing.
+#[derive(Drop)]
+pub(crate) struct EmptyLines {
+    pub(crate) left: u32,
+}
+
+impl Read for EmptyLines {
+    fn read(&mut self, buf: &mut [u8]) -> io::Result<usize> {
+        if self.left == 0 || buf.len() < 2 {
+            return Ok(0);
+        }
+        self.left -= 1;
+        buf[0] = b'\r';
+        buf[1] = b'\n';
+        Ok(2)
     }
 }

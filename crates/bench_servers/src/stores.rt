@@ -1,0 +1,133 @@
+//! The stores that are served: in memory, and in a database, which is a file.
+ghost use Rattle.std.specs.Prelude.{◌≡◌, false};
+
+use crate::requests::TOKENS;
+use crate::runs::print_figures;
+use anyhow::{Result, bail};
+use bench_values::{print_heading, users_file};
+use scim_cell::Text;
+use scim_hub::Hub;
+use scim_json::read_documents;
+use scim_policy::{Policy, read_policy};
+use scim_samples::BASE;
+use scim_service::Service;
+use scim_shelf::MemoryShelf;
+use scim_store::{SqlShelf, import};
+use scim_token::Tokens;
+use scim_value::Resource;
+use sqlite::{Alter, Connection};
+use std::alloc::Global;
+use std::fs;
+
+/// Where the database is made, and removed again.
+const PATH: &str = "bench-serve.db";
+
+/// How many users a store has.
+const USERS: [usize; 2] = [2_000, 100_000];
+
+const POLICY: &str =
+    "{\"version\":1,\"rules\":[{\"allow\":true,\"clients\":[\"hr\"],\"ops\":[\"read\",\"create\",\"modify\"],\"types\":[\"User\"],\"paths\":[\"*\"]}]}";
+
+/// By what a hub answers.
+#[derive(Drop)]
+struct Terms {
+    policy: Policy,
+    tokens: Tokens,
+    base: Text,
+}
+
+impl Terms {
+    fn new(alloc: Global) -> Result<Terms> {
+        Ok(Terms {
+            policy: read_policy(alloc, POLICY)?,
+            tokens: Tokens::read(alloc, TOKENS)?,
+            base: Text::copy_of(alloc, BASE)?,
+        })
+    }
+}
+
+fn in_memory(rt: &HostRuntime, count: usize, what: &str) -> Result<()> {
+    let text = users_file(rt.alloc(), count)?;
+    match read_documents(rt.alloc(), BASE, text.as_str()) {
+        Ok(users) => over_memory(rt, MemoryShelf::new(rt.alloc(), users)?, what),
+        Err(_) => unusable(),
+    }
+}
+
+fn over_memory(rt: &HostRuntime, shelf: MemoryShelf, what: &str) -> Result<()> {
+    let Terms {
+        policy,
+        tokens,
+        base,
+    } = Terms::new(rt.alloc())?;
+    let mut hub = Hub::new(rt.alloc(), Service::new(policy, base, shelf), tokens);
+    print_figures(rt, &mut hub, what)
+}
+
+fn unusable() -> Result<()> {
+    bail!("the database can't be used")
+}
+
+/// Brings users into an empty database, and prints the figures over it. The connection is given back to be closed.
+fn in_database<S: Alter + Drop>(
+    rt: &HostRuntime,
+    connection: Connection<S>,
+    terms: Terms,
+    users: &[Resource],
+    what: &str,
+) -> (Result<()>, Connection<S>)
+    requires { connection.in_transaction ≡ false }
+{
+    let mut connection = connection;
+    if import(&mut connection, rt.alloc(), BASE, users).is_err() {
+        return (unusable(), connection);
+    }
+    match SqlShelf::open(rt.alloc(), connection, BASE) {
+        Ok(shelf) => {
+            let Terms {
+                policy,
+                tokens,
+                base,
+            } = terms;
+            let mut hub = Hub::new(rt.alloc(), Service::new(policy, base, shelf), tokens);
+            let done = print_figures(rt, &mut hub, what);
+            (done, hub.into_service().into_shelf().into_connection())
+        }
+        Err((_, connection)) => (unusable(), connection),
+    }
+}
+
+fn in_file(rt: &HostRuntime, count: usize, what: &str) -> Result<()> {
+    let text = users_file(rt.alloc(), count)?;
+    match read_documents(rt.alloc(), BASE, text.as_str()) {
+        Ok(users) => over_file(rt, Terms::new(rt.alloc())?, users.as_slice(), what),
+        Err(_) => unusable(),
+    }
+}
+
+/// Makes the database in a file.
+fn over_file(rt: &HostRuntime, terms: Terms, users: &[Resource], what: &str) -> Result<()> {
+    match Connection::open(rt, PATH) {
+        Ok(connection) => {
+            let (done, connection) = in_database(rt, connection, terms, users, what);
+            let _closed = connection.close();
+            done
+        }
+        Err(_) => unusable(),
+    }
+}
+
+/// Prints what requests take, in nanoseconds: by the events of the hub alone, over one connection, and over 64 at once.
+pub fn run(rt: &HostRuntime) -> Result<()> {
+    print_heading(
+        rt,
+        "nanoseconds a request: by the hub's events alone, over one connection, and over 64",
+    )?;
+    let [few, many] = USERS;
+    in_memory(rt, few, "2,000 users in memory")?;
+    in_memory(rt, many, "100,000 users in memory")?;
+    in_file(rt, few, "2,000 users in a database")?;
+    fs::remove_file(rt, PATH)?;
+    in_file(rt, many, "100,000 users in a database")?;
+    Ok(fs::remove_file(rt, PATH)?)
+}

@@ -1,0 +1,109 @@
+//! Connections of which all that happens is known beforehand.
+use scim_cell::Id;
+use scim_hub::{Happened, Recorded, Stamp};
+use scim_serve::{Incident, Peers, PeersFault};
+use scim_text::Moment;
+use std::alloc::{AllocError, Global};
+use uuid::Uuid;
+
+/// Connections 0 and 1, which take `step` bytes at a call.
+#[derive(Drop)]
+pub(crate) struct KnownPeers {
+    // What happens yet, the last first.
+    left: Vec<Incident>,
+    step: usize,
+    /// What connection 0 has taken.
+    pub(crate) first: Vec<u8>,
+    /// What connection 1 has taken.
+    pub(crate) second: Vec<u8>,
+    /// Those that were closed, in order.
+    pub(crate) closed: Vec<u64>,
+}
+
+/// What happens to a connection: it joins, where no bytes come.
+fn incident(alloc: Global, connection: u64, bytes: &str) -> Result<Option<Incident>, AllocError> {
+    let Some(moment) = Moment::new(0) else {
+        return Ok(None);
+    };
+    let happened = if bytes.is_empty() {
+        Happened::Joined
+    } else {
+        Happened::Piece(Vec::from_slice(alloc, bytes.as_bytes())?)
+    };
+    Ok(Some(Incident::Event(Recorded {
+        connection,
+        stamp: Stamp {
+            moment,
+            first: Id::of(Uuid::nil()),
+        },
+        happened,
+    })))
+}
+
+impl KnownPeers {
+    /// Connections to which these things happen, in this order: bytes come, or one joins where none do.
+    pub(crate) fn new(
+        alloc: Global,
+        step: usize,
+        happenings: &[(u64, &str)],
+    ) -> Result<KnownPeers, AllocError> {
+        let mut left = Vec::new(alloc);
+        for (connection, bytes) in happenings.iter().rev() {
+            if let Some(incident) = incident(alloc, *connection, *bytes)? {
+                left.push(incident)?;
+            }
+        }
+        Ok(KnownPeers {
+            left,
+            step,
+            first: Vec::new(alloc),
+            second: Vec::new(alloc),
+            closed: Vec::new(alloc),
+        })
+    }
+
+    /// Puts bytes behind what a connection has taken.
+    fn take(&mut self, connection: u64, bytes: &[u8]) -> Result<(), AllocError> {
+        if connection == 0 {
+            self.first.extend_from_slice(bytes)
+        } else {
+            self.second.extend_from_slice(bytes)
+        }
+    }
+}
+
+impl Peers for KnownPeers {
+    ghost use Rattle.std.specs.Prelude.{false, []};
+
+    ghost is_known = { false };
+
+    ghost seen = { λ _. [] };
+
+    ghost written = { λ _ _. [] };
+
+    ghost takes_all = { λ _ _. false };
+
+    ghost is_closed = { λ _ _. false };
+
+    ghost is_over = { λ _. false };
+
+    fn next(&mut self, _alloc: Global) -> Result<Option<Incident>, PeersFault> {
+        Ok(self.left.pop())
+    }
+
+    fn write(&mut self, connection: u64, bytes: &[u8]) -> usize {
+        let count = bytes.len().min(self.step);
+        if self.take(connection, &bytes[..count]).is_err() {
+            return 0;
+        }
+        if count < bytes.len() {
+            // It may take more at once. Where this isn't kept, the reply isn't whole.
+            let _kept = self.left.push(Incident::Ready(connection));
+        }
+        count
+    }
+
+    fn close(&mut self, connection: u64) {
+        let _kept = self.closed.push(connection);
+    }
+}

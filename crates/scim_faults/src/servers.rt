@@ -1,0 +1,76 @@
+//! What a server answers: over connections that are known, and over a socket.
+use crate::known_peers::KnownPeers;
+use crate::served::{REPLIES, REQUESTS, hub};
+use scim_hub::Hub;
+use scim_serve::serve;
+use scim_shelf::MemoryShelf;
+use scim_sockets::Sockets;
+use std::alloc::Global;
+use std::io;
+use std::io::{Read, Write};
+use std::net::{Ipv4Addr, Shutdown, SocketAddr, TcpStream};
+
+/// Two connections whose pieces come in turn. The one sends the two requests, cut in the midst of them; the other sends no
+/// HTTP.
+const HAPPENINGS: [(u64, &str); 7] = [
+    (0, ""),
+    (1, ""),
+    (0, "GET /Me HTTP/1.1\r\n\r\nGET /M"),
+    (1, "noth"),
+    (0, "e HTTP/1.1\r\n\r"),
+    (1, "ing\r\n\r\n"),
+    (0, "\n"),
+];
+
+/// What is answered to what is no HTTP.
+const REFUSAL: &str =
+    "HTTP/1.1 400 Bad Request\r\nContent-Type: application/scim+json\r\nContent-Length: 109\r\nConnection: close\r\n\r\n{\"detail\":\"Malformed request head.\",\"schemas\":[\"urn:ietf:params:scim:api:messages:2.0:Error\"],\"status\":\"400\"}";
+
+/// Whether each connection is answered what is due to it, where it takes `step` bytes at a call, and that alone closed
+/// which sent no HTTP.
+fn answers_each(alloc: Global, step: usize) -> bool {
+    let (Some(mut hub), Ok(mut peers)) = (hub(alloc), KnownPeers::new(alloc, step, &HAPPENINGS))
+    else {
+        return false;
+    };
+    serve(alloc, &mut peers, &mut hub).is_ok()
+        && peers.first.as_slice() == REPLIES.as_bytes()
+        && peers.second.as_slice() == REFUSAL.as_bytes()
+        && peers.closed.as_slice() == [1].as_slice()
+}
+
+/// Whether a client gets its replies over a socket. It sends the two requests and closes its sending side before it is served.
+fn answers_client(
+    rt: &HostRuntime,
+    sockets: &mut Sockets<'_, HostRuntime>,
+    hub: &mut Hub<MemoryShelf>,
+) -> io::Result<bool> {
+    let address = SocketAddr::from((Ipv4Addr::LOCALHOST, sockets.port()));
+    let mut client = TcpStream::connect(rt, address)?;
+    client.write_all(REQUESTS.as_bytes())?;
+    client.shutdown(Shutdown::Write)?;
+    if serve(rt.alloc(), sockets, hub).is_err() {
+        return Ok(false);
+    }
+    let mut replies = Vec::new(rt.alloc());
+    client.read_to_end(&mut replies)?;
+    Ok(replies.as_slice() == REPLIES.as_bytes())
+}
+
+#[test]
+fn each_connection_is_answered_what_is_due_to_it(rt: HostRuntime) {
+    for step in [1, 7, 190, 100_000] {
+        assert!(rt; answers_each(rt.alloc(), step), "{step} bytes at a call");
+    }
+}
+
+#[test]
+fn what_a_client_sends_is_answered(rt: HostRuntime) {
+    // Nothing is shown where the machine has no loopback.
+    if let (Ok(mut sockets), Some(mut hub)) = (
+        Sockets::listen(&rt, rt.alloc(), 0, Some(1)),
+        hub(rt.alloc()),
+    ) {
+        assert!(rt; matches!(answers_client(&rt, &mut sockets, &mut hub), Ok(true)));
+    }
+}
