@@ -3,7 +3,7 @@
 #![tactic(auto)]
 
 #[cfg(test)]
-mod known_peers;
+mod scripted_peers;
 #[cfg(test)]
 mod served;
 #[cfg(test)]

@@ -1,5 +1,5 @@
-//! What a server answers: over connections that are known, and over a socket.
-use crate::known_peers::KnownPeers;
+//! What a server answers: over connections that a script plays, and over a socket.
+use crate::scripted_peers::ScriptedPeers;
 use crate::served::{REPLIES, REQUESTS, hub};
 use scim_hub::Hub;
 use scim_serve::serve;
@@ -29,7 +29,7 @@ const REFUSAL: &str =
 /// Whether each connection is answered what is due to it, where it takes `step` bytes at a call, and that alone closed
 /// which sent no HTTP.
 fn answers_each(alloc: Global, step: usize) -> bool {
-    let (Some(mut hub), Ok(mut peers)) = (hub(alloc), KnownPeers::new(alloc, step, &HAPPENINGS))
+    let (Some(mut hub), Ok(mut peers)) = (hub(alloc), ScriptedPeers::new(alloc, step, &HAPPENINGS))
     else {
         return false;
     };

@@ -1,4 +1,4 @@
-//! Connections of which all that happens is known beforehand.
+//! Connections of which a script says beforehand what happens. What they took is looked at by tests: to a contract they are as sockets.
 use scim_cell::Id;
 use scim_hub::{Happened, Recorded, Stamp};
 use scim_serve::{Incident, Peers, PeersFault};
@@ -8,7 +8,7 @@ use uuid::Uuid;
 
 /// Connections 0 and 1, which take `step` bytes at a call.
 #[derive(Drop)]
-pub(crate) struct KnownPeers {
+pub(crate) struct ScriptedPeers {
     // What happens yet, the last first.
     left: Vec<Incident>,
     step: usize,
@@ -40,20 +40,20 @@ fn incident(alloc: Global, connection: u64, bytes: &str) -> Result<Option<Incide
     })))
 }
 
-impl KnownPeers {
+impl ScriptedPeers {
     /// Connections to which these things happen, in this order: bytes come, or one joins where none do.
     pub(crate) fn new(
         alloc: Global,
         step: usize,
         happenings: &[(u64, &str)],
-    ) -> Result<KnownPeers, AllocError> {
+    ) -> Result<ScriptedPeers, AllocError> {
         let mut left = Vec::new(alloc);
         for (connection, bytes) in happenings.iter().rev() {
             if let Some(incident) = incident(alloc, *connection, *bytes)? {
                 left.push(incident)?;
             }
         }
-        Ok(KnownPeers {
+        Ok(ScriptedPeers {
             left,
             step,
             first: Vec::new(alloc),
@@ -72,7 +72,7 @@ impl KnownPeers {
     }
 }
 
-impl Peers for KnownPeers {
+impl Peers for ScriptedPeers {
     ghost use Rattle.std.specs.Prelude.{false, []};
 
     ghost is_known = { false };
