@@ -6,18 +6,18 @@ use Rattle.std.specs.Option.{option_eq}
 use Rattle.std.specs.Str.{bytes_eq}
 use Rattle.std.specs.Bool.{one_answer}
 use Rattle.std.specs.declared.alloc.Global.{Global}
-use Rattle.std.specs.BTreeMap.{BTreeMap, Updates, get_by_text}
-use Rattle.std.specs.String.{string_cmp}
+use Rattle.std.specs.HashMap.{Updates, get_by_text}
+use Rattle.std.specs.String.{string_eq}
 use Rattle.std.proofs.lemmas.Slice.Eq.{bytes_eq-Decides}
 use Rattle.std.proofs.lemmas.List.Folds.{list_any-append}
-use Rattle.std.proofs.lemmas.Map.Text.{btree_map_updates_text}
+use Rattle.std.proofs.lemmas.Map.Text.{hash_map_updates_text}
 use Rattle.scim_schema.specs.declared.Attribute.{Attribute}
 use Rattle.scim_cell.specs.declared.atoms.Atom.{Atom}
 use Rattle.scim_cell.specs.Atoms.{is_same_atom, is_same_atom-Decides}
 use Rattle.scim_cell.specs.Equality.{is_same_row, is_same_row-Decides}
 use Rattle.scim_cell.specs.Rows.{Row}
 use Rattle.scim_lists.specs.SameValues.{is_members, member_value, is_same_value, with_value, with_values}
-use Rattle.scim_lists.specs.code.Keys.{some_key, fields_key, key_of, Covers}
+use Rattle.scim_lists.specs.code.Keys.{some_key, fields_key, key_of, Places, Covers}
 
 some_keys : (a b : Option Atom) → option_eq is_same_atom a b ≡ true → some_key a ≡ some_key b
 some_keys (Some a) (Some b) h = ap (λ (x : Option Atom). some_key x) (ap Some ((is_same_atom-Decides a b).0 h))
@@ -70,41 +70,17 @@ one_more false i found true h = h
 one_more false i found false h = h
 
 -- one value more, and its key
-pub covers_push : (m n : BTreeMap (String Global) ℕ) (key : String Global) (i : ℕ) (a : Attribute) (rs : List Row) (r : Row)
+pub covers_push : (m n : Places) (key : String Global) (i : ℕ) (a : Attribute) (rs : List Row) (r : Row)
     → string_bytes key ≡ key_of a r
-    → Updates string_cmp m n key (Some i)
+    → Updates string_eq m n key (Some i)
     → Covers m a rs
     → Covers n a (rs ++ r ∷ [])
 covers_push m n key i a rs r k updates covered q =
-    ap is_some (btree_map_updates_text (string_bytes key) m n (Some i) updates q)
+    ap is_some (hash_map_updates_text (string_bytes key) m n (Some i) updates q)
     ∙ ap (λ bs. is_some (cond (bytes_eq bs q) (Some i) (get_by_text m q))) k
     ∙ ap (λ b. is_some (cond b (Some i) (get_by_text m q))) (symmetric (key_of a r) q)
     ∙ one_more (bytes_eq q (key_of a r)) i (get_by_text m q) _ (covered q)
     ∙ sym (list_any-append (λ s. bytes_eq q (key_of a s)) rs (r ∷ []))
-
-same_keyed : (b : Bool) (i : ℕ) (found : Option ℕ) (t : Bool) → is_some found ≡ t → (b ≡ true → t ≡ true) → is_some (cond b (Some i) found) ≡ t
-same_keyed true i found t h k = sym (k refl)
-same_keyed false i found t h k = h
-
-some_too : (k s : Bool) → (k ≡ false → s ≡ false) → s ≡ true → k ≡ true
-some_too true s f h = refl
-some_too false s f h = sym (f refl) ∙ h
-
--- where one is the same, one has the key
-pub some_same : (a : Attribute) (rs : List Row) (r : Row) → list_any (λ s. is_same_value a s r) rs ≡ true → list_any (keyed a r) rs ≡ true
-some_same a rs r h = some_too (list_any (keyed a r) rs) (list_any (λ s. is_same_value a s r) rs) (none_same a rs r) h
-
--- the key of a value that is the same as one of these, in another place
-pub covers_same : (m n : BTreeMap (String Global) ℕ) (key : String Global) (i : ℕ) (a : Attribute) (rs : List Row) (r : Row)
-    → string_bytes key ≡ key_of a r
-    → Updates string_cmp m n key (Some i)
-    → list_any (λ q. bytes_eq (key_of a r) (key_of a q)) rs ≡ true
-    → Covers m a rs
-    → Covers n a rs
-covers_same m n key i a rs r k updates there covered q =
-    ap is_some (btree_map_updates_text (string_bytes key) m n (Some i) updates q)
-    ∙ same_keyed (bytes_eq (string_bytes key) q) i (get_by_text m q) _ (covered q)
-    (λ e. ap (λ bs. list_any (λ s. bytes_eq bs (key_of a s)) rs) (sym ((bytes_eq-Decides (string_bytes key) q).0 e) ∙ k) ∙ there)
 
 -- a value that is the same as none of these
 pub with_value_other : (a : Attribute) (rs : List Row) (r : Row) → list_any (λ s. is_same_value a s r) rs ≡ false → with_value a rs r ≡ rs ++ r ∷ []

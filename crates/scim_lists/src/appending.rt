@@ -10,7 +10,7 @@ use scim_cell::Row;
 use scim_schema::Attribute;
 use scim_text::{NoMemory, push};
 use std::alloc::Global;
-use std::collections::BTreeMap;
+use std::collections::HashMap;
 
 /// How many values are given where each is compared with all that are there. More are found by keys, for which a
 /// text of each value is kept meanwhile.
@@ -60,22 +60,23 @@ fn with_many(
 ) -> Result<Vec<Row>, NoMemory>
     ensures { IfOk result (λ v. v.items ≡ spec.with_values attribute values.items given.items) }
 {
-    let mut places = places_of(alloc, attribute, values.as_slice())?;
+    let mut places = places_of(alloc, attribute, values.as_slice(), given.len())?;
     for value in given {
         add_value(alloc, attribute, &mut values, &mut places, value)?;
     }
     Ok(values)
 }
 
-/// Where the values are, by their keys; of those with one key the last.
+/// Where the values are, by their keys; of those with one key the last. There is room for this many keys more.
 fn places_of(
     alloc: Global,
     attribute: Attribute,
     values: &[Row],
-) -> Result<BTreeMap<String, usize>, NoMemory>
+    more: usize,
+) -> Result<HashMap<String, usize>, NoMemory>
     ensures { IfOk result (λ m. Covers m attribute values.now) }
 {
-    let mut places = BTreeMap::new(alloc);
+    let mut places = HashMap::with_capacity(alloc, values.len().saturating_add(more))?;
     for (place, value) in values.iter().enumerate() {
         let _ = places.insert(key(alloc, attribute, value)?, place)?;
     }
@@ -97,7 +98,7 @@ fn add_value(
     alloc: Global,
     attribute: Attribute,
     values: &mut Vec<Row>,
-    places: &mut BTreeMap<String, usize>,
+    places: &mut HashMap<String, usize>,
     value: Row,
 ) -> Result<(), NoMemory>
     requires { Covers places.old attribute values.old.items }
@@ -105,11 +106,12 @@ fn add_value(
     ensures covers { OnOk result (Covers places.new attribute values.new.items) }
 {
     let key_of_value = key(alloc, attribute, &value)?;
-    match places.insert(key_of_value, values.len())? {
-        Some(place) if has_same(attribute, values.as_slice(), place, &value) => {
-            let _ = places.insert(key(alloc, attribute, &value)?, place)?;
+    match places.get(key_of_value.as_str()).copied() {
+        Some(place) if has_same(attribute, values.as_slice(), place, &value) => {}
+        _ => {
+            places.insert(key_of_value, values.len())?;
+            push(values, value)?;
         }
-        _ => push(values, value)?,
     }
     Ok(())
 }

@@ -3,7 +3,9 @@ use Rattle.std.specs.Prelude.{ℕ, ◌≡◌, String, List, [], ◌++◌, Option
 use Rattle.std.specs.List.{list_any, flat_map}
 use Rattle.std.specs.Str.{bytes_eq}
 use Rattle.std.specs.declared.alloc.Global.{Global}
-use Rattle.std.specs.BTreeMap.{BTreeMap, get_by_text}
+use Rattle.std.specs.declared.hash.BuildHasherDefault.{BuildHasherDefault}
+use Rattle.std.specs.declared.hash.FoldHasher.{FoldHasher}
+use Rattle.std.specs.HashMap.{HashMap, get_by_text}
 use Rattle.scim_schema.specs.declared.Attribute.{Attribute}
 use Rattle.scim_schema.specs.declared.SubAttribute.{SubAttribute}
 use Rattle.scim_schema.specs.Names.{sub_attribute_name}
@@ -39,6 +41,10 @@ fields_key fs = flat_map field_key fs
 abbrev pub key_of : Attribute → Row → List ℕ
 key_of a r = if is_members a then some_key (member_value r) else fields_key r.fields
 
+-- a map from keys to places
+abbrev pub Places : Type 0
+Places = HashMap (String Global) ℕ (BuildHasherDefault FoldHasher)
+
 -- the map has just the keys of the values
-abbrev pub Covers : BTreeMap (String Global) ℕ → Attribute → List Row → Type 0
+abbrev pub Covers : Places → Attribute → List Row → Type 0
 Covers m a rs = (q : List ℕ) → is_some (get_by_text m q) ≡ list_any (λ r. bytes_eq q (key_of a r)) rs
