@@ -12,4 +12,5 @@ pub mod ValueLemmas
 pub mod NotedLemmas
 pub mod PickLemmas
 pub mod CopyLemmas
+pub mod CollectLemmas
 pub mod Facts

@@ -18,7 +18,8 @@ use Rattle.scim_value.specs.declared.uniqueness.UniqueName.{UniqueName}
 use Rattle.scim_shelf.specs.Stores.{is_group_with, below, above, keep, without}
 use Rattle.scim_shelf.specs.code.Owners.{owner}
 use Rattle.scim_shelf.specs.code.Members.{is_same, is_noted, is_group_in}
-use Rattle.scim_shelf.specs.code.Collections.{IsCollection, has_id}
+use Rattle.scim_shelf.specs.Collections.{IsCollection}
+use Rattle.scim_shelf.specs.code.Collections.{has_id}
 use Rattle.scim_shelf.proofs.PlaceLemmas.{reversed}
 use Rattle.scim_shelf.proofs.StoreLemmas.{All-both, ids_differ}
 use Rattle.scim_shelf.proofs.NameLemmas.{by_bool, is_eq-Equal, is_lt-Less}

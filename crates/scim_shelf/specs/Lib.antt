@@ -1,3 +1,4 @@
 pub mod Stores
 pub mod Shelves
+pub mod Collections
 pub mod code

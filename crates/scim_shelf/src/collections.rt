@@ -10,10 +10,12 @@ ghost use Rattle.scim_cell.specs.Content.{Content};
 ghost use Rattle.scim_cell.specs.Kinds.{of_kind};
 ghost use Rattle.scim_value.specs.Members.{lists_value};
 ghost use Rattle.scim_value.specs.Uniqueness.{name_of, AreApart};
-ghost use Rattle.scim_shelf.specs.Stores.{HasPlace, has_name, is_group_with, keep, without};
-ghost use Rattle.scim_shelf.specs.code.Collections.{IsCollection, has_id, names_of, if_passes, before};
+ghost use Rattle.scim_shelf.specs.Stores.{Store, HasPlace, CanKeep, is_at, has_name, is_group_with, changed, keep, without};
+ghost use Rattle.scim_shelf.specs.Collections.{IsCollection};
+ghost use Rattle.scim_shelf.specs.code.Collections.{has_id, only_of, names_of, if_passes, before};
 ghost use Rattle.scim_shelf.specs.code.Members.{is_same, is_one_of, is_value_of, is_group_in, lists_in};
 
+use crate::changes::Change;
 use crate::groups::{is_group_with, members_beyond, members_of, values_beyond};
 use crate::members::{Holders, Members};
 use crate::owners::Owners;
@@ -25,12 +27,35 @@ use scim_value::{Resource, UniqueName, unique_names};
 use std::alloc::Global;
 use std::collections::{BTreeMap, BTreeSet};
 
-/// The resources of a store by id, which of them has each unique name, and which of them may list each value.
+/// The resources of a store in memory, to be found by id, by unique name and by member.
+///
+/// A resource is found by its id by halves, and by a unique name at once, as are the ids of the groups that list a
+/// value. A change looks at the resource with its id alone.
 #[derive(Drop)]
-pub(crate) struct Collection {
+pub struct Collection {
     by_id: BTreeMap<Id, Resource>,
     owners: Owners,
     members: Members,
+}
+
+/// A copy of what was found. NoMemory where none was to be had.
+fn copy_of(alloc: Global, found: Option<&Resource>) -> Result<Option<Resource>, NoMemory>
+    ensures { IfOk result (λ copy. copy ≡ option_copied found.entry) }
+{
+    match found {
+        Some(resource) => Ok(Some(resource.try_copy(alloc)?)),
+        None => Ok(None),
+    }
+}
+
+/// What was found, if it is of the kind.
+fn if_of(kind: Kind, found: Option<&Resource>) -> Option<&Resource>
+    ensures { option_copied result ≡ only_of kind (option_copied found.entry) }
+{
+    match found {
+        Some(resource) if resource.kind() == kind => Some(resource),
+        _ => None,
+    }
 }
 
 impl Collection {
@@ -58,15 +83,38 @@ impl Collection {
         Ok(collection)
     }
 
+    /// A copy of the resource of the kind with the id; None where there is none (RFC 7644 section 3.4.1).
+    ///
+    /// The only error is [`NoMemory`].
+    pub fn resource_at(
+        &self,
+        alloc: Global,
+        kind: Kind,
+        id: Id,
+    ) -> Result<Option<Resource>, NoMemory>
+        ensures { IfOk result (λ found. (cs : List Content) → IsCollection cs self.now → found ≡ find (is_at kind id) cs) }
+    {
+        copy_of(alloc, if_of(kind, self.with_id(id)))
+    }
+
+    /// A copy of the resource that has the unique name; None where none has it (RFC 7643 section 2.2, uniqueness).
+    ///
+    /// The only error is [`NoMemory`].
+    pub fn name_owner(&self, alloc: Global, name: &UniqueName) -> Result<Option<Resource>, NoMemory>
+        ensures { IfOk result (λ found. (cs : List Content) → IsCollection cs self.now → found ≡ find (has_name (name_of name.now)) cs) }
+    {
+        copy_of(alloc, self.named(name))
+    }
+
     /// The resource with the id; None where there is none.
-    pub(crate) fn with_id(&self, id: Id) -> Option<&Resource>
+    fn with_id(&self, id: Id) -> Option<&Resource>
         ensures { (cs : List Content) → IsCollection cs self.now → option_copied result ≡ find (has_id id) cs }
     {
         self.by_id.get(&id)
     }
 
     /// The resource that has the name; None where none has it.
-    pub(crate) fn named(&self, name: &UniqueName) -> Option<&Resource>
+    fn named(&self, name: &UniqueName) -> Option<&Resource>
         ensures { (cs : List Content) → IsCollection cs self.now → option_copied result ≡ find (has_name (name_of name.now)) cs }
     {
         let id = self.owners.of(name)?;
@@ -109,6 +157,22 @@ impl Collection {
         }
     }
 
+    /// Makes the change. A resource that is to be kept has a place: none of another id shares a unique name with it,
+    /// and none of its id is of the other kind.
+    ///
+    /// The only error is [`NoMemory`]. Then nothing is changed.
+    pub fn make(&mut self, alloc: Global, change: Change) -> Result<(), NoMemory>
+        ensures ok { OnOk result ((store : Store) → IsCollection store.resources self.old → CanKeep store change
+            → IsCollection (changed change store.resources) self.new) }
+        ensures err { OnErr result ((cs : List Content) → IsCollection cs self.old → IsCollection cs self.new) }
+    {
+        match change {
+            Change::Nothing => Ok(()),
+            Change::Keep(resource) => self.keep(alloc, resource),
+            Change::Remove(_, id) => self.remove(alloc, id),
+        }
+    }
+
     /// Keeps a resource, instead of the one with its id. NoMemory where none was to be had: no answer is
     /// changed then.
     pub(crate) fn keep(&mut self, alloc: Global, resource: Resource) -> Result<(), NoMemory>
@@ -131,7 +195,7 @@ impl Collection {
     }
 
     /// Lets the resource with the id go. NoMemory where none was to be had: nothing is changed then.
-    pub(crate) fn remove(&mut self, alloc: Global, id: Id) -> Result<(), NoMemory>
+    fn remove(&mut self, alloc: Global, id: Id) -> Result<(), NoMemory>
         ensures ok { OnOk result ((cs : List Content) → IsCollection cs self.old → IsCollection (without id cs) self.new) }
         ensures err { OnErr result ((cs : List Content) → IsCollection cs self.old → IsCollection cs self.new) }
     {
@@ -144,8 +208,10 @@ impl Collection {
         Ok(())
     }
 
-    /// Shows the visitor the resources of the kind, in order of id. NoMemory where the visitor found none.
-    pub(crate) fn show<V: Visitor>(
+    /// Shows the visitor the resources of the kind, in order of id.
+    ///
+    /// The only error is [`NoMemory`], where the visitor found none; the visitor is of no use then.
+    pub fn show<V: Visitor>(
         &self,
         alloc: Global,
         kind: Kind,
@@ -161,8 +227,10 @@ impl Collection {
         Ok(())
     }
 
-    /// The groups that list the value, in order of id. NoMemory where none was to be had.
-    pub(crate) fn groups_with(&self, alloc: Global, value: &str) -> Result<Vec<Resource>, NoMemory>
+    /// Copies of the groups that list the value among their members, in order of id (RFC 7643 section 4.2).
+    ///
+    /// The only error is [`NoMemory`].
+    pub fn groups_with(&self, alloc: Global, value: &str) -> Result<Vec<Resource>, NoMemory>
         ensures { IfOk result (λ groups. (cs : List Content) → IsCollection cs self.now → groups.items ≡ filter (is_group_with value.now) cs) }
     {
         match self.members.of(value) {

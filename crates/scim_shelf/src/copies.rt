@@ -1,8 +1,11 @@
-//! All resources of a kind, copied off a shelf.
+//! All resources of a shelf, copied off it.
 ghost use Rattle.std.specs.Prelude.{◌≡◌, IfOk};
 ghost use Rattle.scim_cell.specs.Kinds.{of_kind};
+ghost use Rattle.scim_shelf.specs.Stores.{AreKeyed};
 ghost use Rattle.scim_shelf.specs.Shelves.{Answers, OnlyReads};
+ghost use Rattle.scim_shelf.specs.Collections.{IsCollection};
 
+use crate::collections::Collection;
 use crate::faults::ShelfFault;
 use crate::shelf::{Shelf, Visitor};
 use scim_schema::Kind;
@@ -45,4 +48,40 @@ pub fn all_of<S: Shelf>(
     shelf.each(alloc, kind, &mut copies)?;
     let Copies { resources } = copies;
     Ok(resources)
+}
+
+/// A visitor that keeps copies of what it is shown in a collection.
+#[derive(Drop)]
+struct Collecting {
+    collection: Collection,
+}
+
+impl Visitor for Collecting {
+    ghost use Rattle.scim_shelf.specs.code.Copies.{Keeps};
+
+    ghost takes = { Keeps };
+
+    fn take(&mut self, alloc: Global, resource: &Resource) -> Result<(), NoMemory> {
+        let copy = resource.try_copy(alloc)?;
+        self.collection.keep(alloc, copy)
+    }
+}
+
+/// All resources of a shelf, in memory.
+///
+/// Fails as `Shelf::each` does.
+pub fn collection_of<S: Shelf>(
+    alloc: Global,
+    shelf: &mut S,
+) -> Result<Collection, Failed<ShelfFault>>
+    ensures answer { IfOk result (Answers S.stands S.is_honest shelf.old shelf.new (λ store collection. AreKeyed store.resources → IsCollection store.resources collection)) }
+    ensures read { OnlyReads S.stands S.is_honest S.failures shelf.old shelf.new result }
+{
+    let mut collecting = Collecting {
+        collection: Collection::new(alloc),
+    };
+    shelf.each(alloc, Kind::User, &mut collecting)?;
+    shelf.each(alloc, Kind::Group, &mut collecting)?;
+    let Collecting { collection } = collecting;
+    Ok(collection)
 }

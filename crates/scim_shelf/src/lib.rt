@@ -12,7 +12,8 @@ mod owners;
 mod shelf;
 
 pub use changes::Change;
-pub use copies::all_of;
+pub use collections::Collection;
+pub use copies::{all_of, collection_of};
 pub use faults::ShelfFault;
 pub use memory::MemoryShelf;
 pub use shelf::{Shelf, Visitor};

@@ -1,10 +1,8 @@
 //! A shelf in memory.
-ghost use Rattle.std.specs.Prelude.{◌≡◌, List, [], IfOk, OnOk, OnErr, AllPairs, ⊤};
-ghost use Rattle.std.specs.Option.{option_copied};
-ghost use Rattle.scim_cell.specs.Content.{Content};
+ghost use Rattle.std.specs.Prelude.{◌≡◌, IfOk, AllPairs, ⊤};
 ghost use Rattle.scim_value.specs.Uniqueness.{AreApart};
-ghost use Rattle.scim_shelf.specs.Stores.{Store, IsNewStore, CanKeep, changed};
-ghost use Rattle.scim_shelf.specs.code.Collections.{IsCollection, only_of};
+ghost use Rattle.scim_shelf.specs.Stores.{Store, IsNewStore};
+ghost use Rattle.scim_shelf.specs.Collections.{IsCollection};
 
 use crate::changes::Change;
 use crate::collections::Collection;
@@ -22,9 +20,7 @@ const LAST_NUMBER: u64 = 9_223_372_036_854_775_807;
 
 /// A shelf in memory, which has no device that could fail.
 ///
-/// A resource is found by its id by halves, and by a unique name at once, as are the ids of the groups that list a
-/// value. A commit looks at the resource with the id of its change alone. No call copies a resource but those that it
-/// answers with.
+/// It finds resources as a [`Collection`] does. No call copies a resource but those that it answers with.
 #[derive(Drop)]
 pub struct MemoryShelf {
     collection: Collection,
@@ -55,39 +51,6 @@ impl MemoryShelf {
     }
 }
 
-/// A copy of what was found. NoMemory where none was to be had.
-fn copy_of(alloc: Global, found: Option<&Resource>) -> Result<Option<Resource>, NoMemory>
-    ensures { IfOk result (λ copy. copy ≡ option_copied found.entry) }
-{
-    match found {
-        Some(resource) => Ok(Some(resource.try_copy(alloc)?)),
-        None => Ok(None),
-    }
-}
-
-/// What was found, if it is of the kind.
-fn if_of(kind: Kind, found: Option<&Resource>) -> Option<&Resource>
-    ensures { option_copied result ≡ only_of kind (option_copied found.entry) }
-{
-    match found {
-        Some(resource) if resource.kind() == kind => Some(resource),
-        _ => None,
-    }
-}
-
-/// Makes the change. NoMemory where none was to be had: nothing is changed then.
-fn make(collection: &mut Collection, alloc: Global, change: Change) -> Result<(), NoMemory>
-    ensures ok { OnOk result ((store : Store) → IsCollection store.resources collection.old → CanKeep store change
-        → IsCollection (changed change store.resources) collection.new) }
-    ensures err { OnErr result ((cs : List Content) → IsCollection cs collection.old → IsCollection cs collection.new) }
-{
-    match change {
-        Change::Nothing => Ok(()),
-        Change::Keep(resource) => collection.keep(alloc, resource),
-        Change::Remove(_, id) => collection.remove(alloc, id),
-    }
-}
-
 impl Shelf for MemoryShelf {
     ghost stands = { λ shelf store. IsCollection store.resources shelf.collection × (shelf.audit.items ≡ store.audit) };
 
@@ -101,8 +64,7 @@ impl Shelf for MemoryShelf {
         kind: Kind,
         id: Id,
     ) -> Result<Option<Resource>, Failed<ShelfFault>> {
-        let found = if_of(kind, self.collection.with_id(id));
-        Ok(copy_of(alloc, found)?)
+        Ok(self.collection.resource_at(alloc, kind, id)?)
     }
 
     fn name_owner(
@@ -110,8 +72,7 @@ impl Shelf for MemoryShelf {
         alloc: Global,
         name: &UniqueName,
     ) -> Result<Option<Resource>, Failed<ShelfFault>> {
-        let found = self.collection.named(name);
-        Ok(copy_of(alloc, found)?)
+        Ok(self.collection.name_owner(alloc, name)?)
     }
 
     fn groups_with(
@@ -142,7 +103,7 @@ impl Shelf for MemoryShelf {
             return Err(Failed::Because(ShelfFault::Full));
         }
         push(&mut self.audit, row)?;
-        match make(&mut self.collection, alloc, change) {
+        match self.collection.make(alloc, change) {
             Ok(()) => Ok(()),
             Err(_) => {
                 let _row = self.audit.pop();

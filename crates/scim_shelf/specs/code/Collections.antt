@@ -1,18 +1,13 @@
--- How the code keeps the resources of a store, to be found by id and by unique name.
-use Rattle.std.specs.Prelude.{◌≡◌, ℕ, Bool, true, false, cond, List, [], ◌∷◌, ◌++◌, map, find, All, AllPairs, Option, None, Some}
+-- How the code finds the resources of a store by id, by unique name and by member.
+use Rattle.std.specs.Prelude.{ℕ, Bool, false, cond, List, [], ◌∷◌, ◌++◌, find, All, AllPairs, Option, None, Some}
 use Rattle.std.specs.List.Sorted.{IsPermutation}
-use Rattle.std.specs.Option.{option_map}
 use Rattle.std.specs.Ordering.{nat_cmp, is_eq}
 use Rattle.std.specs.Cmp.Lexicographic.{slice_cmp}
 use Rattle.scim_schema.specs.declared.Kind.{Kind}
 use Rattle.scim_cell.specs.Content.{Content}
 use Rattle.scim_cell.specs.Kinds.{is_of}
-use Rattle.scim_value.specs.declared.uniqueness.UniqueName.{UniqueName}
-use Rattle.scim_value.specs.Uniqueness.{Name, name_of, unique_names, AreApart}
-use Rattle.scim_shelf.specs.declared.collections.Collection.{Collection}
-use Rattle.scim_shelf.specs.Stores.{AreKeyed, has_name, is_group_with}
-use Rattle.scim_shelf.specs.code.Owners.{owner}
-use Rattle.scim_shelf.specs.code.Members.{is_noted}
+use Rattle.scim_value.specs.Uniqueness.{Name, unique_names, AreApart}
+use Rattle.scim_shelf.specs.Stores.{has_name}
 
 -- whether a resource has the id
 abbrev pub has_id : List ℕ → Content → Bool
@@ -57,11 +52,3 @@ pub record AreLeft (all left cs : List Content) : Type 0 where
   pub members : IsPermutation all (left ++ cs)
   pub apart : AllPairs AreApart left
   pub across : All (λ d. All (AreApart d) cs) left
-
--- the collection has just these resources, by id, knows which of them has each unique name, and has a note of each group under
--- each value that it lists
-pub record IsCollection (cs : List Content) (collection : Collection) : Type 0 where
-  pub resources : collection.by_id.entries ≡ map keyed cs
-  pub keyed_apart : AreKeyed cs
-  pub owners : (q : UniqueName) → owner collection.owners q ≡ option_map (λ c. c.id) (find (has_name (name_of q)) cs)
-  pub noted : (value : List ℕ) → All (λ c. is_group_with value c ≡ true → is_noted collection.members value c.id ≡ true) cs

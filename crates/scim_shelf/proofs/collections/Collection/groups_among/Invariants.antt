@@ -1,7 +1,8 @@
 use Rattle.std.proofs.Common.{◌≡◌, List, ◌++◌}
 use Rattle.scim_cell.specs.Content.{Content}
 use Rattle.scim_shelf.specs.Stores.{is_group_with}
-use Rattle.scim_shelf.specs.code.Collections.{IsCollection, picked}
+use Rattle.scim_shelf.specs.Collections.{IsCollection}
+use Rattle.scim_shelf.specs.code.Collections.{picked}
 use Rattle.scim_shelf.proofs.collections.Collection.groups_among.Given as goal
 
 -- the groups so far, and those of the ids that are left

@@ -10,7 +10,8 @@ use Rattle.scim_value.specs.declared.uniqueness.UniqueName.{UniqueName}
 use Rattle.scim_value.specs.Uniqueness.{name_of}
 use Rattle.scim_shelf.specs.Stores.{has_name}
 use Rattle.scim_shelf.specs.code.Owners.{is_among}
-use Rattle.scim_shelf.specs.code.Collections.{IsCollection, has_id, has_in}
+use Rattle.scim_shelf.specs.Collections.{IsCollection}
+use Rattle.scim_shelf.specs.code.Collections.{has_id, has_in}
 use Rattle.scim_shelf.specs.code.Members.{is_same, is_noted, is_one_of, is_value_of, lists_in}
 use Rattle.scim_shelf.proofs.StoreLemmas.{keep_keyed}
 use Rattle.scim_shelf.proofs.CollectionLemmas.{insert_keyed}

@@ -11,7 +11,8 @@ use Rattle.scim_value.specs.Uniqueness.{name_of}
 use Rattle.scim_shelf.specs.declared.collections.Collection.{Collection}
 use Rattle.scim_shelf.specs.Stores.{without}
 use Rattle.scim_shelf.specs.code.Owners.{owner, is_among}
-use Rattle.scim_shelf.specs.code.Collections.{IsCollection, has_id, has_in, names_of}
+use Rattle.scim_shelf.specs.Collections.{IsCollection}
+use Rattle.scim_shelf.specs.code.Collections.{has_id, has_in, names_of}
 use Rattle.scim_shelf.proofs.StoreLemmas.{without_keyed}
 use Rattle.scim_shelf.proofs.CollectionLemmas.{remove_keyed}
 use Rattle.scim_shelf.proofs.NameLemmas.{owner_without}
