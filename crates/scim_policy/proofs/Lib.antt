@@ -4,5 +4,6 @@ pub mod FileLemmas
 pub mod ListLemmas
 pub mod RuleLemmas
 pub mod ShapeLemmas
+pub mod SharedLemmas
 pub mod TableLemmas
 pub mod Facts

@@ -1,5 +1,5 @@
 -- Which rule decides.
-use Rattle.std.specs.Prelude.{ℕ, Bool, true, false, ◌&&◌, ◌||◌, ◌==◌, List, [], ◌∷◌, length, nat_eq, filter, Option, None, Some, if◌then◌else◌}
+use Rattle.std.specs.Prelude.{ℕ, Bool, true, false, ◌&&◌, ◌||◌, not, ◌==◌, List, [], ◌∷◌, length, nat_eq, filter, Option, None, Some, if◌then◌else◌}
 use Rattle.std.specs.List.{list_any, enumerate_from}
 use Rattle.std.specs.Cmp.Lexicographic.{pointwise}
 use denote.Enum.Bare.{sameb}
@@ -55,6 +55,14 @@ is_target_met c r = (length r.targets == 0) || holds_on c r.targets
 unfoldable pub speaks_of : List ℕ → Op → Content → Rule → Bool
 speaks_of client op c r =
     list_any (names client) r.clients && (list_any (sameb the_op op) r.ops && (list_any (sameb the_kind c.kind) r.kinds && is_target_met c r))
+
+-- whether the rule names the client, the operation and the kind
+abbrev pub is_about : List ℕ → Op → Kind → Rule → Bool
+is_about client op k r = list_any (names client) r.clients && (list_any (sameb the_op op) r.ops && list_any (sameb the_kind k) r.kinds)
+
+-- whether the rule names the client, the operation and the kind, and has a target, so that whether it speaks of a resource depends on it
+abbrev pub has_target_for : List ℕ → Op → Kind → Rule → Bool
+has_target_for client op k r = is_about client op k r && not (length r.targets == 0)
 
 -- whether the rule fits: it speaks of them, and covers the leaf
 abbrev pub fits : List ℕ → Op → Content → Leaf → Rule → Bool

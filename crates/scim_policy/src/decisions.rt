@@ -171,7 +171,7 @@ impl Decisions {
 
     /// Decides by the rule what it covers on resources of the kind and isn't decided yet. NoMemory where
     /// none was to be had.
-    fn add_rule(
+    pub(crate) fn add_rule(
         &mut self,
         alloc: Global,
         rule: &Rule,

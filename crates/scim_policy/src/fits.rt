@@ -26,7 +26,14 @@ impl Rule {
     ) -> Result<bool, NoMemory>
         ensures { IfOk result (λ b. b ≡ spec.speaks_of client.now op resource.now self.now) }
     {
-        Ok(is_op(self.ops(), op) && self.is_for(alloc, client, resource)?)
+        Ok(self.is_about(client, op, resource.kind()) && self.is_target_met(alloc, resource)?)
+    }
+
+    /// Whether it names the client, the operation and the kind.
+    pub(crate) fn is_about(&self, client: &str, op: Op, kind: Kind) -> bool
+        ensures { result ≡ spec.is_about client.now op kind self.now }
+    {
+        is_op(self.ops(), op) && is_kind(self.kinds(), kind) && is_named(self.clients(), client)
     }
 
     /// Whether it is for the client and the resource, whatever the operation. NoMemory where none was to be

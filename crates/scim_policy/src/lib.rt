@@ -14,6 +14,7 @@ mod misfits;
 mod paths;
 mod reading;
 mod rules;
+mod shared_decisions;
 mod targets;
 
 pub use access::Rights;
