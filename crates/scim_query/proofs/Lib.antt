@@ -6,3 +6,4 @@ pub mod PlacedLemmas
 pub mod ArrangedLemmas
 pub mod Facts
 pub mod NeededLemmas
+pub mod SieveLemmas

@@ -6,4 +6,5 @@ pub mod Needed
 pub mod Order
 pub mod Pages
 pub mod Pagers
+pub mod Sieves
 pub mod code

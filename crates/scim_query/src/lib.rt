@@ -10,10 +10,12 @@ mod laws;
 mod needed_texts;
 mod pagers;
 mod queries;
+mod sieves;
 mod sort_keys;
 
 pub use client_searches::{search_view, shown_page};
 pub use laws::queries_have_one_page;
 pub use pagers::Pager;
 pub use queries::{Page, Query, search};
+pub use sieves::Sieve;
 pub use sort_keys::read_sort_by;

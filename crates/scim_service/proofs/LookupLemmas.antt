@@ -1,16 +1,16 @@
 -- A search over the resources that can match finds what a search over all finds.
 use Rattle.std.proofs.Common.{◌≡◌, refl, sym, ◌∙◌, ap, subst, ℕ, zero, suc, Bool, true, false, List, [], ◌∷◌, ◌++◌, filter, length, ◌≤◌, inl, inr, arith}
-use Rattle.std.specs.Prelude.{All, AllPairs, Option, None, Some, find}
-use Rattle.std.specs.List.{list_any}
+use Rattle.std.specs.Prelude.{All, AllPairs, Option, None, Some, IfSome, find}
 use Rattle.std.specs.List.Sorted.{IsSorted}
 use Rattle.std.specs.Ordering.{nat_cmp, is_eq}
 use Rattle.std.specs.declared.cmp.Ordering.{Ordering}
 use Rattle.std.specs.declared.cmp.Ordering.TheVariants.{Less, Equal, Greater}
 use Rattle.std.specs.Cmp.Lexicographic.{slice_cmp, bytes_decides}
 use Rattle.std.proofs.lemmas.Map.Lookups.{exact_bytes}
-use Rattle.std.proofs.lemmas.Bool.{cases_Bool, or_parts, false_from_ne_true}
-use Rattle.std.proofs.lemmas.List.Elements.{All-head, All-tail, All-cons, All-filter, filter-append, filter_passes}
-use denote.Enum.Bare.{same_true}
+use Rattle.std.proofs.lemmas.Bool.{cases_Bool, false_from_ne_true}
+use Rattle.std.proofs.lemmas.Slice.Eq.{bytes_eq-Decides}
+use Rattle.std.proofs.lemmas.List.Elements.{All-head, All-tail, All-cons, All-weaker, All-filter, filter-append, filter_passes}
+use denote.Enum.Bare.{same_true, true_same}
 use Rattle.scim_schema.specs.declared.Kind.{Kind}
 use Rattle.scim_schema.specs.contracts.Kind.{the_type as the_kind}
 use Rattle.scim_schema.specs.declared.Kind.TheVariants.{User, Group}
@@ -23,6 +23,9 @@ use Rattle.scim_text.specs.Names.{folded}
 use Rattle.scim_cell.specs.declared.atoms.Atom.{Atom}
 use Rattle.scim_cell.specs.declared.atoms.Atom.TheVariants.{Text, Truth, Moment}
 use Rattle.scim_cell.specs.Content.{Content}
+use Rattle.scim_cell.specs.Equality.{is_same_id}
+use Rattle.scim_cell.specs.Ids.{IsId, id_text}
+use Rattle.scim_cell.proofs.Facts.{id_text-injective}
 use Rattle.scim_cell.specs.Kinds.{is_of, of_kind}
 use Rattle.scim_cell.specs.Order.{id_cmp}
 use Rattle.scim_value.specs.Resource.{IsResource, HasBase, IsFilled, IsNamed, IsNamedAs, first_at}
@@ -39,9 +42,9 @@ use Rattle.scim_view.proofs.Facts.{and_those_append, seen_stands}
 use Rattle.scim_query.specs.declared.queries.Query.{Query}
 use Rattle.scim_query.specs.declared.queries.Page.{Page}
 use Rattle.scim_query.specs.Pages.{is_match, matching, IsPage}
-use Rattle.scim_shelf.specs.Stores.{Store, IsStore, has_name}
+use Rattle.scim_shelf.specs.Stores.{Store, IsStore, has_name, is_at}
 use Rattle.scim_service.specs.Lookups.{OnlyThose}
-use Rattle.scim_service.proofs.NameLemmas.{unnamed_later}
+use Rattle.scim_service.proofs.NameLemmas.{not_both}
 use Rattle.scim_service.proofs.RowLemmas.{filter_swap}
 
 -- of what is seen of a list, what is seen of its first resource comes first
@@ -87,29 +90,43 @@ page_of_matching xs ys query page same is = record {
   items = is.items;
 }
 
--- of resources that are apart one at most has a name
-none_passing : (test : Content → Bool) (cs : List Content) → list_any test cs ≡ false → filter test cs ≡ []
+-- of resources that are apart one at most passes a test that no two do
+none_passing : (test : Content → Bool) (cs : List Content) → All (λ c. test c ≡ false) cs → filter test cs ≡ []
 none_passing test [] none = refl
-none_passing test (c ∷ cs) none = let parts = or_parts (test c) (list_any test cs) none in rw parts.0 (none_passing test cs parts.1)
+none_passing test (c ∷ cs) none = rw (All-head (λ d. test d ≡ false) c cs none) (none_passing test cs (All-tail (λ d. test d ≡ false) c cs none))
 
-only_owner : (name : Name) (cs : List Content) → AllPairs AreApart cs → filter (has_name name) cs ≡ and_those (find (has_name name) cs) []
-only_owner name [] apart = refl
-only_owner name (c ∷ cs) apart =
+-- whether of two resources that are apart one at most passes a test
+abbrev pub PassesOne : (Content → Bool) → Type 0
+PassesOne test = (c d : Content) → AreApart c d → test c ≡ true → test d ≡ false
+
+only_one : (test : Content → Bool) (cs : List Content) → PassesOne test → AllPairs AreApart cs → filter test cs ≡ and_those (find test cs) []
+only_one test [] one apart = refl
+only_one test (c ∷ cs) one apart =
     let first : All (AreApart c) cs = λ k e h. apart zero (suc k) e (omega arith) (omega arith) in
     let rest : AllPairs AreApart cs = λ i j e h k. apart (suc i) (suc j) e (omega arith) (omega arith) in
-    elim (cases_Bool (has_name name c)) [
-      | inl t ↦ rw t (ap (λ (xs : List Content). c ∷ xs) (none_passing (has_name name) cs (unnamed_later c cs name first t)))
-      | inr u ↦ rw u (only_owner name cs rest)
+    elim (cases_Bool (test c)) [
+      | inl t ↦ rw t (ap (λ (xs : List Content). c ∷ xs) (none_passing test cs (All-weaker (AreApart c) (λ d. test d ≡ false) (λ d a. one c d a t) cs first)))
+      | inr u ↦ rw u (only_one test cs one rest)
     ]
 
-pub named_of_kind : (kind : Kind) (name : Name) (cs : List Content) → AllPairs AreApart cs
-    → filter (has_name name) (of_kind kind cs) ≡ of_kind kind (and_those (find (has_name name) cs) [])
-named_of_kind kind name cs apart = filter_swap (is_of kind) (has_name name) cs ∙ ap (of_kind kind) (only_owner name cs apart)
+pub one_has_name : (name : Name) → PassesOne (has_name name)
+one_has_name name c d apart has = false_from_ne_true (has_name name d) (not_both name c d apart has)
 
--- what is seen of the one that is found
-pub seen_found : (kind : Kind) (name : Name) (v : Viewer) (gs cs found : List Content) → AllPairs AreApart cs → and_those (find (has_name name) cs) [] ≡ found
-    → views v gs (of_kind kind found) ≡ views v gs (filter (has_name name) (of_kind kind cs))
-seen_found kind name v gs cs found apart is = ap (views v gs) (sym (named_of_kind kind name cs apart ∙ ap (of_kind kind) is))
+-- of the resources of a kind only the one that is found passes
+pub found_of_kind : (kind : Kind) (test : Content → Bool) (cs : List Content) → PassesOne test → AllPairs AreApart cs
+    → filter test (of_kind kind cs) ≡ of_kind kind (and_those (find test cs) [])
+found_of_kind kind test cs one apart = filter_swap (is_of kind) test cs ∙ ap (of_kind kind) (only_one test cs one apart)
+
+-- the page of what was found is that of all, where only that can match
+pub page_found_of_all : (kind : Kind) (test : Content → Bool) (v : Viewer) (gs : List Content) (base : List ℕ) (store : Store) (query : Query) (found : Option Content) (page : Page)
+    → IsStore base store → PassesOne test → OnlyThose kind query.filter test → found ≡ find test store.resources
+    → IsPage (views v gs (of_kind kind (and_those found []))) query page → IsPage (views v gs (of_kind kind store.resources)) query page
+page_found_of_all kind test v gs base store query found page is one only same paged =
+    let all = of_kind kind store.resources in
+    let those : of_kind kind (and_those found []) ≡ filter test all
+    = ap (λ (o : Option Content). of_kind kind (and_those o [])) same ∙ sym (found_of_kind kind test store.resources one is.keyed.apart) in
+    page_of_matching (views v gs (filter test all)) (views v gs all) query page (page_narrowed kind query.filter test v gs base store is only)
+    (subst (λ (cs : List Content). IsPage (views v gs cs) query page) those paged)
 
 -- one that is of another kind, or that isn't seen, shows nothing
 pub of_another_kind : (kind : Kind) (v : Viewer) (gs : List Content) (c : Content) → is_of kind c ≡ false → [] ≡ views v gs (of_kind kind (c ∷ []))
@@ -172,3 +189,19 @@ pub names_by_text : (kind : Kind) → All (NamesByText kind) (unique_leaves kind
 unfolding unique_leaves
 names_by_text User = All-cons (NamesByText User) (simple UserName) [] user_named (λ k d lt. absurd (omega (arith, lt)))
 names_by_text Group = λ k d lt. absurd (omega (arith, lt))
+
+-- where no part matches in which the text of an id doesn't stand at `id`, only the resource with that id can match
+pub id_by_text : (kind : Kind) (f : Option Filter) (text id : List ℕ) → NeedsText f (simple Id) text → text ≡ id_text id → IsId id → OnlyThose kind f (is_at kind id)
+id_by_text kind f text id needs is valid v gs c own sound matches =
+    let found = seen_stands (λ (a : Atom). stands (is_case_exact (simple Id)) Eq a (literal.Text text)) (simple Id) v gs c refl refl sound.part (needs (with_groups v gs c) matches) in
+    let atom : Text (id_text c.id) ≡ found.0 = (let both : Some (Text (id_text c.id)) ≡ Some found.0 = sym sound.identified.1 ∙ found.1 in cc) in
+    let equal : is_eq (slice_cmp nat_cmp (id_text c.id) text) ≡ true = ap (λ (b : Atom). stands (is_case_exact (simple Id)) Eq b (literal.Text text)) atom ∙ found.2 in
+    let texts : id_text c.id ≡ id_text id = exact_bytes (id_text c.id) text (is_equal _ equal) ∙ is in
+    let ids : c.id ≡ id = id_text-injective c.id id sound.identified.0 valid texts in
+    let same : is_same_id id c.id ≡ true = (bytes_eq-Decides id c.id).1 (sym ids) in
+    rw (true_same the_kind c.kind kind own) same
+
+pub only_with_id : (f : Option Filter) (text : List ℕ) (o : Option (List ℕ)) → NeedsText f (simple Id) text → IfSome o (λ id. text ≡ id_text id) → IfSome o IsId
+    → IfSome o (λ id. (kind : Kind) → OnlyThose kind f (is_at kind id))
+only_with_id f text None needs is valid = tt
+only_with_id f text (Some id) needs is valid = λ kind. id_by_text kind f text id needs is valid

@@ -77,7 +77,7 @@ same_name n m e =
     let text : n.text ≡ m.text = (bytes_decides n.text m.text).0 (and_second _ _ e) in
     λ i. record { leaf = leaf i; text = text i }
 
-not_both : (name : Name) (c d : Content) → AreApart c d → has_name name c ≡ true → has_name name d ≡ true → ⊥
+pub not_both : (name : Name) (c d : Content) → AreApart c d → has_name name c ≡ true → has_name name d ≡ true → ⊥
 not_both name c d apart has also =
     apart.names name (Contains-from_any same_name name (unique_names c) has) (Contains-from_any same_name name (unique_names d) also)
 

@@ -85,6 +85,13 @@ find_map f q (x ∷ xs) = grind (arith, find_map f q xs)
 id_at : (kind : Kind) (id : List ℕ) (c : Content) → is_at kind id c ≡ true → id ≡ c.id
 id_at kind id c at = (bytes_eq-Decides id c.id).0 (and_second (is_of kind c) (is_same_id id c.id) at)
 
+-- of two resources that are apart one at most has an id
+pub none_at : (kind : Kind) (id : List ℕ) (c d : Content) → AreApart c d → is_at kind id c ≡ true → is_at kind id d ≡ false
+none_at kind id c d apart here = elim (cases_Bool (is_at kind id d)) [
+  | inr no' ↦ no'
+  | inl yes' ↦ absurd (apart.ids (sym (id_at kind id c here) ∙ id_at kind id d yes'))
+]
+
 -- where two lists are made to the same by f, so are they by what rests on f
 map_same : {X Y Z : Type 0} (f : X → Y) (g h : X → Z) → ((x y : X) → f x ≡ f y → g x ≡ h y) → (xs ys : List X) → map f xs ≡ map f ys → map g xs ≡ map h ys
 map_same f g h rest [] [] e = refl
@@ -194,13 +201,6 @@ module _ (v : Viewer) where
   none_later test [] all = refl
   none_later test (c ∷ cs) all =
       grind (arith, All-head (λ x. test x ≡ false) c cs all, none_later test cs (All-tail (λ x. test x ≡ false) c cs all))
-
-  -- the others have other ids than the first
-  none_at : (kind : Kind) (id : List ℕ) (c d : Content) → AreApart c d → is_at kind id c ≡ true → is_at kind id d ≡ false
-  none_at kind id c d apart here = elim (cases_Bool (is_at kind id d)) [
-    | inr no' ↦ no'
-    | inl yes' ↦ absurd (apart.ids (sym (id_at kind id c here) ∙ id_at kind id d yes'))
-  ]
 
   -- of those that are seen the one of an id is found, where it is seen
   found_seen : (kind : Kind) (id : List ℕ) (cs : List Content) → AllPairs AreApart cs → find (is_at kind id) (filter (sees v) cs) ≡ if_seen (find (is_at kind id) cs)

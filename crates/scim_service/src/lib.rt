@@ -13,7 +13,9 @@ mod replacements;
 mod replies;
 mod requests;
 mod service;
+mod shared_decisions;
 mod visitors;
+mod walks;
 
 pub use replies::Reply;
 pub use requests::{Ask, Request, Turn};

@@ -1,5 +1,5 @@
-//! Searches whose filter asks for a unique name: the one resource that can match is looked up by it.
-ghost use Rattle.std.specs.Prelude.{◌≡◌, ◌∷◌, ℕ, List, [], IfOk, IfSome, filter};
+//! Searches whose filter asks for an id or a unique name: the one resource that can match is looked up by it.
+ghost use Rattle.std.specs.Prelude.{◌≡◌, ◌∷◌, ℕ, List, [], IfOk, IfSome};
 ghost use Rattle.scim_schema.specs.declared.Kind.{Kind};
 ghost use Rattle.scim_schema.specs.Characteristics.{is_case_exact};
 ghost use Rattle.scim_cell.specs.Kinds.{of_kind};
@@ -9,10 +9,11 @@ ghost use Rattle.scim_view.specs.View.{viewer_of};
 ghost use Rattle.scim_view.specs.Groups.{and_those, views};
 ghost use Rattle.scim_query.specs.Pages.{IsPage};
 ghost use Rattle.scim_shelf.specs.Shelves.{Answers, OnlyReads};
-ghost use Rattle.scim_shelf.specs.Stores.{IsStore, has_name};
+ghost use Rattle.scim_shelf.specs.Stores.{IsStore, has_name, is_at};
 ghost use Rattle.scim_service.specs.Lookups as spec;
 
 use crate::plans::groups_beside;
+use scim_cell::Id;
 use scim_filter::StringLiteral;
 use scim_query::{Page, Pager, Query};
 use scim_schema::{Attribute, Kind, Leaf, is_case_exact, unique_leaves};
@@ -54,6 +55,14 @@ pub(crate) fn needed_name(
     Ok(None)
 }
 
+/// The id without which no resource of the kind matches; None where the query asks for none.
+pub(crate) fn needed_id(query: &Query) -> Option<Id>
+    ensures { IfSome result (λ id. (kind : Kind) → spec.OnlyThose kind query.now.filter (is_at kind id)) }
+{
+    let text = query.needed_text(Leaf::simple(Attribute::Id))?;
+    Id::read(text.as_str())
+}
+
 /// What the client sees of the resource with its groups; None where it isn't of the kind, or the client doesn't see it.
 fn seen_part<S: Shelf>(
     alloc: Global,
@@ -79,22 +88,20 @@ fn seen_part<S: Shelf>(
     Ok(Some(part))
 }
 
-/// What the client sees of the resource of the kind that has the name; None where there is none, or the client
-/// doesn't see it.
-fn seen_owner<S: Shelf>(
+/// The same for what was found, if anything was.
+fn seen_if_found<S: Shelf>(
     alloc: Global,
     viewer: &Viewer<'_>,
     shelf: &mut S,
     kind: Kind,
-    name: &UniqueName,
+    found: Option<Resource>,
 ) -> Result<Option<Part>, Failed<ShelfFault>>
     ensures part { IfOk result (Answers S.stands S.is_honest shelf.old shelf.new (λ store part. (base : List ℕ) → IsStore base store
-        → and_those part [] ≡ views (viewer_of viewer.now) (of_kind Kind.Group store.resources)
-        (filter (has_name (name_of name.now)) (of_kind kind store.resources)))) }
+        → and_those part [] ≡ views (viewer_of viewer.now) (of_kind Kind.Group store.resources) (of_kind kind (and_those found [])))) }
     ensures read { OnlyReads S.stands S.is_honest S.failures shelf.old shelf.new result }
 {
-    match shelf.name_owner(alloc, name)? {
-        Some(owner) => seen_part(alloc, viewer, shelf, kind, &owner),
+    match found {
+        Some(resource) => seen_part(alloc, viewer, shelf, kind, &resource),
         None => Ok(None),
     }
 }
@@ -118,6 +125,23 @@ fn page_of(alloc: Global, part: Option<Part>, query: &Query) -> Result<Page, NoM
     }
 }
 
+/// The page that the client's query asks for of what was found, if it is of the kind.
+fn page_found<S: Shelf>(
+    alloc: Global,
+    viewer: &Viewer<'_>,
+    shelf: &mut S,
+    kind: Kind,
+    found: Option<Resource>,
+    query: &Query,
+) -> Result<Page, Failed<ShelfFault>>
+    ensures page { IfOk result (Answers S.stands S.is_honest shelf.old shelf.new (λ store page. (base : List ℕ) → IsStore base store
+        → IsPage (views (viewer_of viewer.now) (of_kind Kind.Group store.resources) (of_kind kind (and_those found []))) query.now page)) }
+    ensures read { OnlyReads S.stands S.is_honest S.failures shelf.old shelf.new result }
+{
+    let part = seen_if_found(alloc, viewer, shelf, kind, found)?;
+    Ok(page_of(alloc, part, query)?)
+}
+
 /// The page that the client's query asks for of the resources of a kind, where only one with the name can match:
 /// that one alone is read, and the groups that list it.
 pub(crate) fn page_named<S: Shelf>(
@@ -133,6 +157,24 @@ pub(crate) fn page_named<S: Shelf>(
         → IsPage (views (viewer_of viewer.now) (of_kind Kind.Group store.resources) (of_kind kind store.resources)) query.now page)) }
     ensures read { OnlyReads S.stands S.is_honest S.failures shelf.old shelf.new result }
 {
-    let part = seen_owner(alloc, viewer, shelf, kind, name)?;
-    Ok(page_of(alloc, part, query)?)
+    let owner = shelf.name_owner(alloc, name)?;
+    page_found(alloc, viewer, shelf, kind, owner, query)
+}
+
+/// The same where only the one with the id can match.
+pub(crate) fn page_with_id<S: Shelf>(
+    alloc: Global,
+    viewer: &Viewer<'_>,
+    shelf: &mut S,
+    kind: Kind,
+    id: Id,
+    query: &Query,
+) -> Result<Page, Failed<ShelfFault>>
+    requires { spec.OnlyThose kind query.now.filter (is_at kind id) }
+    ensures page { IfOk result (Answers S.stands S.is_honest shelf.old shelf.new (λ store page. (base : List ℕ) → IsStore base store
+        → IsPage (views (viewer_of viewer.now) (of_kind Kind.Group store.resources) (of_kind kind store.resources)) query.now page)) }
+    ensures read { OnlyReads S.stands S.is_honest S.failures shelf.old shelf.new result }
+{
+    let owner = shelf.by_id(alloc, kind, id)?;
+    page_found(alloc, viewer, shelf, kind, owner, query)
 }

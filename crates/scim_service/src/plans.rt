@@ -8,19 +8,18 @@ ghost use Rattle.scim_policy.specs.Table.{decision};
 ghost use Rattle.scim_view.specs.View as view;
 ghost use Rattle.scim_view.specs.View.{viewer_of};
 ghost use Rattle.scim_view.specs.Groups.{with_groups, views};
-ghost use Rattle.scim_view.specs.Indexes.{IsIndexOf};
 ghost use Rattle.scim_query.specs.Pages.{IsPage};
 ghost use Rattle.scim_shelf.specs.Shelves.{Answers, OnlyReads};
 ghost use Rattle.scim_shelf.specs.Stores.{IsStore, AreOf};
 ghost use Rattle.scim_service.specs.Step as spec;
 
 use crate::creations::plan_create;
-use crate::lookups::{needed_name, page_named};
+use crate::lookups::{needed_id, needed_name, page_named, page_with_id};
 use crate::patches::plan_patch;
 use crate::replacements::plan_replace;
 use crate::replies::Reply;
 use crate::requests::{Ask, Turn};
-use crate::visitors::{GroupVisitor, SearchVisitor};
+use crate::walks::page_of_all;
 use scim_audit::{AuditRow, Decided, Refusal};
 use scim_cell::{Id, Text};
 use scim_json::{to_json, to_list_json};
@@ -30,7 +29,7 @@ use scim_schema::{Attribute, Kind, Leaf, Op};
 use scim_shelf::{Change, Shelf, ShelfFault};
 use scim_text::{Failed, NoMemory};
 use scim_value::Resource;
-use scim_view::{GroupIndex, Viewer, Wanted, project};
+use scim_view::{Viewer, Wanted, project};
 use std::alloc::Global;
 
 /// What is to be answered, changed and noted.
@@ -365,90 +364,22 @@ fn plan_remove<S: Shelf>(
     Ok(removed_if_seen(alloc, viewer, turn, &resource)?)
 }
 
-/// The groups that the client sees, by their members.
-fn seen_groups<S: Shelf>(
-    alloc: Global,
-    viewer: &Viewer<'_>,
-    shelf: &mut S,
-) -> Result<GroupIndex, Failed<ShelfFault>>
-    ensures index { IfOk result (Answers S.stands S.is_honest shelf.old shelf.new (λ store index.
-        IsIndexOf (viewer_of viewer.now) (of_kind Kind.Group store.resources) index)) }
-    ensures read { OnlyReads S.stands S.is_honest S.failures shelf.old shelf.new result }
-{
-    let mut groups = GroupVisitor::new(alloc, viewer);
-    shelf.each(alloc, Kind::Group, &mut groups)?;
-    Ok(groups.end())
-}
-
-/// The groups by which what the client sees of the resources of a kind is told, by their members: of users those
-/// that it sees; of groups, which have no `groups`, none.
-fn groups_for<S: Shelf>(
+/// The page that the client's query asks for of the resources of a kind: where the query asks for an id or a unique
+/// name, the one that has it is looked up, else all are looked at.
+fn page_sought<S: Shelf>(
     alloc: Global,
     viewer: &Viewer<'_>,
     shelf: &mut S,
     kind: Kind,
-) -> Result<GroupIndex, Failed<ShelfFault>>
-    ensures index { IfOk result (Answers S.stands S.is_honest shelf.old shelf.new (λ store index. (groups : List Content)
-        × IsIndexOf (viewer_of viewer.now) groups index
-        × (views (viewer_of viewer.now) groups (of_kind kind store.resources)
-        ≡ views (viewer_of viewer.now) (of_kind Kind.Group store.resources) (of_kind kind store.resources)))) }
+    query: &Query,
+) -> Result<Page, Failed<ShelfFault>>
+    ensures page { IfOk result (Answers S.stands S.is_honest shelf.old shelf.new (λ store page. (base : List ℕ) → IsStore base store
+        → IsPage (views (viewer_of viewer.now) (of_kind Kind.Group store.resources) (of_kind kind store.resources)) query.now page)) }
     ensures read { OnlyReads S.stands S.is_honest S.failures shelf.old shelf.new result }
 {
-    match kind {
-        Kind::User => seen_groups(alloc, viewer, shelf),
-        Kind::Group => Ok(GroupIndex::new(alloc)),
+    if let Some(id) = needed_id(query) {
+        return page_with_id(alloc, viewer, shelf, kind, id, query);
     }
-}
-
-/// The page that the client's query asks for of the resources of a kind, where these are the groups that it
-/// sees.
-fn page<S: Shelf>(
-    alloc: Global,
-    viewer: &Viewer<'_>,
-    shelf: &mut S,
-    kind: Kind,
-    index: &GroupIndex,
-    query: &Query,
-) -> Result<Page, Failed<ShelfFault>>
-    ensures page { IfOk result (Answers S.stands S.is_honest shelf.old shelf.new (λ store page. (groups : List Content) (base : List ℕ)
-        → IsIndexOf (viewer_of viewer.now) groups index.now → IsStore base store
-        → IsPage (views (viewer_of viewer.now) groups (of_kind kind store.resources)) query.now page)) }
-    ensures read { OnlyReads S.stands S.is_honest S.failures shelf.old shelf.new result }
-{
-    let mut search = SearchVisitor::new(alloc, viewer, index, query);
-    shelf.each(alloc, kind, &mut search)?;
-    Ok(search.end()?)
-}
-
-/// The page that the client's query asks for of all resources of a kind.
-fn page_of_all<S: Shelf>(
-    alloc: Global,
-    viewer: &Viewer<'_>,
-    shelf: &mut S,
-    kind: Kind,
-    query: &Query,
-) -> Result<Page, Failed<ShelfFault>>
-    ensures page { IfOk result (Answers S.stands S.is_honest shelf.old shelf.new (λ store page. (base : List ℕ) → IsStore base store
-        → IsPage (views (viewer_of viewer.now) (of_kind Kind.Group store.resources) (of_kind kind store.resources)) query.now page)) }
-    ensures read { OnlyReads S.stands S.is_honest S.failures shelf.old shelf.new result }
-{
-    let index = groups_for(alloc, viewer, shelf, kind)?;
-    page(alloc, viewer, shelf, kind, &index, query)
-}
-
-/// The page that the client's query asks for of the resources of a kind: where the query asks for a unique name, the
-/// one that has it is looked up, else all are looked at.
-fn found_page<S: Shelf>(
-    alloc: Global,
-    viewer: &Viewer<'_>,
-    shelf: &mut S,
-    kind: Kind,
-    query: &Query,
-) -> Result<Page, Failed<ShelfFault>>
-    ensures page { IfOk result (Answers S.stands S.is_honest shelf.old shelf.new (λ store page. (base : List ℕ) → IsStore base store
-        → IsPage (views (viewer_of viewer.now) (of_kind Kind.Group store.resources) (of_kind kind store.resources)) query.now page)) }
-    ensures read { OnlyReads S.stands S.is_honest S.failures shelf.old shelf.new result }
-{
     match needed_name(alloc, kind, query)? {
         Some(name) => page_named(alloc, viewer, shelf, kind, &name, query),
         None => page_of_all(alloc, viewer, shelf, kind, query),
@@ -477,7 +408,7 @@ fn plan_search<S: Shelf>(
         → plan ≡ spec.listed (viewer_of viewer.now) turn.now store.resources query.now)) }
     ensures read { OnlyReads S.stands S.is_honest S.failures shelf.old shelf.new result }
 {
-    let found = found_page(alloc, viewer, shelf, turn.request.kind, query)?;
+    let found = page_sought(alloc, viewer, shelf, turn.request.kind, query)?;
     let text = list_text(alloc, found, query)?;
     let finding = Finding {
         decided: Decided::Allow,

@@ -1,13 +1,20 @@
 //! What is done with resources as the store is walked.
-ghost use Rattle.std.specs.Prelude.{◌≡◌, List, [], IfOk};
+ghost use Rattle.std.specs.Prelude.{◌≡◌, ◌++◌, List, [], IfOk, OnOk};
+ghost use Rattle.scim_schema.specs.declared.Leaf.{Leaf};
 ghost use Rattle.scim_cell.specs.Content.{Content};
+ghost use Rattle.scim_policy.specs.Table.{decision};
+ghost use Rattle.scim_view.specs.Groups.{and_those, view_with_groups};
 ghost use Rattle.scim_view.specs.Indexes.{IsIndexOf};
-ghost use Rattle.scim_view.specs.View.{Viewer as SpecViewer};
+ghost use Rattle.scim_view.specs.View.{Viewer as SpecViewer, read_decision, viewer_of};
 ghost use Rattle.scim_query.specs.Pages.{IsPage};
 ghost use Rattle.scim_query.specs.Pagers.{HasTaken, ComeInOrder};
-ghost use Rattle.scim_service.specs.Visits.{TakesGroup, TakesResource};
+ghost use Rattle.scim_query.specs.Sieves.{IsSieveOf};
+ghost use Rattle.scim_service.specs.Visits.{AreShared, TakesGroup, TakesResource};
 
-use scim_query::{Page, Pager, Query};
+use crate::shared_decisions::SharedDecisions;
+use scim_policy::Decisions;
+use scim_query::{Page, Pager, Query, Sieve};
+use scim_schema::Kind;
 use scim_shelf::Visitor;
 use scim_text::NoMemory;
 use scim_value::Resource;
@@ -18,18 +25,23 @@ use std::alloc::Global;
 #[derive(Drop)]
 pub(crate) struct GroupVisitor<'a> {
     viewer: &'a Viewer<'a>,
+    shared: SharedDecisions,
     index: GroupIndex,
 }
 
 impl<'a> GroupVisitor<'a> {
-    pub(crate) fn new(alloc: Global, viewer: &'a Viewer<'a>) -> GroupVisitor<'a>
-        ensures viewer { result.viewer ≡ viewer.entry }
-        ensures index { (v : SpecViewer) → IsIndexOf v [] result.index }
+    /// NoMemory where none was to be had.
+    pub(crate) fn new(alloc: Global, viewer: &'a Viewer<'a>) -> Result<GroupVisitor<'a>, NoMemory>
+        ensures viewer { IfOk result (λ visitor. visitor.viewer ≡ viewer.entry) }
+        ensures shared { IfOk result (λ visitor. AreShared (viewer_of viewer.entry.now) visitor.shared) }
+        ensures index { IfOk result (λ visitor. (v : SpecViewer) → IsIndexOf v [] visitor.index) }
     {
-        GroupVisitor {
+        let shared = SharedDecisions::of(alloc, viewer, Kind::Group)?;
+        Ok(GroupVisitor {
             viewer,
+            shared,
             index: GroupIndex::new(alloc),
-        }
+        })
     }
 
     pub(crate) fn end(self) -> GroupIndex
@@ -43,35 +55,51 @@ impl<'a> Visitor for GroupVisitor<'a> {
     ghost takes = { TakesGroup };
 
     fn take(&mut self, alloc: Global, resource: &Resource) -> Result<(), NoMemory> {
-        self.index.push(alloc, self.viewer, resource)
+        match self.shared.on(resource) {
+            Some(decisions) => self.index.push(alloc, decisions, resource),
+            None => {
+                let decisions = self.viewer.decisions(alloc, resource)?;
+                self.index.push(alloc, &decisions, resource)
+            }
+        }
     }
 }
 
-/// Hands what a client sees of resources to a pager.
+/// Hands a pager what a client sees of resources, of those that may match.
 #[derive(Drop)]
 pub(crate) struct SearchVisitor<'a> {
     viewer: &'a Viewer<'a>,
+    shared: SharedDecisions,
+    sieve: Sieve<'a>,
     index: &'a GroupIndex,
     pager: Pager<'a>,
 }
 
 impl<'a> SearchVisitor<'a> {
+    /// NoMemory where none was to be had.
     pub(crate) fn new(
         alloc: Global,
         viewer: &'a Viewer<'a>,
+        kind: Kind,
         index: &'a GroupIndex,
         query: &'a Query,
-    ) -> SearchVisitor<'a>
-        ensures viewer { result.viewer ≡ viewer.entry }
-        ensures index { result.index ≡ index.entry }
-        ensures query { result.pager.query ≡ query.entry }
-        ensures taken { HasTaken [] result.pager }
+    ) -> Result<SearchVisitor<'a>, NoMemory>
+        ensures viewer { IfOk result (λ visitor. visitor.viewer ≡ viewer.entry) }
+        ensures shared { IfOk result (λ visitor. AreShared (viewer_of viewer.entry.now) visitor.shared) }
+        ensures sieve { IfOk result (λ visitor. IsSieveOf query.entry.now.filter visitor.sieve) }
+        ensures index { IfOk result (λ visitor. visitor.index ≡ index.entry) }
+        ensures query { IfOk result (λ visitor. visitor.pager.query ≡ query.entry) }
+        ensures taken { IfOk result (λ visitor. HasTaken [] visitor.pager) }
     {
-        SearchVisitor {
+        let shared = SharedDecisions::of(alloc, viewer, kind)?;
+        let sieve = Sieve::new(alloc, query)?;
+        Ok(SearchVisitor {
             viewer,
+            shared,
+            sieve,
             index,
             pager: Pager::new(alloc, query),
-        }
+        })
     }
 
     pub(crate) fn end(self) -> Result<Page, NoMemory>
@@ -82,13 +110,49 @@ impl<'a> SearchVisitor<'a> {
     }
 }
 
+/// Hands the pager what the client sees of the resource by these decisions, unless the sieve tells that it
+/// doesn't match.
+fn hand_over(
+    alloc: Global,
+    viewer: &Viewer<'_>,
+    decisions: &Decisions,
+    sieve: &Sieve<'_>,
+    index: &GroupIndex,
+    pager: &mut Pager<'_>,
+    resource: &Resource,
+) -> Result<(), NoMemory>
+    ensures query { pager.new.query ≡ pager.old.query }
+    ensures taken { OnOk result ((groups parts : List Content)
+        → ((l : Leaf) → decision decisions.now l ≡ read_decision (viewer_of viewer.now) resource.now l)
+        → IsIndexOf (viewer_of viewer.now) groups index.now → IsSieveOf pager.old.query.now.filter sieve.now → HasTaken parts pager.old
+        → HasTaken (parts ++ and_those (view_with_groups (viewer_of viewer.now) groups resource.now) []) pager.new) }
+{
+    if sieve.stops(alloc, decisions, resource)? {
+        return Ok(());
+    }
+    match viewer.view_by_index(alloc, decisions, index, resource)? {
+        Some(part) => pager.push(part),
+        None => Ok(()),
+    }
+}
+
 impl<'a> Visitor for SearchVisitor<'a> {
     ghost takes = { TakesResource };
 
     fn take(&mut self, alloc: Global, resource: &Resource) -> Result<(), NoMemory> {
-        if let Some(part) = self.viewer.view_by_index(alloc, self.index, resource)? {
-            self.pager.push(part)?;
+        let SearchVisitor {
+            viewer,
+            shared,
+            sieve,
+            index,
+            pager,
+        } = self;
+        match shared.on(resource) {
+            Some(decisions) => hand_over(alloc, viewer, decisions, sieve, index, pager, resource),
+            None => {
+                let decisions = viewer.decisions(alloc, resource)?;
+                hand_over(alloc, viewer, &decisions, sieve, index, pager, resource)
+            }
         }
-        Ok(())
     }
 }

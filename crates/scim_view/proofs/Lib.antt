@@ -5,6 +5,7 @@ pub mod NamesLemmas
 pub mod SortLemmas
 pub mod GroupLemmas
 pub mod SeenRowsLemmas
+pub mod AttributeLemmas
 pub mod NarrowedLemmas
 pub mod MemberLemmas
 pub mod IndexLemmas

@@ -1,8 +1,12 @@
 -- What a client sees of a resource.
 use Rattle.std.specs.Prelude.{ℕ, Bool, not, ◌&&◌, List, Option, None, Some, if◌then◌else◌}
+use Rattle.std.specs.List.{list_any}
+use denote.Enum.Bare.{sameb}
 use Rattle.scim_schema.specs.declared.Kind.{Kind}
 use Rattle.scim_schema.specs.declared.Leaf.{Leaf}
+use Rattle.scim_schema.specs.declared.Attribute.{Attribute}
 use Rattle.scim_schema.specs.declared.Attribute.TheVariants.{Id}
+use Rattle.scim_schema.specs.contracts.Attribute.{the_type as the_attribute}
 use Rattle.scim_schema.specs.declared.Op.TheVariants.{Read}
 use Rattle.scim_schema.specs.Units.{simple}
 use Rattle.scim_schema.specs.Mutability.{is_write_only}
@@ -46,6 +50,14 @@ visible_by decision c = content c.kind c.id (restricted (may_be_seen decision c.
 -- the same, where they let its `id` be read
 unfoldable pub view_by : (Leaf → Decision) → Content → Option Content
 view_by decision c = if (decision (simple Id)).allow then Some (visible_by decision c) else None
+
+-- of the leaves that may be seen those of these attributes
+abbrev pub may_be_seen_of : List Attribute → (Leaf → Decision) → Kind → Test
+may_be_seen_of attributes decision kind r l = list_any (sameb the_attribute r.unit.attribute) attributes && may_be_seen decision kind r l
+
+-- what may be seen of these attributes alone
+unfoldable pub visible_attributes : List Attribute → (Leaf → Decision) → Content → Content
+visible_attributes attributes decision c = content c.kind c.id (restricted (may_be_seen_of attributes decision c.kind) (rows c))
 
 -- what the client may see of the resource
 unfoldable pub visible : Viewer → Content → Content

@@ -1,11 +1,12 @@
 //! An index of groups by the ids of their members.
 ghost use Rattle.std.specs.Prelude.{◌≡◌, ◌++◌, ◌∷◌, [], ℕ, List, cond, map, vec_len, IfOk, IfSome, OnOk, if◌then◌else◌};
 ghost use Rattle.std.specs.List.{list_any};
+ghost use Rattle.scim_schema.specs.declared.Leaf.{Leaf};
 ghost use Rattle.scim_cell.specs.Content.{Content};
 ghost use Rattle.scim_cell.specs.Equality.{is_same_id};
 ghost use Rattle.scim_cell.specs.Ids.{IsId};
 ghost use Rattle.scim_policy.specs.Table.{decision};
-ghost use Rattle.scim_view.specs.View.{Viewer as SpecViewer, viewer_of, visible_by};
+ghost use Rattle.scim_view.specs.View.{Viewer as SpecViewer, read_decision, viewer_of, visible_by};
 ghost use Rattle.scim_view.specs.code.Index as spec;
 ghost use Rattle.scim_view.specs.Indexes.{IsIndexOf};
 ghost use Rattle.scim_view.specs.code.Index.{IsMadeOf};
@@ -42,22 +43,23 @@ impl GroupIndex {
         }
     }
 
-    /// Adds a group, if the viewer sees it. The policy is asked once about it. NoMemory where none was to be
-    /// had; then the index is of no use.
+    /// Adds a group, if the viewer sees it. The decisions are those that [`Viewer::decisions`] gave for the
+    /// group, or [`Viewer::decisions_on_all`] for all groups. NoMemory where none was to be had; then the index
+    /// is of no use.
     pub fn push(
         &mut self,
         alloc: Global,
-        viewer: &Viewer<'_>,
+        decisions: &Decisions,
         group: &Resource,
     ) -> Result<(), NoMemory>
-        ensures { OnOk result ((groups : List Content) → IsIndexOf (viewer_of viewer.now) groups self.old
-            → IsIndexOf (viewer_of viewer.now) (groups ++ group.now ∷ []) self.new) }
+        ensures { OnOk result ((v : SpecViewer) (groups : List Content)
+            → ((l : Leaf) → decision decisions.now l ≡ read_decision v group.now l)
+            → IsIndexOf v groups self.old → IsIndexOf v (groups ++ group.now ∷ []) self.new) }
     {
-        let decisions = viewer.decisions(alloc, group)?;
         if !decisions.of(Leaf::simple(Attribute::Id)).allow {
             return Ok(());
         }
-        self.add(alloc, &decisions, group)?;
+        self.add(alloc, decisions, group)?;
         Ok(())
     }
 
@@ -71,7 +73,8 @@ impl GroupIndex {
     {
         let mut index = GroupIndex::new(alloc);
         for group in groups {
-            index.push(alloc, viewer, group)?;
+            let decisions = viewer.decisions(alloc, group)?;
+            index.push(alloc, &decisions, group)?;
         }
         Ok(index)
     }

@@ -1,7 +1,9 @@
 //! A client's view of resources.
 ghost use Rattle.std.specs.Prelude.{◌≡◌, ℕ, IfOk, List, map};
+ghost use Rattle.scim_schema.specs.declared.Leaf.{Leaf};
 ghost use Rattle.scim_cell.specs.Content.{Content};
-ghost use Rattle.scim_view.specs.View.{viewer_of};
+ghost use Rattle.scim_policy.specs.Table.{decision};
+ghost use Rattle.scim_view.specs.View.{read_decision, viewer_of};
 ghost use Rattle.scim_view.specs.Groups as spec;
 ghost use Rattle.scim_view.specs.Indexes.{IsIndexOf};
 ghost use Rattle.scim_view.specs.code.Index.{Indexes};
@@ -9,6 +11,7 @@ ghost use Rattle.scim_view.specs.code.Index.{Indexes};
 use crate::groups::{SeenGroup, put_in_order, visible_with};
 use crate::index::GroupIndex;
 use crate::viewers::Viewer;
+use scim_policy::Decisions;
 use scim_schema::{Attribute, Kind, Leaf};
 use scim_text::{NoMemory, push};
 use scim_value::{Part, Resource};
@@ -29,7 +32,8 @@ impl Viewer<'_> {
         let index = GroupIndex::of(alloc, self, groups)?;
         let mut views = Vec::new(alloc);
         for resource in resources {
-            let view = self.view_by_index(alloc, &index, resource)?;
+            let decisions = self.decisions(alloc, resource)?;
+            let view = self.view_by_index(alloc, &decisions, &index, resource)?;
             if let Some(view) = view {
                 push(&mut views, view)?;
             }
@@ -38,23 +42,25 @@ impl Viewer<'_> {
     }
 
     /// What the client may see of one resource, as [`Viewer::view_with_groups`], where these are the groups
-    /// of the index; None where the client doesn't see that it is there. The policy is asked once about it.
-    /// NoMemory where none was to be had.
+    /// of the index; None where the client doesn't see that it is there. By decisions that
+    /// [`Viewer::decisions`] gave for the resource, or [`Viewer::decisions_on_all`] for its kind, so that the
+    /// policy isn't asked about it again. NoMemory where none was to be had.
     pub fn view_by_index(
         &self,
         alloc: Global,
+        decisions: &Decisions,
         index: &GroupIndex,
         resource: &Resource,
     ) -> Result<Option<Part>, NoMemory>
-        ensures { IfOk result (λ o. (groups : List Content) → IsIndexOf (viewer_of self.now) groups index.now
-            → o ≡ spec.view_with_groups (viewer_of self.now) groups resource.now) }
+        ensures { IfOk result (λ o. (groups : List Content)
+            → ((l : Leaf) → decision decisions.now l ≡ read_decision (viewer_of self.now) resource.now l)
+            → IsIndexOf (viewer_of self.now) groups index.now → o ≡ spec.view_with_groups (viewer_of self.now) groups resource.now) }
     {
-        let decisions = self.decisions(alloc, resource)?;
         if !decisions.of(Leaf::simple(Attribute::Id)).allow {
             return Ok(None);
         }
         let groups = groups_beside(alloc, index, resource)?;
-        let view = visible_with(alloc, &decisions, resource, groups.as_slice(), self.base)?;
+        let view = visible_with(alloc, decisions, resource, groups.as_slice(), self.base)?;
         Ok(Some(view))
     }
 }

@@ -1,11 +1,14 @@
 //! For whom resources are looked at.
-ghost use Rattle.std.specs.Prelude.{◌≡◌, IfOk};
+ghost use Rattle.std.specs.Prelude.{◌≡◌, true, IfOk, IfSome, IfNone};
+ghost use Rattle.std.specs.List.{list_any};
 ghost use Rattle.scim_schema.specs.declared.Leaf.{Leaf};
+ghost use Rattle.scim_cell.specs.Content.{Content};
+ghost use Rattle.scim_policy.specs.Decide.{has_target_for};
 ghost use Rattle.scim_policy.specs.Table.{decision};
 ghost use Rattle.scim_view.specs.View as spec;
 
 use scim_policy::{Decisions, Policy};
-use scim_schema::Op;
+use scim_schema::{Kind, Op};
 use scim_text::NoMemory;
 use scim_value::Resource;
 use std::alloc::Global;
@@ -30,5 +33,17 @@ impl Viewer<'_> {
     {
         self.policy
             .decisions(alloc, self.client, Op::Read, resource)
+    }
+
+    /// What the policy decides on the client's reading of each leaf of whatever resource of the kind, as
+    /// [`Viewer::decisions`], where that is the same for all of them; None where a rule that may decide has a
+    /// target, so that it depends on the resource. NoMemory where none was to be had.
+    pub fn decisions_on_all(&self, alloc: Global, kind: Kind) -> Result<Option<Decisions>, NoMemory>
+        ensures same { IfOk result (λ o. IfSome o (λ decisions. (c : Content) → c.kind ≡ kind → (l : Leaf)
+            → decision decisions l ≡ spec.read_decision (spec.viewer_of self.now) c l)) }
+        ensures none { IfOk result (λ o. IfNone o (list_any (has_target_for self.now.client.now Op.Read kind) self.now.policy.now ≡ true)) }
+    {
+        self.policy
+            .decisions_on_all(alloc, self.client, Op::Read, kind)
     }
 }

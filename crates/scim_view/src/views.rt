@@ -3,6 +3,7 @@ ghost use Rattle.std.specs.Prelude.{◌≡◌, ◌&&◌, not, IfOk};
 ghost use Rattle.scim_schema.specs.declared.Leaf.{Leaf};
 ghost use Rattle.scim_schema.specs.declared.Kind.{Kind};
 ghost use Rattle.scim_schema.specs.Mutability.{is_write_only};
+ghost use Rattle.scim_cell.specs.Content.{IsPart};
 ghost use Rattle.scim_policy.specs.Table.{decision};
 ghost use Rattle.scim_view.specs.View as spec;
 
@@ -38,6 +39,24 @@ impl RowTest for MayBeSeen<'_> {
 
     fn is_kept(&self, _row: &Row, leaf: Leaf) -> bool {
         self.shows(leaf)
+    }
+}
+
+/// Of the leaves that may be seen, those of these attributes.
+#[derive(Clone, Copy)]
+struct MayBeSeenOf<'a> {
+    attributes: &'a [Attribute],
+    seen: MayBeSeen<'a>,
+}
+
+impl RowTest for MayBeSeenOf<'_> {
+    ghost use Rattle.scim_policy.specs.Table.{decision};
+    ghost use Rattle.scim_view.specs.View.{may_be_seen_of};
+
+    ghost keeps = { λ self row leaf. may_be_seen_of self.attributes.now (decision self.seen.decisions.now) self.seen.kind row leaf };
+
+    fn is_kept(&self, row: &Row, leaf: Leaf) -> bool {
+        self.attributes.contains(&row.unit().attribute) && self.seen.shows(leaf)
     }
 }
 
@@ -120,6 +139,27 @@ pub(crate) fn visible_by(
     let test = MayBeSeen {
         kind: resource.kind(),
         decisions,
+    };
+    resource.part().restrict(alloc, &test)
+}
+
+/// What may be seen, by these decisions on reading it, of these attributes of the resource alone; as
+/// [`Viewer::visible`], but that nothing is copied of others. NoMemory where none was to be had.
+pub fn visible_attributes(
+    alloc: Global,
+    decisions: &Decisions,
+    resource: &Resource,
+    attributes: &[Attribute],
+) -> Result<Part, NoMemory>
+    ensures value { IfOk result (λ p. p ≡ spec.visible_attributes attributes.now (decision decisions.now) resource.now) }
+    ensures valid { IsPart resource.now }
+{
+    let test = MayBeSeenOf {
+        attributes,
+        seen: MayBeSeen {
+            kind: resource.kind(),
+            decisions,
+        },
     };
     resource.part().restrict(alloc, &test)
 }

@@ -6,15 +6,18 @@ use Rattle.scim_view.specs.declared.viewers.Viewer.{Viewer as ViewerInCode}
 use Rattle.scim_view.specs.declared.index.GroupIndex.{GroupIndex}
 use Rattle.scim_view.specs.View.{viewer_of}
 use Rattle.scim_view.specs.Indexes.{IsIndexOf}
+use Rattle.scim_service.specs.Visits.{AreShared}
 use Rattle.scim_service.proofs.VisitLemmas.{took_groups}
-use Rattle.scim_service.proofs.plans.seen_groups.Goals as goal
+use Rattle.scim_service.proofs.walks.seen_groups.Goals as goal
 
 pub returns-clause-index : goal.returns-clause-index
 returns-clause-index g c store stands honest =
     let gs = of_kind Group store.resources in
-    let first = c.new-groups.result in
+    let first = c.in_ok-groups.groups in
     let last = c.each.new.visitor in
     let walk = took_groups first gs last (c.in_ok-each.ensures.answer store stands honest) in
-    let made : IsIndexOf (viewer_of first.viewer.now) gs last.index = walk.index [] (c.new-groups.ensures.index (viewer_of first.viewer.now)) in
+    let shared : AreShared (viewer_of first.viewer.now) first.shared
+    = subst (λ (u : Bor ViewerInCode). AreShared (viewer_of u.now) first.shared) (sym c.in_ok-groups.ensures.viewer) c.in_ok-groups.ensures.shared in
+    let made : IsIndexOf (viewer_of first.viewer.now) gs last.index = walk.index [] shared (c.in_ok-groups.ensures.index (viewer_of first.viewer.now)) in
     subst (λ (i : GroupIndex). IsIndexOf (viewer_of c.args.viewer.now) gs i) (sym c.end.ensures)
-    (subst (λ (u : Bor ViewerInCode). IsIndexOf (viewer_of u.now) gs last.index) c.new-groups.ensures.viewer made)
+    (subst (λ (u : Bor ViewerInCode). IsIndexOf (viewer_of u.now) gs last.index) c.in_ok-groups.ensures.viewer made)

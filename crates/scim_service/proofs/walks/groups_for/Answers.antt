@@ -4,7 +4,7 @@ use Rattle.scim_schema.specs.declared.Kind.TheVariants.{Group}
 use Rattle.scim_cell.specs.Kinds.{of_kind}
 use Rattle.scim_view.specs.View.{viewer_of}
 use Rattle.scim_service.proofs.StoreViews.{views_of_groups}
-use Rattle.scim_service.proofs.plans.groups_for.Goals as goal
+use Rattle.scim_service.proofs.walks.groups_for.Goals as goal
 
 pub returns-in-User-clause-index : goal.returns-in-User-clause-index
 returns-in-User-clause-index g c =

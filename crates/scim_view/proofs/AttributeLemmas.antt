@@ -1,0 +1,193 @@
+-- What may be seen of some attributes alone is what may be seen of them in the whole, whatever groups list the resource.
+use Rattle.std.proofs.Common.{◌≡◌, arith, refl, sym, ◌∙◌, ap, subst, ℕ, zero, suc, Bool, true, false, ◌&&◌, inl, inr, List, [], ◌∷◌, ◌++◌, map, filter}
+use Rattle.std.specs.Prelude.{All, AllPairs}
+use Rattle.std.specs.List.{list_any}
+use Rattle.std.specs.declared.cmp.Ordering.{Ordering}
+use Rattle.std.specs.declared.cmp.Ordering.TheVariants.{Less, Equal, Greater}
+use Rattle.std.specs.Ordering.{is_lt, is_eq, is_gt}
+use Rattle.std.proofs.lemmas.Bool.{cases_Bool}
+use Rattle.std.proofs.lemmas.List.Elements.{All-head, All-tail, All-weaker, filter-append}
+use denote.Enum.Bare.{sameb, same_true}
+use Rattle.scim_schema.specs.declared.Kind.{Kind}
+use Rattle.scim_schema.specs.declared.Kind.TheVariants.{User}
+use Rattle.scim_schema.specs.contracts.Kind.{the_type as the_kind}
+use Rattle.scim_schema.specs.declared.Attribute.{Attribute}
+use Rattle.scim_schema.specs.declared.Attribute.TheVariants.{Groups}
+use Rattle.scim_schema.specs.contracts.Attribute.{the_type as the_attribute}
+use Rattle.scim_schema.specs.declared.Leaf.{Leaf}
+use Rattle.scim_schema.specs.declared.Unit.{Unit as AttributeUnit}
+use Rattle.scim_schema.specs.Units.{whole}
+use Rattle.scim_cell.specs.declared.rows.Field.{Field}
+use Rattle.scim_cell.specs.Place.{unit_cmp}
+use Rattle.scim_cell.specs.Content.{Content, IsPart}
+use Rattle.scim_cell.specs.Order.{id_cmp}
+use Rattle.scim_cell.specs.Rows.{Row, Test, rows, put_values, restricted, restricted_row, has_fields, AreSound, AreValues, Precedes}
+use Rattle.scim_value.specs.Members.{lists}
+use Rattle.scim_value.proofs.Facts.{sound_part, unit_same, unit_total, rows_content, put_sound, restricted_sound}
+use Rattle.scim_policy.specs.declared.rules.Decision.{Decision}
+use Rattle.scim_policy.proofs.Facts.{kept_rows}
+use Rattle.scim_view.specs.View.{may_be_seen, may_be_seen_of, visible_attributes}
+use Rattle.scim_view.specs.Groups.{memberships, rows_with, visible_with}
+use Rattle.scim_view.specs.Sorted.{sorted_by}
+use Rattle.scim_view.proofs.GroupLemmas.{restricted-put_values, seen_values}
+
+-- ---- the rows that a test leaves
+
+module _ (keep : Attribute → Bool) where
+  abbrev left : List Row → List Row
+  left rs = kept_rows keep (filter has_fields rs)
+
+  passed_over : (r : Row) (rs : List Row) → keep r.unit.attribute ≡ false → left (r ∷ rs) ≡ left rs
+  passed_over r rs n = elim (cases_Bool (has_fields r)) [ inl t ↦ rw (t, n) refl | inr f ↦ rw f refl ]
+
+  one_more : (r : Row) (rs ss : List Row) → left rs ≡ left ss → left (r ∷ rs) ≡ left (r ∷ ss)
+  one_more r rs ss same = elim (cases_Bool (has_fields r)) [
+    | inl t ↦ elim (cases_Bool (keep r.unit.attribute)) [ inl k ↦ rw (t, k) (ap (λ (xs : List Row). r ∷ xs) same) | inr k ↦ rw (t, k) same ]
+    | inr f ↦ rw f same
+  ]
+
+  -- tests that are alike for some attributes leave their rows alike
+  left_alike : (p q : Test) (rs : List Row) → ((r : Row) → keep r.unit.attribute ≡ true → restricted_row p r ≡ restricted_row q r)
+      → kept_rows keep (restricted p rs) ≡ kept_rows keep (restricted q rs)
+  left_alike p q [] same = refl
+  left_alike p q (r ∷ rs) same =
+      let rest = left_alike p q rs same in
+      let ps : List Row = map (restricted_row p) rs in
+      let qs : List Row = map (restricted_row q) rs in
+      elim (cases_Bool (keep r.unit.attribute)) [
+        | inl k ↦ one_more (restricted_row p r) ps qs rest ∙ ap (λ (s : Row). left (s ∷ qs)) (same r k)
+        | inr n ↦ passed_over (restricted_row p r) ps n ∙ rest ∙ sym (passed_over (restricted_row q r) qs n)
+      ]
+
+-- ---- rows beside values of `groups`
+
+less : (o : Ordering) → is_lt o ≡ true → o ≡ Less
+less Less e = refl
+less Equal e = cc
+less Greater e = cc
+
+-- what comes behind a unit that isn't below another isn't either
+lower : (a b u : AttributeUnit) (o : Ordering) → unit_cmp a b ≡ o → is_gt o ≡ false → is_lt (unit_cmp b u) ≡ true → is_lt (unit_cmp a u) ≡ true
+lower a b u Less e n l = ap is_lt (unit_total.trans a b u e (less _ l))
+lower a b u Equal e n l = ap is_lt (unit_total.congr a b u e) ∙ l
+lower a b u Greater e n l = cc
+
+not_lower : (a b u : AttributeUnit) → is_gt (unit_cmp a b) ≡ false → is_lt (unit_cmp a u) ≡ false → is_lt (unit_cmp b u) ≡ false
+not_lower a b u up n = elim (cases_Bool (is_lt (unit_cmp b u))) [ inl t ↦ absurd (let low = lower a b u _ refl up t in cc) | inr f ↦ f ]
+
+none_lower : (u : AttributeUnit) (rs : List Row) → All (λ (r : Row). is_lt (unit_cmp r.unit u) ≡ false) rs → filter (λ (r : Row). is_lt (unit_cmp r.unit u)) rs ≡ []
+none_lower u [] all = refl
+none_lower u (r ∷ rs) all =
+    let test : Row → Type 0 = λ r. is_lt (unit_cmp r.unit u) ≡ false in
+    rw (All-head test r rs all) (none_lower u rs (All-tail test r rs all))
+
+abbrev InOrder : List Row → Type 0
+InOrder rs = AllPairs (λ (r s : Row). Precedes r.unit s.unit) rs
+
+head_pairs : (r : Row) (rs : List Row) → InOrder (r ∷ rs) → All (λ s. Precedes r.unit s.unit) rs
+head_pairs r rs up k d inside = up zero (suc k) d (omega arith) (omega arith)
+
+tail_pairs : (r : Row) (rs : List Row) → InOrder (r ∷ rs) → InOrder rs
+tail_pairs r rs up i j d before inside = up (suc i) (suc j) d (omega arith) (omega arith)
+
+-- so behind one that is above a unit none is below it
+none_behind : (u : AttributeUnit) (r : Row) (rs : List Row) → InOrder (r ∷ rs) → is_lt (unit_cmp r.unit u) ≡ false → filter (λ (s : Row). is_lt (unit_cmp s.unit u)) rs ≡ []
+none_behind u r rs up n =
+    none_lower u rs (All-weaker (λ s. Precedes r.unit s.unit) (λ s. is_lt (unit_cmp s.unit u) ≡ false) (λ s p. not_lower r.unit s.unit u p.0 n) rs (head_pairs r rs up))
+
+less_alone : (o : Ordering) → is_lt o ≡ true → is_gt o ≡ false
+less_alone Less e = refl
+less_alone Equal e = cc
+less_alone Greater e = cc
+
+neither : (o : Ordering) → is_lt o ≡ false → is_gt o ≡ false → is_eq o ≡ true
+neither Less e f = cc
+neither Equal e f = refl
+neither Greater e f = cc
+
+module _ (keep : Attribute → Bool) (none : keep Groups ≡ false) where
+  abbrev lower_rows : List Row → List Row
+  lower_rows rs = filter (λ (r : Row). is_lt (unit_cmp r.unit (whole Groups))) rs
+
+  abbrev higher_rows : List Row → List Row
+  higher_rows rs = filter (λ (r : Row). is_gt (unit_cmp r.unit (whole Groups))) rs
+
+  -- rows of other attributes stand below `groups` or above
+  beside : (rs : List Row) → InOrder rs → kept_rows keep (lower_rows rs) ++ kept_rows keep (higher_rows rs) ≡ kept_rows keep rs
+  beside [] up = refl
+  beside (r ∷ rs) up =
+      let rest = beside rs (tail_pairs r rs up) in
+      elim (cases_Bool (is_lt (unit_cmp r.unit (whole Groups)))) [
+        | inl l ↦
+            let g : is_gt (unit_cmp r.unit (whole Groups)) ≡ false = less_alone _ l in
+            elim (cases_Bool (keep r.unit.attribute)) [ inl k ↦ rw (l, g, k) (ap (λ (xs : List Row). r ∷ xs) rest) | inr k ↦ rw (l, g, k) rest ]
+        | inr n ↦ elim (cases_Bool (is_gt (unit_cmp r.unit (whole Groups)))) [
+          | inl g ↦
+              let empty : lower_rows rs ≡ [] = none_behind (whole Groups) r rs up n in
+              let above : kept_rows keep (higher_rows rs) ≡ kept_rows keep rs = ap (λ (xs : List Row). kept_rows keep xs ++ kept_rows keep (higher_rows rs)) (sym empty) ∙ rest in
+              elim (cases_Bool (keep r.unit.attribute)) [ inl k ↦ rw (n, g, empty, k) (ap (λ (xs : List Row). r ∷ xs) above) | inr k ↦ rw (n, g, empty, k) above ]
+          | inr m ↦
+              let own : keep r.unit.attribute ≡ false = ap (λ (u : AttributeUnit). keep u.attribute) (unit_same r.unit (whole Groups) (neither _ n m)) ∙ none in
+              rw (n, m, own) rest
+        ]
+      ]
+
+  none_kept : (vs : List Row) → All (λ r. r.unit ≡ whole Groups) vs → kept_rows keep vs ≡ []
+  none_kept [] own = refl
+  none_kept (r ∷ rs) own =
+      let test : Row → Type 0 = λ r. r.unit ≡ whole Groups in
+      let other : keep r.unit.attribute ≡ false = ap (λ (u : AttributeUnit). keep u.attribute) (All-head test r rs own) ∙ none in
+      rw other (none_kept rs (All-tail test r rs own))
+
+  -- values of `groups` change no rows of other attributes
+  put_beside : (vs rs : List Row) → All (λ r. r.unit ≡ whole Groups) vs → InOrder rs → kept_rows keep (put_values (whole Groups) vs rs) ≡ kept_rows keep rs
+  put_beside vs rs own up =
+      let test : Row → Bool = λ r. keep r.unit.attribute in
+      filter-append test (lower_rows rs) (vs ++ higher_rows rs)
+      ∙ ap (λ (xs : List Row). kept_rows keep (lower_rows rs) ++ xs) (filter-append test vs (higher_rows rs) ∙ ap (λ (xs : List Row). xs ++ kept_rows keep (higher_rows rs)) (none_kept vs own))
+      ∙ beside rs up
+
+  -- nor do the groups that list a resource, of what may be seen of it
+  kept_with : (d : Leaf → Decision) (base : List ℕ) (gs : List Content) (c : Content) → IsPart c
+      → kept_rows keep (restricted (may_be_seen d c.kind) (rows_with (memberships base gs c.id) c)) ≡ kept_rows keep (restricted (may_be_seen d c.kind) (rows c))
+  kept_with d base gs c part =
+      let test = may_be_seen d c.kind in
+      let ms = memberships base gs c.id in
+      let values = seen_values test base (sorted_by id_cmp (filter (lists c.id) gs)) in
+      let order = (restricted_sound c.kind test (rows c) (sound_part c part)).in_order in
+      elim (cases_Bool (sameb the_kind c.kind User)) [
+        | inl t ↦ rw t (ap (kept_rows keep) (restricted-put_values test (whole Groups) ms (rows c)) ∙ put_beside (restricted test ms) (restricted test (rows c)) (λ k e inside. (values.own k e inside).0) order)
+        | inr n ↦ rw n refl
+      ]
+
+-- ---- what may be seen
+
+-- what may be seen of a resource has sound rows with its groups too
+sound_with : (d : Leaf → Decision) (base : List ℕ) (gs : List Content) (c : Content) → IsPart c → AreSound c.kind (restricted (may_be_seen d c.kind) (rows_with (memberships base gs c.id) c))
+sound_with d base gs c part =
+    let test = may_be_seen d c.kind in
+    let ms = memberships base gs c.id in
+    let own = restricted_sound c.kind test (rows c) (sound_part c part) in
+    elim (cases_Bool (sameb the_kind c.kind User)) [
+      | inl t ↦
+          let fit : AreValues c.kind (whole Groups) (restricted test ms)
+          = subst (λ (k : Kind). AreValues k (whole Groups) (restricted test ms)) (sym (same_true the_kind tt c.kind User t)) (seen_values test base (sorted_by id_cmp (filter (lists c.id) gs))) in
+          rw t (subst (AreSound c.kind) (sym (restricted-put_values test (whole Groups) ms (rows c))) (put_sound c.kind (whole Groups) (restricted test ms) (restricted test (rows c)) fit own))
+      | inr n ↦ rw n own
+    ]
+
+-- some attributes have the same rows in what may be seen of them alone and in what may be seen of all, whatever groups list the resource, where `groups` isn't one of them
+pub attributes_alike : (attributes : List Attribute) (d : Leaf → Decision) (base : List ℕ) (gs : List Content) (c : Content) → IsPart c → list_any (sameb the_attribute Groups) attributes ≡ false
+    → kept_rows (λ a. list_any (sameb the_attribute a) attributes) (rows (visible_attributes attributes d c))
+    ≡ kept_rows (λ a. list_any (sameb the_attribute a) attributes) (rows (visible_with d (memberships base gs c.id) c))
+unfolding visible_attributes visible_with
+attributes_alike attributes d base gs c part none =
+    let keep : Attribute → Bool = λ a. list_any (sameb the_attribute a) attributes in
+    let some = may_be_seen_of attributes d c.kind in
+    let all = may_be_seen d c.kind in
+    let alike : (r : Row) → keep r.unit.attribute ≡ true → restricted_row some r ≡ restricted_row all r
+    = λ r own. ap (λ (b : Bool). record { unit = r.unit; fields = filter (λ (f : Field). b && all r f.leaf) r.fields }) own in
+    ap (kept_rows keep) (rows_content c.kind c.id _ (restricted_sound c.kind some (rows c) (sound_part c part)))
+    ∙ left_alike keep some all (rows c) alike
+    ∙ sym (kept_with keep none d base gs c part)
+    ∙ sym (ap (kept_rows keep) (rows_content c.kind c.id _ (sound_with d base gs c part)))
