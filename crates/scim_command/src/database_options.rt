@@ -1,14 +1,7 @@
-//! The command line of what is done over a database.
+//! What the commands over a database are given.
 use crate::command_faults::CommandFault;
-use crate::options::{USERS_HELP, required, text_of, with_default};
-use clap::{Arg, ArgMatches, Command};
-use std::alloc::{AllocError, Global};
-
-/// The number of the first row of the audit that is shown where nothing else is said.
-const DEFAULT_FROM: &str = "1";
-
-/// How many rows of the audit are shown at most where nothing else is said.
-const DEFAULT_COUNT: &str = "100";
+use crate::options::text_of;
+use clap::ArgMatches;
 
 /// What `audit` is given.
 #[derive(Clone, Copy, Debug)]
@@ -35,46 +28,6 @@ pub struct ImportOptions<'a> {
     pub database: &'a str,
     /// The path of the users file.
     pub users: &'a str,
-}
-
-pub(crate) fn audit_command<'a>(alloc: Global) -> Result<Command<'a>, AllocError> {
-    Command::new(alloc, "audit")
-        .about("Write the rows of the audit, a line for each")
-        .arg(database(alloc))?
-        .arg(with_default(
-            alloc,
-            "from",
-            "N",
-            DEFAULT_FROM,
-            "The number of the first row that is shown",
-        ))?
-        .arg(with_default(
-            alloc,
-            "count",
-            "N",
-            DEFAULT_COUNT,
-            "How many rows are shown at most",
-        ))
-}
-
-pub(crate) fn export_command<'a>(alloc: Global) -> Result<Command<'a>, AllocError> {
-    Command::new(alloc, "export")
-        .about("Write the resources of a database as a users file")
-        .arg(database(alloc))
-}
-
-pub(crate) fn import_command<'a>(alloc: Global) -> Result<Command<'a>, AllocError> {
-    Command::new(alloc, "import")
-        .about(
-            "Bring the resources of a users file into an empty database, which is made where there is none",
-        )
-        .arg(database(alloc))?
-        .arg(required(alloc, "users", "FILE", USERS_HELP))
-}
-
-/// The option for the database.
-pub(crate) fn database<'a>(alloc: Global) -> Arg<'a> {
-    required(alloc, "db", "FILE", "The database: a file of SQLite's")
 }
 
 impl<'a> AuditOptions<'a> {

@@ -1,12 +1,10 @@
-//! The command line of `explain`.
+//! What `explain` is given.
 use crate::command_faults::CommandFault;
-use crate::database_options::database;
-use crate::options::{CLIENT_HELP, POLICY_HELP, client_of, required, text_of};
-use clap::{Arg, ArgMatches, Command};
+use crate::options::{client_of, text_of};
+use clap::ArgMatches;
 use scim_cell::Id;
 use scim_filter::{Meant, attribute_path};
 use scim_schema::{Kind, Leaf, Op, has_leaf};
-use std::alloc::{AllocError, Global};
 
 /// What `explain` is given.
 #[derive(Clone, Copy, Debug)]
@@ -25,22 +23,6 @@ pub struct ExplainOptions<'a> {
     pub id: Id,
     /// What of the resource; None for all of it.
     pub leaf: Option<Leaf>,
-}
-
-pub(crate) fn explain_command<'a>(alloc: Global) -> Result<Command<'a>, AllocError> {
-    Command::new(alloc, "explain")
-        .about("Say why a client may or may not do something with a resource of a database")
-        .arg(required(alloc, "policy", "FILE", POLICY_HELP))?
-        .arg(database(alloc))?
-        .arg(required(alloc, "client", "NAME", CLIENT_HELP))?
-        .arg(required(alloc, "op", "OP", "read, create, modify or delete"))?
-        .arg(required(alloc, "kind", "KIND", "User or Group"))?
-        .arg(required(alloc, "id", "ID", "The id of the resource"))?
-        .arg(
-            Arg::new(alloc, "path").long("path").value_name("PATH").help(
-                "What of the resource, as policies name it; all of it where this isn't given",
-            ),
-        )
 }
 
 impl<'a> ExplainOptions<'a> {

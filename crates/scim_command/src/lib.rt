@@ -5,6 +5,7 @@
 mod answers;
 mod checks;
 mod command_faults;
+mod command_line;
 mod database_options;
 mod explain_options;
 mod faults;
@@ -18,10 +19,11 @@ mod writing;
 
 pub use checks::check;
 pub use command_faults::CommandFault;
+pub use command_line::{DEFAULT_BASE, command};
 pub use database_options::{AuditOptions, ExportOptions, ImportOptions};
 pub use explain_options::ExplainOptions;
 pub use faults::{DatabaseFault, RunFault};
-pub use options::{CheckOptions, DEFAULT_BASE, OnceOptions, command};
+pub use options::{CheckOptions, OnceOptions};
 pub use replay_options::ReplayOptions;
 pub use run_once::{Setting, once};
 pub use serve_options::ServeOptions;

@@ -1,44 +1,11 @@
-//! The command line.
+//! What `once` and `check` are given, and how options are read.
 use crate::command_faults::CommandFault;
-use crate::database_options::{audit_command, export_command, import_command};
-use crate::explain_options::explain_command;
 use crate::faults::RunFault;
-use crate::replay_options::replay_command;
-use crate::serve_options::serve_command;
-use clap::{Arg, ArgAction, ArgMatches, Command};
+use clap::ArgMatches;
 use scim_cell::Id;
 use scim_policy::is_client_name;
 use scim_text::{Moment, read_printed_moment};
-use std::alloc::{AllocError, Global};
-
-/// That below which resources stand where nothing else is said.
-pub const DEFAULT_BASE: &str = "http://127.0.0.1:8080";
-
-/// When the request comes where nothing else is said.
-const DEFAULT_MOMENT: &str = "1970-01-01T00:00:00Z";
-
-/// The id for what the request creates where nothing else is said.
-const DEFAULT_ID: &str = "00000000-0000-0000-0000-000000000000";
-
-/// What is said of the option for the users file.
-pub(crate) const USERS_HELP: &str = "The users: a JSON list of resources as they are stored";
-
-/// What is said of the option for the policy file.
-pub(crate) const POLICY_HELP: &str =
-    "The policy: a JSON file of rules, of which the first that fits decides";
-
-/// What is said of the option for the base.
-pub(crate) const BASE_HELP: &str = "That below which the resources stand";
-
-/// What is said of the option for the token file.
-pub(crate) const TOKENS_HELP: &str =
-    "The tokens: a line for each, of a client's name and the SHA-256 of its token in hex";
-
-/// What is said of the option for the client.
-pub(crate) const CLIENT_HELP: &str = "The client, as the policy names it";
-
-/// The version of the program.
-const VERSION: &str = "0.1.0";
+use std::alloc::Global;
 
 /// What `once` is given.
 #[derive(Clone, Copy, Debug)]
@@ -64,100 +31,6 @@ pub struct CheckOptions<'a> {
     pub policy: &'a str,
     /// Whether each rule is said in a sentence as well.
     pub verbose: bool,
-}
-
-/// The command line that is understood. AllocError where no memory was to be had.
-pub fn command<'a>(alloc: Global) -> Result<Command<'a>, AllocError> {
-    let root = Command::new(alloc, "scimd")
-        .version(VERSION)
-        .about("A SCIM 2.0 service provider whose access policy is proved to be kept")
-        .subcommand_required(true)
-        .arg_required_else_help(true);
-    let root = with(root, once_command(alloc))?;
-    let root = with(root, check_command(alloc))?;
-    let root = with(root, serve_command(alloc))?;
-    let root = with(root, replay_command(alloc))?;
-    let root = with(root, explain_command(alloc))?;
-    let root = with(root, import_command(alloc))?;
-    let root = with(root, export_command(alloc))?;
-    with(root, audit_command(alloc))
-}
-
-/// The command line with one more command, where there was memory for it.
-fn with<'a>(
-    root: Command<'a>,
-    command: Result<Command<'a>, AllocError>,
-) -> Result<Command<'a>, AllocError> {
-    match command {
-        Ok(command) => root.subcommand(command),
-        Err(error) => Err(error),
-    }
-}
-
-fn once_command<'a>(alloc: Global) -> Result<Command<'a>, AllocError> {
-    Command::new(alloc, "once")
-        .about(
-            "Answer one request from standard input over a users file, and write the reply to standard output",
-        )
-        .arg(required(alloc, "policy", "FILE", POLICY_HELP))?
-        .arg(required(alloc, "users", "FILE", USERS_HELP))?
-        .arg(required(alloc, "client", "NAME", CLIENT_HELP))?
-        .arg(with_default(alloc, "base", "URL", DEFAULT_BASE, BASE_HELP))?
-        .arg(with_default(
-            alloc,
-            "at",
-            "MOMENT",
-            DEFAULT_MOMENT,
-            "When the request comes",
-        ))?
-        .arg(with_default(
-            alloc,
-            "first",
-            "UUID",
-            DEFAULT_ID,
-            "The id of the resource that the request creates",
-        ))
-}
-
-fn check_command<'a>(alloc: Global) -> Result<Command<'a>, AllocError> {
-    Command::new(alloc, "check")
-        .about("Say whether a policy file is well, and which of its rules can never decide")
-        .arg(required(alloc, "policy", "FILE", POLICY_HELP))?
-        .arg(
-            Arg::new(alloc, "verbose")
-                .long("verbose")
-                .help("Say each rule in a sentence as well")
-                .action(ArgAction::SetTrue),
-        )
-}
-
-/// An option that has to be given.
-pub(crate) fn required<'a>(
-    alloc: Global,
-    name: &'a str,
-    value_name: &'a str,
-    help: &'a str,
-) -> Arg<'a> {
-    Arg::new(alloc, name)
-        .long(name)
-        .value_name(value_name)
-        .help(help)
-        .required(true)
-}
-
-/// An option that has a value where it isn't given.
-pub(crate) fn with_default<'a>(
-    alloc: Global,
-    name: &'a str,
-    value_name: &'a str,
-    value: &'a str,
-    help: &'a str,
-) -> Arg<'a> {
-    Arg::new(alloc, name)
-        .long(name)
-        .value_name(value_name)
-        .help(help)
-        .default_value(value)
 }
 
 impl<'a> OnceOptions<'a> {

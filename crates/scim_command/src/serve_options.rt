@@ -1,14 +1,8 @@
-//! The command line of `serve`.
+//! What `serve` is given.
 use crate::command_faults::CommandFault;
-use crate::database_options::{database, number_of};
-use crate::options::{
-    BASE_HELP, DEFAULT_BASE, POLICY_HELP, TOKENS_HELP, required, text_of, with_default,
-};
-use clap::{Arg, ArgMatches, Command};
-use std::alloc::{AllocError, Global};
-
-/// The port where nothing else is said.
-const DEFAULT_PORT: &str = "8080";
+use crate::database_options::number_of;
+use crate::options::text_of;
+use clap::ArgMatches;
 
 /// What `serve` is given.
 #[derive(Clone, Copy, Debug)]
@@ -25,28 +19,8 @@ pub struct ServeOptions<'a> {
     pub base: &'a str,
     /// After how many connections the server ends; None for never.
     pub connections: Option<u64>,
-}
-
-pub(crate) fn serve_command<'a>(alloc: Global) -> Result<Command<'a>, AllocError> {
-    Command::new(alloc, "serve")
-        .about("Serve a database to many clients, on 127.0.0.1")
-        .arg(required(alloc, "policy", "FILE", POLICY_HELP))?
-        .arg(required(alloc, "tokens", "FILE", TOKENS_HELP))?
-        .arg(database(alloc))?
-        .arg(with_default(
-            alloc,
-            "port",
-            "N",
-            DEFAULT_PORT,
-            "The port; 0 for any that is free",
-        ))?
-        .arg(with_default(alloc, "base", "URL", DEFAULT_BASE, BASE_HELP))?
-        .arg(
-            Arg::new(alloc, "connections")
-                .long("connections")
-                .value_name("N")
-                .help("End after so many connections; without it the server doesn't end"),
-        )
+    /// Whether the resources are kept in memory too, where they are read.
+    pub has_cache: bool,
 }
 
 impl<'a> ServeOptions<'a> {
@@ -59,6 +33,7 @@ impl<'a> ServeOptions<'a> {
             port: port_of(text_of(matches, "port")?)?,
             base: text_of(matches, "base")?,
             connections: connections_of(matches)?,
+            has_cache: !matches.get_flag("no-cache"),
         })
     }
 }

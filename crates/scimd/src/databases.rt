@@ -19,7 +19,7 @@ use std::fs;
 ///
 /// It is generic in the database's files, and gives the connection back to be closed: a function that holds a connection to
 /// the system's files costs its proof a minute, so that `with_database` alone does.
-pub(crate) trait Work {
+pub(crate) trait DatabaseWork {
     /// Does it over a connection to a database.
     fn over<S: Alter + Drop>(
         self,
@@ -33,7 +33,7 @@ pub(crate) trait Work {
 ///
 /// Database, where it can't be opened; NoMemory where none was to be had; else what the work comes to. Nothing is lost where the
 /// closing fails: what was committed stands in the log, which is read when the database is opened again.
-pub(crate) fn with_database<W: Work + Drop>(
+pub(crate) fn with_database<W: DatabaseWork + Drop>(
     rt: &HostRuntime,
     path: &str,
     work: W,
@@ -52,7 +52,7 @@ pub(crate) fn with_database<W: Work + Drop>(
 }
 
 /// The same with the database at a path where there is one.
-fn with_database_there<W: Work + Drop>(
+fn with_database_there<W: DatabaseWork + Drop>(
     rt: &HostRuntime,
     path: &str,
     work: W,
@@ -84,7 +84,7 @@ struct Explaining<'o> {
     options: ExplainOptions<'o>,
 }
 
-impl Work for Explaining<'_> {
+impl DatabaseWork for Explaining<'_> {
     fn over<S: Alter + Drop>(
         self,
         rt: &HostRuntime,
@@ -121,7 +121,7 @@ pub(crate) fn run_explain(rt: &HostRuntime, matches: &ArgMatches<'_>) -> Result<
 }
 
 /// Writes rows of the audit.
-impl Work for AuditOptions<'_> {
+impl DatabaseWork for AuditOptions<'_> {
     fn over<S: Alter + Drop>(
         self,
         rt: &HostRuntime,
@@ -146,7 +146,7 @@ pub(crate) fn run_audit(rt: &HostRuntime, matches: &ArgMatches<'_>) -> Result<()
 }
 
 /// Writes the users file of a store.
-impl Work for ExportOptions<'_> {
+impl DatabaseWork for ExportOptions<'_> {
     fn over<S: Alter + Drop>(
         self,
         rt: &HostRuntime,
@@ -175,7 +175,7 @@ struct Importing {
     users: String,
 }
 
-impl Work for Importing {
+impl DatabaseWork for Importing {
     fn over<S: Alter + Drop>(
         self,
         rt: &HostRuntime,

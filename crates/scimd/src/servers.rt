@@ -1,7 +1,10 @@
 //! `serve`: a database, served to many clients.
-use crate::databases::{Work, open_store, with_database};
+ghost use Rattle.std.specs.Prelude.{◌≡◌, false};
+
+use crate::databases::{DatabaseWork, open_store, with_database};
 use crate::files::{read_policy_text, read_tokens_text};
 use clap::ArgMatches;
+use scim_cache::CachedShelf;
 use scim_cell::Text;
 use scim_command::{CommandFault, RunFault, ServeOptions};
 use scim_hub::Hub;
@@ -11,9 +14,11 @@ use scim_serve::serve;
 use scim_service::Service;
 use scim_shelf::Shelf;
 use scim_sockets::Sockets;
+use scim_store::SqlShelf;
 use scim_text::Failed;
 use scim_token::Tokens;
 use sqlite::{Alter, Connection};
+use std::alloc::Global;
 
 /// To serve a database by a policy, to those who have the tokens.
 #[derive(Drop)]
@@ -23,7 +28,7 @@ struct Serving<'o> {
     tokens: Tokens,
 }
 
-impl Work for Serving<'_> {
+impl DatabaseWork for Serving<'_> {
     fn over<S: Alter + Drop>(
         self,
         rt: &HostRuntime,
@@ -37,14 +42,53 @@ impl Work for Serving<'_> {
         let Ok(base) = Text::copy_of(rt.alloc(), options.base) else {
             return (Err(CommandFault::Run(RunFault::NoMemory)), connection);
         };
-        match open_store(rt.alloc(), connection, options.base) {
+        match open_cached(rt.alloc(), connection, options.base, options.has_cache) {
             Ok(shelf) => {
                 let mut hub = Hub::new(rt.alloc(), Service::new(policy, base, shelf), tokens);
                 let done = serve_at_port(rt, &options, &mut hub);
-                (done, hub.into_service().into_shelf().into_connection())
+                let shelf = hub.into_service().into_shelf();
+                (done, shelf.into_lower().into_connection())
             }
             Err((fault, connection)) => (Err(fault), connection),
         }
+    }
+}
+
+/// Opens the store in a database, with its resources in memory if they are to be kept there and memory suffices.
+///
+/// The fault is that of `open_store`, or Database where the resources can't be read.
+fn open_cached<S: Alter + Drop>(
+    alloc: Global,
+    connection: Connection<S>,
+    base: &str,
+    has_cache: bool,
+) -> Result<CachedShelf<SqlShelf<S>>, (CommandFault, Connection<S>)>
+    requires { connection.in_transaction ≡ false }
+{
+    match open_store(alloc, connection, base) {
+        Ok(shelf) => {
+            let mut shelf = CachedShelf::over(shelf);
+            match fill_if(alloc, &mut shelf, has_cache) {
+                Ok(()) => Ok(shelf),
+                Err(fault) => Err((fault, shelf.into_lower().into_connection())),
+            }
+        }
+        Err(failed) => Err(failed),
+    }
+}
+
+/// Reads the resources into memory, if they are to be kept there. Where memory alone is wanting, the database is read.
+fn fill_if<S: Shelf>(
+    alloc: Global,
+    shelf: &mut CachedShelf<S>,
+    has_cache: bool,
+) -> Result<(), CommandFault> {
+    if !has_cache {
+        return Ok(());
+    }
+    match shelf.fill(alloc) {
+        Ok(()) | Err(Failed::NoMemory) => Ok(()),
+        Err(fault) => Err(CommandFault::Run(fault.into())),
     }
 }
 

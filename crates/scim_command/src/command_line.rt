@@ -1,0 +1,251 @@
+//! The command line: the commands, and what each can be given.
+use clap::{Arg, ArgAction, Command};
+use std::alloc::{AllocError, Global};
+
+/// That below which resources stand where nothing else is said.
+pub const DEFAULT_BASE: &str = "http://127.0.0.1:8080";
+
+/// The version of the program.
+const VERSION: &str = "0.1.0";
+
+/// A command.
+#[derive(Clone, Copy)]
+struct CommandText {
+    name: &'static str,
+    about: &'static str,
+    options: &'static [OptionText],
+}
+
+/// What a command can be given.
+#[derive(Clone, Copy)]
+struct OptionText {
+    name: &'static str,
+    form: OptionForm,
+    help: &'static str,
+}
+
+/// Whether an option has to be given, and with what. A value is called by its name in the help.
+#[derive(Clone, Copy)]
+enum OptionForm {
+    /// It has to be given, with a value of this name.
+    Required(&'static str),
+    /// It has a value of this name where it is given, and else none.
+    Optional(&'static str),
+    /// It has a value of this name, which is the second text where it isn't given.
+    WithDefault(&'static str, &'static str),
+    /// It is given or not.
+    Flag,
+}
+
+const POLICY: OptionText = OptionText {
+    name: "policy",
+    form: OptionForm::Required("FILE"),
+    help: "The policy: a JSON file of rules, of which the first that fits decides",
+};
+
+const USERS: OptionText = OptionText {
+    name: "users",
+    form: OptionForm::Required("FILE"),
+    help: "The users: a JSON list of resources as they are stored",
+};
+
+const TOKENS: OptionText = OptionText {
+    name: "tokens",
+    form: OptionForm::Required("FILE"),
+    help: "The tokens: a line for each, of a client's name and the SHA-256 of its token in hex",
+};
+
+const DATABASE: OptionText = OptionText {
+    name: "db",
+    form: OptionForm::Required("FILE"),
+    help: "The database: a file of SQLite's",
+};
+
+const CLIENT: OptionText = OptionText {
+    name: "client",
+    form: OptionForm::Required("NAME"),
+    help: "The client, as the policy names it",
+};
+
+const BASE: OptionText = OptionText {
+    name: "base",
+    form: OptionForm::WithDefault("URL", DEFAULT_BASE),
+    help: "That below which the resources stand",
+};
+
+const COMMANDS: [CommandText; 8] = [
+    CommandText {
+        name: "once",
+        about: "Answer one request from standard input over a users file, and write the reply to standard output",
+        options: &[
+            POLICY,
+            USERS,
+            CLIENT,
+            BASE,
+            OptionText {
+                name: "at",
+                form: OptionForm::WithDefault("MOMENT", "1970-01-01T00:00:00Z"),
+                help: "When the request comes",
+            },
+            OptionText {
+                name: "first",
+                form: OptionForm::WithDefault("UUID", "00000000-0000-0000-0000-000000000000"),
+                help: "The id of the resource that the request creates",
+            },
+        ],
+    },
+    CommandText {
+        name: "check",
+        about: "Say whether a policy file is well, and which of its rules can never decide",
+        options: &[
+            POLICY,
+            OptionText {
+                name: "verbose",
+                form: OptionForm::Flag,
+                help: "Say each rule in a sentence as well",
+            },
+        ],
+    },
+    CommandText {
+        name: "serve",
+        about: "Serve a database to many clients, on 127.0.0.1",
+        options: &[
+            POLICY,
+            TOKENS,
+            DATABASE,
+            OptionText {
+                name: "port",
+                form: OptionForm::WithDefault("N", "8080"),
+                help: "The port; 0 for any that is free",
+            },
+            BASE,
+            OptionText {
+                name: "connections",
+                form: OptionForm::Optional("N"),
+                help: "End after so many connections; without it the server doesn't end",
+            },
+            OptionText {
+                name: "no-cache",
+                form: OptionForm::Flag,
+                help: "Read each resource from the database, and keep none in memory",
+            },
+        ],
+    },
+    CommandText {
+        name: "replay",
+        about: "Answer what happened to connections, as a file tells it, over a users file, and write what is sent to whom",
+        options: &[
+            POLICY,
+            TOKENS,
+            USERS,
+            OptionText {
+                name: "events",
+                form: OptionForm::Required("FILE"),
+                help: "The events: a line for each, MOMENT FIRST joined N, MOMENT FIRST piece N HEX or MOMENT FIRST left N",
+            },
+            BASE,
+        ],
+    },
+    CommandText {
+        name: "explain",
+        about: "Say why a client may or may not do something with a resource of a database",
+        options: &[
+            POLICY,
+            DATABASE,
+            CLIENT,
+            OptionText {
+                name: "op",
+                form: OptionForm::Required("OP"),
+                help: "read, create, modify or delete",
+            },
+            OptionText {
+                name: "kind",
+                form: OptionForm::Required("KIND"),
+                help: "User or Group",
+            },
+            OptionText {
+                name: "id",
+                form: OptionForm::Required("ID"),
+                help: "The id of the resource",
+            },
+            OptionText {
+                name: "path",
+                form: OptionForm::Optional("PATH"),
+                help: "What of the resource, as policies name it; all of it where this isn't given",
+            },
+        ],
+    },
+    CommandText {
+        name: "import",
+        about: "Bring the resources of a users file into an empty database, which is made where there is none",
+        options: &[DATABASE, USERS],
+    },
+    CommandText {
+        name: "export",
+        about: "Write the resources of a database as a users file",
+        options: &[DATABASE],
+    },
+    CommandText {
+        name: "audit",
+        about: "Write the rows of the audit, a line for each",
+        options: &[
+            DATABASE,
+            OptionText {
+                name: "from",
+                form: OptionForm::WithDefault("N", "1"),
+                help: "The number of the first row that is shown",
+            },
+            OptionText {
+                name: "count",
+                form: OptionForm::WithDefault("N", "100"),
+                help: "How many rows are shown at most",
+            },
+        ],
+    },
+];
+
+/// The command line that is understood. AllocError where no memory was to be had.
+pub fn command<'a>(alloc: Global) -> Result<Command<'a>, AllocError> {
+    let mut root = Command::new(alloc, "scimd")
+        .version(VERSION)
+        .about("A SCIM 2.0 service provider whose access policy is proved to be kept")
+        .subcommand_required(true)
+        .arg_required_else_help(true);
+    for text in COMMANDS {
+        root = with(root, command_of(alloc, text))?;
+    }
+    Ok(root)
+}
+
+/// The command line with one more command, where there was memory for it.
+fn with<'a>(
+    root: Command<'a>,
+    command: Result<Command<'a>, AllocError>,
+) -> Result<Command<'a>, AllocError> {
+    match command {
+        Ok(command) => root.subcommand(command),
+        Err(error) => Err(error),
+    }
+}
+
+/// A command with its options.
+fn command_of<'a>(alloc: Global, text: CommandText) -> Result<Command<'a>, AllocError> {
+    let mut command = Command::new(alloc, text.name).about(text.about);
+    for option in text.options {
+        command = command.arg(option_of(alloc, *option))?;
+    }
+    Ok(command)
+}
+
+/// An option, by its name behind two hyphens.
+fn option_of<'a>(alloc: Global, text: OptionText) -> Arg<'a> {
+    let option = Arg::new(alloc, text.name).long(text.name).help(text.help);
+    match text.form {
+        OptionForm::Required(value) => option.value_name(value).required(true),
+        OptionForm::Optional(value) => option.value_name(value),
+        OptionForm::WithDefault(value, default) => {
+            option.value_name(value).default_value(default)
+        }
+        OptionForm::Flag => option.action(ArgAction::SetTrue),
+    }
+}
