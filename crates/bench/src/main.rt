@@ -17,7 +17,7 @@ use std::env;
 
 /// What there is to measure.
 const SCENARIOS: &str =
-    "bench documents: writing and reading the JSON of a user, beside serde_json, and users files\nbench parts: making, copying, restricting and looking up parts of 10, 1,000 and 40,000 cells\nbench decisions: what policies of 10 and of 1,000 rules decide of a user, and what a client sees by them\nbench filters: reading filters, and holding them on users and on groups of 1,000 and of 10,000 members\nbench filter-texts: 1,000,000 generated texts, each read as a filter, and what is read checked\nbench once: one GET over users files of 10,000 and of 100,000 users, beside serde_json's reading of the file\nbench pages: a page of 100 out of 10,000 and out of 100,000 users with groups, and by policies of 10 and of 1,000 rules\nbench patch: PATCHes that add one member to groups of 99 and of 9,999, 1,000 and 10,000 members to an empty one, and remove a tenth of 1,000 and of 10,000\nbench put: PUTs of a user by policies of 10 and of 1,000 rules, and of groups of 100 and of 10,000 members\nbench serve: requests over sockets of a server of 2,000 and of 100,000 users in memory and in a database, beside what their events take the hub\nbench service: turns over 1,000 and over 100,000 users in memory, and bodies of 1,000 and of 10,000 emails\nbench wire: messages with bodies of 100 KiB and of 1 MiB in pieces of 64 KiB and byte by byte, and what a GET takes beside the service";
+    "bench documents: writing and reading the JSON of a user, beside serde_json, and users files\nbench parts: making, copying, restricting and looking up parts of 10, 1,000 and 40,000 cells\nbench decisions: what policies of 10 and of 1,000 rules decide of a user, and what a client sees by them\nbench filters: reading filters, and holding them on users and on groups of 1,000 and of 10,000 members\nbench filter-texts: 1,000,000 generated texts, each read as a filter, and what is read checked\nbench once: one GET over users files of 10,000 and of 100,000 users, beside serde_json's reading of the file\nbench pages: a page of 100 out of 10,000 and out of 100,000 users with groups, and by policies of 10 and of 1,000 rules; and pages of a service in memory, by the beginning of a userName and by a piece of a title\nbench patch: PATCHes that add one member to groups of 99 and of 9,999, 1,000 and 10,000 members to an empty one, and remove a tenth of 1,000 and of 10,000\nbench put: PUTs of a user by policies of 10 and of 1,000 rules, and of groups of 100 and of 10,000 members\nbench serve: requests over sockets of a server of 2,000 and of 100,000 users in memory and in a database, beside what their events take the hub\nbench service: turns over 1,000 and over 100,000 users in memory, and bodies of 1,000 and of 10,000 emails\nbench wire: messages with bodies of 100 KiB and of 1 MiB in pieces of 64 KiB and byte by byte, and what a GET takes beside the service";
 
 fn main(rt: HostRuntime) -> Result<()> {
     match env::args(&rt)?.nth(1) {
@@ -34,7 +34,7 @@ fn run(rt: &HostRuntime, alloc: Global, name: &str) -> Result<()> {
         "filters" => bench_values::run_filters(rt, alloc),
         "filter-texts" => filter_texts::run(rt, alloc),
         "once" => once_runs::run(rt, alloc),
-        "pages" => bench_policies::run_pages(rt, alloc),
+        "pages" => run_pages(rt, alloc),
         "parts" => bench_values::run_parts(rt, alloc),
         "patch" => patch_runs::run(rt, alloc),
         "put" => put_runs::run(rt, alloc),
@@ -43,4 +43,10 @@ fn run(rt: &HostRuntime, alloc: Global, name: &str) -> Result<()> {
         "wire" => wire_runs::run(rt, alloc),
         _ => bail!("there is no such scenario"),
     }
+}
+
+/// Pages of what a client sees, and of what a service answers.
+fn run_pages(rt: &HostRuntime, alloc: Global) -> Result<()> {
+    bench_policies::run_pages(rt, alloc)?;
+    bench_turns::run_pages(rt, alloc)
 }

@@ -1,9 +1,8 @@
 //! What PATCHes of groups take, from the text of the message to the reply, by how many members a group has and a
 //! message names.
 use crate::put_runs::{group_body, members_text, policy_text, turn_of};
-use crate::service_runs::service_over_nothing;
 use anyhow::{Result, ensure};
-use bench_turns::{heading, make, turn_with};
+use bench_turns::{heading, make, service_over_nothing, turn_with};
 use bench_values::{print_heading, print_line};
 use scim_body::UseFor;
 use scim_operations::read_patch;

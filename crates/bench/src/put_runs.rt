@@ -1,7 +1,6 @@
 //! What it takes to replace a user, by how many rules a policy has, and a group, by how many members it has.
-use crate::service_runs::service_over_nothing;
 use anyhow::Result;
-use bench_turns::{draft_of, heading, make, timed, turn_with};
+use bench_turns::{draft_of, heading, make, service_over_nothing, timed, turn_with};
 use bench_values::{numbered, print_heading, print_line};
 use scim_body::UseFor;
 use scim_schema::{Kind, Op};

@@ -1,13 +1,10 @@
 //! What turns of a service over a store in memory take, by how many users it has; and what bodies take.
 use anyhow::Result;
-use bench_turns::{draft_of, heading, make, timed, turn_with};
-use bench_values::{fastest, id_of, numbered, print_heading, print_line, push_all};
+use bench_turns::{draft_of, heading, make, make_groups, service_over_nothing, timed, turn_with};
+use bench_values::{fastest, numbered, print_heading, print_line};
 use scim_body::{Draft, UseFor};
-use scim_cell::Text;
 use scim_filter::{Filter, read_filter};
-use scim_policy::read_policy;
 use scim_query::Query;
-use scim_samples::BASE;
 use scim_schema::{Kind, Op};
 use scim_service::{Ask, Service, Turn};
 use scim_shelf::MemoryShelf;
@@ -23,14 +20,7 @@ const FIRST_USERS: usize = 1_000;
 /// How many users a store has.
 const USERS: [usize; 2] = [FIRST_USERS, 100_000];
 
-const GROUPS: usize = 1_000;
-
-/// How many members a group has.
-const MEMBERS: usize = 100;
-
-/// The first number of a group, and of a user that is made to be removed.
-const FIRST_GROUP: usize = 1_000_000;
-
+/// The first number of a user that is made to be removed.
 const FIRST_NEW: usize = 2_000_000;
 
 /// So many turns are timed together.
@@ -95,35 +85,6 @@ fn user_body(alloc: Global, number: usize) -> Result<String> {
     Ok(pieces.concat(alloc)?)
 }
 
-/// A group of the users that follow those of the group before it, among the first users.
-fn group_draft(alloc: Global, number: usize) -> Result<Draft> {
-    let body = group_body(alloc, number)?;
-    draft_of(alloc, Kind::Group, UseFor::Creating, body.as_str())
-}
-
-fn group_body(alloc: Global, number: usize) -> Result<String> {
-    let mut body = numbered(
-        alloc,
-        "{\"displayName\":\"Team ",
-        number,
-        "\",\"members\":[",
-    )?;
-    for place in 0..MEMBERS {
-        push_member(alloc, number, place, &mut body)?;
-    }
-    body.push_str("]}")?;
-    Ok(body)
-}
-
-fn push_member(alloc: Global, group: usize, place: usize, body: &mut String) -> Result<()> {
-    let first = group.saturating_mul(MEMBERS);
-    let member = id_of(first.saturating_add(place) % FIRST_USERS).text(alloc)?;
-    if place > 0 {
-        body.push(',')?;
-    }
-    push_all(body, &["{\"value\":\"", member.as_str(), "\"}"])
-}
-
 fn filter_for(alloc: Global, number: usize) -> Result<Filter> {
     let text = numbered(alloc, "userName eq \"USER", number, "\"")?;
     Ok(read_filter(alloc, Kind::User, text.as_str())?)
@@ -177,30 +138,9 @@ fn push_turn(alloc: Global, asked: Asked, number: usize, turns: &mut Vec<Turn>) 
     Ok(push(turns, turn)?)
 }
 
-/// A service by a policy file over a store without resources.
-pub(crate) fn service_over_nothing(alloc: Global, policy: &str) -> Result<Service<MemoryShelf>> {
-    let base = Text::copy_of(alloc, BASE)?;
-    let shelf = MemoryShelf::new(alloc, Vec::new(alloc))?;
-    let policy = read_policy(alloc, policy)?;
-    Ok(Service::new(policy, base, shelf))
-}
-
 /// Makes the user of a number.
 fn make_user(alloc: Global, service: &mut Service<MemoryShelf>, number: usize) -> Result<()> {
     let turn = turn_of(alloc, Asked::Create, number)?;
-    make(alloc, service, &turn)
-}
-
-fn group_turn(alloc: Global, number: usize) -> Result<Turn> {
-    let heading = heading(alloc)?;
-    let draft = group_draft(alloc, number)?;
-    let ask = Ask::Create(draft, Wanted::Default);
-    let place = number.saturating_add(FIRST_GROUP);
-    Ok(turn_with(heading, Op::Create, Kind::Group, place, ask))
-}
-
-fn make_group(alloc: Global, service: &mut Service<MemoryShelf>, number: usize) -> Result<()> {
-    let turn = group_turn(alloc, number)?;
     make(alloc, service, &turn)
 }
 
@@ -209,10 +149,7 @@ fn fill(alloc: Global, service: &mut Service<MemoryShelf>, users: usize) -> Resu
     for number in 0..users {
         make_user(alloc, service, number)?;
     }
-    for number in 0..GROUPS {
-        make_group(alloc, service, number)?;
-    }
-    Ok(())
+    make_groups(alloc, service, FIRST_USERS)
 }
 
 /// Nanoseconds a turn, of so many that ask the same.

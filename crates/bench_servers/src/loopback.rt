@@ -1,8 +1,10 @@
 //! A server's sockets with the clients that ask over them, on one thread: a client that has its reply sends its next request.
 ghost use Rattle.std.specs.Prelude.{false, []};
 
+use anyhow::Result;
 use scim_serve::{Incident, Peers, PeersFault};
 use scim_sockets::Sockets;
+use scim_text::push;
 use std::alloc::Global;
 use std::io;
 use std::io::{ErrorKind, Read, Write};
@@ -39,26 +41,30 @@ pub(crate) struct Loopback<'r> {
     sockets: Sockets<'r, HostRuntime>,
     clients: Vec<Client>,
     buffer: Vec<u8>,
+    // How a reply begins where all is well.
+    beginning: &'static str,
     /// How many requests were answered well.
     pub(crate) answered: usize,
 }
 
 impl<'r> Loopback<'r> {
-    /// Sockets without a client yet.
+    /// Sockets without a client yet, whose replies are to begin so.
     pub(crate) fn new(
         alloc: Global,
         sockets: Sockets<'r, HostRuntime>,
-    ) -> io::Result<Loopback<'r>> {
+        beginning: &'static str,
+    ) -> Result<Loopback<'r>> {
         Ok(Loopback {
             sockets,
             clients: Vec::new(alloc),
             buffer: Vec::from_elem(alloc, 0, PIECE)?,
+            beginning,
             answered: 0,
         })
     }
 
     /// Connects a client, and sends its first request.
-    pub(crate) fn connect(&mut self, rt: &HostRuntime, requests: Vec<String>) -> io::Result<()> {
+    pub(crate) fn connect(&mut self, rt: &HostRuntime, requests: Vec<String>) -> Result<()> {
         let address = SocketAddr::from((Ipv4Addr::LOCALHOST, self.sockets.port()));
         let stream = TcpStream::connect(rt, address)?;
         let mut client = Client {
@@ -67,7 +73,7 @@ impl<'r> Loopback<'r> {
             next: 0,
         };
         client.go_on()?;
-        self.clients.push(client)?;
+        push(&mut self.clients, client)?;
         Ok(())
     }
 
@@ -81,7 +87,7 @@ impl<'r> Loopback<'r> {
         };
         client.stream.read_exact(&mut self.buffer[..bytes.len()])?;
         if is_whole {
-            if bytes.starts_with(b"HTTP/1.1 20") {
+            if bytes.starts_with(self.beginning.as_bytes()) {
                 self.answered = self.answered.saturating_add(1);
             }
             client.go_on()?;

@@ -1,6 +1,7 @@
 //! The requests whose answering is measured.
 use anyhow::Result;
 use bench_values::{id_of, numbered};
+use scim_text::push;
 use std::alloc::Global;
 
 /// Whose token the requests have.
@@ -32,6 +33,14 @@ impl Asked {
             Asked::Search => "search by userName",
             Asked::Patch => "patch of a title",
             Asked::Create => "create",
+        }
+    }
+
+    /// How a reply begins where all is well.
+    pub(crate) fn beginning(self) -> &'static str {
+        match self {
+            Asked::Get | Asked::Search | Asked::Patch => "HTTP/1.1 200 ",
+            Asked::Create => "HTTP/1.1 201 ",
         }
     }
 
@@ -93,7 +102,8 @@ pub(crate) fn requests(
     let first = list.saturating_mul(1_000_000);
     let mut texts = Vec::new(alloc);
     for user in 0..count {
-        texts.push(asked.text(alloc, user, first.saturating_add(user))?)?;
+        let text = asked.text(alloc, user, first.saturating_add(user))?;
+        push(&mut texts, text)?;
     }
     Ok(texts)
 }

@@ -3,7 +3,7 @@ use crate::loopback::Loopback;
 use crate::requests::{Asked, requests};
 use anyhow::{Result, bail, ensure};
 use scim_cell::Id;
-use scim_hub::{Event, Happening, Hub, Stamp};
+use scim_hub::{Event, Happening, Hub, Output, Stamp};
 use scim_serve::serve;
 use scim_shelf::Shelf;
 use scim_sockets::Sockets;
@@ -42,30 +42,58 @@ fn stamp(number: u128) -> Result<Stamp> {
     })
 }
 
-/// The hub hears of an event.
+/// The hub hears of an event, and says what is to be done for it.
 fn hear<S: Shelf>(
     rt: &HostRuntime,
     hub: &mut Hub<S>,
     number: u128,
     happening: Happening<'_>,
-) -> Result<()> {
+) -> Result<Vec<Output>> {
     let event = Event {
         connection: ALONE,
         stamp: stamp(number)?,
         happening,
     };
-    hub.event(rt.alloc(), &event)?;
+    Ok(hub.event(rt.alloc(), &event)?)
+}
+
+/// Whether one reply is to be written, and begins so.
+fn is_reply(outputs: &[Output], beginning: &str) -> bool {
+    match outputs {
+        [Output::Write(_, text)] => text.as_bytes().starts_with(beginning.as_bytes()),
+        _ => false,
+    }
+}
+
+/// The hub answers a request as an event, by a reply that begins so.
+fn answer<S: Shelf>(
+    rt: &HostRuntime,
+    hub: &mut Hub<S>,
+    number: u128,
+    request: &str,
+    beginning: &str,
+) -> Result<()> {
+    let outputs = hear(rt, hub, number, Happening::Piece(request.as_bytes()))?;
+    ensure!(
+        is_reply(outputs.as_slice(), beginning),
+        "a request isn't answered as it should be"
+    );
     Ok(())
 }
 
-/// Nanoseconds a request, where each is an event of one connection.
-fn alone<S: Shelf>(rt: &HostRuntime, hub: &mut Hub<S>, requests: &[String]) -> Result<u128> {
+/// Nanoseconds a request, where each is an event of one connection and is answered by a reply that begins so.
+fn alone<S: Shelf>(
+    rt: &HostRuntime,
+    hub: &mut Hub<S>,
+    requests: &[String],
+    beginning: &str,
+) -> Result<u128> {
     hear(rt, hub, 0, Happening::Joined)?;
     let start = Instant::now(rt)?;
     let mut number: u128 = 1 << 100;
     for request in requests {
         number = number.saturating_add(1);
-        hear(rt, hub, number, Happening::Piece(request.as_bytes()))?;
+        answer(rt, hub, number, request.as_str(), beginning)?;
     }
     let spent = start.elapsed(rt)?;
     hear(rt, hub, 0, Happening::Left)?;
@@ -80,7 +108,7 @@ fn connected<'r>(
     list: usize,
 ) -> Result<Loopback<'r>> {
     let sockets = Sockets::listen(rt, rt.alloc(), 0, Some(clients as u64))?;
-    let mut loopback = Loopback::new(rt.alloc(), sockets)?;
+    let mut loopback = Loopback::new(rt.alloc(), sockets, asked.beginning())?;
     for client in 0..clients {
         let list = list.saturating_add(client);
         let requests = requests(rt.alloc(), asked, REQUESTS / clients.max(1), list)?;
@@ -112,7 +140,7 @@ fn over_loopback<S: Shelf>(
 fn measure<S: Shelf>(rt: &HostRuntime, hub: &mut Hub<S>, asked: Asked) -> Result<Figures> {
     let texts = requests(rt.alloc(), asked, REQUESTS, 1)?;
     Ok(Figures {
-        alone: alone(rt, hub, texts.as_slice())?,
+        alone: alone(rt, hub, texts.as_slice(), asked.beginning())?,
         one: over_loopback(rt, hub, asked, 1, 2)?,
         many: over_loopback(rt, hub, asked, CLIENTS, 3)?,
     })

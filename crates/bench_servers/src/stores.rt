@@ -22,6 +22,9 @@ use std::fs;
 /// Where the database is made, and removed again.
 const PATH: &str = "bench-serve.db";
 
+/// What a run that ends early may leave beside it.
+const JOURNALS: [&str; 2] = ["bench-serve.db-journal", "bench-serve.db-wal"];
+
 /// How many users a store has.
 const USERS: [usize; 2] = [2_000, 100_000];
 
@@ -97,7 +100,24 @@ fn in_database<S: Alter + Drop>(
     }
 }
 
+/// Removes the database and its journals, those of them that are there. One that can't be removed is refused by the
+/// next run, which wants an empty database.
+fn remove_database(rt: &HostRuntime) {
+    for path in JOURNALS {
+        let _removed = fs::remove_file(rt, path);
+    }
+    let _removed = fs::remove_file(rt, PATH);
+}
+
+/// Prints the figures over a database that is made for them, and removed whatever comes of them.
 fn in_file(rt: &HostRuntime, count: usize, what: &str) -> Result<()> {
+    remove_database(rt);
+    let done = over_users(rt, count, what);
+    remove_database(rt);
+    done
+}
+
+fn over_users(rt: &HostRuntime, count: usize, what: &str) -> Result<()> {
     let text = users_file(rt.alloc(), count)?;
     match read_documents(rt.alloc(), BASE, text.as_str()) {
         Ok(users) => over_file(rt, Terms::new(rt.alloc())?, users.as_slice(), what),
@@ -127,7 +147,5 @@ pub fn run(rt: &HostRuntime) -> Result<()> {
     in_memory(rt, few, "2,000 users in memory")?;
     in_memory(rt, many, "100,000 users in memory")?;
     in_file(rt, few, "2,000 users in a database")?;
-    fs::remove_file(rt, PATH)?;
-    in_file(rt, many, "100,000 users in a database")?;
-    Ok(fs::remove_file(rt, PATH)?)
+    in_file(rt, many, "100,000 users in a database")
 }
