@@ -61,6 +61,7 @@ fn with_many(
     ensures { IfOk result (λ v. v.items ≡ spec.with_values attribute values.items given.items) }
 {
     let mut places = places_of(alloc, attribute, values.as_slice(), given.len())?;
+    values.reserve(given.len())?;
     for value in given {
         add_value(alloc, attribute, &mut values, &mut places, value)?;
     }
