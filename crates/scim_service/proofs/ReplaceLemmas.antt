@@ -1,6 +1,6 @@
 -- What is planned where a resource is replaced.
-use Rattle.std.proofs.Common.{◌≡◌, refl, ap, ℕ, Bool, true, false, List, [], ◌∷◌, inl, inr, is_some, All, filter}
-use Rattle.std.specs.Prelude.{Option, None, Some}
+use Rattle.std.proofs.Common.{◌≡◌, refl, sym, ◌∙◌, ap, ℕ, Bool, true, false, List, [], ◌∷◌, inl, inr, is_some, All, filter}
+use Rattle.std.specs.Prelude.{Option, None, Some, if◌then◌else◌}
 use Rattle.std.specs.List.{list_any}
 use Rattle.std.proofs.lemmas.Bool.{cases_Bool}
 use Rattle.std.proofs.lemmas.List.Elements.{All-weaker, filter_passes}
@@ -27,7 +27,7 @@ use Rattle.scim_shelf.specs.Stores.{is_taken, without}
 use Rattle.scim_service.specs.declared.requests.Turn.{Turn}
 use Rattle.scim_service.specs.declared.plans.Plan.{Plan}
 use Rattle.scim_service.specs.code.Questions.{is_in_question}
-use Rattle.scim_service.specs.Step.{refused, denied, access_to, unit_denied, first_unit_denied, kept_text, kept_with, changed_if_free, is_writable, written, written_if_allowed, replacing, sought, at_seen}
+use Rattle.scim_service.specs.Step.{refused, absent, hidden, denied, access_to, unit_denied, first_unit_denied, kept_text, kept_with, changed_if_free, is_writable, written, written_if_allowed, replacing, sought, at_seen}
 
 -- a unit that isn't in question isn't denied
 unit_passes : (a : Access) (d : Draft) (seen : Content) (u : AttributeUnit) → is_in_question a d u ≡ false → unit_denied a d seen u ≡ None
@@ -106,6 +106,20 @@ module _ (v : Viewer) (turn : Turn) (cs : List Content) (d : Draft) (wanted : Wa
       → written_if_allowed v turn cs d wanted c None ≡ replacing v turn cs d wanted c
   unfolding replacing
   replacing_is own none = rw (own, none) refl
+
+-- what is planned of a resource that isn't there, and of one that isn't seen
+pub absent_is : (v : Viewer) (turn : Turn) (cs : List Content) (next : Content → Plan) → None ≡ sought turn cs → absent turn ≡ at_seen v turn next (sought turn cs)
+absent_is v turn cs next none = rw (← none) refl
+
+pub hidden_is : (v : Viewer) (turn : Turn) (cs : List Content) (next : Content → Plan) (c : Content) (d : Decision)
+    → d ≡ read_decision v c (simple Id) → d.allow ≡ false → Some c ≡ sought turn cs → hidden turn d ≡ at_seen v turn next (sought turn cs)
+hidden_is v turn cs next c d decides denies found =
+    let unseen : (read_decision v c (simple Id)).allow ≡ false = ap (λ (e : Decision). e.allow) (sym decides) ∙ denies in
+    rw (← found) (ap (hidden turn) decides ∙ otherwise (read_decision v c (simple Id)).allow (next c) (hidden turn (read_decision v c (simple Id))) unseen)
+  where
+    otherwise : (b : Bool) (x y : Plan) → b ≡ false → y ≡ (if b then x else y)
+    otherwise false x y e = refl
+    otherwise true x y e = cc
 
 pub seen_is : (v : Viewer) (turn : Turn) (cs : List Content) (next : Content → Plan) (c : Content) (plan : Plan)
     → plan ≡ next c → (read_decision v c (simple Id)).allow ≡ true → Some c ≡ sought turn cs → plan ≡ at_seen v turn next (sought turn cs)

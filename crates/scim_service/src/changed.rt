@@ -7,6 +7,7 @@ ghost use Rattle.scim_view.specs.View.{viewer_of};
 ghost use Rattle.scim_shelf.specs.Shelves.{Answers, OnlyReads};
 ghost use Rattle.scim_shelf.specs.Stores.{IsStore, AreOf};
 ghost use Rattle.scim_service.specs.Step as spec;
+ghost use Rattle.scim_service.specs.code.Refusals.{IsRefusalToChange};
 
 use crate::names::has_taken_name;
 use crate::plans::{Plan, allowed, denied, kept_text, refused};
@@ -58,6 +59,35 @@ fn changed_with(
     })
 }
 
+/// The plan that refuses to keep a resource as it has become: another has its unique name, or the client could do with
+/// it what it couldn't before. None where it may be kept.
+fn refusal_to_change<S: Shelf>(
+    alloc: Global,
+    viewer: &Viewer<'_>,
+    shelf: &mut S,
+    turn: &Turn,
+    before: &Rights,
+    after: &Rights,
+    resource: &Resource,
+) -> Result<Option<Plan>, Failed<ShelfFault>>
+    requires { access_in after.now ≡ spec.access_to (viewer_of viewer.now) resource.now }
+    ensures refusal { IfOk result (Answers S.stands S.is_honest shelf.old shelf.new (λ store refusal. (base : List ℕ) → IsStore base store
+        → IsRefusalToChange (viewer_of viewer.now) turn.now store.resources (access_in before.now) resource.now refusal)) }
+    ensures read { OnlyReads S.stands S.is_honest S.failures shelf.old shelf.new result }
+{
+    if has_taken_name(alloc, shelf, &Some(resource.id()), resource)? {
+        let plan = refused(alloc, turn, Refusal::Taken)?;
+        return Ok(Some(plan));
+    }
+    match before.widening(resource.kind(), after) {
+        Some((_, leaf, decision)) => {
+            let plan = denied(alloc, turn, decision, leaf, Refusal::Widens)?;
+            Ok(Some(plan))
+        }
+        None => Ok(None),
+    }
+}
+
 /// What is to be done where a resource has become this one, and `rights` is what the client could do with it
 /// before. The policy is asked once of the resource as it is now.
 pub(crate) fn plan_changed<S: Shelf>(
@@ -74,15 +104,29 @@ pub(crate) fn plan_changed<S: Shelf>(
         → plan ≡ spec.changed_if_free (viewer_of viewer.now) turn.now store.resources wanted.now (access_in rights.now) changed.changed changed.resource)) }
     ensures read { OnlyReads S.stands S.is_honest S.failures shelf.old shelf.new result }
 {
-    let resource = &changed.resource;
-    if has_taken_name(alloc, shelf, &Some(resource.id()), resource)? {
-        return Ok(refused(alloc, turn, Refusal::Taken)?);
+    let after = viewer
+        .policy
+        .rights(alloc, viewer.client, &changed.resource)?;
+    let refusal = refusal_to_change(
+        alloc,
+        viewer,
+        shelf,
+        turn,
+        rights,
+        &after,
+        &changed.resource,
+    )?;
+    if let Some(plan) = refusal {
+        return Ok(plan);
     }
-    let after = viewer.policy.rights(alloc, viewer.client, resource)?;
-    if let Some((_, leaf, decision)) = rights.widening(resource.kind(), &after) {
-        return Ok(denied(alloc, turn, decision, leaf, Refusal::Widens)?);
-    }
-    let text = kept_text(alloc, viewer, shelf, after.read(), resource, wanted)?;
+    let text = kept_text(
+        alloc,
+        viewer,
+        shelf,
+        after.read(),
+        &changed.resource,
+        wanted,
+    )?;
     let rule = rights.read().of(Leaf::simple(Attribute::Id)).rule;
     Ok(changed_with(alloc, turn, rule, changed, text)?)
 }

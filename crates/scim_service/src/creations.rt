@@ -5,10 +5,12 @@ ghost use Rattle.scim_schema.specs.declared.Leaf.{Leaf};
 ghost use Rattle.scim_schema.specs.Table.{leaves};
 ghost use Rattle.scim_schema.specs.Units.{simple};
 ghost use Rattle.scim_policy.specs.Table.{decision};
+ghost use Rattle.scim_view.specs.View as view;
 ghost use Rattle.scim_view.specs.View.{viewer_of};
 ghost use Rattle.scim_shelf.specs.Shelves.{Answers, OnlyReads};
 ghost use Rattle.scim_shelf.specs.Stores.{IsStore, is_used};
 ghost use Rattle.scim_service.specs.Step as spec;
+ghost use Rattle.scim_service.specs.code.Refusals.{IsRefusalToMake};
 
 use crate::names::has_taken_name;
 use crate::plans::{Finding, Plan, denied, kept_text, refused, row_of};
@@ -100,6 +102,29 @@ fn made(
     })
 }
 
+/// The plan that refuses to make a resource whose unique name or whose id is in use, whoever sees the other. None where
+/// both are free.
+fn refusal_to_make<S: Shelf>(
+    alloc: Global,
+    shelf: &mut S,
+    turn: &Turn,
+    resource: &Resource,
+) -> Result<Option<Plan>, Failed<ShelfFault>>
+    ensures refusal { IfOk result (Answers S.stands S.is_honest shelf.old shelf.new (λ store refusal. (base : List ℕ) (viewer : view.Viewer) → IsStore base store
+        → IsRefusalToMake viewer turn.now store.resources resource.now refusal)) }
+    ensures read { OnlyReads S.stands S.is_honest S.failures shelf.old shelf.new result }
+{
+    if has_taken_name(alloc, shelf, &None, resource)? {
+        let plan = refused(alloc, turn, Refusal::Taken)?;
+        return Ok(Some(plan));
+    }
+    if has_used_id(alloc, shelf, resource.id())? {
+        let plan = refused(alloc, turn, Refusal::IdInUse)?;
+        return Ok(Some(plan));
+    }
+    Ok(None)
+}
+
 /// What is to be done for a request to make this resource, which the policy allows by the rule.
 fn plan_if_free<S: Shelf>(
     alloc: Global,
@@ -115,11 +140,9 @@ fn plan_if_free<S: Shelf>(
         → plan ≡ spec.made_if_free (viewer_of viewer.now) turn.now store.resources wanted.now resource)) }
     ensures read { OnlyReads S.stands S.is_honest S.failures shelf.old shelf.new result }
 {
-    if has_taken_name(alloc, shelf, &None, &resource)? {
-        return Ok(refused(alloc, turn, Refusal::Taken)?);
-    }
-    if has_used_id(alloc, shelf, resource.id())? {
-        return Ok(refused(alloc, turn, Refusal::IdInUse)?);
+    let refusal = refusal_to_make(alloc, shelf, turn, &resource)?;
+    if let Some(plan) = refusal {
+        return Ok(plan);
     }
     let decisions = viewer.decisions(alloc, &resource)?;
     let text = kept_text(alloc, viewer, shelf, &decisions, &resource, wanted)?;

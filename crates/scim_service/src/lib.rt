@@ -9,6 +9,7 @@ mod lookups;
 mod names;
 mod patches;
 mod plans;
+mod reached;
 mod replacements;
 mod replies;
 mod requests;

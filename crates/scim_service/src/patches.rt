@@ -9,12 +9,13 @@ ghost use Rattle.scim_shelf.specs.Stores.{IsStore, AreOf};
 ghost use Rattle.scim_service.specs.Step as spec;
 
 use crate::changed::plan_changed;
-use crate::plans::{Plan, absent, denied, found, hidden, refused};
+use crate::plans::{Plan, denied, refused};
+use crate::reached::{Reached, reach};
 use crate::requests::Turn;
 use scim_audit::Refusal;
 use scim_patch::{Patch, Step, apply};
 use scim_policy::{Decision, Rights};
-use scim_schema::{Attribute, Leaf};
+use scim_schema::Leaf;
 use scim_shelf::{Shelf, ShelfFault};
 use scim_steps::StepFault;
 use scim_text::Failed;
@@ -117,13 +118,11 @@ pub(crate) fn plan_patch<S: Shelf>(
         (spec.patching (viewer_of viewer.now) turn.now store.resources (patch_of patch.now) wanted.now) (spec.sought turn.now store.resources))) }
     ensures read { OnlyReads S.stands S.is_honest S.failures shelf.old shelf.new result }
 {
-    let Some(resource) = found(alloc, shelf, turn)? else {
-        return Ok(absent(alloc, turn)?);
-    };
-    let rights = viewer.policy.rights(alloc, viewer.client, &resource)?;
-    let seen = rights.read().of(Leaf::simple(Attribute::Id));
-    if !seen.allow {
-        return Ok(hidden(alloc, turn, seen)?);
+    let reached = reach(alloc, viewer, shelf, turn)?;
+    match reached {
+        Reached::Seen(resource, rights) => {
+            plan_seen(alloc, viewer, shelf, turn, patch, wanted, &rights, resource)
+        }
+        Reached::Told(plan) => Ok(plan),
     }
-    plan_seen(alloc, viewer, shelf, turn, patch, wanted, &rights, resource)
 }

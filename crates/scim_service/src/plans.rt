@@ -33,11 +33,31 @@ use scim_view::{Viewer, Wanted, project};
 use std::alloc::Global;
 
 /// What is to be answered, changed and noted.
-#[derive(Drop)]
 pub(crate) struct Plan {
     pub(crate) reply: Reply,
     pub(crate) change: Change,
     pub(crate) row: AuditRow,
+}
+
+/// One call, wherever a plan is dropped, in place of a look at all that it may be.
+impl Drop for Plan {
+    fn drop(self) {
+        let Plan {
+            reply: _reply,
+            change: _change,
+            row: _row,
+        } = self;
+    }
+}
+
+impl Plan {
+    /// Its parts, to keep.
+    pub(crate) fn into_parts(self) -> (Reply, Change, AuditRow)
+        ensures { result ≡ (self.reply, self.change, self.row) }
+    {
+        let Plan { reply, change, row } = self;
+        (reply, change, row)
+    }
 }
 
 /// What of a row of the audit isn't the turn's.

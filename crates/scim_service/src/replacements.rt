@@ -10,13 +10,14 @@ ghost use Rattle.scim_service.specs.Step as spec;
 ghost use Rattle.scim_service.specs.code.Questions.{is_in_question};
 
 use crate::changed::plan_changed;
-use crate::plans::{Plan, absent, denied, found, hidden, refused};
+use crate::plans::{Plan, denied, refused};
+use crate::reached::{Reached, reach};
 use crate::requests::Turn;
 use scim_audit::Refusal;
 use scim_body::Draft;
 use scim_change::{MissingRequired, agrees, replace};
 use scim_policy::{Decision, Rights};
-use scim_schema::{Attribute, Kind, Leaf, Mutability, Unit, mutability_of, units};
+use scim_schema::{Kind, Leaf, Mutability, Unit, mutability_of, units};
 use scim_shelf::{Shelf, ShelfFault};
 use scim_text::{Failed, NoMemory, push};
 use scim_value::{Part, Resource};
@@ -194,13 +195,11 @@ pub(crate) fn plan_replace<S: Shelf>(
         (spec.replacing (viewer_of viewer.now) turn.now store.resources draft.now wanted.now) (spec.sought turn.now store.resources))) }
     ensures read { OnlyReads S.stands S.is_honest S.failures shelf.old shelf.new result }
 {
-    let Some(resource) = found(alloc, shelf, turn)? else {
-        return Ok(absent(alloc, turn)?);
-    };
-    let rights = viewer.policy.rights(alloc, viewer.client, &resource)?;
-    let seen = rights.read().of(Leaf::simple(Attribute::Id));
-    if !seen.allow {
-        return Ok(hidden(alloc, turn, seen)?);
+    let reached = reach(alloc, viewer, shelf, turn)?;
+    match reached {
+        Reached::Seen(resource, rights) => {
+            plan_seen(alloc, viewer, shelf, turn, draft, wanted, &rights, resource)
+        }
+        Reached::Told(plan) => Ok(plan),
     }
-    plan_seen(alloc, viewer, shelf, turn, draft, wanted, &rights, resource)
 }

@@ -9,7 +9,7 @@ ghost use Rattle.scim_service.specs.Step as spec;
 ghost use Rattle.scim_service.specs.Answers.{IsCause, Answered, Runs};
 
 use crate::laws::turn_is_sound;
-use crate::plans::{Plan, planned};
+use crate::plans::planned;
 use crate::replies::Reply;
 use crate::requests::Turn;
 use scim_audit::Refusal;
@@ -50,7 +50,8 @@ fn answer_or_fault<S: Shelf>(
     ensures full { result ≡ Err (Failed.Because ShelfFault.Full) → (store : Store) → S.stands shelf.old store → length store.audit ≡ last_number }
 {
     turn_is_sound(turn);
-    let Plan { reply, change, row } = planned(alloc, viewer, shelf, turn)?;
+    let plan = planned(alloc, viewer, shelf, turn)?;
+    let (reply, change, row) = plan.into_parts();
     shelf.commit(alloc, change, row)?;
     Ok(reply)
 }

@@ -1,0 +1,21 @@
+-- How a client reaches the resource that its request names.
+use Rattle.std.specs.Prelude.{◌≡◌, ⊤, true, List, Some}
+use Rattle.scim_schema.specs.declared.Attribute.TheVariants.{Id}
+use Rattle.scim_schema.specs.Units.{simple}
+use Rattle.scim_cell.specs.Content.{Content}
+use Rattle.scim_policy.specs.Table.{access_in}
+use Rattle.scim_view.specs.View.{Viewer, read_decision}
+use Rattle.scim_service.specs.declared.requests.Turn.{Turn}
+use Rattle.scim_service.specs.declared.plans.Plan.{Plan}
+use Rattle.scim_service.specs.declared.reached.Reached.{Reached}
+use Rattle.scim_service.specs.Step.{access_to, sought, at_seen}
+
+-- what comes with it is what the client may do with it
+abbrev pub HasRights : Viewer → Reached → Type 0
+HasRights v (Reached.Seen c rights) = access_in rights ≡ access_to v c
+HasRights v (Reached.Told plan) = ⊤
+
+-- it is there and the client sees it; or this is planned, whatever it would become
+abbrev pub IsReached : Viewer → Turn → List Content → Reached → Type 0
+IsReached v turn cs (Reached.Seen c rights) = (Some c ≡ sought turn cs) × ((read_decision v c (simple Id)).allow ≡ true)
+IsReached v turn cs (Reached.Told plan) = (next : Content → Plan) → plan ≡ at_seen v turn next (sought turn cs)

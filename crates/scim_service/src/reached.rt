@@ -1,0 +1,50 @@
+//! The resource that a request names, as its client reaches it.
+ghost use Rattle.std.specs.Prelude.{◌≡◌, ℕ, List, IfOk};
+ghost use Rattle.scim_view.specs.View.{viewer_of};
+ghost use Rattle.scim_shelf.specs.Shelves.{Answers, OnlyReads};
+ghost use Rattle.scim_shelf.specs.Stores.{IsStore};
+ghost use Rattle.scim_service.specs.code.Reached.{HasRights, IsReached};
+
+use crate::plans::{Plan, absent, found, hidden};
+use crate::requests::Turn;
+use scim_policy::Rights;
+use scim_schema::{Attribute, Leaf};
+use scim_shelf::{Shelf, ShelfFault};
+use scim_text::Failed;
+use scim_value::Resource;
+use scim_view::Viewer;
+use std::alloc::Global;
+
+/// A resource that the client sees, or what it is told instead.
+#[derive(Drop)]
+pub(crate) enum Reached {
+    /// The resource, and what the client may do with it.
+    Seen(Resource, Rights),
+    /// What is to be done where there is none, or the client doesn't see it.
+    Told(Plan),
+}
+
+/// The resource that the turn's request names, as its client reaches it.
+pub(crate) fn reach<S: Shelf>(
+    alloc: Global,
+    viewer: &Viewer<'_>,
+    shelf: &mut S,
+    turn: &Turn,
+) -> Result<Reached, Failed<ShelfFault>>
+    ensures answer { IfOk result (Answers S.stands S.is_honest shelf.old shelf.new (λ store it. (base : List ℕ) → IsStore base store
+        → IsReached (viewer_of viewer.now) turn.now store.resources it)) }
+    ensures rights { IfOk result (HasRights (viewer_of viewer.now)) }
+    ensures read { OnlyReads S.stands S.is_honest S.failures shelf.old shelf.new result }
+{
+    let Some(resource) = found(alloc, shelf, turn)? else {
+        let plan = absent(alloc, turn)?;
+        return Ok(Reached::Told(plan));
+    };
+    let rights = viewer.policy.rights(alloc, viewer.client, &resource)?;
+    let seen = rights.read().of(Leaf::simple(Attribute::Id));
+    if seen.allow {
+        return Ok(Reached::Seen(resource, rights));
+    }
+    let plan = hidden(alloc, turn, seen)?;
+    Ok(Reached::Told(plan))
+}
