@@ -4,12 +4,6 @@
 //! compare with each other alone, since machines and runs differ.
 #![tactic(auto)]
 
-mod once_runs;
-mod patch_runs;
-mod put_runs;
-mod service_runs;
-mod wire_runs;
-
 use anyhow::{Result, bail};
 use bench_values::print_heading;
 use std::alloc::Global;
@@ -33,14 +27,14 @@ fn run(rt: &HostRuntime, alloc: Global, name: &str) -> Result<()> {
         "decisions" => bench_policies::run_decisions(rt, alloc),
         "filters" => bench_values::run_filters(rt, alloc),
         "filter-texts" => filter_texts::run(rt, alloc),
-        "once" => once_runs::run(rt, alloc),
+        "once" => bench_messages::run_once(rt, alloc),
         "pages" => run_pages(rt, alloc),
         "parts" => bench_values::run_parts(rt, alloc),
-        "patch" => patch_runs::run(rt, alloc),
-        "put" => put_runs::run(rt, alloc),
+        "patch" => bench_turns::run_patches(rt, alloc),
+        "put" => bench_turns::run_puts(rt, alloc),
         "serve" => bench_servers::run_servers(rt),
-        "service" => service_runs::run(rt, alloc),
-        "wire" => wire_runs::run(rt, alloc),
+        "service" => bench_turns::run_service(rt, alloc),
+        "wire" => bench_messages::run_wire(rt, alloc),
         _ => bail!("there is no such scenario"),
     }
 }

@@ -2,7 +2,6 @@
 #![tactic(auto)]
 
 mod loopback;
-mod requests;
 mod runs;
 mod stores;
 

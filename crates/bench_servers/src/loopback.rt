@@ -48,16 +48,19 @@ pub(crate) struct Loopback<'r> {
 }
 
 impl<'r> Loopback<'r> {
-    /// Sockets without a client yet, whose replies are to begin so.
-    pub(crate) fn new(
-        alloc: Global,
-        sockets: Sockets<'r, HostRuntime>,
+    /// Sockets for so many clients, none of which has come, and whose replies are to begin so.
+    pub(crate) fn listen(
+        rt: &'r HostRuntime,
+        clients: usize,
         beginning: &'static str,
     ) -> Result<Loopback<'r>> {
+        let alloc = rt.alloc();
+        let buffer = Vec::from_elem(alloc, 0, PIECE)?;
+        let sockets = Sockets::listen(rt, alloc, 0, Some(clients as u64))?;
         Ok(Loopback {
             sockets,
             clients: Vec::new(alloc),
-            buffer: Vec::from_elem(alloc, 0, PIECE)?,
+            buffer,
             beginning,
             answered: 0,
         })
@@ -66,15 +69,16 @@ impl<'r> Loopback<'r> {
     /// Connects a client, and sends its first request.
     pub(crate) fn connect(&mut self, rt: &HostRuntime, requests: Vec<String>) -> Result<()> {
         let address = SocketAddr::from((Ipv4Addr::LOCALHOST, self.sockets.port()));
-        let stream = TcpStream::connect(rt, address)?;
-        let mut client = Client {
-            stream,
+        let client = Client {
+            stream: TcpStream::connect(rt, address)?,
             requests,
             next: 0,
         };
-        client.go_on()?;
         push(&mut self.clients, client)?;
-        Ok(())
+        match self.clients.last_mut() {
+            Some(client) => Ok(client.go_on()?),
+            None => Ok(()),
+        }
     }
 
     /// The client of a connection takes what was written to it, and goes on where that is a whole reply.

@@ -1,12 +1,11 @@
 //! What requests take by the events of a hub, and over loopback.
 use crate::loopback::Loopback;
-use crate::requests::{Asked, requests};
 use anyhow::{Result, bail, ensure};
+use bench_values::{Asked, print_figures, requests_of};
 use scim_cell::Id;
 use scim_hub::{Event, Happening, Hub, Output, Stamp};
 use scim_serve::serve;
 use scim_shelf::Shelf;
-use scim_sockets::Sockets;
 use scim_text::Moment;
 use std::time::{Clock, Instant};
 use uuid::Uuid;
@@ -20,52 +19,29 @@ const CLIENTS: usize = 64;
 /// The connection of the events that come over no socket.
 const ALONE: u64 = u64::MAX;
 
-/// Nanoseconds a request.
-#[derive(Clone, Copy)]
-struct Figures {
-    // By the hub's events alone.
-    alone: u128,
-    // Over one connection.
-    one: u128,
-    // Over so many at once.
-    many: u128,
-}
-
-/// When an event comes, whose first new resource gets the id of this number.
-fn stamp(number: u128) -> Result<Stamp> {
-    let Some(moment) = Moment::new(1_717_243_200) else {
-        bail!("there is no such moment");
-    };
-    Ok(Stamp {
-        moment,
-        first: Id::of(Uuid::from_u128(number)),
-    })
-}
-
-/// The hub hears of an event, and says what is to be done for it.
+/// The hub hears of an event, whose first new resource gets the id of this number, and says what is to be done for it.
 fn hear<S: Shelf>(
     rt: &HostRuntime,
     hub: &mut Hub<S>,
     number: u128,
     happening: Happening<'_>,
 ) -> Result<Vec<Output>> {
+    let Some(moment) = Moment::new(1_717_243_200) else {
+        bail!("there is no such moment");
+    };
+    let stamp = Stamp {
+        moment,
+        first: Id::of(Uuid::from_u128(number)),
+    };
     let event = Event {
         connection: ALONE,
-        stamp: stamp(number)?,
+        stamp,
         happening,
     };
     Ok(hub.event(rt.alloc(), &event)?)
 }
 
-/// Whether one reply is to be written, and begins so.
-fn is_reply(outputs: &[Output], beginning: &str) -> bool {
-    match outputs {
-        [Output::Write(_, text)] => text.as_bytes().starts_with(beginning.as_bytes()),
-        _ => false,
-    }
-}
-
-/// The hub answers a request as an event, by a reply that begins so.
+/// The hub answers a request as an event, by one reply that begins so.
 fn answer<S: Shelf>(
     rt: &HostRuntime,
     hub: &mut Hub<S>,
@@ -74,10 +50,11 @@ fn answer<S: Shelf>(
     beginning: &str,
 ) -> Result<()> {
     let outputs = hear(rt, hub, number, Happening::Piece(request.as_bytes()))?;
-    ensure!(
-        is_reply(outputs.as_slice(), beginning),
-        "a request isn't answered as it should be"
-    );
+    let is_answered = match outputs.as_slice() {
+        [Output::Write(_, text)] => text.as_bytes().starts_with(beginning.as_bytes()),
+        _ => false,
+    };
+    ensure!(is_answered, "a request isn't answered as it should be");
     Ok(())
 }
 
@@ -100,21 +77,20 @@ fn alone<S: Shelf>(
     Ok(spent.as_nanos() / requests.len().max(1) as u128)
 }
 
-/// Sockets with so many clients that have sent their first requests of what is asked.
-fn connected<'r>(
-    rt: &'r HostRuntime,
+/// Connects so many clients, which send their first requests of what is asked.
+fn connect(
+    rt: &HostRuntime,
+    loopback: &mut Loopback<'_>,
     asked: Asked,
     clients: usize,
     list: usize,
-) -> Result<Loopback<'r>> {
-    let sockets = Sockets::listen(rt, rt.alloc(), 0, Some(clients as u64))?;
-    let mut loopback = Loopback::new(rt.alloc(), sockets, asked.beginning())?;
+) -> Result<()> {
     for client in 0..clients {
         let list = list.saturating_add(client);
-        let requests = requests(rt.alloc(), asked, REQUESTS / clients.max(1), list)?;
+        let requests = requests_of(rt.alloc(), asked, REQUESTS / clients.max(1), list)?;
         loopback.connect(rt, requests)?;
     }
-    Ok(loopback)
+    Ok(())
 }
 
 /// Nanoseconds a request, where so many clients ask over loopback.
@@ -125,9 +101,21 @@ fn over_loopback<S: Shelf>(
     clients: usize,
     list: usize,
 ) -> Result<u128> {
-    let mut loopback = connected(rt, asked, clients, list)?;
+    let mut loopback = Loopback::listen(rt, clients, asked.beginning())?;
+    over(rt, hub, &mut loopback, asked, clients, list)
+}
+
+fn over<S: Shelf>(
+    rt: &HostRuntime,
+    hub: &mut Hub<S>,
+    loopback: &mut Loopback<'_>,
+    asked: Asked,
+    clients: usize,
+    list: usize,
+) -> Result<u128> {
+    connect(rt, loopback, asked, clients, list)?;
     let start = Instant::now(rt)?;
-    serve(rt.alloc(), &mut loopback, hub)?;
+    serve(rt.alloc(), loopback, hub)?;
     let spent = start.elapsed(rt)?;
     let all = REQUESTS / clients.max(1) * clients;
     ensure!(
@@ -137,25 +125,20 @@ fn over_loopback<S: Shelf>(
     Ok(spent.as_nanos() / all.max(1) as u128)
 }
 
-fn measure<S: Shelf>(rt: &HostRuntime, hub: &mut Hub<S>, asked: Asked) -> Result<Figures> {
-    let texts = requests(rt.alloc(), asked, REQUESTS, 1)?;
-    Ok(Figures {
-        alone: alone(rt, hub, texts.as_slice(), asked.beginning())?,
-        one: over_loopback(rt, hub, asked, 1, 2)?,
-        many: over_loopback(rt, hub, asked, CLIENTS, 3)?,
-    })
+/// Nanoseconds a request by the hub's events alone.
+fn by_events<S: Shelf>(rt: &HostRuntime, hub: &mut Hub<S>, asked: Asked) -> Result<u128> {
+    let texts = requests_of(rt.alloc(), asked, REQUESTS, 1)?;
+    alone(rt, hub, texts.as_slice(), asked.beginning())
 }
 
-/// Prints what a request of each form takes, in nanoseconds.
-pub(crate) fn print_figures<S: Shelf>(
-    rt: &HostRuntime,
-    hub: &mut Hub<S>,
-    what: &str,
-) -> Result<()> {
+/// Prints what a request of each form takes, in nanoseconds: by the hub's events alone, over one connection, and over so many
+/// at once.
+pub(crate) fn print_all<S: Shelf>(rt: &HostRuntime, hub: &mut Hub<S>, what: &str) -> Result<()> {
     for asked in Asked::ALL {
-        let Figures { alone, one, many } = measure(rt, hub, asked)?;
-        let name = asked.name();
-        println!(rt; "{what}, {name}: {alone}, {one}, {many}")?;
+        let alone = by_events(rt, hub, asked)?;
+        let one = over_loopback(rt, hub, asked, 1, 2)?;
+        let many = over_loopback(rt, hub, asked, CLIENTS, 3)?;
+        print_figures(rt, what, asked.name(), [alone, one, many])?;
     }
     Ok(())
 }

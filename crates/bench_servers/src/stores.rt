@@ -1,17 +1,16 @@
 //! The stores that are served: in memory, and in a database, which is a file.
 ghost use Rattle.std.specs.Prelude.{◌≡◌, false};
 
-use crate::requests::TOKENS;
-use crate::runs::print_figures;
+use crate::runs::print_all;
 use anyhow::{Result, bail};
-use bench_values::{print_heading, users_file};
+use bench_values::{TOKENS, print_heading, read_users, users_file};
 use scim_cell::Text;
 use scim_hub::Hub;
 use scim_json::read_documents;
 use scim_policy::{Policy, read_policy};
 use scim_samples::BASE;
 use scim_service::Service;
-use scim_shelf::MemoryShelf;
+use scim_shelf::{MemoryShelf, Shelf};
 use scim_store::{SqlShelf, import};
 use scim_token::Tokens;
 use scim_value::Resource;
@@ -41,30 +40,39 @@ struct Terms {
 
 impl Terms {
     fn new(alloc: Global) -> Result<Terms> {
+        let base = Text::copy_of(alloc, BASE)?;
+        let tokens = Tokens::read(alloc, TOKENS)?;
+        let policy = read_policy(alloc, POLICY)?;
         Ok(Terms {
-            policy: read_policy(alloc, POLICY)?,
-            tokens: Tokens::read(alloc, TOKENS)?,
-            base: Text::copy_of(alloc, BASE)?,
+            policy,
+            tokens,
+            base,
         })
+    }
+
+    /// A hub over a shelf.
+    fn hub_over<S: Shelf>(self, alloc: Global, shelf: S) -> Hub<S> {
+        let Terms {
+            policy,
+            tokens,
+            base,
+        } = self;
+        Hub::new(alloc, Service::new(policy, base, shelf), tokens)
     }
 }
 
+/// Prints the figures over users in memory.
 fn in_memory(rt: &HostRuntime, count: usize, what: &str) -> Result<()> {
     let text = users_file(rt.alloc(), count)?;
     match read_documents(rt.alloc(), BASE, text.as_str()) {
         Ok(users) => over_memory(rt, MemoryShelf::new(rt.alloc(), users)?, what),
-        Err(_) => unusable(),
+        Err(_) => bail!("the users file was refused"),
     }
 }
 
 fn over_memory(rt: &HostRuntime, shelf: MemoryShelf, what: &str) -> Result<()> {
-    let Terms {
-        policy,
-        tokens,
-        base,
-    } = Terms::new(rt.alloc())?;
-    let mut hub = Hub::new(rt.alloc(), Service::new(policy, base, shelf), tokens);
-    print_figures(rt, &mut hub, what)
+    let mut hub = Terms::new(rt.alloc())?.hub_over(rt.alloc(), shelf);
+    print_all(rt, &mut hub, what)
 }
 
 fn unusable() -> Result<()> {
@@ -75,7 +83,6 @@ fn unusable() -> Result<()> {
 fn in_database<S: Alter + Drop>(
     rt: &HostRuntime,
     connection: Connection<S>,
-    terms: Terms,
     users: &[Resource],
     what: &str,
 ) -> (Result<()>, Connection<S>)
@@ -86,17 +93,24 @@ fn in_database<S: Alter + Drop>(
         return (unusable(), connection);
     }
     match SqlShelf::open(rt.alloc(), connection, BASE) {
-        Ok(shelf) => {
-            let Terms {
-                policy,
-                tokens,
-                base,
-            } = terms;
-            let mut hub = Hub::new(rt.alloc(), Service::new(policy, base, shelf), tokens);
-            let done = print_figures(rt, &mut hub, what);
+        Ok(shelf) => over_shelf(rt, shelf, what),
+        Err((_, connection)) => (unusable(), connection),
+    }
+}
+
+/// Prints the figures over a store in a database, whose connection is given back.
+fn over_shelf<S: Alter + Drop>(
+    rt: &HostRuntime,
+    shelf: SqlShelf<S>,
+    what: &str,
+) -> (Result<()>, Connection<S>) {
+    match Terms::new(rt.alloc()) {
+        Ok(terms) => {
+            let mut hub = terms.hub_over(rt.alloc(), shelf);
+            let done = print_all(rt, &mut hub, what);
             (done, hub.into_service().into_shelf().into_connection())
         }
-        Err((_, connection)) => (unusable(), connection),
+        Err(fault) => (Err(fault), shelf.into_connection()),
     }
 }
 
@@ -118,18 +132,15 @@ fn in_file(rt: &HostRuntime, count: usize, what: &str) -> Result<()> {
 }
 
 fn over_users(rt: &HostRuntime, count: usize, what: &str) -> Result<()> {
-    let text = users_file(rt.alloc(), count)?;
-    match read_documents(rt.alloc(), BASE, text.as_str()) {
-        Ok(users) => over_file(rt, Terms::new(rt.alloc())?, users.as_slice(), what),
-        Err(_) => unusable(),
-    }
+    let users = read_users(rt.alloc(), count)?;
+    over_file(rt, users.as_slice(), what)
 }
 
 /// Makes the database in a file.
-fn over_file(rt: &HostRuntime, terms: Terms, users: &[Resource], what: &str) -> Result<()> {
+fn over_file(rt: &HostRuntime, users: &[Resource], what: &str) -> Result<()> {
     match Connection::open(rt, PATH) {
         Ok(connection) => {
-            let (done, connection) = in_database(rt, connection, terms, users, what);
+            let (done, connection) = in_database(rt, connection, users, what);
             let _closed = connection.close();
             done
         }

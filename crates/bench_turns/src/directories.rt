@@ -1,15 +1,13 @@
 //! Services over stores in memory, and the groups that requests make there.
-use crate::turns::{draft_of, heading, make, turn_with};
+use crate::turns::make_from;
 use anyhow::Result;
 use bench_values::{id_of, numbered, push_all};
-use scim_body::UseFor;
 use scim_cell::Text;
 use scim_policy::read_policy;
 use scim_samples::BASE;
-use scim_schema::{Kind, Op};
-use scim_service::{Ask, Service, Turn};
+use scim_schema::Kind;
+use scim_service::Service;
 use scim_shelf::MemoryShelf;
-use scim_view::Wanted;
 use std::alloc::Global;
 
 const GROUPS: usize = 1_000;
@@ -23,8 +21,8 @@ const FIRST_GROUP: usize = 1_000_000;
 /// A service by a policy file over a store without resources.
 pub fn service_over_nothing(alloc: Global, policy: &str) -> Result<Service<MemoryShelf>> {
     let base = Text::copy_of(alloc, BASE)?;
-    let shelf = MemoryShelf::new(alloc, Vec::new(alloc))?;
     let policy = read_policy(alloc, policy)?;
+    let shelf = MemoryShelf::new(alloc, Vec::new(alloc))?;
     Ok(Service::new(policy, base, shelf))
 }
 
@@ -43,17 +41,9 @@ fn make_group(
     number: usize,
     users: usize,
 ) -> Result<()> {
-    let turn = group_turn(alloc, number, users)?;
-    make(alloc, service, &turn)
-}
-
-fn group_turn(alloc: Global, number: usize, users: usize) -> Result<Turn> {
-    let heading = heading(alloc)?;
     let body = group_body(alloc, number, users)?;
-    let draft = draft_of(alloc, Kind::Group, UseFor::Creating, body.as_str())?;
-    let ask = Ask::Create(draft, Wanted::Default);
     let place = number.saturating_add(FIRST_GROUP);
-    Ok(turn_with(heading, Op::Create, Kind::Group, place, ask))
+    make_from(alloc, service, Kind::Group, place, body.as_str())
 }
 
 fn group_body(alloc: Global, number: usize, users: usize) -> Result<String> {

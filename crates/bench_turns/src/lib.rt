@@ -1,11 +1,15 @@
-//! Turns of a service, and how long they take: what figures over a store in memory and over one in SQLite share; and pages
-//! of many users in memory.
+//! Figures of a service over a store in memory: its turns, PUTs and PATCHes, and pages of many users.
 #![tactic(auto)]
 
 mod directories;
+mod lists;
 mod pages;
+mod patch_runs;
+mod put_runs;
+mod service_runs;
 mod turns;
 
-pub use directories::{make_groups, service_over_nothing};
 pub use pages::run as run_pages;
-pub use turns::{draft_of, heading, make, timed, turn_with};
+pub use patch_runs::run as run_patches;
+pub use put_runs::run as run_puts;
+pub use service_runs::run as run_service;

@@ -1,9 +1,8 @@
 //! Pages that a service shows of many users in memory, their groups among it.
 use crate::directories::{make_groups, service_over_nothing};
-use crate::turns::{draft_of, heading, make, timed, turn_with};
+use crate::turns::{fastest_timed, heading, make_from, turn_with};
 use anyhow::{Result, ensure};
 use bench_values::{numbered, print_heading, print_line, push_all};
-use scim_body::UseFor;
 use scim_filter::read_filter;
 use scim_query::Query;
 use scim_schema::{Attribute, Kind, Leaf, Op, SubAttribute};
@@ -119,17 +118,9 @@ fn user_body(alloc: Global, number: usize) -> Result<String> {
     Ok(pieces.concat(alloc)?)
 }
 
-fn user_turn(alloc: Global, number: usize) -> Result<Turn> {
-    let heading = heading(alloc)?;
-    let body = user_body(alloc, number)?;
-    let draft = draft_of(alloc, Kind::User, UseFor::Creating, body.as_str())?;
-    let ask = Ask::Create(draft, Wanted::Default);
-    Ok(turn_with(heading, Op::Create, Kind::User, number, ask))
-}
-
 fn make_user(alloc: Global, service: &mut Service<MemoryShelf>, number: usize) -> Result<()> {
-    let turn = user_turn(alloc, number)?;
-    make(alloc, service, &turn)
+    let body = user_body(alloc, number)?;
+    make_from(alloc, service, Kind::User, number, body.as_str())
 }
 
 /// Makes so many users, and the groups.
@@ -183,8 +174,8 @@ fn check(
 ) -> Result<()> {
     let end = numbered(alloc, "\"totalResults\":", found, "}")?;
     for turn in turns {
-        let reply = service.answer(alloc, turn);
-        ensure!(shows(&reply, end.as_str()), "other users are found");
+        let is_found = shows(&service.answer(alloc, turn), end.as_str());
+        ensure!(is_found, "other users are found");
     }
     Ok(())
 }
@@ -199,11 +190,7 @@ fn figure(
 ) -> Result<u128> {
     let turns = turns_of(alloc, filter)?;
     check(alloc, service, turns.as_slice(), found)?;
-    let mut best = timed(rt, alloc, service, turns.as_slice(), 200)?;
-    for _ in 1..PASSES {
-        best = best.min(timed(rt, alloc, service, turns.as_slice(), 200)?);
-    }
-    Ok(best)
+    fastest_timed(rt, alloc, service, turns.as_slice(), PASSES)
 }
 
 /// What searches take over a store of this size.

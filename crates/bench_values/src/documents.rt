@@ -1,6 +1,6 @@
 //! The JSON of a user of 15 cells, beside what serde_json takes for the same texts, and users files.
 use crate::printing::{numbered, print_figure, print_heading, print_line, push_all};
-use crate::timing::fastest;
+use crate::timing::{fastest, let_go};
 use crate::values::value_of;
 use anyhow::{Result, bail, ensure};
 use scim_cell::Id;
@@ -49,15 +49,14 @@ impl Call<'_> {
     /// Makes the call; what it gives is let go.
     fn make(self, alloc: Global) -> Result<()> {
         match self {
-            Call::Show(user) => drop(to_json(alloc, user.part())?),
-            Call::ShowMade(user) => drop(made_text(alloc, user)?),
-            Call::ShowValue(value) => drop(value.to_string(alloc)?),
-            Call::Store(user) => drop(stored_text(alloc, user)?),
-            Call::Read(text) => drop(read_stored(alloc, BASE, text)?),
-            Call::ReadFile(text) => drop(read_documents(alloc, BASE, text)?),
-            Call::ReadValue(text) => drop(Value::from_str(alloc, text)?),
+            Call::Show(user) => let_go(to_json(alloc, user.part())),
+            Call::ShowMade(user) => show_made(alloc, user),
+            Call::ShowValue(value) => let_go(value.to_string(alloc)),
+            Call::Store(user) => let_go(stored_text(alloc, user)),
+            Call::Read(text) => let_go(read_stored(alloc, BASE, text)),
+            Call::ReadFile(text) => let_go(read_documents(alloc, BASE, text)),
+            Call::ReadValue(text) => let_go(Value::from_str(alloc, text)),
         }
-        Ok(())
     }
 
     /// Nanoseconds of the call, one of many.
@@ -75,6 +74,11 @@ impl Call<'_> {
 fn made_text(alloc: Global, user: &Resource) -> Result<String> {
     let value = value_of(alloc, user.part())?;
     Ok(value.to_string(alloc)?)
+}
+
+fn show_made(alloc: Global, user: &Resource) -> Result<()> {
+    made_text(alloc, user)?;
+    Ok(())
 }
 
 /// The value that the user's JSON is of, which is the same as that of a value that is made.
@@ -114,6 +118,15 @@ fn push_user(alloc: Global, number: usize, text: &mut String) -> Result<()> {
             "\"}",
         ],
     )
+}
+
+/// The users of a users file of so many.
+pub fn read_users(alloc: Global, users: usize) -> Result<Vec<Resource>> {
+    let text = users_file(alloc, users)?;
+    match read_documents(alloc, BASE, text.as_str()) {
+        Ok(users) => Ok(users),
+        Err(_) => bail!("the users file was refused"),
+    }
 }
 
 /// Prints what reading a file of so many users takes for each of them, in nanoseconds: by `Value::from_str`, and by

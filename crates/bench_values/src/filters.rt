@@ -3,11 +3,11 @@ pub mod samples;
 
 use crate::filters::samples::{group, id_of, user};
 use crate::printing::{print_figure, print_heading, print_line};
-use crate::timing::fastest;
+use crate::timing::{fastest, let_go};
 use anyhow::{Result, bail};
 use scim_filter::{Filter, holds, read_filter};
 use scim_schema::Kind;
-use scim_text::push;
+use scim_text::{NoMemory, push};
 use scim_value::Part;
 use std::alloc::Global;
 use std::io::Print;
@@ -81,11 +81,10 @@ impl Call<'_> {
     /// Makes the call; what it gives is let go.
     fn make(self, alloc: Global) -> Result<()> {
         match self {
-            Call::Read(written) => drop(read_filter(alloc, Kind::User, written)?),
-            Call::Hold(filter, part) => drop(holds(alloc, filter, part)?),
-            Call::Count(filter, users) => drop(count(alloc, filter, users)?),
+            Call::Read(written) => let_go(read_filter(alloc, Kind::User, written)),
+            Call::Hold(filter, part) => let_go(holds(alloc, filter, part)),
+            Call::Count(filter, users) => let_go(count(alloc, filter, users)),
         }
-        Ok(())
     }
 
     /// Nanoseconds of the call, one of so many.
@@ -110,7 +109,7 @@ fn holding(
 }
 
 /// How many of the users a filter holds of.
-fn count(alloc: Global, filter: &Filter, users: &[Part]) -> Result<usize> {
+fn count(alloc: Global, filter: &Filter, users: &[Part]) -> Result<usize, NoMemory> {
     let mut found = 0usize;
     for user in users {
         if holds(alloc, filter, user)? {

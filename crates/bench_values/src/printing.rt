@@ -25,6 +25,13 @@ pub fn print_line(rt: &impl Print, what: &str, first: u128, second: u128) -> Res
     Ok(())
 }
 
+/// Prints what a call takes in each of three ways.
+pub fn print_figures(rt: &impl Print, what: &str, call: &str, figures: [u128; 3]) -> Result<()> {
+    let [first, second, third] = figures;
+    println!(rt; "{what}, {call}: {first}, {second}, {third}")?;
+    Ok(())
+}
+
 /// A text with a number in it.
 pub fn numbered(alloc: Global, before: &str, number: usize, behind: &str) -> Result<String> {
     Ok(format!(in alloc; "{before}{number}{behind}")?)

@@ -1,5 +1,6 @@
 //! What a call takes.
 use anyhow::Result;
+use std::error::Error;
 use std::num::nearest_u64_to_f64;
 use std::time::{Clock, Duration, Instant};
 
@@ -21,6 +22,12 @@ pub fn fastest<F: Fn() -> Result<()>>(
         best = best.min(start.elapsed(rt)?);
     }
     Ok(best.as_nanos() / calls.max(1) as u128)
+}
+
+/// Lets go of what a call gives. Fails where the call did.
+pub fn let_go<T: Drop, E: Error>(given: Result<T, E>) -> Result<()> {
+    given?;
+    Ok(())
 }
 
 /// How many times as long the one took as the other.

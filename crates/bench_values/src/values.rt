@@ -44,7 +44,7 @@ fn add_extension(
 
 fn push_text(alloc: Global, written: &str, values: &mut Vec<Value>) -> Result<(), NoMemory> {
     let value = text(alloc, written)?;
-    Ok(push(values, value)?)
+    push(values, value)
 }
 
 /// The members of the attributes of an extension, or of no extension.
@@ -92,7 +92,7 @@ fn add_value(
         .entry(name)?
         .or_insert(Value::Array(Vec::new(alloc)));
     if let Value::Array(values) = array {
-        values.push(value)?;
+        push(values, value)?;
     }
     Ok(())
 }

@@ -1,7 +1,7 @@
 //! The calls of `scim_filter`.
 use case_values::{
-    Case, CaseFault, attribute_name, between, debugged, joined, push_all, said, shown, spaced_text,
-    truth,
+    Case, CaseFault, attribute_name, between, debugged, joined, named, push_all, said, shown,
+    spaced_text, truth,
 };
 use scim_cell::Text;
 use scim_filter::{
@@ -15,19 +15,51 @@ use scim_text::Failed;
 use std::alloc::Global;
 use std::str;
 
+/// A call of `scim_filter`.
+#[derive(Clone, Copy)]
+enum FilterCall {
+    OnFilter(OfFilter),
+    Names,
+    Tokens,
+    AttributePath,
+    LoneWord,
+    WrittenPath,
+}
+
+/// What is told of a filter.
+#[derive(Clone, Copy)]
+enum OfFilter {
+    Tree,
+    Holds,
+    HoldsAt,
+    KnowsNames,
+    String,
+}
+
+static CALLS: [(&str, FilterCall); 10] = [
+    ("read_filter", FilterCall::OnFilter(OfFilter::Tree)),
+    ("holds", FilterCall::OnFilter(OfFilter::Holds)),
+    ("holds_at", FilterCall::OnFilter(OfFilter::HoldsAt)),
+    ("knows_names", FilterCall::OnFilter(OfFilter::KnowsNames)),
+    ("string_literal", FilterCall::OnFilter(OfFilter::String)),
+    ("names", FilterCall::Names),
+    ("tokens", FilterCall::Tokens),
+    ("attribute_path", FilterCall::AttributePath),
+    ("lone_word", FilterCall::LoneWord),
+    ("written_path", FilterCall::WrittenPath),
+];
+
 /// What a call of `scim_filter` gives; None where it isn't one.
 pub fn answer(case: &Case<'_>, call: &str) -> Option<Result<String, CaseFault>> {
-    match call {
-        "read_filter" | "holds" | "holds_at" | "knows_names" | "string_literal" => {
-            Some(filter_call(case, call))
-        }
-        "names" => Some(names_call(case)),
-        "tokens" => Some(tokens_call(case)),
-        "attribute_path" => Some(attribute_path_call(case)),
-        "lone_word" => Some(lone_word_call(case)),
-        "written_path" => Some(written_path_call(case)),
-        _ => None,
-    }
+    let call = named(&CALLS, call)?;
+    Some(match call {
+        FilterCall::OnFilter(told) => filter_call(case, told),
+        FilterCall::Names => names_call(case),
+        FilterCall::Tokens => tokens_call(case),
+        FilterCall::AttributePath => attribute_path_call(case),
+        FilterCall::LoneWord => lone_word_call(case),
+        FilterCall::WrittenPath => written_path_call(case),
+    })
 }
 
 /// The filter of the argument `filter`.
@@ -126,20 +158,20 @@ fn push_comparison(
 }
 
 /// What the filter gives, or its fault.
-fn filter_call(case: &Case<'_>, call: &str) -> Result<String, CaseFault> {
+fn filter_call(case: &Case<'_>, told: OfFilter) -> Result<String, CaseFault> {
     match filter_of(case)? {
-        Ok(filter) => told_of_filter(case, call, &filter),
+        Ok(filter) => told_of_filter(case, told, &filter),
         Err(fault) => fault_text(case.alloc, fault),
     }
 }
 
-fn told_of_filter(case: &Case<'_>, call: &str, filter: &Filter) -> Result<String, CaseFault> {
-    match call {
-        "read_filter" => tree_text(case.alloc, filter.tree()),
-        "holds" => holds_text(case, filter),
-        "holds_at" => holds_at_text(case, filter),
-        "knows_names" => truth(case.alloc, knows_names(filter.tree())),
-        _ => string_text(case.alloc, filter.tree()),
+fn told_of_filter(case: &Case<'_>, told: OfFilter, filter: &Filter) -> Result<String, CaseFault> {
+    match told {
+        OfFilter::Tree => tree_text(case.alloc, filter.tree()),
+        OfFilter::Holds => holds_text(case, filter),
+        OfFilter::HoldsAt => holds_at_text(case, filter),
+        OfFilter::KnowsNames => truth(case.alloc, knows_names(filter.tree())),
+        OfFilter::String => string_text(case.alloc, filter.tree()),
     }
 }
 

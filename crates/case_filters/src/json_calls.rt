@@ -1,21 +1,42 @@
 //! The calls of `scim_json`, and lines that hold a users file and what is said of it in place of a call.
-use case_values::{Case, CaseFault, between, file_text, said};
+use case_values::{Case, CaseFault, between, file_text, named, said};
 use scim_json::{Damaged, DamagedItem, read_documents, read_stored, stored_text, to_json};
 use scim_samples::{BASE, part_text};
 use scim_text::Failed;
 use scim_value::Resource;
 use std::alloc::Global;
 
+/// A call of `scim_json`.
+#[derive(Clone, Copy)]
+enum JsonCall {
+    ToJson,
+    StoredText,
+    ReadStored,
+    StoredAgain,
+    ReadsBack,
+    UsersFile,
+}
+
+static CALLS: [(&str, JsonCall); 6] = [
+    ("to_json", JsonCall::ToJson),
+    ("stored_text", JsonCall::StoredText),
+    ("read_stored", JsonCall::ReadStored),
+    ("stored_again", JsonCall::StoredAgain),
+    ("reads_back", JsonCall::ReadsBack),
+    ("users_file", JsonCall::UsersFile),
+];
+
 /// What a call of `scim_json` gives; None where it isn't one.
 pub fn answer(case: &Case<'_>, call: &str) -> Option<Result<String, CaseFault>> {
-    match call {
-        "to_json" => Some(to_json_call(case)),
-        "stored_text" => Some(stored_text_call(case)),
-        "read_stored" | "stored_again" => Some(read_stored_call(case, call)),
-        "reads_back" => Some(reads_back(case)),
-        "users_file" => Some(users_file(case)),
-        _ => None,
-    }
+    let call = named(&CALLS, call)?;
+    Some(match call {
+        JsonCall::ToJson => to_json_call(case),
+        JsonCall::StoredText => stored_text_call(case),
+        JsonCall::ReadStored => read_stored_call(case, false),
+        JsonCall::StoredAgain => read_stored_call(case, true),
+        JsonCall::ReadsBack => reads_back(case),
+        JsonCall::UsersFile => users_file(case),
+    })
 }
 
 fn to_json_call(case: &Case<'_>) -> Result<String, CaseFault> {
@@ -28,20 +49,20 @@ fn stored_text_call(case: &Case<'_>) -> Result<String, CaseFault> {
     Ok(stored_text(case.alloc, &resource)?)
 }
 
-/// The cells of the resource that a text is the document of, or its document as it is written; `Damaged`.
-fn read_stored_call(case: &Case<'_>, call: &str) -> Result<String, CaseFault> {
+/// The cells of the resource that a text is the document of, or `again` its document as it is written; `Damaged`.
+fn read_stored_call(case: &Case<'_>, again: bool) -> Result<String, CaseFault> {
     match read_stored(case.alloc, case.text_or("base", BASE), case.text("text")?) {
-        Ok(resource) => resource_text(case, call, &resource),
+        Ok(resource) => resource_text(case.alloc, again, &resource),
         Err(Failed::Because(Damaged)) => said(case.alloc, "Damaged"),
         Err(Failed::NoMemory) => Err(CaseFault::NoMemory),
     }
 }
 
-fn resource_text(case: &Case<'_>, call: &str, resource: &Resource) -> Result<String, CaseFault> {
-    if call == "stored_again" {
-        Ok(stored_text(case.alloc, resource)?)
+fn resource_text(alloc: Global, again: bool, resource: &Resource) -> Result<String, CaseFault> {
+    if again {
+        Ok(stored_text(alloc, resource)?)
     } else {
-        Ok(part_text(case.alloc, resource.part())?)
+        Ok(part_text(alloc, resource.part())?)
     }
 }
 

@@ -32,9 +32,17 @@ fn client_in(alloc: Global, file: &str, token: &[u8]) -> Result<String, CaseFaul
 fn token_file(case: &Case<'_>) -> Result<String, NoMemory> {
     let mut file = String::from_str(case.alloc, case.text_or("tokens", ""))?;
     for number in 0..case.number("more").unwrap_or(0) {
-        write!(file, "client {number:064x}\n")?;
+        push_token_line(case.alloc, number, &mut file)?;
     }
     Ok(file)
+}
+
+/// Adds the line of a token of which the digest is a number, in 64 hex digits.
+fn push_token_line(alloc: Global, number: i64, file: &mut String) -> Result<(), NoMemory> {
+    let digits = hex::encode(alloc, number.to_be_bytes())?;
+    file.push_str("client 000000000000000000000000000000000000000000000000")?;
+    file.push_str(digits.as_str())?;
+    Ok(file.push_str("\n")?)
 }
 
 /// The tokens of the argument `tokens`, the text of a token file; of no client where it isn't given.

@@ -1,30 +1,40 @@
 //! The calls of `scim_policy` on what a client may write, and what a change would open to it.
 use crate::policy_calls::{decision_text, policy};
-use case_values::{Case, CaseFault, beside, joined, said};
+use case_values::{Case, CaseFault, beside, joined, named, said};
 use scim_policy::{Decision, Policy};
 use scim_samples::{ALICE, leaf_text, resource};
 use scim_schema::{Leaf, Op, unit_of};
 use scim_value::Resource;
 use std::alloc::Global;
 
-/// What a call on access gives; None where it isn't one.
-pub fn answer(case: &Case<'_>, call: &str) -> Option<Result<String, CaseFault>> {
-    match call {
-        "may_write" | "widens" => Some(access_call(case, call)),
-        _ => None,
-    }
+/// A call on access.
+#[derive(Clone, Copy)]
+enum AccessCall {
+    MayWrite,
+    Widens,
 }
 
-fn access_call(case: &Case<'_>, call: &str) -> Result<String, CaseFault> {
+static CALLS: [(&str, AccessCall); 2] = [
+    ("may_write", AccessCall::MayWrite),
+    ("widens", AccessCall::Widens),
+];
+
+/// What a call on access gives; None where it isn't one.
+pub fn answer(case: &Case<'_>, call: &str) -> Option<Result<String, CaseFault>> {
+    let call = named(&CALLS, call)?;
+    Some(access_call(case, call))
+}
+
+fn access_call(case: &Case<'_>, call: AccessCall) -> Result<String, CaseFault> {
     let policy = policy(case)?;
     told_of_access(case, call, &policy)
 }
 
-fn told_of_access(case: &Case<'_>, call: &str, policy: &Policy) -> Result<String, CaseFault> {
+fn told_of_access(case: &Case<'_>, call: AccessCall, policy: &Policy) -> Result<String, CaseFault> {
     let before = case.resource()?;
     match call {
-        "may_write" => forbidding_text(case, policy, &before),
-        _ => widening_text(case, policy, &before),
+        AccessCall::MayWrite => forbidding_text(case, policy, &before),
+        AccessCall::Widens => widening_text(case, policy, &before),
     }
 }
 

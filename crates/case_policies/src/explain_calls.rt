@@ -1,25 +1,39 @@
 //! The calls of `scim_explain`.
 use crate::policy_calls::policy;
-use case_values::{Case, CaseFault};
+use case_values::{Case, CaseFault, named};
 use scim_explain::{explain, idle_rules, print, print_idle_rules, rule_sentences, table};
 use scim_policy::Policy;
 use scim_value::Resource;
 
-/// What a call of `scim_explain` gives; None where it isn't one.
-pub fn answer(case: &Case<'_>, call: &str) -> Option<Result<String, CaseFault>> {
-    match call {
-        "explain" | "table" => Some(resource_call(case, call)),
-        "rule_sentences" | "idle_rules" => Some(policy_call(case, call)),
-        _ => None,
-    }
+/// A call of `scim_explain`.
+#[derive(Clone, Copy)]
+enum ExplainCall {
+    Explain,
+    Table,
+    RuleSentences,
+    IdleRules,
 }
 
-fn policy_call(case: &Case<'_>, call: &str) -> Result<String, CaseFault> {
+static CALLS: [(&str, ExplainCall); 4] = [
+    ("explain", ExplainCall::Explain),
+    ("table", ExplainCall::Table),
+    ("rule_sentences", ExplainCall::RuleSentences),
+    ("idle_rules", ExplainCall::IdleRules),
+];
+
+/// What a call of `scim_explain` gives; None where it isn't one.
+pub fn answer(case: &Case<'_>, call: &str) -> Option<Result<String, CaseFault>> {
+    let call = named(&CALLS, call)?;
+    Some(policy_call(case, call))
+}
+
+fn policy_call(case: &Case<'_>, call: ExplainCall) -> Result<String, CaseFault> {
     let policy = policy(case)?;
-    if call == "rule_sentences" {
-        Ok(rule_sentences(case.alloc, &policy)?)
-    } else {
-        idle_text(case, &policy)
+    match call {
+        ExplainCall::Explain => explanation_text(case, &policy),
+        ExplainCall::Table => table_text(case, &policy),
+        ExplainCall::RuleSentences => Ok(rule_sentences(case.alloc, &policy)?),
+        ExplainCall::IdleRules => idle_text(case, &policy),
     }
 }
 
@@ -29,23 +43,21 @@ fn idle_text(case: &Case<'_>, policy: &Policy) -> Result<String, CaseFault> {
     Ok(print_idle_rules(case.alloc, idle.as_slice())?)
 }
 
-fn resource_call(case: &Case<'_>, call: &str) -> Result<String, CaseFault> {
-    let policy = policy(case)?;
-    told_of(case, call, &policy)
-}
-
-fn told_of(case: &Case<'_>, call: &str, policy: &Policy) -> Result<String, CaseFault> {
+/// What is decided of the whole resource, in lines.
+fn table_text(case: &Case<'_>, policy: &Policy) -> Result<String, CaseFault> {
     let client = case.text("client")?;
     let resource = case.resource()?;
-    if call == "table" {
-        Ok(table(case.alloc, policy, client, case.op(), &resource)?)
-    } else {
-        explanation_text(case, policy, client, &resource)
-    }
+    Ok(table(case.alloc, policy, client, case.op(), &resource)?)
 }
 
 /// Why it is decided so, in lines.
-fn explanation_text(
+fn explanation_text(case: &Case<'_>, policy: &Policy) -> Result<String, CaseFault> {
+    let client = case.text("client")?;
+    let resource = case.resource()?;
+    explained(case, policy, client, &resource)
+}
+
+fn explained(
     case: &Case<'_>,
     policy: &Policy,
     client: &str,

@@ -1,6 +1,6 @@
 //! The calls of `scim_policy`.
 use case_values::{
-    Case, CaseFault, between, debugged, file_text, policy_text, push_all, said, shown, truth,
+    Case, CaseFault, between, debugged, file_text, named, policy_text, push_all, said, shown, truth,
 };
 use scim_policy::{
     ClientName, Decision, Decisions, Misfit, Policy, Rule, Target, is_client_name, read_policy,
@@ -9,16 +9,56 @@ use scim_samples::read_leaf;
 use scim_value::Resource;
 use std::alloc::Global;
 
+/// A call of `scim_policy`.
+#[derive(Clone, Copy)]
+enum PolicyCall {
+    IsClientName,
+    ReadPolicy,
+    PolicyFile,
+    OnRule(OfRule),
+    OnResource(OfDecision),
+}
+
+/// What is told of a rule.
+#[derive(Clone, Copy)]
+enum OfRule {
+    Rule,
+    Paths,
+    Targets,
+}
+
+/// What is told of how a policy decides.
+#[derive(Clone, Copy)]
+enum OfDecision {
+    Decision,
+    Decisions,
+    Misfit,
+    Misfits,
+}
+
+static CALLS: [(&str, PolicyCall); 10] = [
+    ("is_client_name", PolicyCall::IsClientName),
+    ("read_policy", PolicyCall::ReadPolicy),
+    ("policy_file", PolicyCall::PolicyFile),
+    ("rule", PolicyCall::OnRule(OfRule::Rule)),
+    ("rule_paths", PolicyCall::OnRule(OfRule::Paths)),
+    ("rule_targets", PolicyCall::OnRule(OfRule::Targets)),
+    ("decide", PolicyCall::OnResource(OfDecision::Decision)),
+    ("decisions", PolicyCall::OnResource(OfDecision::Decisions)),
+    ("misfit", PolicyCall::OnResource(OfDecision::Misfit)),
+    ("misfits", PolicyCall::OnResource(OfDecision::Misfits)),
+];
+
 /// What a call of `scim_policy` gives; None where it isn't one.
 pub fn answer(case: &Case<'_>, call: &str) -> Option<Result<String, CaseFault>> {
-    match call {
-        "is_client_name" => Some(is_client_name_call(case)),
-        "read_policy" => Some(read_policy_call(case)),
-        "policy_file" => Some(policy_file(case)),
-        "rule" | "rule_paths" | "rule_targets" => Some(rule_call(case, call)),
-        "decide" | "decisions" | "misfit" | "misfits" => Some(decision_call(case, call)),
-        _ => None,
-    }
+    let call = named(&CALLS, call)?;
+    Some(match call {
+        PolicyCall::IsClientName => is_client_name_call(case),
+        PolicyCall::ReadPolicy => read_policy_call(case),
+        PolicyCall::PolicyFile => policy_file(case),
+        PolicyCall::OnRule(told) => rule_call(case, told),
+        PolicyCall::OnResource(told) => decision_call(case, told),
+    })
 }
 
 fn is_client_name_call(case: &Case<'_>) -> Result<String, CaseFault> {
@@ -62,9 +102,10 @@ pub fn policy(case: &Case<'_>) -> Result<Policy, CaseFault> {
 
 /// The rule `number` of the policy, from 1; the first where no number is given.
 fn rule_of<'p>(case: &Case<'_>, policy: &'p Policy) -> Result<&'p Rule, CaseFault> {
-    let number = match case.value.get("number") {
-        Some(_) => case.count("number")?,
-        None => 1,
+    let number = if case.has("number") {
+        case.count("number")?
+    } else {
+        1
     };
     match policy.rules().get(number.wrapping_sub(1)) {
         Some(rule) => Ok(rule),
@@ -73,17 +114,17 @@ fn rule_of<'p>(case: &Case<'_>, policy: &'p Policy) -> Result<&'p Rule, CaseFaul
 }
 
 /// What is told of a rule of the policy.
-fn rule_call(case: &Case<'_>, call: &str) -> Result<String, CaseFault> {
+fn rule_call(case: &Case<'_>, told: OfRule) -> Result<String, CaseFault> {
     let policy = policy(case)?;
-    told_of_rule(case, call, &policy)
+    told_of_rule(case, told, &policy)
 }
 
-fn told_of_rule(case: &Case<'_>, call: &str, policy: &Policy) -> Result<String, CaseFault> {
+fn told_of_rule(case: &Case<'_>, told: OfRule, policy: &Policy) -> Result<String, CaseFault> {
     let rule = rule_of(case, policy)?;
-    match call {
-        "rule" => rule_text(case.alloc, rule),
-        "rule_paths" => debugged(case.alloc, &rule.paths_on(case.kind())),
-        _ => targets_text(case.alloc, rule.targets()),
+    match told {
+        OfRule::Rule => rule_text(case.alloc, rule),
+        OfRule::Paths => debugged(case.alloc, &rule.paths_on(case.kind())),
+        OfRule::Targets => targets_text(case.alloc, rule.targets()),
     }
 }
 
@@ -128,27 +169,27 @@ fn push_target(alloc: Global, target: &Target, text: &mut String) -> Result<(), 
 }
 
 /// What the policy decides of the resource.
-fn decision_call(case: &Case<'_>, call: &str) -> Result<String, CaseFault> {
+fn decision_call(case: &Case<'_>, told: OfDecision) -> Result<String, CaseFault> {
     let policy = policy(case)?;
-    decided_by(case, call, &policy)
+    decided_by(case, told, &policy)
 }
 
-fn decided_by(case: &Case<'_>, call: &str, policy: &Policy) -> Result<String, CaseFault> {
+fn decided_by(case: &Case<'_>, told: OfDecision, policy: &Policy) -> Result<String, CaseFault> {
     let resource = case.resource()?;
-    told_of_decision(case, call, policy, &resource)
+    told_of_decision(case, told, policy, &resource)
 }
 
 fn told_of_decision(
     case: &Case<'_>,
-    call: &str,
+    told: OfDecision,
     policy: &Policy,
     resource: &Resource,
 ) -> Result<String, CaseFault> {
-    match call {
-        "decide" => decision_of(case, policy, resource),
-        "decisions" => decisions_of(case, policy, resource),
-        "misfit" => misfit_text(case, policy, resource),
-        _ => misfits_text(case, policy, resource),
+    match told {
+        OfDecision::Decision => decision_of(case, policy, resource),
+        OfDecision::Decisions => decisions_of(case, policy, resource),
+        OfDecision::Misfit => misfit_text(case, policy, resource),
+        OfDecision::Misfits => misfits_text(case, policy, resource),
     }
 }
 

@@ -3,7 +3,8 @@ use crate::policy_calls::policy;
 use crate::view_calls::{viewer, wanted};
 use case_filters::filter_of;
 use case_values::{
-    Case, CaseFault, between, joined, parts_of, push_all, resources_of, said, shown, spaced_text,
+    Case, CaseFault, between, joined, named, parts_of, push_all, resources_of, said, shown,
+    spaced_text,
 };
 use scim_filter::Filter;
 use scim_json::to_json;
@@ -15,13 +16,31 @@ use scim_value::{Part, Resource};
 use scim_view::Viewer;
 use std::alloc::Global;
 
+/// A call of `scim_query`.
+#[derive(Clone, Copy)]
+enum QueryCall {
+    Search,
+    Pager,
+    SearchView,
+    ReadSortBy,
+}
+
+static CALLS: [(&str, QueryCall); 4] = [
+    ("search", QueryCall::Search),
+    ("pager", QueryCall::Pager),
+    ("search_view", QueryCall::SearchView),
+    ("read_sort_by", QueryCall::ReadSortBy),
+];
+
 /// What a call of `scim_query` gives; None where it isn't one.
 pub fn answer(case: &Case<'_>, call: &str) -> Option<Result<String, CaseFault>> {
-    match call {
-        "search" | "pager" | "search_view" => Some(query_call(case, call)),
-        "read_sort_by" => Some(read_sort_by_call(case)),
-        _ => None,
-    }
+    let call = named(&CALLS, call)?;
+    Some(match call {
+        QueryCall::Search => found_page(case),
+        QueryCall::Pager => paged(case),
+        QueryCall::SearchView => seen_page(case),
+        QueryCall::ReadSortBy => read_sort_by_call(case),
+    })
 }
 
 /// The leaf that is sorted by.
@@ -62,23 +81,19 @@ pub fn query_of(case: &Case<'_>) -> Result<Query, CaseFault> {
     })
 }
 
-fn query_call(case: &Case<'_>, call: &str) -> Result<String, CaseFault> {
+/// The page of the parts of the list `parts` that the query asks for.
+fn found_page(case: &Case<'_>) -> Result<String, CaseFault> {
     let query = query_of(case)?;
-    told_of_query(case, call, &query)
+    found_by(case, &query)
 }
 
-fn told_of_query(case: &Case<'_>, call: &str, query: &Query) -> Result<String, CaseFault> {
-    match call {
-        "search" => found_page(case, query),
-        "pager" => paged(case, query),
-        _ => seen_page(case, query),
-    }
-}
-
-/// The page of the parts of the list `parts` that a query asks for.
-fn found_page(case: &Case<'_>, query: &Query) -> Result<String, CaseFault> {
+fn found_by(case: &Case<'_>, query: &Query) -> Result<String, CaseFault> {
     let parts = parts_of(case)?;
-    let page = search(case.alloc, parts.as_slice(), query)?;
+    found_among(case, parts.as_slice(), query)
+}
+
+fn found_among(case: &Case<'_>, parts: &[Part], query: &Query) -> Result<String, CaseFault> {
+    let page = search(case.alloc, parts, query)?;
     page_text(case, &page)
 }
 
@@ -97,7 +112,12 @@ fn pushed_parts(case: &Case<'_>) -> Result<Vec<Part>, CaseFault> {
 }
 
 /// The page of the parts that are pushed one by one, and the most that were held between two of them.
-fn paged(case: &Case<'_>, query: &Query) -> Result<String, CaseFault> {
+fn paged(case: &Case<'_>) -> Result<String, CaseFault> {
+    let query = query_of(case)?;
+    paged_by(case, &query)
+}
+
+fn paged_by(case: &Case<'_>, query: &Query) -> Result<String, CaseFault> {
     let parts = pushed_parts(case)?;
     let mut pager = Pager::new(case.alloc, query);
     let most = push_parts(&mut pager, parts)?;
@@ -122,13 +142,18 @@ fn told_page(case: &Case<'_>, page: &Page, most: usize) -> Result<String, CaseFa
 }
 
 /// The page of what the client sees by the policy.
-fn seen_page(case: &Case<'_>, query: &Query) -> Result<String, CaseFault> {
-    let page = page_of_view(case, query)?;
+fn seen_page(case: &Case<'_>) -> Result<String, CaseFault> {
+    let page = page_of_view(case)?;
     page_text(case, &page)
 }
 
 /// The page that a query asks for of what the client sees by the policy.
-fn page_of_view(case: &Case<'_>, query: &Query) -> Result<Page, CaseFault> {
+fn page_of_view(case: &Case<'_>) -> Result<Page, CaseFault> {
+    let query = query_of(case)?;
+    page_for(case, &query)
+}
+
+fn page_for(case: &Case<'_>, query: &Query) -> Result<Page, CaseFault> {
     let policy = policy(case)?;
     page_by(case, &policy, query)
 }

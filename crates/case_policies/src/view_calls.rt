@@ -1,6 +1,6 @@
 //! The calls of `scim_view`.
 use crate::policy_calls::policy;
-use case_values::{Case, CaseFault, push_all, resources, said, texts, truth};
+use case_values::{Case, CaseFault, named, push_all, resources, said, texts, truth};
 use scim_policy::Policy;
 use scim_samples::{BASE, part_text};
 use scim_schema::Kind;
@@ -8,17 +8,48 @@ use scim_value::{Part, Resource};
 use scim_view::{Names, Viewer, Wanted, project};
 use std::alloc::Global;
 
+/// A call of `scim_view`.
+#[derive(Clone, Copy)]
+enum ViewCall {
+    OnResource(OfView),
+    Views,
+    Project,
+    Includes,
+}
+
+/// What is told of how a client sees a resource.
+#[derive(Clone, Copy)]
+enum OfView {
+    Sees,
+    Visible,
+    View,
+    WithGroups,
+    ViewWithGroups,
+}
+
+static CALLS: [(&str, ViewCall); 8] = [
+    ("sees", ViewCall::OnResource(OfView::Sees)),
+    ("visible", ViewCall::OnResource(OfView::Visible)),
+    ("view", ViewCall::OnResource(OfView::View)),
+    ("with_groups", ViewCall::OnResource(OfView::WithGroups)),
+    (
+        "view_with_groups",
+        ViewCall::OnResource(OfView::ViewWithGroups),
+    ),
+    ("views", ViewCall::Views),
+    ("project", ViewCall::Project),
+    ("includes", ViewCall::Includes),
+];
+
 /// What a call of `scim_view` gives; None where it isn't one.
 pub fn answer(case: &Case<'_>, call: &str) -> Option<Result<String, CaseFault>> {
-    match call {
-        "sees" | "visible" | "view" | "with_groups" | "view_with_groups" => {
-            Some(view_call(case, call))
-        }
-        "views" => Some(views_call(case)),
-        "project" => Some(project_call(case)),
-        "includes" => Some(includes_call(case)),
-        _ => None,
-    }
+    let call = named(&CALLS, call)?;
+    Some(match call {
+        ViewCall::OnResource(told) => view_call(case, told),
+        ViewCall::Views => views_call(case),
+        ViewCall::Project => project_call(case),
+        ViewCall::Includes => includes_call(case),
+    })
 }
 
 /// The client of a case, by this policy.
@@ -31,62 +62,51 @@ pub fn viewer<'c>(case: &'c Case<'_>, policy: &'c Policy) -> Result<Viewer<'c>, 
 }
 
 /// What the client sees of the resource.
-fn view_call(case: &Case<'_>, call: &str) -> Result<String, CaseFault> {
+fn view_call(case: &Case<'_>, told: OfView) -> Result<String, CaseFault> {
     let policy = policy(case)?;
-    seen_by(case, call, &policy)
+    seen_by(case, told, &policy)
 }
 
-fn seen_by(case: &Case<'_>, call: &str, policy: &Policy) -> Result<String, CaseFault> {
+fn seen_by(case: &Case<'_>, told: OfView, policy: &Policy) -> Result<String, CaseFault> {
     let viewer = viewer(case, policy)?;
     let resource = case.resource()?;
-    told_of_view(case, call, &viewer, &resource)
+    told_of_view(case, told, &viewer, &resource)
 }
 
 fn told_of_view(
     case: &Case<'_>,
-    call: &str,
+    told: OfView,
     viewer: &Viewer<'_>,
     resource: &Resource,
 ) -> Result<String, CaseFault> {
     let alloc = case.alloc;
-    match call {
-        "sees" => truth(alloc, viewer.sees(alloc, resource)?),
-        "visible" => cells_text(alloc, &viewer.visible(alloc, resource)?),
-        "view" => seen_text(alloc, viewer.view(alloc, resource)?),
-        _ => told_with_groups(case, call, viewer, resource),
-    }
-}
-
-fn told_with_groups(
-    case: &Case<'_>,
-    call: &str,
-    viewer: &Viewer<'_>,
-    resource: &Resource,
-) -> Result<String, CaseFault> {
-    let groups = groups(case)?;
-    if call == "with_groups" {
-        with_groups(case.alloc, viewer, groups.as_slice(), resource)
-    } else {
-        view_with_groups(case.alloc, viewer, groups.as_slice(), resource)
+    match told {
+        OfView::Sees => truth(alloc, viewer.sees(alloc, resource)?),
+        OfView::Visible => cells_text(alloc, &viewer.visible(alloc, resource)?),
+        OfView::View => seen_text(alloc, viewer.view(alloc, resource)?),
+        OfView::WithGroups => with_groups(case, viewer, resource),
+        OfView::ViewWithGroups => view_with_groups(case, viewer, resource),
     }
 }
 
 fn with_groups(
-    alloc: Global,
+    case: &Case<'_>,
     viewer: &Viewer<'_>,
-    groups: &[Resource],
     resource: &Resource,
 ) -> Result<String, CaseFault> {
-    cells_text(alloc, &viewer.with_groups(alloc, groups, resource)?)
+    let groups = groups(case)?;
+    let seen = viewer.with_groups(case.alloc, groups.as_slice(), resource)?;
+    cells_text(case.alloc, &seen)
 }
 
 fn view_with_groups(
-    alloc: Global,
+    case: &Case<'_>,
     viewer: &Viewer<'_>,
-    groups: &[Resource],
     resource: &Resource,
 ) -> Result<String, CaseFault> {
-    seen_text(alloc, viewer.view_with_groups(alloc, groups, resource)?)
+    let groups = groups(case)?;
+    let seen = viewer.view_with_groups(case.alloc, groups.as_slice(), resource)?;
+    seen_text(case.alloc, seen)
 }
 
 fn cells_text(alloc: Global, part: &Part) -> Result<String, CaseFault> {
@@ -153,10 +173,10 @@ fn names(case: &Case<'_>, list: &'static str) -> Result<Names, CaseFault> {
 
 /// What is wanted: by the list `attributes`, by the list `excludedAttributes`, or the default.
 pub fn wanted(case: &Case<'_>) -> Result<Wanted, CaseFault> {
-    if case.value.get("attributes").is_some() {
+    if case.has("attributes") {
         return Ok(Wanted::Only(names(case, "attributes")?));
     }
-    if case.value.get("excludedAttributes").is_some() {
+    if case.has("excludedAttributes") {
         return Ok(Wanted::Without(names(case, "excludedAttributes")?));
     }
     Ok(Wanted::Default)

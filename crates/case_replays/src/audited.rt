@@ -1,9 +1,8 @@
 //! The audit of what happens to connections.
 use crate::recordings::Texts;
-use case_stores::push_rows_after;
-use case_values::CaseFault;
+use case_values::{CaseFault, push_rows_after};
 use scim_command::{DatabaseFault, RunFault, service_over};
-use scim_hub::Hub;
+use scim_hub::{Hub, Recorded};
 use scim_policy::read_policy;
 use scim_replay::{Recording, events_of, read_events};
 use scim_shelf::MemoryShelf;
@@ -14,10 +13,18 @@ use std::alloc::Global;
 pub(crate) fn audit_lines(alloc: Global, texts: &Texts) -> Result<String, CaseFault> {
     let recording = texts.recording();
     let mut hub = hub_of(alloc, &recording)?;
-    run_events(alloc, &mut hub, recording.events)?;
-    let shelf = hub.into_service().into_shelf();
+    lines_after(alloc, &mut hub, recording.events)
+}
+
+/// The lines of the audit of a hub after the events of a file.
+fn lines_after(
+    alloc: Global,
+    hub: &mut Hub<MemoryShelf>,
+    events: &str,
+) -> Result<String, CaseFault> {
+    run_events(alloc, hub, events)?;
     let mut text = String::new(alloc);
-    push_rows_after(alloc, 0, shelf.audit(), &mut text)?;
+    push_rows_after(alloc, 0, hub.service().shelf().audit(), &mut text)?;
     Ok(text)
 }
 
@@ -40,10 +47,18 @@ pub(crate) fn hub_of(
 
 /// Lets the events of a file happen.
 fn run_events(alloc: Global, hub: &mut Hub<MemoryShelf>, events: &str) -> Result<(), CaseFault> {
-    let Ok(recorded) = read_events(alloc, events) else {
-        return Err(CaseFault::Missing("events"));
-    };
-    let events = events_of(alloc, recorded.as_slice())?;
+    match read_events(alloc, events) {
+        Ok(recorded) => run_recorded(alloc, hub, recorded.as_slice()),
+        Err(_) => Err(CaseFault::Missing("events")),
+    }
+}
+
+fn run_recorded(
+    alloc: Global,
+    hub: &mut Hub<MemoryShelf>,
+    recorded: &[Recorded],
+) -> Result<(), CaseFault> {
+    let events = events_of(alloc, recorded)?;
     let _results = hub.run(alloc, events.as_slice())?;
     Ok(())
 }

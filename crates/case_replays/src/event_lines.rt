@@ -1,6 +1,6 @@
 //! The events of a case as the text of an events file.
 use case_runs::request_bytes;
-use case_values::{Case, CaseFault, said, shown};
+use case_values::{Case, CaseFault, joined, said, shown};
 use serde_json::Value;
 use std::alloc::Global;
 
@@ -30,7 +30,7 @@ fn event_lines(event: &Case<'_>) -> Result<String, CaseFault> {
     if let Value::String(line) = event.value {
         return line_of(event.alloc, line.as_str());
     }
-    if event.value.get("interleaved").is_some() {
+    if event.has("interleaved") {
         return interleaved(event);
     }
     if event.is_true("joins") {
@@ -44,9 +44,7 @@ fn event_lines(event: &Case<'_>) -> Result<String, CaseFault> {
 
 /// A line with its end.
 fn line_of(alloc: Global, line: &str) -> Result<String, CaseFault> {
-    let mut text = said(alloc, line)?;
-    text.push_str("\n")?;
-    Ok(text)
+    joined(alloc, &[line, "\n"])
 }
 
 /// The line of what happens to the connection of an event, with what stands behind its number.
@@ -73,8 +71,7 @@ fn stamp_text(event: &Case<'_>) -> Result<String, CaseFault> {
 /// The line of a piece.
 pub(crate) fn piece_line(event: &Case<'_>, bytes: &[u8]) -> Result<String, CaseFault> {
     let digits = hex::encode(event.alloc, bytes)?;
-    let mut behind = said(event.alloc, " ")?;
-    behind.push_str(digits.as_str())?;
+    let behind = joined(event.alloc, &[" ", digits.as_str()])?;
     change_line(event, "piece", behind.as_str())
 }
 

@@ -1,10 +1,10 @@
 //! The events of a case, answered as `replay` does.
 use crate::audited::audit_lines;
+use crate::command_calls::end_text;
 use crate::event_lines::{events_text, piece_line};
 use crate::recordings::Texts;
 use case_runs::request_bytes;
-use case_values::{Case, CaseFault, joined, said, shown};
-use scim_command::RunFault;
+use case_values::{Case, CaseFault, push_all, said, shown};
 use scim_replay::replay;
 use std::alloc::Global;
 
@@ -12,9 +12,13 @@ use std::alloc::Global;
 /// case has `audit`.
 pub fn answered(case: &Case<'_>) -> Result<String, CaseFault> {
     let texts = Texts::of(case, events_text(case)?)?;
-    let mut lines = replayed(case.alloc, &texts, "")?;
-    if case.value.get("audit").is_some() {
-        let audit = audit_lines(case.alloc, &texts)?;
+    told_of_events(case, &texts)
+}
+
+fn told_of_events(case: &Case<'_>, texts: &Texts) -> Result<String, CaseFault> {
+    let mut lines = replayed(case.alloc, texts, "")?;
+    if case.has("audit") {
+        let audit = audit_lines(case.alloc, texts)?;
         lines.push_str(audit.as_str())?;
     }
     Ok(lines)
@@ -30,24 +34,30 @@ pub(crate) fn replay_call(case: &Case<'_>) -> Result<String, CaseFault> {
 /// it is cut; else also what is done instead.
 pub(crate) fn cut_call(case: &Case<'_>) -> Result<String, CaseFault> {
     let request = request_bytes(case)?;
-    let mut whole = sent(case, request.as_slice(), 0)?;
+    told_of_cuts(case, request.as_slice())
+}
+
+fn told_of_cuts(case: &Case<'_>, request: &[u8]) -> Result<String, CaseFault> {
+    let mut text = sent(case, request, 0)?;
+    push_first_cut(case, request, &mut text)?;
+    Ok(text)
+}
+
+/// Adds to what is done for a request whole what is done at the first cut where that is something else.
+fn push_first_cut(case: &Case<'_>, request: &[u8], whole: &mut String) -> Result<(), CaseFault> {
     for place in 1..request.len() {
-        let cut = sent(case, request.as_slice(), place)?;
-        if cut != whole {
-            push_cut(case.alloc, place, cut.as_str(), &mut whole)?;
-            return Ok(whole);
+        let cut = sent(case, request, place)?;
+        if cut.as_str() != whole.as_str() {
+            return push_cut(case.alloc, place, cut.as_str(), whole);
         }
     }
-    Ok(whole)
+    Ok(())
 }
 
 /// Adds what is done where a request is cut at a place.
 fn push_cut(alloc: Global, place: usize, cut: &str, text: &mut String) -> Result<(), CaseFault> {
     let place = shown(alloc, &place)?;
-    text.push_str("cut at ")?;
-    text.push_str(place.as_str())?;
-    text.push_str(": ")?;
-    Ok(text.push_str(cut)?)
+    push_all(text, &["cut at ", place.as_str(), ": ", cut])
 }
 
 /// What is to be done where a request comes in two pieces, of which the first ends at a place; in one, where that is 0.
@@ -78,20 +88,4 @@ fn replayed(alloc: Global, texts: &Texts, before: &str) -> Result<String, CaseFa
     let mut written = before.as_bytes().to_vec(alloc)?;
     let done = replay(alloc, &texts.recording(), &mut written);
     end_text(alloc, written.as_slice(), done)
-}
-
-/// What a command wrote, and the line of the fault where there is one.
-fn end_text(
-    alloc: Global,
-    written: &[u8],
-    done: Result<(), RunFault>,
-) -> Result<String, CaseFault> {
-    let text = str::from_utf8(written).unwrap_or("no UTF-8");
-    match done {
-        Ok(()) => said(alloc, text),
-        Err(fault) => {
-            let line = shown(alloc, &fault)?;
-            joined(alloc, &[text, line.as_str()])
-        }
-    }
 }

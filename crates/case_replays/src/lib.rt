@@ -1,21 +1,49 @@
-//! What happens to connections, as events files tell it, and streams that are served whole; over a users file in memory.
+//! The calls of commands over the texts of files: command lines, `once`, `check` and `replay`; what happens to connections, as events
+//! files tell it; and streams that are served whole, over a users file in memory.
 #![tactic(auto)]
 
 mod audited;
+mod command_calls;
 mod event_lines;
 mod events;
 mod recordings;
 mod streams;
 
-use case_values::{Case, CaseFault};
+use case_values::{Case, CaseFault, named};
 pub use events::answered;
+
+/// A call of this crate.
+#[derive(Clone, Copy)]
+enum Call {
+    Replay,
+    EveryCut,
+    ServeStream,
+    Once,
+    Check,
+    CommandLine,
+    FaultLine,
+}
+
+static CALLS: [(&str, Call); 7] = [
+    ("replay", Call::Replay),
+    ("every_cut", Call::EveryCut),
+    ("serve_stream", Call::ServeStream),
+    ("once", Call::Once),
+    ("check", Call::Check),
+    ("command_line", Call::CommandLine),
+    ("fault_line", Call::FaultLine),
+];
 
 /// What a call gives, if it is one of this crate.
 pub fn answer(case: &Case<'_>, call: &str) -> Option<Result<String, CaseFault>> {
-    match call {
-        "replay" => Some(events::replay_call(case)),
-        "every_cut" => Some(events::cut_call(case)),
-        "serve_stream" => Some(streams::stream_call(case)),
-        _ => None,
-    }
+    let call = named(&CALLS, call)?;
+    Some(match call {
+        Call::Replay => events::replay_call(case),
+        Call::EveryCut => events::cut_call(case),
+        Call::ServeStream => streams::stream_call(case),
+        Call::Once => command_calls::once_call(case),
+        Call::Check => command_calls::check_call(case),
+        Call::CommandLine => command_calls::command_line(case),
+        Call::FaultLine => command_calls::fault_line(case),
+    })
 }

@@ -8,13 +8,25 @@ const TOKENS: &str =
     "hr ba7816bf8f01cfea414140de5dae2223b00361a396177a9cb410ff61f20015ad\nmail 2cf24dba5fb0a30e26e83b2ac5b9e29e1b161e5c1fa7425e73043362938b9824\n";
 
 /// The texts of a recording.
-#[derive(Drop)]
 pub(crate) struct Texts {
     policy: String,
     tokens: String,
     users: String,
     base: String,
     events: String,
+}
+
+/// One call, wherever they are dropped, in place of a look at each text.
+impl Drop for Texts {
+    fn drop(self) {
+        let Texts {
+            policy: _policy,
+            tokens: _tokens,
+            users: _users,
+            base: _base,
+            events: _events,
+        } = self;
+    }
 }
 
 impl Texts {

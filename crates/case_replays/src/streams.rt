@@ -2,9 +2,11 @@
 use crate::audited::hub_of;
 use crate::recordings::Texts;
 use case_runs::request_bytes;
-use case_values::{Case, CaseFault, joined, said, shown};
+use case_values::{Case, CaseFault, joined, shown};
 use scim_cell::Id;
-use scim_hub::{IoFault, NoStamp, Served, Stamp, Stamps, serve_stream};
+use scim_hub::{Hub, IoFault, NoStamp, Served, Stamp, Stamps, serve_stream};
+use scim_replay::Recording;
+use scim_shelf::MemoryShelf;
 use scim_text::read_printed_moment;
 use std::alloc::Global;
 use uuid::Uuid;
@@ -28,23 +30,37 @@ impl Stamps for OneStamp {
 /// What is written for the request of a case, as a stream that ends behind it, and how many replies that were.
 pub(crate) fn stream_call(case: &Case<'_>) -> Result<String, CaseFault> {
     let request = request_bytes(case)?;
+    told_of_stream(case, request.as_slice())
+}
+
+fn told_of_stream(case: &Case<'_>, request: &[u8]) -> Result<String, CaseFault> {
     let texts = Texts::of(case, String::new(case.alloc))?;
-    let mut hub = hub_of(case.alloc, &texts.recording())?;
-    let Some(stamp) = stamp(case.alloc) else {
+    told_of_hub(case.alloc, request, &texts.recording())
+}
+
+fn told_of_hub(
+    alloc: Global,
+    request: &[u8],
+    recording: &Recording<'_>,
+) -> Result<String, CaseFault> {
+    let mut hub = hub_of(alloc, recording)?;
+    served_by(alloc, request, &mut hub)
+}
+
+/// What a hub writes for a stream, on a connection of its own.
+fn served_by(
+    alloc: Global,
+    request: &[u8],
+    hub: &mut Hub<MemoryShelf>,
+) -> Result<String, CaseFault> {
+    let Some(stamp) = stamp(alloc) else {
         return Err(CaseFault::NoMemory);
     };
     let mut stamps = OneStamp { stamp };
-    let mut reader = request.as_slice();
-    let mut written = Vec::new(case.alloc);
-    let done = serve_stream(
-        case.alloc,
-        &mut reader,
-        &mut written,
-        &mut hub,
-        1,
-        &mut stamps,
-    );
-    told(case.alloc, written.as_slice(), done)
+    let mut reader = request;
+    let mut written = Vec::new(alloc);
+    let done = serve_stream(alloc, &mut reader, &mut written, hub, 1, &mut stamps);
+    told(alloc, written.as_slice(), done)
 }
 
 /// Noon of 2024-06-01, and the id for what the first message makes; None where no memory was to be had.
@@ -60,10 +76,10 @@ fn stamp(alloc: Global) -> Option<Stamp> {
 
 /// What was written, and how many replies, or the fault.
 fn told(alloc: Global, written: &[u8], done: Result<Served, IoFault>) -> Result<String, CaseFault> {
-    let text = said(alloc, str::from_utf8(written).unwrap_or("no UTF-8"))?;
+    let text = str::from_utf8(written).unwrap_or("no UTF-8");
     let end = match done {
         Ok(Served { replies }) => shown(alloc, &replies)?,
         Err(fault) => shown(alloc, &fault)?,
     };
-    joined(alloc, &[text.as_str(), "replies: ", end.as_str()])
+    joined(alloc, &[text, "replies: ", end.as_str()])
 }

@@ -8,10 +8,10 @@ use serde_json::Value;
 /// What the case says that it gives: the replies of whole requests; what is to be done for events; else a text as it stands, or all else as compact JSON
 /// with keys in order.
 pub fn expected(case: &Case<'_>) -> Result<String, CaseFault> {
-    if case.value.get("steps").is_some() {
+    if case.has("steps") {
         return replies(case);
     }
-    if case.value.get("outputs").is_some() {
+    if case.has("outputs") {
         return outputs_text(case);
     }
     match case.value.get("gives").or(case.value.get("said")) {
@@ -48,7 +48,7 @@ fn push_replies(case: &Case<'_>, store: &Store, text: &mut String) -> Result<(),
 }
 
 fn push_reply(step: &Case<'_>, store: &Store, text: &mut String) -> Result<(), CaseFault> {
-    let (head, body) = if step.value.get(store.reply).is_some() {
+    let (head, body) = if step.has(store.reply) {
         (store.reply, store.gives)
     } else {
         ("reply", "gives")

@@ -29,6 +29,6 @@ pub fn read(
     folder: &str,
     name: &str,
 ) -> Result<String, FolderFault> {
-    let path = format!(in alloc; "{folder}/{name}")?;
+    let path = [folder, "/", name].concat(alloc)?;
     Ok(fs::read_to_string(rt, path.as_str())?)
 }

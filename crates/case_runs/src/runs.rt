@@ -15,7 +15,7 @@ pub trait Calls {
     fn answer(&self, case: &Case<'_>) -> Result<String, CaseFault>;
 }
 
-/// Makes the calls of the cases in a folder's files, prints each case that doesn't come as it is written, and tells how
+/// Makes the calls of the cases in a folder's files, prints each case that doesn't come as it is written, and last how
 /// many there were.
 pub fn go_through<R: Print + Files + AllocGlobal + Clone + Drop>(
     rt: &R,
@@ -23,13 +23,46 @@ pub fn go_through<R: Print + Files + AllocGlobal + Clone + Drop>(
     folder: &str,
     calls: &impl Calls,
 ) -> Result<Tally, FolderFault> {
-    let mut tally = Tally::new();
+    let tally = tally_of(rt, alloc, folder, calls)?;
+    tally.print(rt)?;
+    Ok(tally)
+}
+
+fn tally_of<R: Print + Files + AllocGlobal + Clone + Drop>(
+    rt: &R,
+    alloc: Global,
+    folder: &str,
+    calls: &impl Calls,
+) -> Result<Tally, FolderFault> {
     let names = case_files(rt, alloc, folder)?;
-    for name in names.as_slice() {
-        let text = read(rt, alloc, folder, name.as_str())?;
-        take_file(rt, alloc, name.as_str(), text.as_str(), calls, &mut tally)?;
+    take_files(rt, alloc, folder, names.as_slice(), calls)
+}
+
+fn take_files(
+    rt: &(impl Print + Files + AllocGlobal),
+    alloc: Global,
+    folder: &str,
+    names: &[String],
+    calls: &impl Calls,
+) -> Result<Tally, FolderFault> {
+    let mut tally = Tally::new();
+    for name in names {
+        take_named(rt, alloc, folder, name.as_str(), calls, &mut tally)?;
     }
     Ok(tally)
+}
+
+/// Goes through the cases of the folder's file of this name.
+fn take_named(
+    rt: &(impl Print + Files + AllocGlobal),
+    alloc: Global,
+    folder: &str,
+    name: &str,
+    calls: &impl Calls,
+    tally: &mut Tally,
+) -> Result<(), FolderFault> {
+    let text = read(rt, alloc, folder, name)?;
+    take_file(rt, alloc, name, text.as_str(), calls, tally)
 }
 
 /// Goes through the cases of a file: the items of a JSON list, where its name ends in `.json`, else its lines.

@@ -47,16 +47,12 @@ static TWO: [Store; 2] = [
 
 /// The stores of a case: that of `users`, and beside it that of `beside`, where it is given.
 pub fn stores_of(case: &Case<'_>) -> &'static [Store] {
-    if case.value.get("beside").is_some() {
-        &TWO
-    } else {
-        &ONE
-    }
+    if case.has("beside") { &TWO } else { &ONE }
 }
 
 /// Whether a step goes to the store, as all do but those that are for the other one.
 pub fn goes_to(step: &Case<'_>, store: &Store) -> Result<bool, CaseFault> {
-    if step.value.get("over").is_none() {
+    if !step.has("over") {
         return Ok(true);
     }
     let over = step.text("over")?;

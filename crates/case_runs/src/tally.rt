@@ -52,7 +52,7 @@ impl Tally {
     }
 
     /// Prints both numbers.
-    pub fn print(self, rt: &impl Print) -> Result<(), FolderFault> {
+    pub(crate) fn print(self, rt: &impl Print) -> Result<(), FolderFault> {
         println!(rt; "{} cases, {} as written", self.cases, self.as_written)?;
         Ok(())
     }
@@ -82,13 +82,17 @@ fn print_outcome(
     case: &Case<'_>,
     outcome: &Outcome<'_>,
 ) -> Result<(), FolderFault> {
-    println!(rt;
-        "  expected {}\n  found    {}",
-        outcome.expected, outcome.found
-    )?;
+    print_line(rt, "  expected ", outcome.expected)?;
+    print_line(rt, "  found    ", outcome.found)?;
     let since = case.text_or("since", "");
     if !since.is_empty() {
-        println!(rt; "  since    {since}")?;
+        print_line(rt, "  since    ", since)?;
     }
+    Ok(())
+}
+
+/// Prints a text behind what it is.
+fn print_line(rt: &impl Print, what: &str, text: &str) -> Result<(), FolderFault> {
+    println!(rt; "{what}{text}")?;
     Ok(())
 }

@@ -1,8 +1,8 @@
 //! Stores that whole requests go to.
 use crate::databases::opened;
 use crate::faults::StoreFault;
-use case_values::{Case, CaseFault, push_all};
-use scim_audit::{AuditRow, print_row};
+use case_values::{Case, CaseFault};
+use scim_audit::AuditRow;
 use scim_shelf::{MemoryShelf, Shelf};
 use scim_store::SqlShelf;
 use scim_text::push;
@@ -61,20 +61,4 @@ fn copied_after(
         push(&mut copies, row.try_copy(alloc)?)?;
     }
     Ok(copies)
-}
-
-/// Adds the lines of rows of the audit, before which there are `known` rows.
-pub fn push_rows_after(
-    alloc: Global,
-    known: u64,
-    rows: &[AuditRow],
-    text: &mut String,
-) -> Result<(), CaseFault> {
-    let mut number = known;
-    for row in rows {
-        number = number.saturating_add(1);
-        let line = print_row(alloc, number, row)?;
-        push_all(text, &[line.as_str(), ";"])?;
-    }
-    Ok(())
 }

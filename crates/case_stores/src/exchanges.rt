@@ -24,11 +24,28 @@ pub fn push_replies<S: Shelf>(
     service: &mut Service<S>,
     text: &mut String,
 ) -> Result<(), CaseFault> {
+    let items = items_of(step)?;
+    push_items(step, items.as_slice(), tokens, service, text)
+}
+
+/// What a wire finds in the bytes of a step.
+fn items_of(step: &Case<'_>) -> Result<Vec<Item>, CaseFault> {
     let bytes = request_bytes(step)?;
-    let items = Wire::new(step.alloc).feed(step.alloc, bytes.as_slice())?;
-    for item in items.as_slice() {
+    let mut wire = Wire::new(step.alloc);
+    Ok(wire.feed(step.alloc, bytes.as_slice())?)
+}
+
+/// Adds what is written for the items of a step, up to one after which the connection is closed.
+fn push_items<S: Shelf>(
+    step: &Case<'_>,
+    items: &[Item],
+    tokens: &Tokens,
+    service: &mut Service<S>,
+    text: &mut String,
+) -> Result<(), CaseFault> {
+    for item in items {
         if push_item(step, item, tokens, service, text)? {
-            break;
+            return Ok(());
         }
     }
     Ok(())
@@ -45,7 +62,7 @@ fn push_item<S: Shelf>(
 ) -> Result<bool, CaseFault> {
     match item {
         Item::Continue => {
-            if step.value.get("client").is_none() {
+            if !step.has("client") {
                 text.push_str(CONTINUE)?;
             }
             Ok(false)

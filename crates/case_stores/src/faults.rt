@@ -4,7 +4,7 @@ use std::alloc::{AllocError, Global};
 use thiserror::Error;
 
 /// Why a store gave no answer. Its text stands in the place of what was found.
-#[derive(Clone, Copy, Debug, PartialEq, Eq, Error)]
+#[derive(Clone, Copy, Debug, Error)]
 pub enum StoreFault {
     /// The case itself is at fault, or memory was wanting.
     #[error("{0}")]

@@ -1,27 +1,49 @@
-//! Whole requests over a store in memory and over one in SQLite, which are to answer alike; and databases in SQLite that are
-//! damaged.
+//! Whole requests over a store in memory and over one in SQLite, which are to answer alike; turns of a service; commands over a database;
+//! and databases in SQLite that are damaged.
 #![tactic(auto)]
 
 mod audited;
 mod database_calls;
+mod database_commands;
 mod databases;
 mod exchanges;
 mod faults;
+mod service_calls;
 mod services;
 mod steps;
 
-pub use audited::push_rows_after;
-use case_values::{Case, CaseFault};
-pub use database_calls::prepared;
-pub use databases::{OverDatabase, opened, over_new_database, shelf_of};
-pub use exchanges::FRESH;
-pub use faults::{StoreFault, told_or_fault};
+use case_values::{Case, CaseFault, named};
+use database_commands::DatabaseCommand;
+
+/// A call of this crate.
+#[derive(Clone, Copy)]
+enum Call {
+    Steps,
+    Database,
+    Service,
+    ServiceRun,
+    Command(DatabaseCommand),
+}
+
+static CALLS: [(&str, Call); 8] = [
+    ("steps", Call::Steps),
+    ("database", Call::Database),
+    ("service", Call::Service),
+    ("service_run", Call::ServiceRun),
+    ("print_audit", Call::Command(DatabaseCommand::Audit)),
+    ("export", Call::Command(DatabaseCommand::Export)),
+    ("import", Call::Command(DatabaseCommand::Import)),
+    ("explain_kept", Call::Command(DatabaseCommand::Explain)),
+];
 
 /// What a call gives, if it is one of this crate.
 pub fn answer(case: &Case<'_>, call: &str) -> Option<Result<String, CaseFault>> {
-    match call {
-        "steps" => Some(steps::answered(case)),
-        "database" => Some(database_calls::database_call(case)),
-        _ => None,
-    }
+    let call = named(&CALLS, call)?;
+    Some(match call {
+        Call::Steps => steps::answered(case),
+        Call::Database => database_calls::database_call(case),
+        Call::Service => service_calls::service_call(case),
+        Call::ServiceRun => service_calls::run_call(case),
+        Call::Command(command) => database_commands::command_call(case, command),
+    })
 }

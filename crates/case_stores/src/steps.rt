@@ -1,12 +1,12 @@
 //! The steps of a case, over a store in memory and over one in a database.
-use crate::audited::{Audited, push_rows_after};
+use crate::audited::Audited;
 use crate::databases::{OverDatabase, filled, over_new_database, shelf_of};
 use crate::exchanges::push_replies;
 use crate::faults::{StoreFault, told_or_fault};
 use crate::services::service_over;
 use case_messages::tokens_of;
 use case_runs::{Store, goes_to, stores_of};
-use case_values::{Case, CaseFault, joined};
+use case_values::{Case, CaseFault, joined, push_rows_after};
 use scim_service::Service;
 use scim_shelf::Shelf;
 use scim_token::Tokens;
@@ -16,8 +16,12 @@ use sqlite::{Alter, Connection};
 /// in a database.
 pub fn answered(case: &Case<'_>) -> Result<String, CaseFault> {
     let tokens = tokens_of(case)?;
-    let in_memory = told_or_fault(case.alloc, told_in_memory(case, &tokens))?;
-    let in_database = told_or_fault(case.alloc, told_in_database(case, &tokens))?;
+    told_of_both(case, &tokens)
+}
+
+fn told_of_both(case: &Case<'_>, tokens: &Tokens) -> Result<String, CaseFault> {
+    let in_memory = told_or_fault(case.alloc, told_in_memory(case, tokens))?;
+    let in_database = told_or_fault(case.alloc, told_in_database(case, tokens))?;
     if in_memory == in_database {
         return Ok(in_memory);
     }
@@ -149,7 +153,7 @@ fn push_new_rows<S: Audited>(
     text: &mut String,
 ) -> Result<(), StoreFault> {
     let rows = shelf.rows_after(step.alloc, *known)?;
-    if step.value.get("audit").is_some() {
+    if step.has("audit") {
         push_rows_after(step.alloc, *known, rows.as_slice(), text)?;
     }
     *known = known.saturating_add(rows.len() as u64);

@@ -17,12 +17,7 @@ impl Case<'_> {
 
     /// The argument `op`: `read`, `create`, `modify` or `delete`; `read` where it isn't given.
     pub fn op(&self) -> Op {
-        match self.text_or("op", "read") {
-            "create" => Op::Create,
-            "modify" => Op::Modify,
-            "delete" => Op::Delete,
-            _ => Op::Read,
-        }
+        Op::named(self.text_or("op", "read")).unwrap_or(Op::Read)
     }
 
     /// The argument of this name as a leaf, as `emails.value`.
@@ -58,10 +53,7 @@ impl Case<'_> {
 
 /// The kind of this name; `User` where there is none.
 pub fn kind_of(name: &str) -> Kind {
-    match name {
-        "Group" => Kind::Group,
-        _ => Kind::User,
-    }
+    Kind::named(name).unwrap_or(Kind::User)
 }
 
 /// A text of one's own.
@@ -103,6 +95,19 @@ pub fn between<T: Display>(
 ) -> Result<String, CaseFault> {
     let text = shown(alloc, value)?;
     joined(alloc, &[before, text.as_str(), behind])
+}
+
+/// What a command wrote, and behind it its fault where there is one.
+pub fn written_text<E: Display + Drop>(
+    alloc: Global,
+    written: &[u8],
+    done: Result<(), E>,
+) -> Result<String, CaseFault> {
+    let text = str::from_utf8(written).unwrap_or("no UTF-8");
+    match done {
+        Ok(()) => said(alloc, text),
+        Err(fault) => between(alloc, text, &fault, ""),
+    }
 }
 
 /// What a value is written as in Rattle's own words, as `BadMethod(Search)`.

@@ -2,6 +2,7 @@
 use crate::arguments::{debugged, joined, push_all, said, shown};
 use crate::case::Case;
 use crate::faults::CaseFault;
+use crate::tables::named;
 use scim_audit::{AuditRow, Decided, Methods, Refusal, leaf_path, print_row};
 use scim_cell::{Id, Text};
 use scim_text::read_printed_moment;
@@ -43,15 +44,34 @@ const DECIDED: [Decided; 5] = [
     Decided::Refused,
 ];
 
+/// A call of `scim_audit`.
+#[derive(Clone, Copy)]
+enum AuditCall {
+    Refusal,
+    RefusalBody,
+    LeafPath,
+    PrintRow,
+    CopiedRow,
+}
+
+static CALLS: [(&str, AuditCall); 5] = [
+    ("refusal", AuditCall::Refusal),
+    ("refusal_body", AuditCall::RefusalBody),
+    ("leaf_path", AuditCall::LeafPath),
+    ("print_row", AuditCall::PrintRow),
+    ("copied_audit_row", AuditCall::CopiedRow),
+];
+
 /// What a call of `scim_audit` gives; None where it isn't one.
 pub fn answer(case: &Case<'_>, call: &str) -> Option<Result<String, CaseFault>> {
-    match call {
-        "refusal" => Some(refusal_call(case)),
-        "refusal_body" => Some(refusal_body(case)),
-        "leaf_path" => Some(leaf_path_call(case)),
-        "print_row" | "copied_audit_row" => Some(row_call(case, call)),
-        _ => None,
-    }
+    let call = named(&CALLS, call)?;
+    Some(match call {
+        AuditCall::Refusal => refusal_call(case),
+        AuditCall::RefusalBody => refusal_body(case),
+        AuditCall::LeafPath => leaf_path_call(case),
+        AuditCall::PrintRow => row_line(case),
+        AuditCall::CopiedRow => copied_row_line(case),
+    })
 }
 
 /// The refusal that `refusal` names, as `NotFound` or `BadMethod(Search)`.
@@ -155,14 +175,16 @@ fn number(case: &Case<'_>) -> u64 {
     u64::try_from(case.number("number").unwrap_or(1)).unwrap_or(0)
 }
 
-/// The line of a row, or of a copy of it.
-fn row_call(case: &Case<'_>, call: &str) -> Result<String, CaseFault> {
+/// The line of a row.
+fn row_line(case: &Case<'_>) -> Result<String, CaseFault> {
     let row = row(case)?;
-    if call == "print_row" {
-        line_of(case, &row)
-    } else {
-        copy_line(case, &row)
-    }
+    line_of(case, &row)
+}
+
+/// The line of a copy of a row.
+fn copied_row_line(case: &Case<'_>) -> Result<String, CaseFault> {
+    let row = row(case)?;
+    copy_line(case, &row)
 }
 
 fn copy_line(case: &Case<'_>, row: &AuditRow) -> Result<String, CaseFault> {
@@ -174,15 +196,17 @@ fn line_of(case: &Case<'_>, row: &AuditRow) -> Result<String, CaseFault> {
     Ok(print_row(case.alloc, number(case), row)?)
 }
 
-/// Adds the lines of an audit behind the first `known`.
-pub fn push_rows(
+/// Adds the lines of rows of the audit, before which there are `known` rows.
+pub fn push_rows_after(
     alloc: Global,
+    known: u64,
     rows: &[AuditRow],
-    known: usize,
     text: &mut String,
 ) -> Result<(), CaseFault> {
-    for (index, row) in rows.iter().enumerate().skip(known) {
-        let line = print_row(alloc, index as u64 + 1, row)?;
+    let mut number = known;
+    for row in rows {
+        number = number.saturating_add(1);
+        let line = print_row(alloc, number, row)?;
         push_all(text, &[line.as_str(), ";"])?;
     }
     Ok(())

@@ -3,6 +3,7 @@ use crate::arguments::{beside, order, push_all, said, shown, truth};
 use crate::case::Case;
 use crate::faults::CaseFault;
 use crate::row_tests::OfSubAttribute;
+use crate::tables::named;
 use scim_cell::{
     Atom, Cell, Field, Id, Row, Text, are_values, compare_units, has_type, sub_attributes_by_place,
 };
@@ -11,38 +12,96 @@ use scim_schema::{characteristics_of, unit_of};
 use scim_text::push;
 use std::alloc::Global;
 
+/// A call of `scim_cell`.
+#[derive(Clone, Copy)]
+enum CellCall {
+    Id(OfId),
+    OrderOfIds,
+    CopiedText,
+    SameText,
+    CopiedAtom,
+    SameAtom,
+    HasType,
+    Place,
+    OrderOfPlaces,
+    OrderOfUnits,
+    SubAttributesByPlace,
+    Row(OfRow),
+    AreValues,
+    SameField,
+}
+
+/// What is told of an id: its text, as it is made or written, or its bytes in hex.
+#[derive(Clone, Copy)]
+enum OfId {
+    Text,
+    Written,
+    Bytes,
+}
+
+/// What is told of a row.
+#[derive(Clone, Copy)]
+enum OfRow {
+    Copied,
+    CopiedFields,
+    Atom,
+    Same,
+    Restricted,
+}
+
+static CALLS: [(&str, CellCall); 20] = [
+    ("id", CellCall::Id(OfId::Text)),
+    ("written_id", CellCall::Id(OfId::Written)),
+    ("id_bytes", CellCall::Id(OfId::Bytes)),
+    ("order_of_ids", CellCall::OrderOfIds),
+    ("copied_text", CellCall::CopiedText),
+    ("same_text", CellCall::SameText),
+    ("copied_atom", CellCall::CopiedAtom),
+    ("same_atom", CellCall::SameAtom),
+    ("has_type", CellCall::HasType),
+    ("place", CellCall::Place),
+    ("order_of_places", CellCall::OrderOfPlaces),
+    ("order_of_units", CellCall::OrderOfUnits),
+    ("sub_attributes_by_place", CellCall::SubAttributesByPlace),
+    ("copied_row", CellCall::Row(OfRow::Copied)),
+    ("copied_fields", CellCall::Row(OfRow::CopiedFields)),
+    ("atom_of_row", CellCall::Row(OfRow::Atom)),
+    ("same_row", CellCall::Row(OfRow::Same)),
+    ("restricted_row", CellCall::Row(OfRow::Restricted)),
+    ("are_values", CellCall::AreValues),
+    ("same_field", CellCall::SameField),
+];
+
 /// What a call of `scim_cell` gives; None where it isn't one.
 pub fn answer(case: &Case<'_>, call: &str) -> Option<Result<String, CaseFault>> {
-    match call {
-        "id" | "written_id" | "id_bytes" => Some(id_call(case, call)),
-        "order_of_ids" => Some(order_of_ids(case)),
-        "copied_text" => Some(copied_text(case)),
-        "same_text" => Some(same_text(case)),
-        "copied_atom" => Some(copied_atom(case)),
-        "same_atom" => Some(same_atom(case)),
-        "has_type" => Some(has_type_call(case)),
-        "place" => Some(place(case)),
-        "order_of_places" => Some(order_of_places(case)),
-        "order_of_units" => Some(order_of_units(case)),
-        "sub_attributes_by_place" => Some(sub_attributes_call(case)),
-        "copied_row" | "copied_fields" | "atom_of_row" | "same_row" | "restricted_row" => {
-            Some(row_call(case, call))
-        }
-        "are_values" => Some(are_values_call(case)),
-        "same_field" => Some(same_field(case)),
-        _ => None,
-    }
+    let call = named(&CALLS, call)?;
+    Some(match call {
+        CellCall::Id(told) => id_call(case, told),
+        CellCall::OrderOfIds => order_of_ids(case),
+        CellCall::CopiedText => copied_text(case),
+        CellCall::SameText => same_text(case),
+        CellCall::CopiedAtom => copied_atom(case),
+        CellCall::SameAtom => same_atom(case),
+        CellCall::HasType => has_type_call(case),
+        CellCall::Place => place(case),
+        CellCall::OrderOfPlaces => order_of_places(case),
+        CellCall::OrderOfUnits => order_of_units(case),
+        CellCall::SubAttributesByPlace => sub_attributes_call(case),
+        CellCall::Row(told) => row_call(case, told),
+        CellCall::AreValues => are_values_call(case),
+        CellCall::SameField => same_field(case),
+    })
 }
 
 /// The text of the id that a text is, as it is made or written, or its bytes in hex; `none` where it is none.
-fn id_call(case: &Case<'_>, call: &str) -> Result<String, CaseFault> {
+fn id_call(case: &Case<'_>, told: OfId) -> Result<String, CaseFault> {
     let Some(id) = Id::read(case.text("text")?) else {
         return said(case.alloc, "none");
     };
-    match call {
-        "id" => Ok(id.text(case.alloc)?.into_string()),
-        "id_bytes" => Ok(hex::encode(case.alloc, id.uuid().into_bytes())?),
-        _ => {
+    match told {
+        OfId::Text => Ok(id.text(case.alloc)?.into_string()),
+        OfId::Bytes => Ok(hex::encode(case.alloc, id.uuid().into_bytes())?),
+        OfId::Written => {
             let mut buffer = [0; 40];
             said(case.alloc, id.write(&mut buffer))
         }
@@ -163,18 +222,18 @@ pub fn rows(case: &Case<'_>) -> Result<Vec<Row>, CaseFault> {
 }
 
 /// What is told of the row.
-fn row_call(case: &Case<'_>, call: &str) -> Result<String, CaseFault> {
+fn row_call(case: &Case<'_>, told: OfRow) -> Result<String, CaseFault> {
     let row = row(case.alloc, case.text("row")?)?;
-    told_of_row(case, call, &row)
+    told_of_row(case, told, &row)
 }
 
-fn told_of_row(case: &Case<'_>, call: &str, row: &Row) -> Result<String, CaseFault> {
-    match call {
-        "copied_row" => fields_text(case.alloc, &row.try_copy(case.alloc)?),
-        "copied_fields" => copied_fields(case.alloc, row),
-        "atom_of_row" => atom_of_row(case, row),
-        "same_row" => same_row(case, row),
-        _ => restricted_row(case, row),
+fn told_of_row(case: &Case<'_>, told: OfRow, row: &Row) -> Result<String, CaseFault> {
+    match told {
+        OfRow::Copied => fields_text(case.alloc, &row.try_copy(case.alloc)?),
+        OfRow::CopiedFields => copied_fields(case.alloc, row),
+        OfRow::Atom => atom_of_row(case, row),
+        OfRow::Same => same_row(case, row),
+        OfRow::Restricted => restricted_row(case, row),
     }
 }
 

@@ -11,19 +11,21 @@ mod listed;
 mod policies;
 mod row_tests;
 mod schema_calls;
+mod tables;
 mod text_calls;
 mod value_calls;
 
 pub use arguments::{
     beside, between, debugged, file_text, joined, kind_of, push_all, said, shown, text_or_json,
-    truth,
+    truth, written_text,
 };
-pub use audit_calls::push_rows;
+pub use audit_calls::push_rows_after;
 pub use case::Case;
 pub use faults::CaseFault;
 pub use listed::{parts_of, resources, resources_of, spaced_text, texts};
 pub use policies::policy_text;
 pub use schema_calls::{attribute_name, urn_of};
+pub use tables::named;
 
 /// What a call gives, if it is one of this crate.
 pub fn answer(case: &Case<'_>, call: &str) -> Option<Result<String, CaseFault>> {

@@ -92,8 +92,19 @@ fn numbered_users(alloc: Global, number: i64) -> Result<Vec<Resource>, CaseFault
     Ok(users)
 }
 
+/// What stands in an id before a number, which takes three digits.
+fn id_before(number: i64) -> &'static str {
+    if number < 10 {
+        "00000000-0000-4000-8000-00000000000"
+    } else if number < 100 {
+        "00000000-0000-4000-8000-0000000000"
+    } else {
+        "00000000-0000-4000-8000-000000000"
+    }
+}
+
 fn numbered_user(alloc: Global, index: i64) -> Result<Resource, CaseFault> {
-    let id = format!(in alloc; "00000000-0000-4000-8000-000000000{index:03}")?;
+    let id = between(alloc, id_before(index), &index, "")?;
     let cells = between(alloc, "userName=user", &index, "")?;
     Ok(resource(alloc, Kind::User, id.as_str(), cells.as_str())?)
 }

@@ -2,6 +2,7 @@
 use crate::arguments::{beside, joined, push_all, said, truth};
 use crate::case::Case;
 use crate::faults::CaseFault;
+use crate::tables::named;
 use scim_samples::leaf_text;
 use scim_schema::{
     Attribute, Characteristics, Kind, Leaf, Schema, attribute_characteristics, attribute_named,
@@ -10,22 +11,70 @@ use scim_schema::{
 };
 use std::alloc::Global;
 
+/// A call of `scim_schema`.
+#[derive(Clone, Copy)]
+enum SchemaCall {
+    Attribute,
+    AttributeIn,
+    SubAttribute,
+    Schema(SchemaBy),
+    Name,
+    Schemas,
+    Extensions,
+    Attributes,
+    SubAttributes,
+    Leaf,
+    WholeAttribute,
+    HasLeaf,
+    UnitOf,
+}
+
+/// What a schema is found by.
+#[derive(Clone, Copy)]
+enum SchemaBy {
+    Urn,
+    Kind,
+    Attribute,
+    Extension,
+}
+
+static CALLS: [(&str, SchemaCall); 16] = [
+    ("attribute", SchemaCall::Attribute),
+    ("attribute_in", SchemaCall::AttributeIn),
+    ("sub_attribute", SchemaCall::SubAttribute),
+    ("schema", SchemaCall::Schema(SchemaBy::Urn)),
+    ("core_schema", SchemaCall::Schema(SchemaBy::Kind)),
+    ("schema_of", SchemaCall::Schema(SchemaBy::Attribute)),
+    ("extension_of", SchemaCall::Schema(SchemaBy::Extension)),
+    ("name", SchemaCall::Name),
+    ("schemas", SchemaCall::Schemas),
+    ("extensions", SchemaCall::Extensions),
+    ("attributes", SchemaCall::Attributes),
+    ("sub_attributes", SchemaCall::SubAttributes),
+    ("leaf", SchemaCall::Leaf),
+    ("whole_attribute", SchemaCall::WholeAttribute),
+    ("has_leaf", SchemaCall::HasLeaf),
+    ("unit_of", SchemaCall::UnitOf),
+];
+
 /// What a call of `scim_schema` gives; None where it isn't one.
 pub fn answer(case: &Case<'_>, call: &str) -> Option<Result<String, CaseFault>> {
-    match call {
-        "attribute" | "attribute_in" => Some(attribute_call(case, call)),
-        "sub_attribute" => Some(sub_attribute_call(case)),
-        "schema" | "core_schema" | "schema_of" | "extension_of" => Some(schema_call(case, call)),
-        "name" => Some(name(case)),
-        "schemas" | "extensions" => Some(urns(case, call)),
-        "attributes" => Some(attribute_list(case)),
-        "sub_attributes" => Some(sub_attribute_list(case)),
-        "leaf" => Some(leaf(case)),
-        "whole_attribute" => Some(whole_attribute(case)),
-        "has_leaf" => Some(has_leaf_call(case)),
-        "unit_of" => Some(unit_call(case)),
-        _ => None,
-    }
+    let call = named(&CALLS, call)?;
+    Some(match call {
+        SchemaCall::Attribute => attribute_call(case),
+        SchemaCall::AttributeIn => attribute_in_call(case),
+        SchemaCall::SubAttribute => sub_attribute_call(case),
+        SchemaCall::Schema(by) => schema_call(case, by),
+        SchemaCall::Name => name(case),
+        SchemaCall::Schemas => urns(case.alloc, Schema::all()),
+        SchemaCall::Extensions => urns(case.alloc, extensions(case.kind())),
+        SchemaCall::Attributes => attribute_list(case),
+        SchemaCall::SubAttributes => sub_attribute_list(case),
+        SchemaCall::Leaf => leaf(case),
+        SchemaCall::WholeAttribute => whole_attribute(case),
+        SchemaCall::HasLeaf => has_leaf_call(case),
+        SchemaCall::UnitOf => unit_call(case),
+    })
 }
 
 fn schema_word(schema: Schema) -> &'static str {
@@ -90,13 +139,15 @@ pub fn attribute_name(attribute: Option<Attribute>) -> &'static str {
 }
 
 /// The printed name of the attribute that a name finds.
-fn attribute_call(case: &Case<'_>, call: &str) -> Result<String, CaseFault> {
+fn attribute_call(case: &Case<'_>) -> Result<String, CaseFault> {
+    let found = attribute_named(case.kind(), case.text("name")?);
+    said(case.alloc, attribute_name(found))
+}
+
+/// The printed name of the attribute that a name finds in a schema.
+fn attribute_in_call(case: &Case<'_>) -> Result<String, CaseFault> {
     let name = case.text("name")?;
-    let found = if call == "attribute" {
-        attribute_named(case.kind(), name)
-    } else {
-        attribute_named_in(case.kind(), schema_named(case)?, name)
-    };
+    let found = attribute_named_in(case.kind(), schema_named(case)?, name);
     said(case.alloc, attribute_name(found))
 }
 
@@ -118,12 +169,12 @@ pub fn urn_of(schema: Option<Schema>) -> &'static str {
 }
 
 /// The URN of a schema.
-fn schema_call(case: &Case<'_>, call: &str) -> Result<String, CaseFault> {
-    let found = match call {
-        "schema" => Schema::named(case.text("urn")?),
-        "core_schema" => Some(core_schema(case.kind())),
-        "schema_of" => Some(schema_of(case.kind(), attribute_of(case)?)),
-        _ => extension_of(attribute_of(case)?),
+fn schema_call(case: &Case<'_>, by: SchemaBy) -> Result<String, CaseFault> {
+    let found = match by {
+        SchemaBy::Urn => Schema::named(case.text("urn")?),
+        SchemaBy::Kind => Some(core_schema(case.kind())),
+        SchemaBy::Attribute => Some(schema_of(case.kind(), attribute_of(case)?)),
+        SchemaBy::Extension => extension_of(attribute_of(case)?),
     };
     said(case.alloc, urn_of(found))
 }
@@ -139,14 +190,9 @@ fn name(case: &Case<'_>) -> Result<String, CaseFault> {
 }
 
 /// URNs, with a space behind each.
-fn urns(case: &Case<'_>, call: &str) -> Result<String, CaseFault> {
-    let found = if call == "schemas" {
-        Schema::all()
-    } else {
-        extensions(case.kind())
-    };
-    let mut text = String::new(case.alloc);
-    for schema in found {
+fn urns(alloc: Global, schemas: &[Schema]) -> Result<String, CaseFault> {
+    let mut text = String::new(alloc);
+    for schema in schemas {
         push_all(&mut text, &[schema.urn(), " "])?;
     }
     Ok(text)

@@ -2,19 +2,40 @@
 use crate::arguments::{order, said, shown, truth};
 use crate::case::Case;
 use crate::faults::CaseFault;
+use crate::tables::named;
 use scim_text::{Moment, fold, print_moment, read_moment, read_printed_moment, same_name};
+
+/// A call of `scim_text`.
+#[derive(Clone, Copy)]
+enum TextCall {
+    SameName,
+    Fold,
+    PrintMoment,
+    ReadMoment,
+    ReadPrintedMoment,
+    OrderOfReadings,
+}
+
+static CALLS: [(&str, TextCall); 6] = [
+    ("same_name", TextCall::SameName),
+    ("fold", TextCall::Fold),
+    ("print_moment", TextCall::PrintMoment),
+    ("read_moment", TextCall::ReadMoment),
+    ("read_printed_moment", TextCall::ReadPrintedMoment),
+    ("order_of_readings", TextCall::OrderOfReadings),
+];
 
 /// What a call of `scim_text` gives; None where it isn't one.
 pub fn answer(case: &Case<'_>, call: &str) -> Option<Result<String, CaseFault>> {
-    match call {
-        "same_name" => Some(same_name_call(case)),
-        "fold" => Some(fold_call(case)),
-        "print_moment" => Some(print_moment_call(case)),
-        "read_moment" => Some(read_moment_call(case)),
-        "read_printed_moment" => Some(read_printed_moment_call(case)),
-        "order_of_readings" => Some(order_call(case)),
-        _ => None,
-    }
+    let call = named(&CALLS, call)?;
+    Some(match call {
+        TextCall::SameName => same_name_call(case),
+        TextCall::Fold => fold_call(case),
+        TextCall::PrintMoment => print_moment_call(case),
+        TextCall::ReadMoment => read_moment_call(case),
+        TextCall::ReadPrintedMoment => read_printed_moment_call(case),
+        TextCall::OrderOfReadings => order_call(case),
+    })
 }
 
 fn same_name_call(case: &Case<'_>) -> Result<String, CaseFault> {

@@ -4,6 +4,7 @@ use crate::case::Case;
 use crate::cell_calls::{cell, of_sub_attribute, rows};
 use crate::faults::CaseFault;
 use crate::row_tests::WithAtom;
+use crate::tables::named;
 use scim_cell::{Atom, Cell, Id, Row, Text, are_values};
 use scim_samples::{ALICE, BASE, atom_text, leaf_text, part, part_text, read_cells, row_text};
 use scim_schema::{Attribute, Kind, Leaf, SubAttribute, Unit, unique_leaves, unit_of};
@@ -13,44 +14,114 @@ use scim_value::{
 };
 use std::alloc::Global;
 
+/// A call of `scim_value`, or that of `scim_samples`.
+#[derive(Clone, Copy)]
+enum ValueCall {
+    Part,
+    SortedPart,
+    TakenApart,
+    With,
+    Without,
+    Put,
+    OnPart(OfPart),
+    Location,
+    UniqueLeaves,
+    KnownText,
+    Fault,
+    Resource,
+    ResourceWith,
+    ResourceWithout,
+    ResourceFarAway,
+    OnResource(OfResource),
+}
+
+/// What is told of a part.
+#[derive(Clone, Copy)]
+enum OfPart {
+    Rows,
+    AttributeRows,
+    Values,
+    Restricted,
+    RestrictedByAtom,
+    RestrictedPositions,
+    Text,
+    Atom,
+    Positions,
+    Same,
+    Copied,
+    IsResource,
+}
+
+/// What is told of a resource.
+#[derive(Clone, Copy)]
+enum OfResource {
+    Copied,
+    Told,
+    UniqueNames,
+}
+
+static CALLS: [(&str, ValueCall); 29] = [
+    ("part", ValueCall::Part),
+    ("sorted_part", ValueCall::SortedPart),
+    ("taken_apart", ValueCall::TakenApart),
+    ("with", ValueCall::With),
+    ("without", ValueCall::Without),
+    ("put", ValueCall::Put),
+    ("rows", ValueCall::OnPart(OfPart::Rows)),
+    ("attribute_rows", ValueCall::OnPart(OfPart::AttributeRows)),
+    ("values", ValueCall::OnPart(OfPart::Values)),
+    ("restrict", ValueCall::OnPart(OfPart::Restricted)),
+    (
+        "restrict_by_atom",
+        ValueCall::OnPart(OfPart::RestrictedByAtom),
+    ),
+    (
+        "restricted_positions",
+        ValueCall::OnPart(OfPart::RestrictedPositions),
+    ),
+    ("part_text", ValueCall::OnPart(OfPart::Text)),
+    ("atom", ValueCall::OnPart(OfPart::Atom)),
+    ("positions", ValueCall::OnPart(OfPart::Positions)),
+    ("same_part", ValueCall::OnPart(OfPart::Same)),
+    ("copied_part", ValueCall::OnPart(OfPart::Copied)),
+    ("is_resource", ValueCall::OnPart(OfPart::IsResource)),
+    ("location", ValueCall::Location),
+    ("unique_leaves", ValueCall::UniqueLeaves),
+    ("known_text", ValueCall::KnownText),
+    ("fault", ValueCall::Fault),
+    ("resource", ValueCall::Resource),
+    ("resource_with", ValueCall::ResourceWith),
+    ("resource_without", ValueCall::ResourceWithout),
+    ("resource_far_away", ValueCall::ResourceFarAway),
+    ("copied_resource", ValueCall::OnResource(OfResource::Copied)),
+    ("told_of_resource", ValueCall::OnResource(OfResource::Told)),
+    (
+        "unique_names",
+        ValueCall::OnResource(OfResource::UniqueNames),
+    ),
+];
+
 /// What a call of `scim_value` gives; None where it isn't one.
 pub fn answer(case: &Case<'_>, call: &str) -> Option<Result<String, CaseFault>> {
-    match call {
-        "part" | "sorted_part" => Some(part_call(case, call)),
-        "taken_apart" => Some(taken_apart(case)),
-        "with" => Some(with_call(case)),
-        "without" => Some(without_call(case)),
-        "put" => Some(put_call(case)),
-        "rows" | "attribute_rows" | "values" => Some(part_told(case, call)),
-        "restrict" | "restrict_by_atom" | "restricted_positions" => Some(part_told(case, call)),
-        _ => other_answer(case, call),
-    }
-}
-
-/// What a call on one part, or on a leaf gives.
-fn other_answer(case: &Case<'_>, call: &str) -> Option<Result<String, CaseFault>> {
-    match call {
-        "part_text" | "atom" | "positions" | "same_part" | "copied_part" | "is_resource" => {
-            Some(part_told(case, call))
-        }
-        "location" => Some(location_call(case)),
-        "unique_leaves" => Some(unique_leaves_call(case)),
-        "known_text" => Some(known_text_call(case)),
-        "fault" => Some(fault_call(case)),
-        _ => resource_answer(case, call),
-    }
-}
-
-/// What a call on a resource gives.
-fn resource_answer(case: &Case<'_>, call: &str) -> Option<Result<String, CaseFault>> {
-    match call {
-        "resource" => Some(resource_call(case)),
-        "resource_with" => Some(resource_with(case)),
-        "resource_without" => Some(resource_without(case)),
-        "resource_far_away" => Some(resource_far_away(case)),
-        "copied_resource" | "told_of_resource" | "unique_names" => Some(resource_told(case, call)),
-        _ => None,
-    }
+    let call = named(&CALLS, call)?;
+    Some(match call {
+        ValueCall::Part => part_call(case),
+        ValueCall::SortedPart => sorted_part_call(case),
+        ValueCall::TakenApart => taken_apart(case),
+        ValueCall::With => with_call(case),
+        ValueCall::Without => without_call(case),
+        ValueCall::Put => put_call(case),
+        ValueCall::OnPart(told) => part_told(case, told),
+        ValueCall::Location => location_call(case),
+        ValueCall::UniqueLeaves => unique_leaves_call(case),
+        ValueCall::KnownText => known_text_call(case),
+        ValueCall::Fault => fault_call(case),
+        ValueCall::Resource => resource_call(case),
+        ValueCall::ResourceWith => resource_with(case),
+        ValueCall::ResourceWithout => resource_without(case),
+        ValueCall::ResourceFarAway => resource_far_away(case),
+        ValueCall::OnResource(told) => resource_told(case, told),
+    })
 }
 
 /// The cells of a part that was made, or `Invalid`.
@@ -62,18 +133,25 @@ fn made_text(alloc: Global, made: Result<Part, Failed<Invalid>>) -> Result<Strin
     }
 }
 
-/// The part of cells in any order, or in order of place.
-fn part_call(case: &Case<'_>, call: &str) -> Result<String, CaseFault> {
+/// The part of cells in any order.
+fn part_call(case: &Case<'_>) -> Result<String, CaseFault> {
     let Some(id) = Id::read(case.text_or("id", ALICE)) else {
         return Err(CaseFault::Missing("id"));
     };
     let cells = read_cells(case.alloc, case.text("cells")?)?;
-    let made = if call == "part" {
-        Part::of(case.alloc, case.kind(), id, cells)
-    } else {
-        Part::of_sorted(case.alloc, case.kind(), id, cells)
+    made_text(case.alloc, Part::of(case.alloc, case.kind(), id, cells))
+}
+
+/// The part of cells in order of place.
+fn sorted_part_call(case: &Case<'_>) -> Result<String, CaseFault> {
+    let Some(id) = Id::read(case.text_or("id", ALICE)) else {
+        return Err(CaseFault::Missing("id"));
     };
-    made_text(case.alloc, made)
+    let cells = read_cells(case.alloc, case.text("cells")?)?;
+    made_text(
+        case.alloc,
+        Part::of_sorted(case.alloc, case.kind(), id, cells),
+    )
 }
 
 /// The position `position`, by default 0.
@@ -82,22 +160,25 @@ fn position(case: &Case<'_>) -> usize {
 }
 
 /// What is told of the part.
-fn part_told(case: &Case<'_>, call: &str) -> Result<String, CaseFault> {
+fn part_told(case: &Case<'_>, told: OfPart) -> Result<String, CaseFault> {
     let part = case.part()?;
-    told_of_part(case, call, &part)
+    told_of_part(case, told, &part)
 }
 
-fn told_of_part(case: &Case<'_>, call: &str, part: &Part) -> Result<String, CaseFault> {
-    match call {
-        "part_text" => cells_text(case.alloc, part),
-        "atom" => atom_told(case, part),
-        "positions" => positions_text(case, part),
-        "same_part" => same_part(case, part),
-        "copied_part" => part_copy_text(case.alloc, part),
-        "is_resource" => truth(case.alloc, is_resource(part)),
-        "restrict_by_atom" => restrict_by_atom(case, part),
-        "restrict" | "restricted_positions" => restricted(case, call, part),
-        _ => rows_told(case, call, part),
+fn told_of_part(case: &Case<'_>, told: OfPart, part: &Part) -> Result<String, CaseFault> {
+    match told {
+        OfPart::Rows => rows_text(case.alloc, part.rows()),
+        OfPart::AttributeRows => attribute_rows_text(case, part),
+        OfPart::Values => values_text(case, part),
+        OfPart::Restricted => restricted_text(case, part),
+        OfPart::RestrictedByAtom => restrict_by_atom(case, part),
+        OfPart::RestrictedPositions => restricted_positions(case, part),
+        OfPart::Text => cells_text(case.alloc, part),
+        OfPart::Atom => atom_told(case, part),
+        OfPart::Positions => positions_text(case, part),
+        OfPart::Same => same_part(case, part),
+        OfPart::Copied => part_copy_text(case.alloc, part),
+        OfPart::IsResource => truth(case.alloc, is_resource(part)),
     }
 }
 
@@ -106,16 +187,16 @@ fn part_copy_text(alloc: Global, part: &Part) -> Result<String, CaseFault> {
     cells_text(alloc, &copy)
 }
 
-/// The rows of a part, or those of the attribute or of the unit of a leaf, with a bar between two.
-fn rows_told(case: &Case<'_>, call: &str, part: &Part) -> Result<String, CaseFault> {
-    match call {
-        "rows" => rows_text(case.alloc, part.rows()),
-        "values" => rows_text(case.alloc, part.values(unit_of(case.leaf("leaf")?))),
-        _ => rows_text(
-            case.alloc,
-            part.attribute_rows(case.leaf("leaf")?.attribute),
-        ),
-    }
+/// The rows of the attribute of a leaf.
+fn attribute_rows_text(case: &Case<'_>, part: &Part) -> Result<String, CaseFault> {
+    let leaf = case.leaf("leaf")?;
+    rows_text(case.alloc, part.attribute_rows(leaf.attribute))
+}
+
+/// The rows of the unit of a leaf.
+fn values_text(case: &Case<'_>, part: &Part) -> Result<String, CaseFault> {
+    let unit = unit_of(case.leaf("leaf")?);
+    rows_text(case.alloc, part.values(unit))
 }
 
 fn cells_text(alloc: Global, part: &Part) -> Result<String, CaseFault> {
@@ -200,15 +281,21 @@ fn put_text(alloc: Global, part: Part, unit: Unit, values: Vec<Row>) -> Result<S
     cells_text(alloc, &changed)
 }
 
-/// What is left where the fields of one sub-attribute are kept, or how many positions the attribute of a leaf
-/// has then.
-fn restricted(case: &Case<'_>, call: &str, part: &Part) -> Result<String, CaseFault> {
+/// What is left where the fields of one sub-attribute are kept.
+fn restricted_text(case: &Case<'_>, part: &Part) -> Result<String, CaseFault> {
+    let rest = restricted(case, part)?;
+    cells_text(case.alloc, &rest)
+}
+
+/// How many positions the attribute of a leaf has then.
+fn restricted_positions(case: &Case<'_>, part: &Part) -> Result<String, CaseFault> {
+    let rest = restricted(case, part)?;
+    positions_text(case, &rest)
+}
+
+fn restricted(case: &Case<'_>, part: &Part) -> Result<Part, CaseFault> {
     let test = of_sub_attribute(case)?;
-    let rest = part.restrict(case.alloc, &test)?;
-    match call {
-        "restrict" => cells_text(case.alloc, &rest),
-        _ => positions_text(case, &rest),
-    }
+    Ok(part.restrict(case.alloc, &test)?)
 }
 
 /// What is left where the values with the atom of a cell are kept.
@@ -278,12 +365,12 @@ fn far_location(case: &Case<'_>, resource: &Resource) -> Result<Text, CaseFault>
 }
 
 /// What is told of the resource.
-fn resource_told(case: &Case<'_>, call: &str) -> Result<String, CaseFault> {
+fn resource_told(case: &Case<'_>, told: OfResource) -> Result<String, CaseFault> {
     let resource = case.resource()?;
-    match call {
-        "copied_resource" => copy_text(case.alloc, &resource),
-        "told_of_resource" => told_of_resource(case, &resource),
-        _ => unique_names_text(case.alloc, &resource),
+    match told {
+        OfResource::Copied => copy_text(case.alloc, &resource),
+        OfResource::Told => told_of_resource(case, &resource),
+        OfResource::UniqueNames => unique_names_text(case.alloc, &resource),
     }
 }
 

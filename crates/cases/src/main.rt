@@ -6,10 +6,6 @@
 //! read.
 #![tactic(auto)]
 
-mod command_calls;
-mod database_commands;
-mod service_calls;
-
 use case_runs::{Calls, FolderFault, Tally, go_through};
 use case_values::{Case, CaseFault};
 use std::env;
@@ -28,9 +24,7 @@ fn main(rt: HostRuntime) -> ExitCode {
 /// Goes through the files of the folder that the command line names.
 fn run(rt: &HostRuntime) -> Result<Tally, FolderFault> {
     let folder = folder_named(rt)?;
-    let tally = go_through(rt, rt.alloc(), folder.as_str(), &AllCalls)?;
-    tally.print(rt)?;
-    Ok(tally)
+    go_through(rt, rt.alloc(), folder.as_str(), &AllCalls)
 }
 
 /// The last word of the command line.
@@ -46,7 +40,7 @@ struct AllCalls;
 
 impl Calls for AllCalls {
     fn answer(&self, case: &Case<'_>) -> Result<String, CaseFault> {
-        if case.value.get("outputs").is_some() {
+        if case.has("outputs") {
             return case_replays::answered(case);
         }
         let call = case.call()?;
@@ -68,12 +62,6 @@ impl Calls for AllCalls {
         if let Some(found) = case_replays::answer(case, call) {
             return found;
         }
-        if let Some(found) = database_commands::answer(case, call) {
-            return found;
-        }
-        if let Some(found) = service_calls::answer(case, call) {
-            return found;
-        }
-        command_calls::answer(case, call).unwrap_or(Err(CaseFault::NoSuchCall))
+        Err(CaseFault::NoSuchCall)
     }
 }

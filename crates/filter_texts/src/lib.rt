@@ -173,18 +173,21 @@ fn check_all(rt: &impl Print, alloc: Global) -> Result<[Counts; 4]> {
     Ok(counts)
 }
 
+/// Prints how many texts of a sort had each outcome.
+fn print_counts(rt: &impl Print, name: &str, counts: &Counts) -> Result<()> {
+    println!(rt;
+        "{name:>8} {:>8} {:>8} {:>10} {:>8} {:>8}",
+        counts.read, counts.syntax, counts.wrong_type, counts.too_deep, counts.too_long
+    )?;
+    Ok(())
+}
+
 /// Prints how many texts of each sort had each outcome.
 pub fn run(rt: &impl Print, alloc: Global) -> Result<()> {
     let counts = check_all(rt, alloc)?;
-    println!(rt;
-        "{:>8} {:>8} {:>8} {:>10} {:>8} {:>8}",
-        "", "read", "syntax", "wrong type", "too deep", "too long"
-    )?;
+    println!(rt; "             read   syntax wrong type too deep too long")?;
     for ((name, _), counts) in SORTS.iter().zip(counts.iter()) {
-        println!(rt;
-            "{name:>8} {:>8} {:>8} {:>10} {:>8} {:>8}",
-            counts.read, counts.syntax, counts.wrong_type, counts.too_deep, counts.too_long
-        )?;
+        print_counts(rt, name, counts)?;
     }
     Ok(())
 }

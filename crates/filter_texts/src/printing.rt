@@ -31,9 +31,7 @@ fn print(alloc: Global, node: &Node, dice: Dice, playful: bool) -> Result<String
         dice,
         playful,
     };
-    printer.spaces(0)?;
-    printer.node(node, false)?;
-    printer.spaces(0)?;
+    printer.whole(node)?;
     let Printer { text, .. } = printer;
     Ok(text)
 }
@@ -69,6 +67,13 @@ impl Printer {
     fn push(&mut self, written: &str) -> Result<(), NoMemory> {
         self.text.push_str(written)?;
         Ok(())
+    }
+
+    /// A tree with nothing round it but spaces.
+    fn whole(&mut self, node: &Node) -> Result<(), NoMemory> {
+        self.spaces(0)?;
+        self.node(node, false)?;
+        self.spaces(0)
     }
 
     /// So many spaces, or more.

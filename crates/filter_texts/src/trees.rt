@@ -148,6 +148,11 @@ fn inner_path(alloc: Global, dice: &mut Dice, outer: Meant) -> Result<Path, NoMe
     })
 }
 
+/// A node in a box; NoMemory where none was to be had.
+fn boxed(alloc: Global, node: Node) -> Result<Box<Node>, NoMemory> {
+    Ok(Box::new(alloc, node)?)
+}
+
 /// An operator and a literal, each mostly such as what the path names is compared by.
 fn comparison(alloc: Global, dice: &mut Dice, path: Path) -> Result<Box<Node>, NoMemory> {
     let known = compared_type(path.meant);
@@ -160,12 +165,12 @@ fn comparison(alloc: Global, dice: &mut Dice, path: Path) -> Result<Box<Node>, N
         _ => any_literal(alloc, dice)?,
     };
     let operator = dice.pick(among).unwrap_or(Operator::Eq);
-    Ok(Box::new(alloc, Node::Compare(path, operator, literal))?)
+    boxed(alloc, Node::Compare(path, operator, literal))
 }
 
 fn plain_term(alloc: Global, dice: &mut Dice, path: Path) -> Result<Box<Node>, NoMemory> {
     if dice.one_in(4) {
-        Ok(Box::new(alloc, Node::Present(path))?)
+        boxed(alloc, Node::Present(path))
     } else {
         comparison(alloc, dice, path)
     }
@@ -184,14 +189,14 @@ fn take_any(dice: &mut Dice, nodes: &mut Vec<Box<Node>>) -> Option<Box<Node>> {
 /// A tree of two.
 fn pair(alloc: Global, dice: &mut Dice, a: Box<Node>, b: Box<Node>) -> Result<Box<Node>, NoMemory> {
     match dice.below(5) {
-        0 | 1 => Ok(Box::new(alloc, Node::And(a, b))?),
-        2 | 3 => Ok(Box::new(alloc, Node::Or(a, b))?),
-        _ => not(alloc, Box::new(alloc, Node::And(a, b))?),
+        0 | 1 => boxed(alloc, Node::And(a, b)),
+        2 | 3 => boxed(alloc, Node::Or(a, b)),
+        _ => not(alloc, boxed(alloc, Node::And(a, b))?),
     }
 }
 
 fn not(alloc: Global, node: Box<Node>) -> Result<Box<Node>, NoMemory> {
-    Ok(Box::new(alloc, Node::Not(node))?)
+    boxed(alloc, Node::Not(node))
 }
 
 /// One tree of all the nodes.
@@ -218,7 +223,7 @@ fn join_two(alloc: Global, dice: &mut Dice, nodes: &mut Vec<Box<Node>>) -> Resul
 /// A value path behind this path.
 fn values(alloc: Global, dice: &mut Dice, path: Path) -> Result<Box<Node>, NoMemory> {
     let inner = inner_terms(alloc, dice, path.meant)?;
-    Ok(Box::new(alloc, Node::Values(path, inner))?)
+    boxed(alloc, Node::Values(path, inner))
 }
 
 /// One to three terms on the values of what a path means.
@@ -227,7 +232,7 @@ fn inner_terms(alloc: Global, dice: &mut Dice, outer: Meant) -> Result<Box<Node>
     let first = inner_term(alloc, dice, outer)?;
     match others {
         None => Ok(first),
-        Some(others) => Ok(Box::new(alloc, Node::Or(first, others))?),
+        Some(others) => boxed(alloc, Node::Or(first, others)),
     }
 }
 

@@ -4,7 +4,6 @@ use std::alloc::Global;
 use std::fmt;
 
 /// Why a command wasn't carried out. Its text is one line for people.
-#[derive(Debug, Drop)]
 pub enum CommandFault {
     /// An argument isn't in UTF-8.
     NotText,
@@ -18,6 +17,20 @@ pub enum CommandFault {
     CannotServe,
     /// The command gave up.
     Run(RunFault),
+}
+
+/// One call, wherever a fault is dropped, in place of a look at each form.
+impl Drop for CommandFault {
+    fn drop(self) {
+        match self {
+            CommandFault::CannotRead(_path) => (),
+            CommandFault::NotText
+            | CommandFault::BadOption
+            | CommandFault::CannotListen
+            | CommandFault::CannotServe
+            | CommandFault::Run(_) => (),
+        }
+    }
 }
 
 impl CommandFault {
@@ -44,12 +57,12 @@ impl CommandFault {
 impl fmt::Display for CommandFault {
     fn fmt<W: fmt::Write>(&self, f: &mut fmt::Formatter<W>) -> fmt::Result {
         match self {
-            CommandFault::NotText => write!(f, "an argument is not in UTF-8"),
-            CommandFault::BadOption => write!(f, "bad option"),
+            CommandFault::NotText => f.write_str("an argument is not in UTF-8"),
+            CommandFault::BadOption => f.write_str("bad option"),
             CommandFault::CannotRead(path) => write!(f, "cannot read {}", OneLine(path.as_str())),
-            CommandFault::CannotListen => write!(f, "cannot listen"),
-            CommandFault::CannotServe => write!(f, "cannot serve"),
-            CommandFault::Run(fault) => write!(f, "{fault}"),
+            CommandFault::CannotListen => f.write_str("cannot listen"),
+            CommandFault::CannotServe => f.write_str("cannot serve"),
+            CommandFault::Run(fault) => fmt::Display::fmt(fault, f),
         }
     }
 }

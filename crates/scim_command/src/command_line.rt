@@ -8,9 +8,43 @@ pub const DEFAULT_BASE: &str = "http://127.0.0.1:8080";
 /// The version of the program.
 const VERSION: &str = "0.1.0";
 
+/// Which command it is.
+#[derive(Clone, Copy)]
+pub enum CommandName {
+    /// One request is answered.
+    Once,
+    /// A policy file is looked through.
+    Check,
+    /// A database is served.
+    Serve,
+    /// The events of a file are answered.
+    Replay,
+    /// It is said why a decision falls.
+    Explain,
+    /// A users file is brought into a database.
+    Import,
+    /// The users file of a database is written.
+    Export,
+    /// Rows of the audit are written.
+    Audit,
+}
+
+impl CommandName {
+    /// The command of this name; None where there is none.
+    pub fn named(name: &str) -> Option<CommandName> {
+        for text in COMMANDS {
+            if text.name == name {
+                return Some(text.command);
+            }
+        }
+        None
+    }
+}
+
 /// A command.
 #[derive(Clone, Copy)]
 struct CommandText {
+    command: CommandName,
     name: &'static str,
     about: &'static str,
     options: &'static [OptionText],
@@ -75,6 +109,7 @@ const BASE: OptionText = OptionText {
 
 const COMMANDS: [CommandText; 8] = [
     CommandText {
+        command: CommandName::Once,
         name: "once",
         about: "Answer one request from standard input over a users file, and write the reply to standard output",
         options: &[
@@ -95,6 +130,7 @@ const COMMANDS: [CommandText; 8] = [
         ],
     },
     CommandText {
+        command: CommandName::Check,
         name: "check",
         about: "Say whether a policy file is well, and which of its rules can never decide",
         options: &[
@@ -107,6 +143,7 @@ const COMMANDS: [CommandText; 8] = [
         ],
     },
     CommandText {
+        command: CommandName::Serve,
         name: "serve",
         about: "Serve a database to many clients, on 127.0.0.1",
         options: &[
@@ -132,6 +169,7 @@ const COMMANDS: [CommandText; 8] = [
         ],
     },
     CommandText {
+        command: CommandName::Replay,
         name: "replay",
         about: "Answer what happened to connections, as a file tells it, over a users file, and write what is sent to whom",
         options: &[
@@ -147,6 +185,7 @@ const COMMANDS: [CommandText; 8] = [
         ],
     },
     CommandText {
+        command: CommandName::Explain,
         name: "explain",
         about: "Say why a client may or may not do something with a resource of a database",
         options: &[
@@ -176,16 +215,19 @@ const COMMANDS: [CommandText; 8] = [
         ],
     },
     CommandText {
+        command: CommandName::Import,
         name: "import",
         about: "Bring the resources of a users file into an empty database, which is made where there is none",
         options: &[DATABASE, USERS],
     },
     CommandText {
+        command: CommandName::Export,
         name: "export",
         about: "Write the resources of a database as a users file",
         options: &[DATABASE],
     },
     CommandText {
+        command: CommandName::Audit,
         name: "audit",
         about: "Write the rows of the audit, a line for each",
         options: &[

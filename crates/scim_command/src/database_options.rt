@@ -4,7 +4,7 @@ use crate::options::text_of;
 use clap::ArgMatches;
 
 /// What `audit` is given.
-#[derive(Clone, Copy, Debug)]
+#[derive(Clone, Copy)]
 pub struct AuditOptions<'a> {
     /// The path of the database.
     pub database: &'a str,
@@ -15,14 +15,14 @@ pub struct AuditOptions<'a> {
 }
 
 /// What `export` is given.
-#[derive(Clone, Copy, Debug)]
+#[derive(Clone, Copy)]
 pub struct ExportOptions<'a> {
     /// The path of the database.
     pub database: &'a str,
 }
 
 /// What `import` is given.
-#[derive(Clone, Copy, Debug)]
+#[derive(Clone, Copy)]
 pub struct ImportOptions<'a> {
     /// The path of the database.
     pub database: &'a str,
@@ -62,8 +62,11 @@ impl<'a> ImportOptions<'a> {
 
 /// The number that digits say; BadOption where the text is anything else, or says more than 64 bits hold.
 pub(crate) fn number_of(text: &str) -> Result<u64, CommandFault> {
-    if text.starts_with('+') {
+    if matches!(text.as_bytes(), [b'+', ..]) {
         return Err(CommandFault::BadOption);
     }
-    text.parse().map_err(|_| CommandFault::BadOption)
+    match text.parse::<u64>() {
+        Ok(number) => Ok(number),
+        Err(_) => Err(CommandFault::BadOption),
+    }
 }

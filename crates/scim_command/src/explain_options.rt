@@ -1,13 +1,14 @@
 //! What `explain` is given.
 use crate::command_faults::CommandFault;
-use crate::options::{client_of, text_of};
+use crate::options::text_of;
 use clap::ArgMatches;
 use scim_cell::Id;
 use scim_filter::{Meant, attribute_path};
+use scim_policy::is_client_name;
 use scim_schema::{Kind, Leaf, Op, has_leaf};
 
 /// What `explain` is given.
-#[derive(Clone, Copy, Debug)]
+#[derive(Clone, Copy)]
 pub struct ExplainOptions<'a> {
     /// The path of the policy file.
     pub policy: &'a str,
@@ -29,14 +30,26 @@ impl<'a> ExplainOptions<'a> {
     /// The options of `explain`; BadOption where the client's name can be none, where there is no such operation or kind, where
     /// the id isn't in the form in which the server prints it, or where the path isn't that of one leaf of the kind.
     pub fn of(matches: &ArgMatches<'a>) -> Result<ExplainOptions<'a>, CommandFault> {
-        let kind = Kind::named(text_of(matches, "kind")?).ok_or(CommandFault::BadOption)?;
+        let client = text_of(matches, "client")?;
+        if !is_client_name(client) {
+            return Err(CommandFault::BadOption);
+        }
+        let Some(op) = Op::named(text_of(matches, "op")?) else {
+            return Err(CommandFault::BadOption);
+        };
+        let Some(kind) = Kind::named(text_of(matches, "kind")?) else {
+            return Err(CommandFault::BadOption);
+        };
+        let Some(id) = Id::read(text_of(matches, "id")?) else {
+            return Err(CommandFault::BadOption);
+        };
         Ok(ExplainOptions {
             policy: text_of(matches, "policy")?,
             database: text_of(matches, "db")?,
-            client: client_of(matches)?,
-            op: Op::named(text_of(matches, "op")?).ok_or(CommandFault::BadOption)?,
+            client,
+            op,
             kind,
-            id: Id::read(text_of(matches, "id")?).ok_or(CommandFault::BadOption)?,
+            id,
             leaf: leaf_given(matches, kind)?,
         })
     }

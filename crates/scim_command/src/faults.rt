@@ -63,19 +63,24 @@ impl fmt::Display for DatabaseFault {
     }
 }
 
+/// Writes what is faulty, and the number of its part that is.
+fn numbered<W: fmt::Write>(f: &mut fmt::Formatter<W>, what: &str, number: usize) -> fmt::Result {
+    write!(f, "{what} {number}")
+}
+
 /// One line for people, as it is written to standard error.
 impl fmt::Display for RunFault {
     fn fmt<W: fmt::Write>(&self, f: &mut fmt::Formatter<W>) -> fmt::Result {
         match self {
             RunFault::Policy { rule, cause } => write!(f, "policy: rule {rule}: {cause}"),
-            RunFault::Users(number) => write!(f, "users: item {number}"),
-            RunFault::Tokens(number) => write!(f, "tokens: line {number}"),
-            RunFault::Events(number) => write!(f, "events: line {number}"),
-            RunFault::InputEnded | RunFault::InputFailed => write!(f, "input ended early"),
+            RunFault::Users(number) => numbered(f, "users: item", *number),
+            RunFault::Tokens(number) => numbered(f, "tokens: line", *number),
+            RunFault::Events(number) => numbered(f, "events: line", *number),
+            RunFault::InputEnded | RunFault::InputFailed => f.write_str("input ended early"),
             RunFault::Database(fault) => write!(f, "database: {fault}"),
-            RunFault::Absent => write!(f, "absent"),
-            RunFault::Output => write!(f, "output cannot be written"),
-            RunFault::NoMemory => write!(f, "out of memory"),
+            RunFault::Absent => f.write_str("absent"),
+            RunFault::Output => f.write_str("output cannot be written"),
+            RunFault::NoMemory => f.write_str("out of memory"),
         }
     }
 }

@@ -1,6 +1,7 @@
 //! The first message of an input.
-ghost use Rattle.std.specs.Prelude.{◌≡◌, Err, IfOk, IfSome, IfNone, All};
+ghost use Rattle.std.specs.Prelude.{◌≡◌, [], Err, IfOk, IfSome, IfNone, All};
 ghost use Rattle.scim_text.specs.declared.memory.Failed.{Failed};
+ghost use Rattle.scim_wire.specs.Wires.{StandsFor};
 ghost use Rattle.scim_command.specs.declared.inputs.InputFault.{InputFault};
 ghost use Rattle.scim_command.specs.Inputs.{IsContinue, IsFirstOf, OpensWith, IsUnended};
 
@@ -11,7 +12,7 @@ use std::alloc::Global;
 use std::io::Read;
 
 /// Why nothing was read that could be answered.
-#[derive(Clone, Copy, Debug, PartialEq, Eq)]
+#[derive(Clone, Copy)]
 pub(crate) enum InputFault {
     /// The input ended before.
     Ended,
@@ -45,6 +46,19 @@ pub(crate) fn read_first<R: Read>(
     ensures ended { result ≡ Err (Failed.Because InputFault.Ended) → IfSome (R.remaining reader.old) IsUnended }
 {
     let mut wire = Wire::new(alloc);
+    first_through(alloc, &mut wire, reader)
+}
+
+/// The same through a wire before the first byte of its stream, which is lent: so each way out has nothing to let go.
+fn first_through<R: Read>(
+    alloc: Global,
+    wire: &mut Wire,
+    reader: &mut R,
+) -> Result<Result<Message, Refusal>, Failed<InputFault>>
+    requires { StandsFor wire.old [] [] }
+    ensures first { IfOk result (λ first. IfSome (R.remaining reader.old) (λ input. OpensWith input first)) }
+    ensures ended { result ≡ Err (Failed.Because InputFault.Ended) → IfSome (R.remaining reader.old) IsUnended }
+{
     let mut block = [0; 8192];
     for _ in 0..u64::MAX {
         let Ok(count) = reader.read(&mut block) else {

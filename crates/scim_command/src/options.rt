@@ -8,7 +8,7 @@ use scim_text::{Moment, read_printed_moment};
 use std::alloc::Global;
 
 /// What `once` is given.
-#[derive(Clone, Copy, Debug)]
+#[derive(Clone, Copy)]
 pub struct OnceOptions<'a> {
     /// The path of the policy file.
     pub policy: &'a str,
@@ -25,7 +25,7 @@ pub struct OnceOptions<'a> {
 }
 
 /// What `check` is given.
-#[derive(Clone, Copy, Debug)]
+#[derive(Clone, Copy)]
 pub struct CheckOptions<'a> {
     /// The path of the policy file.
     pub policy: &'a str,
@@ -37,13 +37,20 @@ impl<'a> OnceOptions<'a> {
     /// The options of `once`; BadOption where the client's name can be none, or where the moment or the id isn't in the
     /// form in which the server prints it.
     pub fn of(alloc: Global, matches: &ArgMatches<'a>) -> Result<OnceOptions<'a>, CommandFault> {
+        let client = text_of(matches, "client")?;
+        if !is_client_name(client) {
+            return Err(CommandFault::BadOption);
+        }
+        let Some(first) = Id::read(text_of(matches, "first")?) else {
+            return Err(CommandFault::BadOption);
+        };
         Ok(OnceOptions {
             policy: text_of(matches, "policy")?,
             users: text_of(matches, "users")?,
-            client: client_of(matches)?,
+            client,
             base: text_of(matches, "base")?,
             at: moment_of(alloc, text_of(matches, "at")?)?,
-            first: Id::read(text_of(matches, "first")?).ok_or(CommandFault::BadOption)?,
+            first,
         })
     }
 }
@@ -60,18 +67,13 @@ impl<'a> CheckOptions<'a> {
 
 /// The text of an option; BadOption where there is none.
 pub(crate) fn text_of<'a>(matches: &ArgMatches<'a>, name: &str) -> Result<&'a str, CommandFault> {
-    matches.get_str(name).ok_or(CommandFault::BadOption)
-}
-
-/// The name of a client; BadOption where it can be none.
-pub(crate) fn client_of<'a>(matches: &ArgMatches<'a>) -> Result<&'a str, CommandFault> {
-    let client = text_of(matches, "client")?;
-    if !is_client_name(client) {
-        return Err(CommandFault::BadOption);
+    match matches.get_str(name) {
+        Some(text) => Ok(text),
+        None => Err(CommandFault::BadOption),
     }
-    Ok(client)
 }
 
+/// The moment that a text says; BadOption where it isn't in the form in which the server prints it.
 fn moment_of(alloc: Global, text: &str) -> Result<Moment, CommandFault> {
     match read_printed_moment(alloc, text) {
         Ok(Some(moment)) => Ok(moment),

@@ -4,7 +4,7 @@ use crate::options::text_of;
 use clap::ArgMatches;
 
 /// What `replay` is given.
-#[derive(Clone, Copy, Debug)]
+#[derive(Clone, Copy)]
 pub struct ReplayOptions<'a> {
     /// The path of the policy file.
     pub policy: &'a str,

@@ -31,7 +31,7 @@ use std::io::{Read, Write};
 use uuid::Uuid;
 
 /// What a request is answered by.
-#[derive(Clone, Copy, Debug)]
+#[derive(Clone, Copy)]
 pub struct Setting<'a> {
     /// The text of the policy file.
     pub policy: &'a str,
@@ -106,8 +106,8 @@ pub fn once<R: Read, W: Write>(
         × AppendsFront (W.contents writer.old) (W.contents writer.new) output) }
     ensures silent { IfErr result (λ f. f ≢ RunFault.Output → writer.new ≡ writer.old) }
 {
-    let mut service = service_by(alloc, setting)?;
     let store = refusal_text(alloc, Refusal::Store, false)?;
+    let mut service = service_by(alloc, setting)?;
     let arrival = Arrival {
         client: Some(setting.client),
         moment: setting.at,

@@ -5,7 +5,7 @@ use crate::options::text_of;
 use clap::ArgMatches;
 
 /// What `serve` is given.
-#[derive(Clone, Copy, Debug)]
+#[derive(Clone, Copy)]
 pub struct ServeOptions<'a> {
     /// The path of the policy file.
     pub policy: &'a str,
@@ -40,7 +40,10 @@ impl<'a> ServeOptions<'a> {
 
 /// The port that digits say.
 fn port_of(text: &str) -> Result<u16, CommandFault> {
-    u16::try_from(number_of(text)?).map_err(|_| CommandFault::BadOption)
+    match u16::try_from(number_of(text)?) {
+        Ok(port) => Ok(port),
+        Err(_) => Err(CommandFault::BadOption),
+    }
 }
 
 /// After how many connections the server ends; None where that isn't given.

@@ -9,7 +9,7 @@ ghost use Rattle.scim_command.specs.declared.faults.RunFault.{RunFault};
 ghost use Rattle.scim_database.specs.Explaining as spec;
 
 use scim_cell::Id;
-use scim_command::{RunFault, write_or_fault};
+use scim_command::{ExplainOptions, RunFault, write_or_fault};
 use scim_explain::{explain as explanation_of, print, table};
 use scim_policy::Policy;
 use scim_schema::{Kind, Leaf, Op};
@@ -20,7 +20,7 @@ use std::alloc::Global;
 use std::io::Write;
 
 /// What is asked about: a client's operation on a resource.
-#[derive(Clone, Copy, Debug)]
+#[derive(Clone, Copy)]
 pub struct Question<'a> {
     /// The name of the client.
     pub client: &'a str,
@@ -32,6 +32,19 @@ pub struct Question<'a> {
     pub id: Id,
     /// What of the resource; None for a table of all its leaves.
     pub leaf: Option<Leaf>,
+}
+
+impl<'a> Question<'a> {
+    /// What the options of `explain` ask about.
+    pub fn of(options: &ExplainOptions<'a>) -> Question<'a> {
+        Question {
+            client: options.client,
+            op: options.op,
+            kind: options.kind,
+            id: options.id,
+            leaf: options.leaf,
+        }
+    }
 }
 
 /// Writes why the policy decides as it does of what is asked: of each rule before the one that decides what doesn't fit,

@@ -1,6 +1,6 @@
 //! Attributes and sub-attributes as schemas tell of them (RFC 7643 section 7).
-ghost use Rattle.std.specs.Prelude.{◌≡◌, IfOk, map, None};
-ghost use Rattle.serde_json.specs.Data.{array};
+ghost use Rattle.std.specs.Prelude.{◌≡◌, IfOk, OnOk, map, None};
+ghost use Rattle.serde_json.specs.Data.{array, no_members};
 ghost use Rattle.serde_json.specs.View.{view, items_of, items_view, members_view};
 ghost use Rattle.scim_schema.specs.Table.{sub_attributes};
 ghost use Rattle.scim_discovery.specs.Attributes as spec;
@@ -22,6 +22,21 @@ fn members_for(
 ) -> Result<Map<String, Value>, NoMemory>
     ensures { IfOk result (λ map. members_view map.entries ≡ spec.members_for name.now characteristics None) }
 {
+    let mut map = Map::new(alloc);
+    put_members(&mut map, alloc, name, characteristics)?;
+    Ok(map)
+}
+
+/// Puts the same into a map that is empty, which is lent: so each way out has nothing to let go.
+fn put_members(
+    map: &mut Map<String, Value>,
+    alloc: Global,
+    name: &str,
+    characteristics: Characteristics,
+) -> Result<(), NoMemory>
+    requires { members_view map.old.entries ≡ no_members }
+    ensures { OnOk result (members_view map.new.entries ≡ spec.members_for name.now characteristics None) }
+{
     let Characteristics {
         attribute_type,
         multi_valued,
@@ -31,16 +46,14 @@ fn members_for(
         returned,
         uniqueness,
     } = characteristics;
-    let mut map = Map::new(alloc);
-    put_truth(&mut map, alloc, "caseExact", case_exact)?;
-    put_truth(&mut map, alloc, "multiValued", multi_valued)?;
-    put_text(&mut map, alloc, "mutability", mutability.name())?;
-    put_text(&mut map, alloc, "name", name)?;
-    put_truth(&mut map, alloc, "required", required)?;
-    put_text(&mut map, alloc, "returned", returned.name())?;
-    put_text(&mut map, alloc, "type", attribute_type.name())?;
-    put_text(&mut map, alloc, "uniqueness", uniqueness.name())?;
-    Ok(map)
+    put_truth(map, alloc, "caseExact", case_exact)?;
+    put_truth(map, alloc, "multiValued", multi_valued)?;
+    put_text(map, alloc, "mutability", mutability.name())?;
+    put_text(map, alloc, "name", name)?;
+    put_truth(map, alloc, "required", required)?;
+    put_text(map, alloc, "returned", returned.name())?;
+    put_text(map, alloc, "type", attribute_type.name())?;
+    put_text(map, alloc, "uniqueness", uniqueness.name())
 }
 
 fn sub_attribute_value(

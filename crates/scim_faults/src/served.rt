@@ -56,6 +56,21 @@ pub(crate) fn hub(alloc: Global) -> Option<Hub<MemoryShelf>> {
     }
 }
 
+/// What ends the serving of a stream.
+#[derive(Clone, Copy)]
+enum Ending {
+    /// A read that fails, behind the requests.
+    Read,
+    /// The failing write of this number, from 0, of single bytes.
+    Write(u32),
+    /// That there is no stamp for the first piece.
+    Stamp,
+    /// The stream's own end behind so many empty lines, a line at a read.
+    Lines(u32),
+    /// Too many reads, where so many empty lines come.
+    Turns(u32),
+}
+
 /// Whether a stream comes to this end, and so many of the first bytes of the replies have been written then.
 fn comes_to<R: Read>(
     alloc: Global,
@@ -75,64 +90,55 @@ fn comes_to<R: Read>(
         && REPLIES.as_bytes().starts_with(writer.taken.as_slice())
 }
 
-#[test]
-fn a_stream_is_served_up_to_a_read_that_fails(rt: HostRuntime) {
-    let mut reader = Trickle {
-        bytes: REQUESTS.as_bytes(),
-    };
-    let writer = Stutter::new(rt.alloc(), 7, u32::MAX, ErrorKind::Other);
-    let told = Err(IoFault::Read);
-    assert!(rt;
-        comes_to(
-            rt.alloc(),
-            &mut reader,
-            writer,
-            u32::MAX,
-            told,
-            REPLIES.len()
-        )
-    );
+/// Whether so many empty lines come to this end, and nothing is written.
+fn are_read(alloc: Global, left: u32, told: Result<Served, IoFault>) -> bool {
+    let writer = Stutter::new(alloc, 7, u32::MAX, ErrorKind::Other);
+    comes_to(alloc, &mut EmptyLines { left }, writer, u32::MAX, told, 0)
 }
 
-#[test]
-fn after_a_write_that_failed_a_front_of_the_replies_has_been_written(rt: HostRuntime) {
-    for failing in [0, 1, 20, 190, 191, 300] {
-        let writer = Stutter::new(rt.alloc(), 1, failing, ErrorKind::Other);
-        let told = Err(IoFault::Write);
-        assert!(rt;
-            comes_to(
-                rt.alloc(),
-                &mut REQUESTS.as_bytes(),
-                writer,
-                9,
-                told,
-                failing as usize
-            ),
-            "write {failing}"
-        );
+/// Whether a stream that is ended so is served up to there.
+fn is_served_up_to(alloc: Global, ending: Ending) -> bool {
+    let mut bytes = REQUESTS.as_bytes();
+    match ending {
+        Ending::Read => {
+            let told = Err(IoFault::Read);
+            let writer = Stutter::new(alloc, 7, u32::MAX, ErrorKind::Other);
+            let mut reader = Trickle { bytes };
+            comes_to(alloc, &mut reader, writer, u32::MAX, told, REPLIES.len())
+        }
+        Ending::Write(failing) => {
+            let told = Err(IoFault::Write);
+            let writer = Stutter::new(alloc, 1, failing, ErrorKind::Other);
+            comes_to(alloc, &mut bytes, writer, 9, told, failing as usize)
+        }
+        Ending::Stamp => {
+            let writer = Stutter::new(alloc, 7, u32::MAX, ErrorKind::Other);
+            comes_to(alloc, &mut bytes, writer, 0, Err(IoFault::Stamp), 0)
+        }
+        Ending::Lines(left) => are_read(alloc, left, Ok(Served { replies: 0 })),
+        Ending::Turns(left) => are_read(alloc, left, Err(IoFault::Turns)),
     }
 }
 
-#[test]
-fn a_piece_without_a_stamp_is_not_answered(rt: HostRuntime) {
-    let writer = Stutter::new(rt.alloc(), 7, u32::MAX, ErrorKind::Other);
-    let told = Err(IoFault::Stamp);
-    assert!(rt; comes_to(rt.alloc(), &mut REQUESTS.as_bytes(), writer, 0, told, 0));
-}
+const ENDINGS: [(&str, Ending); 11] = [
+    ("a read fails", Ending::Read),
+    ("write 0 fails", Ending::Write(0)),
+    ("write 1 fails", Ending::Write(1)),
+    ("write 20 fails", Ending::Write(20)),
+    ("write 190 fails", Ending::Write(190)),
+    ("write 191 fails", Ending::Write(191)),
+    ("write 300 fails", Ending::Write(300)),
+    ("there is no stamp", Ending::Stamp),
+    ("999,999 lines", Ending::Lines(999_999)),
+    ("a million lines", Ending::Turns(1_000_000)),
+    ("lines without an end", Ending::Turns(u32::MAX)),
+];
 
+/// A stream is served up to a read or a write that fails or a piece without a stamp, and read a million times and no more; what has been
+/// written then is a front of the replies.
 #[test]
-fn a_stream_is_read_a_million_times_and_no_more(rt: HostRuntime) {
-    let rows = [
-        (999_999, Ok(Served { replies: 0 })),
-        (1_000_000, Err(IoFault::Turns)),
-        (u32::MAX, Err(IoFault::Turns)),
-    ];
-    for (left, told) in rows {
-        let mut reader = EmptyLines { left };
-        let writer = Stutter::new(rt.alloc(), 7, u32::MAX, ErrorKind::Other);
-        assert!(rt;
-            comes_to(rt.alloc(), &mut reader, writer, u32::MAX, told, 0),
-            "{left} lines"
-        );
+fn a_stream_is_served_up_to_what_ends_it(rt: HostRuntime) {
+    for (name, ending) in ENDINGS {
+        assert!(rt; is_served_up_to(rt.alloc(), ending), "{name}");
     }
 }

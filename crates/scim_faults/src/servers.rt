@@ -57,6 +57,20 @@ fn answers_client(
     Ok(replies.as_slice() == REPLIES.as_bytes())
 }
 
+/// Whether a client gets its replies over a socket; true too where the machine has no loopback, so that nothing is shown.
+fn answers_over_socket(rt: &HostRuntime) -> bool {
+    let Some(mut hub) = hub(rt.alloc()) else {
+        return true;
+    };
+    match Sockets::listen(rt, rt.alloc(), 0, Some(1)) {
+        Ok(sockets) => {
+            let mut sockets = sockets;
+            matches!(answers_client(rt, &mut sockets, &mut hub), Ok(true))
+        }
+        Err(_) => true,
+    }
+}
+
 #[test]
 fn each_connection_is_answered_what_is_due_to_it(rt: HostRuntime) {
     for step in [1, 7, 190, 100_000] {
@@ -66,11 +80,5 @@ fn each_connection_is_answered_what_is_due_to_it(rt: HostRuntime) {
 
 #[test]
 fn what_a_client_sends_is_answered(rt: HostRuntime) {
-    // Nothing is shown where the machine has no loopback.
-    if let (Ok(mut sockets), Some(mut hub)) = (
-        Sockets::listen(&rt, rt.alloc(), 0, Some(1)),
-        hub(rt.alloc()),
-    ) {
-        assert!(rt; matches!(answers_client(&rt, &mut sockets, &mut hub), Ok(true)));
-    }
+    assert!(rt; answers_over_socket(&rt));
 }

@@ -24,10 +24,13 @@ fn took(writer: &Stutter, count: usize) -> bool {
     writer.taken.len() == count && REPLY.as_bytes().starts_with(writer.taken.as_slice())
 }
 
-/// Whether the request comes to this end, and so many bytes of the reply have been written then.
-fn comes_to(alloc: Global, mut writer: Stutter, told: Result<(), RunFault>, count: usize) -> bool {
-    let done = answer(alloc, &mut REQUEST.as_bytes(), &mut writer);
-    done == told && took(&writer, count)
+/// Whether the reply is written whole to a writer; or, where a count is given, whether the writing fails after so many bytes of it.
+fn comes_to(alloc: Global, writer: &mut Stutter, front: Option<usize>) -> bool {
+    let done = answer(alloc, &mut REQUEST.as_bytes(), writer);
+    match front {
+        Some(count) => done == Err(RunFault::Output) && took(writer, count),
+        None => done.is_ok() && took(writer, REPLY.len()),
+    }
 }
 
 /// Whether the input comes to this fault, and nothing is written.
@@ -35,6 +38,15 @@ fn fails<R: Read>(alloc: Global, reader: &mut R, told: RunFault) -> bool {
     let mut writer = Stutter::new(alloc, 1_000, u32::MAX, ErrorKind::Other);
     let done = answer(alloc, reader, &mut writer);
     done == Err(told) && took(&writer, 0)
+}
+
+/// Whether an input that begins so is told to have failed where a read fails then, and to have ended where it ends.
+fn are_told_apart(alloc: Global, text: &str) -> bool {
+    let mut failing = Trickle {
+        bytes: text.as_bytes(),
+    };
+    fails(alloc, &mut failing, RunFault::InputFailed)
+        && fails(alloc, &mut text.as_bytes(), RunFault::InputEnded)
 }
 
 /// What is left of the request where it has been answered.
@@ -47,64 +59,39 @@ fn left(alloc: Global) -> Option<&'static [u8]> {
     (done.is_ok() && took(&writer, REPLY.len())).then_some(reader.bytes)
 }
 
+/// What is shown, how many bytes a call takes, which call fails, how it does, and how many bytes of the reply are written then, where
+/// they aren't all.
+type Writing = (&'static str, usize, u32, ErrorKind, Option<usize>);
+
+const WRITINGS: [Writing; 11] = [
+    ("single bytes", 1, u32::MAX, ErrorKind::Other, None),
+    ("small steps", 7, u32::MAX, ErrorKind::Other, None),
+    ("all at once", 1_000, u32::MAX, ErrorKind::Other, None),
+    ("write 0 fails", 1, 0, ErrorKind::Other, Some(0)),
+    ("write 1 fails", 1, 1, ErrorKind::Other, Some(1)),
+    ("write 20 fails", 1, 20, ErrorKind::Other, Some(20)),
+    ("write 188 fails", 1, 188, ErrorKind::Other, Some(188)),
+    ("write 0 breaks off", 10, 0, ErrorKind::Interrupted, None),
+    ("write 1 breaks off", 10, 1, ErrorKind::Interrupted, None),
+    ("write 20 breaks off", 10, 20, ErrorKind::Interrupted, None),
+    ("nothing is taken", 0, u32::MAX, ErrorKind::Other, Some(0)),
+];
+
+/// A reply is written whole in small steps, and a write that was interrupted is tried again; after one that failed, or took nothing,
+/// nothing more is written.
 #[test]
-fn replies_are_written_whole_in_small_steps(rt: HostRuntime) {
-    for step in [1, 7, 1_000] {
-        let writer = Stutter::new(rt.alloc(), step, u32::MAX, ErrorKind::Other);
-        assert!(rt;
-            comes_to(rt.alloc(), writer, Ok(()), REPLY.len()),
-            "step {step}"
-        );
+fn a_reply_is_written_whole_or_up_to_a_write_that_fails(rt: HostRuntime) {
+    for (name, step, failing, kind, front) in WRITINGS {
+        let mut writer = Stutter::new(rt.alloc(), step, failing, kind);
+        assert!(rt; comes_to(rt.alloc(), &mut writer, front), "{name}");
     }
 }
 
+/// Nothing is read past the head; reads that fail and that end are told apart.
 #[test]
-fn nothing_is_written_after_a_write_that_failed(rt: HostRuntime) {
-    for failing in [0, 1, 20, 188] {
-        let writer = Stutter::new(rt.alloc(), 1, failing, ErrorKind::Other);
-        let told = Err(RunFault::Output);
-        assert!(rt;
-            comes_to(rt.alloc(), writer, told, failing as usize),
-            "write {failing}"
-        );
-    }
-}
-
-#[test]
-fn an_interrupted_write_is_tried_again(rt: HostRuntime) {
-    for failing in [0, 1, 20] {
-        let writer = Stutter::new(rt.alloc(), 10, failing, ErrorKind::Interrupted);
-        assert!(rt;
-            comes_to(rt.alloc(), writer, Ok(()), REPLY.len()),
-            "write {failing}"
-        );
-    }
-}
-
-#[test]
-fn a_writer_that_takes_nothing_is_a_failed_one(rt: HostRuntime) {
-    let writer = Stutter::new(rt.alloc(), 0, u32::MAX, ErrorKind::Other);
-    assert!(rt; comes_to(rt.alloc(), writer, Err(RunFault::Output), 0));
-}
-
-#[test]
-fn nothing_is_read_past_the_head(rt: HostRuntime) {
+fn an_input_is_read_to_the_end_of_a_head_or_to_its_own(rt: HostRuntime) {
     assert!(rt; left(rt.alloc()) == Some(b"GET / HTTP/1.1\r\n\r\n".as_slice()));
-}
-
-#[test]
-fn reads_that_fail_and_that_end_are_told_apart(rt: HostRuntime) {
     for text in ["", "\r\n", "GET /Users", "GET /Users HTTP/1.1\r\n"] {
-        let mut failing = Trickle {
-            bytes: text.as_bytes(),
-        };
-        assert!(rt;
-            fails(rt.alloc(), &mut failing, RunFault::InputFailed),
-            "after {text:?}"
-        );
-        assert!(rt;
-            fails(rt.alloc(), &mut text.as_bytes(), RunFault::InputEnded),
-            "after {text:?}"
-        );
+        assert!(rt; are_told_apart(rt.alloc(), text), "after {text:?}");
     }
 }

@@ -6,10 +6,12 @@ mod event_lines;
 mod outputs;
 mod recorded;
 mod replays;
+mod running;
 mod token_files;
 
 pub use event_files::{FaultyLine, read_events};
 pub use outputs::results_text;
 pub use recorded::events_of;
 pub use replays::{Recording, replay};
+pub use running::{replay_over_files, tokens_at};
 pub use token_files::read_tokens;

@@ -29,7 +29,7 @@ use std::alloc::Global;
 use std::io::Write;
 
 /// What is replayed, and by what it is answered.
-#[derive(Clone, Copy, Debug)]
+#[derive(Clone, Copy)]
 pub struct Recording<'a> {
     /// The text of the policy file.
     pub policy: &'a str,

@@ -4,112 +4,82 @@
 #![tactic(auto)]
 
 mod databases;
-mod files;
 mod servers;
 
-use anyhow::Result;
 use clap::{ArgMatches, Error};
 use databases::{run_audit, run_explain, run_export, run_import};
 use scim_command::{
-    CheckOptions, CommandFault, OnceOptions, ReplayOptions, RunFault, check, command, once,
+    CommandFault, CommandName, RunFault, check_over_files, command, once_over_files,
 };
-use scim_replay::replay;
+use scim_replay::replay_over_files;
 use servers::run_serve;
-use std::env;
 use std::io::ErrorKind;
 use std::process::ExitCode;
+use std::{env, io};
 
+/// Carries out the command line. Where its end can't be told, or memory is wanting for the words, the status alone says so.
 fn main(rt: HostRuntime) -> ExitCode {
-    match run(&rt) {
-        Ok(code) => code,
+    match words(&rt) {
+        Ok(words) => run_words(&rt, words.as_slice()),
+        Err(error) if error.kind() == ErrorKind::InvalidData => tell(&rt, &CommandFault::NotText),
         Err(_) => ExitCode::FAILURE,
     }
 }
 
-/// Carries out the command line. An error is one of printing, or want of memory.
-fn run(rt: &HostRuntime) -> Result<ExitCode> {
-    match words(rt)? {
-        Some(words) => run_words(rt, words.as_slice()),
-        None => tell(rt, &CommandFault::NotText),
-    }
+/// The words of the command line; InvalidData where one is no text.
+fn words(rt: &HostRuntime) -> io::Result<Vec<String>> {
+    Ok(env::args(rt)?.collect(rt.alloc())?)
 }
 
-/// The words of the command line; None where one is no text.
-fn words(rt: &HostRuntime) -> Result<Option<Vec<String>>> {
-    match env::args(rt) {
-        Ok(words) => Ok(Some(words.collect(rt.alloc())?)),
-        Err(error) if error.kind() == ErrorKind::InvalidData => Ok(None),
-        Err(error) => Err(error.into()),
-    }
-}
-
-fn run_words(rt: &HostRuntime, words: &[String]) -> Result<ExitCode> {
-    match command(rt.alloc())?.try_get_matches_from(words) {
+fn run_words(rt: &HostRuntime, words: &[String]) -> ExitCode {
+    let Ok(command) = command(rt.alloc()) else {
+        return ExitCode::FAILURE;
+    };
+    match command.try_get_matches_from(words) {
         Ok(matches) => run_matches(rt, &matches),
         Err(error) => show(rt, &error),
     }
 }
 
 /// Prints what clap tells: what is wrong with the words, or the help or the version that they ask for.
-fn show(rt: &HostRuntime, error: &Error) -> Result<ExitCode> {
-    error.print(rt)?;
-    Ok(ExitCode::from(error.exit_code() as u8))
+fn show(rt: &HostRuntime, error: &Error) -> ExitCode {
+    match error.print(rt) {
+        Ok(()) => ExitCode::from(error.exit_code() as u8),
+        Err(_) => ExitCode::FAILURE,
+    }
 }
 
-fn run_matches(rt: &HostRuntime, matches: &ArgMatches<'_>) -> Result<ExitCode> {
-    let done = match matches.subcommand() {
-        Some(("once", matches)) => run_once(rt, matches),
-        Some(("check", matches)) => run_check(rt, matches),
-        Some(("replay", matches)) => run_replay(rt, matches),
-        Some(("serve", matches)) => run_serve(rt, matches),
-        Some(("explain", matches)) => run_explain(rt, matches),
-        Some(("audit", matches)) => run_audit(rt, matches),
-        Some(("export", matches)) => run_export(rt, matches),
-        Some(("import", matches)) => run_import(rt, matches),
-        _ => Err(CommandFault::BadOption),
-    };
-    match done {
-        Ok(()) => Ok(ExitCode::SUCCESS),
+fn run_matches(rt: &HostRuntime, matches: &ArgMatches<'_>) -> ExitCode {
+    match &run_command(rt, matches) {
+        Ok(()) => ExitCode::SUCCESS,
         // Where standard output fails there may be nobody who reads.
-        Err(CommandFault::Run(RunFault::Output)) => Ok(ExitCode::FAILURE),
-        Err(fault) => tell(rt, &fault),
+        Err(CommandFault::Run(RunFault::Output)) => ExitCode::FAILURE,
+        Err(fault) => tell(rt, fault),
+    }
+}
+
+/// Carries out the command that the words name.
+fn run_command(rt: &HostRuntime, matches: &ArgMatches<'_>) -> Result<(), CommandFault> {
+    let Some((name, matches)) = matches.subcommand() else {
+        return Err(CommandFault::BadOption);
+    };
+    match CommandName::named(name) {
+        Some(CommandName::Once) => once_over_files(rt, matches, &mut rt.stdin(), &mut rt.stdout()),
+        Some(CommandName::Check) => check_over_files(rt, matches, &mut rt.stdout()),
+        Some(CommandName::Replay) => replay_over_files(rt, matches, &mut rt.stdout()),
+        Some(CommandName::Serve) => run_serve(rt, matches),
+        Some(CommandName::Explain) => run_explain(rt, matches),
+        Some(CommandName::Audit) => run_audit(rt, matches),
+        Some(CommandName::Export) => run_export(rt, matches),
+        Some(CommandName::Import) => run_import(rt, matches),
+        None => Err(CommandFault::BadOption),
     }
 }
 
 /// Tells a fault in a line on standard error, and gives its exit status.
-fn tell(rt: &HostRuntime, fault: &CommandFault) -> Result<ExitCode> {
-    eprintln!(rt; "scimd: {fault}")?;
-    Ok(ExitCode::from(fault.exit_status()))
-}
-
-/// `once`: answers one request from standard input.
-fn run_once(rt: &HostRuntime, matches: &ArgMatches<'_>) -> Result<(), CommandFault> {
-    let alloc = rt.alloc();
-    let options = OnceOptions::of(alloc, matches)?;
-    let texts = files::read_texts(rt, alloc, options.policy, options.users)?;
-    let setting = texts.setting(&options);
-    once(alloc, &setting, &mut rt.stdin(), &mut rt.stdout())?;
-    Ok(())
-}
-
-/// `replay`: answers the events of a file.
-fn run_replay(rt: &HostRuntime, matches: &ArgMatches<'_>) -> Result<(), CommandFault> {
-    let options = ReplayOptions::of(matches)?;
-    let texts = files::ReplayTexts::read(rt, rt.alloc(), &options)?;
-    let recording = texts.recording(options.base);
-    replay(rt.alloc(), &recording, &mut rt.stdout())?;
-    Ok(())
-}
-
-/// `check`: says what a policy file says.
-fn run_check(rt: &HostRuntime, matches: &ArgMatches<'_>) -> Result<(), CommandFault> {
-    let options = CheckOptions::of(matches)?;
-    let policy = files::read_policy_text(rt, rt.alloc(), options.policy)?;
-    check(
-        rt.alloc(),
-        policy.as_str(),
-        options.verbose,
-        &mut rt.stdout(),
-    )?;
-    Ok(())
+fn tell(rt: &HostRuntime, fault: &CommandFault) -> ExitCode {
+    match eprintln!(rt; "scimd: {fault}") {
+        Ok(()) => ExitCode::from(fault.exit_status()),
+        Err(_) => ExitCode::FAILURE,
+    }
 }

@@ -3,7 +3,7 @@ use Rattle.std.specs.Io.KnownBytes.{Consumes}
 use Rattle.scim_wire.specs.declared.messages.Item.{Item}
 use Rattle.scim_wire.specs.Wires.{StandsFor}
 use Rattle.scim_command.specs.Inputs.{IsContinue}
-use Rattle.scim_command.proofs.inputs.read_first.Given as goal
+use Rattle.scim_command.proofs.inputs.first_through.Given as goal
 
 -- the wire stands for what was read so far, and gave nothing that is answered
 abbrev pub invariant-loop : goal.invariant-loop

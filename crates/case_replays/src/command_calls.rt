@@ -1,5 +1,5 @@
 //! The calls of `scim_command`.
-use case_values::{Case, CaseFault, between, joined, said, shown};
+use case_values::{Case, CaseFault, between, joined, named, said, shown};
 use clap::ArgMatches;
 use scim_audit::leaf_path;
 use scim_cell::Id;
@@ -13,19 +13,8 @@ use scim_schema::Leaf;
 use scim_text::{print_moment, push};
 use std::alloc::Global;
 
-/// What a call of `scim_command` gives; None where it isn't one.
-pub fn answer(case: &Case<'_>, call: &str) -> Option<Result<String, CaseFault>> {
-    match call {
-        "once" => Some(once_call(case)),
-        "check" => Some(check_call(case)),
-        "command_line" => Some(command_line(case)),
-        "fault_line" => Some(fault_line(case)),
-        _ => None,
-    }
-}
-
 /// What is written behind `before`, and the line of the fault where there is one.
-fn once_call(case: &Case<'_>) -> Result<String, CaseFault> {
+pub(crate) fn once_call(case: &Case<'_>) -> Result<String, CaseFault> {
     let setting = Setting::new(
         case.text_or("policy", POLICY),
         case.text_or("users", USERS),
@@ -39,9 +28,9 @@ fn once_call(case: &Case<'_>) -> Result<String, CaseFault> {
 }
 
 /// What is written of the policy file behind `before`, and the line of the fault where there is one.
-fn check_call(case: &Case<'_>) -> Result<String, CaseFault> {
+pub(crate) fn check_call(case: &Case<'_>) -> Result<String, CaseFault> {
     let policy = case.text_or("policy", POLICY);
-    let is_verbose = case.value.get("verbose").is_some();
+    let is_verbose = case.has("verbose");
     let mut written = case.text_or("before", "").as_bytes().to_vec(case.alloc)?;
     let done = check(case.alloc, policy, is_verbose, &mut written);
     end_text(case.alloc, written.as_slice(), done)
@@ -72,26 +61,63 @@ fn words(case: &Case<'_>) -> Result<Vec<String>, CaseFault> {
 }
 
 /// The options that the words of a command line give, or the exit status where they are none.
-fn command_line(case: &Case<'_>) -> Result<String, CaseFault> {
+pub(crate) fn command_line(case: &Case<'_>) -> Result<String, CaseFault> {
     let words = words(case)?;
-    let command = command(case.alloc)?;
-    match command.try_get_matches_from(words.as_slice()) {
-        Ok(matches) => matches_text(case.alloc, &matches),
-        Err(error) => between(case.alloc, "exit ", &error.exit_code(), ""),
+    told_of_words(case.alloc, words.as_slice())
+}
+
+fn told_of_words(alloc: Global, words: &[String]) -> Result<String, CaseFault> {
+    let command = command(alloc)?;
+    match command.try_get_matches_from(words) {
+        Ok(matches) => matches_text(alloc, &matches),
+        Err(error) => between(alloc, "exit ", &error.exit_code(), ""),
     }
 }
 
+/// A command of the program.
+#[derive(Clone, Copy)]
+enum CommandNamed {
+    Once,
+    Check,
+    Replay,
+    Serve,
+    Audit,
+    Export,
+    Import,
+    Explain,
+}
+
+static COMMANDS: [(&str, CommandNamed); 8] = [
+    ("once", CommandNamed::Once),
+    ("check", CommandNamed::Check),
+    ("replay", CommandNamed::Replay),
+    ("serve", CommandNamed::Serve),
+    ("audit", CommandNamed::Audit),
+    ("export", CommandNamed::Export),
+    ("import", CommandNamed::Import),
+    ("explain", CommandNamed::Explain),
+];
+
 fn matches_text(alloc: Global, matches: &ArgMatches<'_>) -> Result<String, CaseFault> {
     match matches.subcommand() {
-        Some(("once", matches)) => once_options(alloc, matches),
-        Some(("check", matches)) => check_options(alloc, matches),
-        Some(("replay", matches)) => replay_options(alloc, matches),
-        Some(("serve", matches)) => serve_options(alloc, matches),
-        Some(("audit", matches)) => audit_options(alloc, matches),
-        Some(("export", matches)) => export_options(alloc, matches),
-        Some(("import", matches)) => import_options(alloc, matches),
-        Some(("explain", matches)) => explain_options(alloc, matches),
-        _ => said(alloc, "no command"),
+        Some((name, matches)) => command_text(alloc, name, matches),
+        None => said(alloc, "no command"),
+    }
+}
+
+fn command_text(alloc: Global, name: &str, matches: &ArgMatches<'_>) -> Result<String, CaseFault> {
+    let Some(command) = named(&COMMANDS, name) else {
+        return said(alloc, "no command");
+    };
+    match command {
+        CommandNamed::Once => once_options(alloc, matches),
+        CommandNamed::Check => check_options(alloc, matches),
+        CommandNamed::Replay => replay_options(alloc, matches),
+        CommandNamed::Serve => serve_options(alloc, matches),
+        CommandNamed::Audit => audit_options(alloc, matches),
+        CommandNamed::Export => export_options(alloc, matches),
+        CommandNamed::Import => import_options(alloc, matches),
+        CommandNamed::Explain => explain_options(alloc, matches),
     }
 }
 
@@ -233,29 +259,63 @@ fn options_text(alloc: Global, options: &OnceOptions<'_>) -> Result<String, Case
 }
 
 /// The line that tells a fault, and the exit status.
-fn fault_line(case: &Case<'_>) -> Result<String, CaseFault> {
+pub(crate) fn fault_line(case: &Case<'_>) -> Result<String, CaseFault> {
     let fault = fault_of(case)?;
     line_and_status(case.alloc, &fault)
 }
 
+/// A fault of a command.
+#[derive(Clone, Copy)]
+enum FaultNamed {
+    NotText,
+    /// The file `path` can't be read.
+    CannotRead,
+    /// The item `item` of the users file is faulty.
+    Users,
+    InputEnded,
+    InputFailed,
+    Output,
+    NoMemory,
+    Absent,
+    /// The rows of `id` in the database are no resource.
+    Damaged,
+    WrongVersion,
+    Unusable,
+    NotEmpty,
+}
+
+static FAULTS: [(&str, FaultNamed); 12] = [
+    ("not_text", FaultNamed::NotText),
+    ("cannot_read", FaultNamed::CannotRead),
+    ("users", FaultNamed::Users),
+    ("input_ended", FaultNamed::InputEnded),
+    ("input_failed", FaultNamed::InputFailed),
+    ("output", FaultNamed::Output),
+    ("no_memory", FaultNamed::NoMemory),
+    ("absent", FaultNamed::Absent),
+    ("damaged", FaultNamed::Damaged),
+    ("wrong_version", FaultNamed::WrongVersion),
+    ("unusable", FaultNamed::Unusable),
+    ("not_empty", FaultNamed::NotEmpty),
+];
+
 fn fault_of(case: &Case<'_>) -> Result<CommandFault, CaseFault> {
-    match case.text("fault")? {
-        "not_text" => Ok(CommandFault::NotText),
-        "cannot_read" => Ok(CommandFault::cannot_read(case.alloc, case.text("path")?)),
-        "users" => {
-            let item = case.count("item")?;
-            Ok(CommandFault::Run(RunFault::Users(item)))
-        }
-        "input_ended" => Ok(CommandFault::Run(RunFault::InputEnded)),
-        "input_failed" => Ok(CommandFault::Run(RunFault::InputFailed)),
-        "output" => Ok(CommandFault::Run(RunFault::Output)),
-        "no_memory" => Ok(CommandFault::Run(RunFault::NoMemory)),
-        "absent" => Ok(CommandFault::Run(RunFault::Absent)),
-        "damaged" => damaged(case),
-        "wrong_version" => Ok(of_database(DatabaseFault::WrongVersion)),
-        "unusable" => Ok(of_database(DatabaseFault::Unusable)),
-        "not_empty" => Ok(of_database(DatabaseFault::NotEmpty)),
-        _ => Err(CaseFault::Missing("fault")),
+    let Some(fault) = named(&FAULTS, case.text("fault")?) else {
+        return Err(CaseFault::Missing("fault"));
+    };
+    match fault {
+        FaultNamed::NotText => Ok(CommandFault::NotText),
+        FaultNamed::CannotRead => Ok(CommandFault::cannot_read(case.alloc, case.text("path")?)),
+        FaultNamed::Users => Ok(CommandFault::Run(RunFault::Users(case.count("item")?))),
+        FaultNamed::InputEnded => Ok(CommandFault::Run(RunFault::InputEnded)),
+        FaultNamed::InputFailed => Ok(CommandFault::Run(RunFault::InputFailed)),
+        FaultNamed::Output => Ok(CommandFault::Run(RunFault::Output)),
+        FaultNamed::NoMemory => Ok(CommandFault::Run(RunFault::NoMemory)),
+        FaultNamed::Absent => Ok(CommandFault::Run(RunFault::Absent)),
+        FaultNamed::Damaged => damaged(case),
+        FaultNamed::WrongVersion => Ok(of_database(DatabaseFault::WrongVersion)),
+        FaultNamed::Unusable => Ok(of_database(DatabaseFault::Unusable)),
+        FaultNamed::NotEmpty => Ok(of_database(DatabaseFault::NotEmpty)),
     }
 }
 

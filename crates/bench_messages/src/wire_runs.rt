@@ -1,11 +1,10 @@
 //! Messages: how the reading of a body grows with its length and with the pieces in which it comes, and what a GET takes
 //! beside what the service takes for it.
 use anyhow::{Result, bail, ensure};
-use bench_values::{fastest, numbered, print_heading, print_line};
+use bench_values::{fastest, id_of, numbered, print_heading, print_line};
 use scim_ask::ask;
-use scim_cell::{Id, Text};
+use scim_command::service_over;
 use scim_exchange::{Answer, Arrival, answer};
-use scim_json::read_documents;
 use scim_policy::read_policy;
 use scim_route::{Found, find};
 use scim_samples::{BASE, POLICY, USERS};
@@ -16,7 +15,6 @@ use scim_wire::{Item, Message, Wire};
 use std::alloc::Global;
 use std::io::Print;
 use std::time::{Clock, Instant};
-use uuid::Uuid;
 
 /// How many KiB a short body has and a long one.
 const SHORT: usize = 100;
@@ -110,7 +108,13 @@ fn measure_reading(
 
 /// The message of a GET of Alice.
 fn get_of_alice(alloc: Global) -> Result<Message> {
-    let mut items = Wire::new(alloc).feed(alloc, GET_OF_ALICE)?;
+    let mut wire = Wire::new(alloc);
+    only_message(alloc, &mut wire, GET_OF_ALICE)
+}
+
+/// The message that a wire reads from bytes.
+fn only_message(alloc: Global, wire: &mut Wire, bytes: &[u8]) -> Result<Message> {
+    let mut items = wire.feed(alloc, bytes)?;
     match items.pop() {
         Some(Item::Whole(message)) => Ok(message),
         _ => bail!("a message isn't read"),
@@ -119,12 +123,15 @@ fn get_of_alice(alloc: Global) -> Result<Message> {
 
 /// The service over the sample users.
 fn sample_service(alloc: Global) -> Result<Service<MemoryShelf>> {
-    let Ok(resources) = read_documents(alloc, BASE, USERS) else {
-        bail!("the sample users can't be read");
-    };
-    let shelf = MemoryShelf::new(alloc, resources)?;
-    let base = Text::copy_of(alloc, BASE)?;
-    Ok(Service::new(read_policy(alloc, POLICY)?, base, shelf))
+    let policy = read_policy(alloc, POLICY)?;
+    Ok(service_over(alloc, policy, USERS, BASE)?)
+}
+
+/// Prints an answer, which isn't empty.
+fn print_answer(alloc: Global, answer: &Answer) -> Result<()> {
+    let is_empty = answer.text(alloc, false)?.is_empty();
+    ensure!(!is_empty, "an answer is empty");
+    Ok(())
 }
 
 /// Finds what a GET names, reads what it asks, and prints its answer.
@@ -136,9 +143,20 @@ fn go_round_service(alloc: Global, message: &Message, answer: &Answer) -> Result
     ) else {
         bail!("a GET names no resource");
     };
-    ensure!(ask(alloc, &route, &[]).is_ok(), "a GET asks nothing");
-    ensure!(!answer.text(alloc, false)?.is_empty(), "an answer is empty");
-    Ok(())
+    let is_asked = ask(alloc, &route, &[]).is_ok();
+    ensure!(is_asked, "a GET asks nothing");
+    print_answer(alloc, answer)
+}
+
+/// Answers a GET, and prints the answer.
+fn answer_get(
+    alloc: Global,
+    service: &mut Service<MemoryShelf>,
+    arrival: &Arrival<'_>,
+    message: &Message,
+) -> Result<()> {
+    let answer = answer(alloc, service, arrival, message);
+    print_answer(alloc, &answer)
 }
 
 /// Nanoseconds a GET, answered and printed.
@@ -151,8 +169,7 @@ fn measure_answers(
 ) -> Result<u128> {
     let start = Instant::now(rt)?;
     for _ in 0..GETS {
-        let answer = answer(alloc, service, arrival, message);
-        ensure!(!answer.text(alloc, false)?.is_empty(), "an answer is empty");
+        answer_get(alloc, service, arrival, message)?;
     }
     Ok(start.elapsed(rt)?.as_nanos() / GETS as u128)
 }
@@ -185,7 +202,7 @@ fn print_gets_of(
     let arrival = Arrival {
         client: Some("hr"),
         moment: Moment::new(0).unwrap(),
-        fresh: Id::of(Uuid::nil()),
+        fresh: id_of(0),
     };
     let beside = measure_beside(rt, alloc, service, &arrival, message)?;
     let whole = measure_answers(rt, alloc, service, &arrival, message)?;

@@ -1,10 +1,10 @@
 //! What PATCHes of groups take, from the text of the message to the reply, by how many members a group has and a
 //! message names.
-use crate::put_runs::{group_body, members_text, policy_text, turn_of};
+use crate::directories::service_over_nothing;
+use crate::put_runs::{group_body, members_text, policy_text};
+use crate::turns::{heading, make, making_turn, turn_with};
 use anyhow::{Result, ensure};
-use bench_turns::{heading, make, service_over_nothing, turn_with};
 use bench_values::{print_heading, print_line};
-use scim_body::UseFor;
 use scim_operations::read_patch;
 use scim_schema::{Kind, Op};
 use scim_service::{Ask, Service, Turn};
@@ -103,11 +103,12 @@ fn turn_for(alloc: Global, text: &str) -> Result<Turn> {
 /// Reads the text of a message and answers it.
 fn patch(alloc: Global, service: &mut Service<MemoryShelf>, text: &str) -> Result<()> {
     let turn = turn_for(alloc, text)?;
-    let reply = service.answer(alloc, &turn);
-    ensure!(
-        reply.status().as_u16() == 200,
-        "a PATCH is answered otherwise"
-    );
+    answer(alloc, service, &turn)
+}
+
+fn answer(alloc: Global, service: &mut Service<MemoryShelf>, turn: &Turn) -> Result<()> {
+    let status = service.answer(alloc, turn).status();
+    ensure!(status.as_u16() == 200, "a PATCH is answered otherwise");
     Ok(())
 }
 
@@ -139,21 +140,31 @@ fn fastest_pass(
     text: &str,
     passes: usize,
 ) -> Result<u128> {
-    let mut best = pass(rt, alloc, making, text)?;
-    for _ in 1..passes {
+    let mut best = u128::MAX;
+    for _ in 0..passes.max(1) {
         best = best.min(pass(rt, alloc, making, text)?);
     }
     Ok(best)
 }
 
+/// The turn that makes a group of so many members.
+fn group_turn(alloc: Global, members: usize) -> Result<Turn> {
+    let body = group_body(alloc, "Team", members)?;
+    making_turn(alloc, Kind::Group, 1, body.as_str())
+}
+
 /// Nanoseconds of the change.
 fn measure(rt: &impl Clock, alloc: Global, change: Change) -> Result<u128> {
-    let body = group_body(alloc, "Team", change.members)?;
-    let making = turn_of(alloc, Kind::Group, UseFor::Creating, body.as_str())?;
+    let making = group_turn(alloc, change.members)?;
+    measure_on(rt, alloc, &making, change)
+}
+
+/// Nanoseconds of the change, of the group that a turn makes.
+fn measure_on(rt: &impl Clock, alloc: Global, making: &Turn, change: Change) -> Result<u128> {
     let text = message_text(alloc, change)?;
     let members = change.members.saturating_add(change.listed);
     let passes = MEMBERS / members.max(1);
-    fastest_pass(rt, alloc, &making, text.as_str(), passes)
+    fastest_pass(rt, alloc, making, text.as_str(), passes)
 }
 
 /// Prints what two changes take.

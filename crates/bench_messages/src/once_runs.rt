@@ -87,11 +87,8 @@ fn measure_request(
     setting: &Setting<'_>,
     request: &str,
 ) -> Result<(u128, u128)> {
-    let reply = answer(alloc, setting, request)?;
-    ensure!(
-        reply.starts_with(b"HTTP/1.1 200 "),
-        "the user was not found"
-    );
+    let is_found = answer(alloc, setting, request)?.starts_with(b"HTTP/1.1 200 ");
+    ensure!(is_found, "the user was not found");
     measure(rt, alloc, setting, request)
 }
 

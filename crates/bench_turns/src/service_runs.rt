@@ -1,6 +1,8 @@
 //! What turns of a service over a store in memory take, by how many users it has; and what bodies take.
+use crate::directories::{make_groups, service_over_nothing};
+use crate::lists::list_of;
+use crate::turns::{draft_of, heading, make_from, timed, turn_with};
 use anyhow::Result;
-use bench_turns::{draft_of, heading, make, make_groups, service_over_nothing, timed, turn_with};
 use bench_values::{fastest, numbered, print_heading, print_line};
 use scim_body::{Draft, UseFor};
 use scim_filter::{Filter, read_filter};
@@ -140,8 +142,8 @@ fn push_turn(alloc: Global, asked: Asked, number: usize, turns: &mut Vec<Turn>) 
 
 /// Makes the user of a number.
 fn make_user(alloc: Global, service: &mut Service<MemoryShelf>, number: usize) -> Result<()> {
-    let turn = turn_of(alloc, Asked::Create, number)?;
-    make(alloc, service, &turn)
+    let body = user_body(alloc, number)?;
+    make_from(alloc, service, Kind::User, number, body.as_str())
 }
 
 /// Makes so many users, and the groups.
@@ -200,16 +202,9 @@ fn measure_service(
 
 /// The body of a user with so many emails.
 fn body_of(alloc: Global, emails: usize) -> Result<String> {
-    let mut body = String::from_str(alloc, "{\"userName\":\"user\",\"emails\":[")?;
-    for place in 0..emails {
-        if place > 0 {
-            body.push(',')?;
-        }
-        let email = numbered(alloc, "{\"value\":\"user", place, "@example.com\"}")?;
-        body.push_str(email.as_str())?;
-    }
-    body.push_str("]}")?;
-    Ok(body)
+    let list = list_of(alloc, 0, emails, ["{\"value\":\"user", "@example.com\"}"])?;
+    let pieces = ["{\"userName\":\"user\",\"emails\":", list.as_str(), "}"];
+    Ok(pieces.concat(alloc)?)
 }
 
 /// Nanoseconds of the reading of a body with so many emails.

@@ -1,7 +1,9 @@
 //! What it takes to replace a user, by how many rules a policy has, and a group, by how many members it has.
+use crate::directories::service_over_nothing;
+use crate::lists::list_of;
+use crate::turns::{draft_of, fastest_timed, heading, make_from, turn_with};
 use anyhow::Result;
-use bench_turns::{draft_of, heading, make, service_over_nothing, timed, turn_with};
-use bench_values::{numbered, print_heading, print_line};
+use bench_values::{print_heading, print_line};
 use scim_body::UseFor;
 use scim_schema::{Kind, Op};
 use scim_service::{Ask, Service, Turn};
@@ -26,7 +28,7 @@ const PASSES: usize = 7;
 
 /// A policy file of so many rules, of which the last lets the client do all, and the others have a target that
 /// has to be tried and doesn't hold.
-pub(crate) fn policy_text(alloc: Global, rules: usize) -> Result<String> {
+pub fn policy_text(alloc: Global, rules: usize) -> Result<String> {
     let mut text = String::from_str(alloc, "{\"version\":1,\"rules\":[")?;
     for _ in 1..rules {
         text.push_str(
@@ -50,22 +52,12 @@ fn user_body(alloc: Global, title: &str) -> Result<String> {
 }
 
 /// The JSON list of so many members from a number on.
-pub(crate) fn members_text(alloc: Global, first: usize, members: usize) -> Result<String> {
-    let mut text = String::from_str(alloc, "[")?;
-    for place in 0..members {
-        if place > 0 {
-            text.push(',')?;
-        }
-        let number = first.saturating_add(place);
-        let member = numbered(alloc, "{\"value\":\"user", number, "\"}")?;
-        text.push_str(member.as_str())?;
-    }
-    text.push(']')?;
-    Ok(text)
+pub fn members_text(alloc: Global, first: usize, members: usize) -> Result<String> {
+    list_of(alloc, first, members, ["{\"value\":\"user", "\"}"])
 }
 
 /// The body of a group of a name, with so many members.
-pub(crate) fn group_body(alloc: Global, name: &str, members: usize) -> Result<String> {
+pub fn group_body(alloc: Global, name: &str, members: usize) -> Result<String> {
     let members = members_text(alloc, 0, members)?;
     let pieces = [
         "{\"displayName\":\"",
@@ -77,24 +69,26 @@ pub(crate) fn group_body(alloc: Global, name: &str, members: usize) -> Result<St
     Ok(pieces.concat(alloc)?)
 }
 
-/// A turn by which the one resource becomes what the body gives: it is made, or replaced.
-pub(crate) fn turn_of(alloc: Global, kind: Kind, use_for: UseFor, body: &str) -> Result<Turn> {
+/// A turn by which the one resource becomes what the body gives.
+fn replacing_turn(alloc: Global, kind: Kind, body: &str) -> Result<Turn> {
     let heading = heading(alloc)?;
-    let draft = draft_of(alloc, kind, use_for, body)?;
-    let (op, ask) = match use_for {
-        UseFor::Creating => (Op::Create, Ask::Create(draft, Wanted::Default)),
-        UseFor::Replacing => (Op::Modify, Ask::Replace(draft, Wanted::Default)),
-    };
-    Ok(turn_with(heading, op, kind, 1, ask))
+    let draft = draft_of(alloc, kind, UseFor::Replacing, body)?;
+    let ask = Ask::Replace(draft, Wanted::Default);
+    Ok(turn_with(heading, Op::Modify, kind, 1, ask))
+}
+
+fn push_turn(alloc: Global, kind: Kind, body: &str, turns: &mut Vec<Turn>) -> Result<()> {
+    let turn = replacing_turn(alloc, kind, body)?;
+    Ok(push(turns, turn)?)
 }
 
 /// Turns by which the resource becomes what each of the two bodies gives, in turn.
 fn turns_of(alloc: Global, kind: Kind, bodies: [&str; 2]) -> Result<Vec<Turn>> {
+    let [one, other] = bodies;
     let mut turns = Vec::new(alloc);
     for place in 0..TURNS {
-        let [one, other] = bodies;
         let body = if place % 2 == 0 { one } else { other };
-        push(&mut turns, turn_of(alloc, kind, UseFor::Replacing, body)?)?;
+        push_turn(alloc, kind, body, &mut turns)?;
     }
     Ok(turns)
 }
@@ -107,27 +101,22 @@ fn measure(
     kind: Kind,
     bodies: [&str; 2],
 ) -> Result<u128> {
-    let [_, last] = bodies;
-    let making = turn_of(alloc, kind, UseFor::Creating, last)?;
-    let turns = turns_of(alloc, kind, bodies)?;
     let mut service = service_over_nothing(alloc, policy)?;
-    measure_turns(rt, alloc, &mut service, &making, turns.as_slice())
+    measure_turns(rt, alloc, &mut service, kind, bodies)
 }
 
-/// Nanoseconds of each of the turns, by a service whose resource another turn makes.
+/// Nanoseconds a turn by a service, which makes the resource from the second body first.
 fn measure_turns(
     rt: &impl Clock,
     alloc: Global,
     service: &mut Service<MemoryShelf>,
-    making: &Turn,
-    turns: &[Turn],
+    kind: Kind,
+    bodies: [&str; 2],
 ) -> Result<u128> {
-    make(alloc, service, making)?;
-    let mut best = timed(rt, alloc, service, turns, 200)?;
-    for _ in 1..PASSES {
-        best = best.min(timed(rt, alloc, service, turns, 200)?);
-    }
-    Ok(best)
+    let [_, last] = bodies;
+    make_from(alloc, service, kind, 1, last)?;
+    let turns = turns_of(alloc, kind, bodies)?;
+    fastest_timed(rt, alloc, service, turns.as_slice(), PASSES)
 }
 
 fn measure_user(rt: &impl Clock, alloc: Global, rules: usize) -> Result<u128> {

@@ -1,12 +1,12 @@
 //! The calls of `scim_service`, over a shelf in memory.
+use crate::databases::{base_of, shelf_of};
+use crate::exchanges::FRESH;
 use case_filters::{body_kind, use_for};
 use case_policies::{policy, query_of, wanted};
-use case_stores::{FRESH, shelf_of};
-use case_values::{Case, CaseFault, push_all, push_rows, shown};
+use case_values::{Case, CaseFault, named, push_all, push_rows_after, shown};
 use scim_audit::{AuditRow, Refusal};
-use scim_body::{BodyFault, read_body};
+use scim_body::{BodyFault, Draft, read_body};
 use scim_cell::{Id, Text};
-use scim_samples::BASE;
 use scim_service::{Ask, Reply, Request, Service, Turn};
 use scim_shelf::MemoryShelf;
 use scim_text::{Failed, Moment, push};
@@ -15,28 +15,21 @@ use std::alloc::Global;
 /// 2024-06-01T12:00:00Z, when all turns are.
 const NOON: i64 = 1_717_243_200;
 
-/// What a call of `scim_service` gives; None where it isn't one.
-pub fn answer(case: &Case<'_>, call: &str) -> Option<Result<String, CaseFault>> {
-    match call {
-        "service" | "service_run" => Some(service_call(case, call)),
-        _ => None,
-    }
+/// What the turns of the list `turns` are answered one after another, and then the lines of the audit.
+pub fn service_call(case: &Case<'_>) -> Result<String, CaseFault> {
+    let mut service = service_of(case)?;
+    told_of_turns(case, &mut service)
 }
 
-/// What the turns of the list `turns` are answered, one after another or where the service is given all of them at once,
-/// and then the lines of the audit.
-fn service_call(case: &Case<'_>, call: &str) -> Result<String, CaseFault> {
+/// The same where the service is given all turns at once.
+pub fn run_call(case: &Case<'_>) -> Result<String, CaseFault> {
     let mut service = service_of(case)?;
-    if call == "service" {
-        told_of_turns(case, &mut service)
-    } else {
-        told_of_run(case, &mut service)
-    }
+    told_of_run(case, &mut service)
 }
 
 /// A service by the case's policy over the argument `users`, below the argument `base`.
 fn service_of(case: &Case<'_>) -> Result<Service<MemoryShelf>, CaseFault> {
-    let base = Text::copy_of(case.alloc, case.text_or("base", BASE))?;
+    let base = Text::copy_of(case.alloc, base_of(case))?;
     let policy = policy(case)?;
     let shelf = shelf_of(case, "users")?;
     Ok(Service::new(policy, base, shelf))
@@ -51,14 +44,22 @@ fn told_of_turns(case: &Case<'_>, service: &mut Service<MemoryShelf>) -> Result<
         };
         push_answer(&turn, service, &mut text)?;
     }
-    push_rows(case.alloc, service.shelf().audit(), 0, &mut text)?;
+    push_rows_after(case.alloc, 0, service.shelf().audit(), &mut text)?;
     Ok(text)
 }
 
 fn told_of_run(case: &Case<'_>, service: &mut Service<MemoryShelf>) -> Result<String, CaseFault> {
     let turns = turns_of(case)?;
-    let replies = service.run(case.alloc, turns.as_slice())?;
-    told_of_replies(case.alloc, replies.as_slice(), service.shelf().audit())
+    replies_to(case.alloc, turns.as_slice(), service)
+}
+
+fn replies_to(
+    alloc: Global,
+    turns: &[Turn],
+    service: &mut Service<MemoryShelf>,
+) -> Result<String, CaseFault> {
+    let replies = service.run(alloc, turns)?;
+    told_of_replies(alloc, replies.as_slice(), service.shelf().audit())
 }
 
 fn turns_of(case: &Case<'_>) -> Result<Vec<Turn>, CaseFault> {
@@ -82,7 +83,7 @@ fn told_of_replies(
     for reply in replies {
         push_reply(alloc, reply, &mut text)?;
     }
-    push_rows(alloc, rows, 0, &mut text)?;
+    push_rows_after(alloc, 0, rows, &mut text)?;
     Ok(text)
 }
 
@@ -93,8 +94,17 @@ fn push_answer(
     text: &mut String,
 ) -> Result<(), CaseFault> {
     let turn = turn_of(case)?;
-    let reply = service.answer(case.alloc, &turn);
-    push_reply(case.alloc, &reply, text)
+    push_reply_to(case.alloc, &turn, service, text)
+}
+
+fn push_reply_to(
+    alloc: Global,
+    turn: &Turn,
+    service: &mut Service<MemoryShelf>,
+    text: &mut String,
+) -> Result<(), CaseFault> {
+    let reply = service.answer(alloc, turn);
+    push_reply(alloc, &reply, text)
 }
 
 fn push_reply(alloc: Global, reply: &Reply, text: &mut String) -> Result<(), CaseFault> {
@@ -130,19 +140,40 @@ fn request_of(case: &Case<'_>) -> Result<Request, CaseFault> {
     })
 }
 
+/// What the argument `ask` names.
+#[derive(Clone, Copy)]
+enum AskNamed {
+    Get,
+    Search,
+    Create,
+    Remove,
+    /// What is asked is refused before the service sees it.
+    Refused(Refusal),
+}
+
+static ASKS: [(&str, AskNamed); 9] = [
+    ("get", AskNamed::Get),
+    ("search", AskNamed::Search),
+    ("create", AskNamed::Create),
+    ("remove", AskNamed::Remove),
+    ("Syntax", AskNamed::Refused(Refusal::Syntax)),
+    ("Filter", AskNamed::Refused(Refusal::Filter)),
+    ("Path", AskNamed::Refused(Refusal::Path)),
+    ("MessageValue", AskNamed::Refused(Refusal::MessageValue)),
+    ("Store", AskNamed::Refused(Refusal::Store)),
+];
+
 /// What the argument `ask` says: `get`, `search`, `create`, `remove`, or what is wrong with it.
 fn ask_of(case: &Case<'_>) -> Result<Result<Ask, Refusal>, CaseFault> {
-    match case.text("ask")? {
-        "get" => Ok(Ok(Ask::Get(wanted(case)?))),
-        "search" => Ok(Ok(Ask::Search(query_of(case)?))),
-        "create" => create_of(case),
-        "remove" => Ok(Ok(Ask::Remove)),
-        "Syntax" => Ok(Err(Refusal::Syntax)),
-        "Filter" => Ok(Err(Refusal::Filter)),
-        "Path" => Ok(Err(Refusal::Path)),
-        "MessageValue" => Ok(Err(Refusal::MessageValue)),
-        "Store" => Ok(Err(Refusal::Store)),
-        _ => Err(CaseFault::Missing("ask")),
+    let Some(ask) = named(&ASKS, case.text("ask")?) else {
+        return Err(CaseFault::Missing("ask"));
+    };
+    match ask {
+        AskNamed::Get => Ok(Ok(Ask::Get(wanted(case)?))),
+        AskNamed::Search => Ok(Ok(Ask::Search(query_of(case)?))),
+        AskNamed::Create => create_of(case),
+        AskNamed::Remove => Ok(Ok(Ask::Remove)),
+        AskNamed::Refused(refusal) => Ok(Err(refusal)),
     }
 }
 
@@ -154,9 +185,15 @@ fn create_of(case: &Case<'_>) -> Result<Result<Ask, Refusal>, CaseFault> {
         use_for(case),
         case.text("body")?,
     ) {
-        Ok(draft) => Ok(Ok(Ask::Create(draft, wanted(case)?))),
+        Ok(draft) => creating(case, draft),
         Err(Failed::Because(BodyFault::Syntax)) => Ok(Err(Refusal::Syntax)),
         Err(Failed::Because(BodyFault::Value)) => Ok(Err(Refusal::MessageValue)),
         Err(Failed::NoMemory) => Err(CaseFault::NoMemory),
     }
+}
+
+/// To make a resource of a body.
+fn creating(case: &Case<'_>, draft: Draft) -> Result<Result<Ask, Refusal>, CaseFault> {
+    let wanted = wanted(case)?;
+    Ok(Ok(Ask::Create(draft, wanted)))
 }

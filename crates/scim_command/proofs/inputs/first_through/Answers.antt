@@ -4,7 +4,7 @@ use Rattle.std.proofs.lemmas.List.Elements.{All-append}
 use Rattle.scim_wire.proofs.Facts.{items_from_stands}
 use Rattle.scim_command.specs.Inputs.{IsContinue}
 use Rattle.scim_command.proofs.InputLemmas.{input_opens, input_ends}
-use Rattle.scim_command.proofs.inputs.read_first.Goals as goal
+use Rattle.scim_command.proofs.inputs.first_through.Goals as goal
 
 pub returns-then-count-eq0-clause-ended : goal.returns-then-count-eq0-clause-ended
 returns-then-count-eq0-clause-ended g c _ =

@@ -1,19 +1,21 @@
 //! The calls of `scim_database`, over a database in memory.
 ghost use Rattle.std.specs.Prelude.{◌≡◌, false};
 
-use crate::command_calls::end_text;
+use crate::database_calls::prepared;
+use crate::databases::{OverDatabase, opened, over_new_database};
+use crate::faults::{StoreFault, told_or_fault};
 use case_policies::policy;
-use case_stores::{OverDatabase, StoreFault, opened, over_new_database, prepared, told_or_fault};
-use case_values::{Case, CaseFault};
+use case_values::{Case, CaseFault, shown, written_text};
 use scim_cell::Id;
 use scim_database::{Question, explain, export, import, print_audit};
+use scim_policy::Policy;
 use scim_samples::{BASE, USERS};
 use scim_store::SqlShelf;
 use sqlite::{Alter, Connection};
 
-/// A call of `scim_database`.
+/// A command over a database.
 #[derive(Clone, Copy)]
-enum DatabaseCall {
+pub enum DatabaseCommand {
     /// The rows of the audit from the argument `from` on, at most `count`.
     Audit,
     /// The users file of the database.
@@ -24,19 +26,12 @@ enum DatabaseCall {
     Explain,
 }
 
-/// What a call of `scim_database` gives; None where it isn't one.
-pub fn answer(case: &Case<'_>, call: &str) -> Option<Result<String, CaseFault>> {
-    let call = match call {
-        "print_audit" => DatabaseCall::Audit,
-        "export" => DatabaseCall::Export,
-        "import" => DatabaseCall::Import,
-        "explain_kept" => DatabaseCall::Explain,
-        _ => return None,
-    };
-    Some(told_or_fault(case.alloc, over_new_database(case, &call)))
+/// What a command writes over a database, and the line of its fault where there is one.
+pub fn command_call(case: &Case<'_>, command: DatabaseCommand) -> Result<String, CaseFault> {
+    told_or_fault(case.alloc, over_new_database(case, &command))
 }
 
-impl OverDatabase for DatabaseCall {
+impl OverDatabase for DatabaseCommand {
     fn over<S: Alter + Drop>(
         &self,
         case: &Case<'_>,
@@ -44,32 +39,58 @@ impl OverDatabase for DatabaseCall {
     ) -> Result<String, StoreFault> {
         let connection = prepared(case, connection)?;
         match self {
-            DatabaseCall::Import => imported(case, connection),
-            DatabaseCall::Audit => audited(case, opened(case, connection)?),
-            DatabaseCall::Export => exported(case, opened(case, connection)?),
-            DatabaseCall::Explain => explained(case, connection),
+            DatabaseCommand::Import => imported(case, connection),
+            DatabaseCommand::Audit => audited(case, connection),
+            DatabaseCommand::Export => exported(case, connection),
+            DatabaseCommand::Explain => explained(case, connection),
         }
     }
 }
 
 /// Rows of the audit of a store, which is let go then.
-fn audited<S: Alter + Drop>(case: &Case<'_>, shelf: SqlShelf<S>) -> Result<String, StoreFault> {
+fn audited<S: Alter + Drop>(
+    case: &Case<'_>,
+    connection: Connection<S>,
+) -> Result<String, StoreFault>
+    requires { connection.in_transaction ≡ false }
+{
+    let mut shelf = opened(case, connection)?;
+    let told = audit_text(case, &mut shelf);
+    let _connection = shelf.into_connection();
+    told
+}
+
+fn audit_text<S: Alter + Drop>(
+    case: &Case<'_>,
+    shelf: &mut SqlShelf<S>,
+) -> Result<String, StoreFault> {
     let from = case.count("from").unwrap_or(1) as u64;
     let count = case.count("count").unwrap_or(100) as u64;
-    let mut shelf = shelf;
     let mut written = Vec::new(case.alloc);
-    let done = print_audit(case.alloc, &mut shelf, from, count, &mut written);
-    let _connection = shelf.into_connection();
-    Ok(end_text(case.alloc, written.as_slice(), done)?)
+    let done = print_audit(case.alloc, shelf, from, count, &mut written);
+    Ok(written_text(case.alloc, written.as_slice(), done)?)
 }
 
 /// The users file of a store, which is let go then.
-fn exported<S: Alter + Drop>(case: &Case<'_>, shelf: SqlShelf<S>) -> Result<String, StoreFault> {
-    let mut shelf = shelf;
-    let mut written = Vec::new(case.alloc);
-    let done = export(case.alloc, &mut shelf, &mut written);
+fn exported<S: Alter + Drop>(
+    case: &Case<'_>,
+    connection: Connection<S>,
+) -> Result<String, StoreFault>
+    requires { connection.in_transaction ≡ false }
+{
+    let mut shelf = opened(case, connection)?;
+    let told = export_text(case, &mut shelf);
     let _connection = shelf.into_connection();
-    Ok(end_text(case.alloc, written.as_slice(), done)?)
+    told
+}
+
+fn export_text<S: Alter + Drop>(
+    case: &Case<'_>,
+    shelf: &mut SqlShelf<S>,
+) -> Result<String, StoreFault> {
+    let mut written = Vec::new(case.alloc);
+    let done = export(case.alloc, shelf, &mut written);
+    Ok(written_text(case.alloc, written.as_slice(), done)?)
 }
 
 /// The users file of a database into which the text `file` is imported; or the line of the fault.
@@ -82,8 +103,8 @@ fn imported<S: Alter + Drop>(
     let mut connection = connection;
     let file = case.text_or("file", USERS);
     match import(case.alloc, &mut connection, BASE, file) {
-        Ok(()) => exported(case, opened(case, connection)?),
-        Err(fault) => Ok(end_text(case.alloc, &[], Err(fault))?),
+        Ok(()) => exported(case, connection),
+        Err(fault) => Ok(shown(case.alloc, &fault)?),
     }
 }
 
@@ -95,14 +116,34 @@ fn explained<S: Alter + Drop>(
     requires { connection.in_transaction ≡ false }
 {
     let policy = policy(case)?;
+    explained_by(case, &policy, connection)
+}
+
+fn explained_by<S: Alter + Drop>(
+    case: &Case<'_>,
+    policy: &Policy,
+    connection: Connection<S>,
+) -> Result<String, StoreFault>
+    requires { connection.in_transaction ≡ false }
+{
     let Some(question) = question_of(case) else {
         return Err(StoreFault::Case(CaseFault::Missing("id")));
     };
     let mut shelf = opened(case, connection)?;
-    let mut written = Vec::new(case.alloc);
-    let done = explain(case.alloc, &policy, &mut shelf, &question, &mut written);
+    let told = answer_text(case, policy, &mut shelf, &question);
     let _connection = shelf.into_connection();
-    Ok(end_text(case.alloc, written.as_slice(), done)?)
+    told
+}
+
+fn answer_text<S: Alter + Drop>(
+    case: &Case<'_>,
+    policy: &Policy,
+    shelf: &mut SqlShelf<S>,
+    question: &Question<'_>,
+) -> Result<String, StoreFault> {
+    let mut written = Vec::new(case.alloc);
+    let done = explain(case.alloc, policy, shelf, question, &mut written);
+    Ok(written_text(case.alloc, written.as_slice(), done)?)
 }
 
 /// What a case asks about; None where its `id` is none. A leaf that isn't one is as none.
