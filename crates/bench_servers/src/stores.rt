@@ -3,6 +3,7 @@ ghost use Rattle.std.specs.Prelude.{◌≡◌, false};
 
 use crate::runs::print_all;
 use anyhow::{Result, bail};
+use bench_stores::{FileWork, over_file, remove_database, unusable};
 use bench_values::{TOKENS, print_heading, read_users, users_file};
 use scim_cell::Text;
 use scim_hub::Hub;
@@ -16,13 +17,7 @@ use scim_token::Tokens;
 use scim_value::Resource;
 use sqlite::{Alter, Connection};
 use std::alloc::Global;
-use std::fs;
-
-/// Where the database is made, and removed again.
-const PATH: &str = "bench-serve.db";
-
-/// What a run that ends early may leave beside it.
-const JOURNALS: [&str; 2] = ["bench-serve.db-journal", "bench-serve.db-wal"];
+use std::time::Instant;
 
 /// How many users a store has.
 const USERS: [usize; 2] = [2_000, 100_000];
@@ -75,26 +70,28 @@ fn over_memory(rt: &HostRuntime, shelf: MemoryShelf, what: &str) -> Result<()> {
     print_all(rt, &mut hub, what)
 }
 
-fn unusable() -> Result<()> {
-    bail!("the database can't be used")
+/// Serves users from an empty database, into which they are brought.
+#[derive(Drop)]
+struct Serving<'a> {
+    users: Vec<Resource>,
+    what: &'a str,
 }
 
-/// Brings users into an empty database, and prints the figures over it. The connection is given back to be closed.
-fn in_database<S: Alter + Drop>(
-    rt: &HostRuntime,
-    connection: Connection<S>,
-    users: &[Resource],
-    what: &str,
-) -> (Result<()>, Connection<S>)
-    requires { connection.in_transaction ≡ false }
-{
-    let mut connection = connection;
-    if import(&mut connection, rt.alloc(), BASE, users).is_err() {
-        return (unusable(), connection);
-    }
-    match SqlShelf::open(rt.alloc(), connection, BASE) {
-        Ok(shelf) => over_shelf(rt, shelf, what),
-        Err((_, connection)) => (unusable(), connection),
+impl FileWork for Serving<'_> {
+    fn over<S: Alter + Drop>(
+        &mut self,
+        rt: &HostRuntime,
+        connection: Connection<S>,
+        _start: Instant,
+    ) -> (Result<()>, Connection<S>) {
+        let mut connection = connection;
+        if import(&mut connection, rt.alloc(), BASE, self.users.as_slice()).is_err() {
+            return (unusable(), connection);
+        }
+        match SqlShelf::open(rt.alloc(), connection, BASE) {
+            Ok(shelf) => over_shelf(rt, shelf, self.what),
+            Err((_, connection)) => (unusable(), connection),
+        }
     }
 }
 
@@ -114,38 +111,14 @@ fn over_shelf<S: Alter + Drop>(
     }
 }
 
-/// Removes the database and its journals, those of them that are there. One that can't be removed is refused by the
-/// next run, which wants an empty database.
-fn remove_database(rt: &HostRuntime) {
-    for path in JOURNALS {
-        let _removed = fs::remove_file(rt, path);
-    }
-    let _removed = fs::remove_file(rt, PATH);
-}
-
 /// Prints the figures over a database that is made for them, and removed whatever comes of them.
 fn in_file(rt: &HostRuntime, count: usize, what: &str) -> Result<()> {
+    let users = read_users(rt.alloc(), count)?;
+    let mut serving = Serving { users, what };
     remove_database(rt);
-    let done = over_users(rt, count, what);
+    let done = over_file(rt, &mut serving);
     remove_database(rt);
     done
-}
-
-fn over_users(rt: &HostRuntime, count: usize, what: &str) -> Result<()> {
-    let users = read_users(rt.alloc(), count)?;
-    over_file(rt, users.as_slice(), what)
-}
-
-/// Makes the database in a file.
-fn over_file(rt: &HostRuntime, users: &[Resource], what: &str) -> Result<()> {
-    match Connection::open(rt, PATH) {
-        Ok(connection) => {
-            let (done, connection) = in_database(rt, connection, users, what);
-            let _closed = connection.close();
-            done
-        }
-        Err(_) => unusable(),
-    }
 }
 
 /// Prints what requests take, in nanoseconds: by the events of the hub alone, over one connection, and over 64 at once.
