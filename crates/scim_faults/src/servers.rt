@@ -60,7 +60,7 @@ fn answers_client(
 /// Whether a client gets its replies over a socket; true too where the machine has no loopback, so that nothing is shown.
 fn answers_over_socket(rt: &HostRuntime) -> bool {
     let Some(mut hub) = hub(rt.alloc()) else {
-        return true;
+        return false;
     };
     match Sockets::listen(rt, rt.alloc(), 0, Some(1)) {
         Ok(sockets) => {

@@ -2,7 +2,7 @@
 //! connection to one that is known is dear to prove.
 ghost use Rattle.std.specs.Prelude.{◌≡◌, false};
 
-use crate::deeds::{Deed, are_answered};
+use crate::request_parts::{RequestParts, are_answered};
 use scim_audit::{AuditRow, print_row};
 use scim_cell::Text;
 use scim_json::stored_text;
@@ -22,7 +22,7 @@ use std::alloc::Global;
 #[derive(Clone, Copy)]
 pub(crate) enum Work<'a> {
     /// A store is opened, and answers these. An empty text comes of it where none is answered by the 500.
-    Answer(&'a [Deed]),
+    Answer(&'a [RequestParts]),
     /// What the database has is told: nothing, or the resources of the store and the rows of its audit.
     Look,
 }
@@ -38,7 +38,7 @@ pub(crate) fn work_over<S: Alter>(
     let has_tables = !is_empty_database(&connection);
     match SqlShelf::open(alloc, connection, BASE) {
         Ok(shelf) => match work {
-            Work::Answer(deeds) => answer(alloc, shelf, deeds),
+            Work::Answer(requests) => answer(alloc, shelf, requests),
             Work::Look => look(alloc, shelf, has_tables),
         },
         Err((_, connection)) => (None, connection),
@@ -48,7 +48,7 @@ pub(crate) fn work_over<S: Alter>(
 fn answer<S: Alter>(
     alloc: Global,
     shelf: SqlShelf<S>,
-    deeds: &[Deed],
+    requests: &[RequestParts],
 ) -> (Option<String>, Connection<S>) {
     let Ok(base) = Text::copy_of(alloc, BASE) else {
         return (None, shelf.into_connection());
@@ -56,7 +56,7 @@ fn answer<S: Alter>(
     match read_policy(alloc, POLICY) {
         Ok(policy) => {
             let mut service = Service::new(policy, base, shelf);
-            let told = if are_answered(alloc, &mut service, deeds) {
+            let told = if are_answered(alloc, &mut service, requests) {
                 Some(String::new(alloc))
             } else {
                 None

@@ -1,6 +1,6 @@
 //! Files in memory whose calls come to an end, and which crash.
 use crate::databases::{Work, work_over};
-use crate::deeds::Deed;
+use crate::request_parts::RequestParts;
 use scim_text::NoMemory;
 use sqlite::{Connection, Options};
 use sqlite_disk::{Crash, Disk, Files, Fuse, Memory};
@@ -47,9 +47,9 @@ impl Contents {
     }
 
     /// Those after a store over a new database has answered these. None, where it fails.
-    pub(crate) fn after(alloc: Global, deeds: &[Deed]) -> Option<Contents> {
+    pub(crate) fn after(alloc: Global, requests: &[RequestParts]) -> Option<Contents> {
         let files = Contents::none(alloc).files(alloc, ALL)?;
-        let (told, files) = over_files(alloc, files, Work::Answer(deeds));
+        let (told, files) = over_files(alloc, files, Work::Answer(requests));
         told?;
         match copied(alloc, &files) {
             Ok(contents) => Some(contents),
@@ -72,9 +72,14 @@ impl Contents {
     }
 
     /// What comes of a store over them that answers these.
-    pub(crate) fn outcome(&self, alloc: Global, calls: Calls, deeds: &[Deed]) -> Option<Outcome> {
+    pub(crate) fn outcome(
+        &self,
+        alloc: Global,
+        calls: Calls,
+        requests: &[RequestParts],
+    ) -> Option<Outcome> {
         match self.files(alloc, calls) {
-            Some(files) => Some(outcome_over(alloc, files, deeds)),
+            Some(files) => Some(outcome_over(alloc, files, requests)),
             None => None,
         }
     }
@@ -114,8 +119,12 @@ fn over_files<D: Disk + Drop>(
     }
 }
 
-fn outcome_over<D: Crash + Drop>(alloc: Global, files: Files<D>, deeds: &[Deed]) -> Outcome {
-    let (told, files) = over_files(alloc, files, Work::Answer(deeds));
+fn outcome_over<D: Crash + Drop>(
+    alloc: Global,
+    files: Files<D>,
+    requests: &[RequestParts],
+) -> Outcome {
+    let (told, files) = over_files(alloc, files, Work::Answer(requests));
     let mut files = files;
     let is_whole = has_calls_left(&mut files.log) && has_calls_left(&mut files.db);
     files.log.crash();

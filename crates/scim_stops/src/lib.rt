@@ -4,8 +4,8 @@
 #[cfg(test)]
 mod databases;
 #[cfg(test)]
-mod deeds;
-#[cfg(test)]
 mod files;
+#[cfg(test)]
+mod request_parts;
 #[cfg(test)]
 mod stops;

@@ -1,4 +1,4 @@
-//! What is asked of a store.
+//! Requests to a store, by their parts, and whether they are answered.
 use scim_body::{UseFor, read_body};
 use scim_cell::{Id, Text};
 use scim_operations::read_patch;
@@ -9,22 +9,22 @@ use scim_text::Moment;
 use scim_view::Wanted;
 use std::alloc::Global;
 
-/// One request: of which resource, and by which message.
+/// A request: what it is about to do, with which resource, and its body, which is empty where it has none.
 #[derive(Clone, Copy)]
-pub(crate) struct Deed {
+pub(crate) struct RequestParts {
     pub(crate) op: Op,
     pub(crate) kind: Kind,
     pub(crate) id: &'static str,
     pub(crate) body: &'static str,
 }
 
-fn ask_of(alloc: Global, deed: Deed) -> Option<Ask> {
-    match deed.op {
-        Op::Create => match read_body(alloc, deed.kind, UseFor::Creating, deed.body) {
+fn ask_of(alloc: Global, parts: RequestParts) -> Option<Ask> {
+    match parts.op {
+        Op::Create => match read_body(alloc, parts.kind, UseFor::Creating, parts.body) {
             Ok(draft) => Some(Ask::Create(draft, Wanted::Default)),
             Err(_) => None,
         },
-        Op::Modify => match read_patch(alloc, deed.kind, deed.body) {
+        Op::Modify => match read_patch(alloc, parts.kind, parts.body) {
             Ok(patch) => Some(Ask::Patch(patch, Wanted::Default)),
             Err(_) => None,
         },
@@ -33,19 +33,19 @@ fn ask_of(alloc: Global, deed: Deed) -> Option<Ask> {
     }
 }
 
-fn turn_of(alloc: Global, deed: Deed) -> Option<Turn> {
-    let (Some(moment), Some(id)) = (Moment::new(1_717_243_200), Id::read(deed.id)) else {
+fn turn_of(alloc: Global, parts: RequestParts) -> Option<Turn> {
+    let (Some(moment), Some(id)) = (Moment::new(1_717_243_200), Id::read(parts.id)) else {
         return None;
     };
     let Ok(client) = Text::copy_of(alloc, "hr") else {
         return None;
     };
-    match ask_of(alloc, deed) {
+    match ask_of(alloc, parts) {
         Some(ask) => Some(Turn {
             request: Request {
                 client,
-                op: deed.op,
-                kind: deed.kind,
+                op: parts.op,
+                kind: parts.kind,
                 id: Some(id),
                 ask: Ok(ask),
             },
@@ -57,8 +57,8 @@ fn turn_of(alloc: Global, deed: Deed) -> Option<Turn> {
 }
 
 /// Whether a request is answered otherwise than by the 500.
-fn is_answered<H: Shelf>(alloc: Global, service: &mut Service<H>, deed: Deed) -> bool {
-    match turn_of(alloc, deed) {
+fn is_answered<H: Shelf>(alloc: Global, service: &mut Service<H>, parts: RequestParts) -> bool {
+    match turn_of(alloc, parts) {
         Some(turn) => !matches!(service.answer(alloc, &turn), Reply::Failed(_)),
         None => false,
     }
@@ -68,10 +68,10 @@ fn is_answered<H: Shelf>(alloc: Global, service: &mut Service<H>, deed: Deed) ->
 pub(crate) fn are_answered<H: Shelf>(
     alloc: Global,
     service: &mut Service<H>,
-    deeds: &[Deed],
+    requests: &[RequestParts],
 ) -> bool {
-    for deed in deeds {
-        if !is_answered(alloc, service, *deed) {
+    for parts in requests {
+        if !is_answered(alloc, service, *parts) {
             return false;
         }
     }
