@@ -9,7 +9,7 @@ use scim_text::{Moment, NoMemory, print_moment};
 use std::alloc::Global;
 
 /// What was decided on a request.
-#[derive(Clone, Copy, Debug, PartialEq, Eq)]
+#[derive(Clone, Copy, PartialEq, Eq)]
 pub enum Decided {
     /// The policy allowed it, and it was carried out.
     Allow,
@@ -39,7 +39,6 @@ impl Decided {
 }
 
 /// What the audit keeps of a request of a client. Its number is its place among the rows, from 1.
-#[derive(Debug)]
 pub struct AuditRow {
     /// When the request came.
     pub moment: Moment,

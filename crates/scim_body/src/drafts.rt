@@ -11,7 +11,7 @@ use std::marker::Model;
 
 /// What a body is read for: to make a resource (RFC 7644 section 3.3), or to replace one (section
 /// 3.5.1).
-#[derive(Clone, Copy, Debug, PartialEq, Eq)]
+#[derive(Clone, Copy, PartialEq, Eq)]
 pub enum UseFor {
     Creating,
     Replacing,
@@ -22,7 +22,7 @@ pub enum UseFor {
 ///
 /// Contracts know of every draft that its values may stand in a resource of the kind; and of one that was
 /// read for Creating that it has all that the kind requires.
-#[derive(Debug, Drop)]
+#[derive(Drop)]
 pub struct Draft {
     kind: Kind,
     use_for: UseFor,

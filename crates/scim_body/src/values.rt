@@ -26,7 +26,7 @@ use std::slice;
 const LONGEST_TEXT: usize = 65_536;
 
 /// A value of a body is refused: it is of another type, or over a limit.
-#[derive(Clone, Copy, Debug, PartialEq, Eq)]
+#[derive(Clone, Copy, PartialEq, Eq)]
 pub struct WrongValue;
 
 /// A boolean, or the text that names it in any case of its letters.

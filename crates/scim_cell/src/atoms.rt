@@ -6,7 +6,6 @@ use std::alloc::Global;
 use std::marker::Model;
 
 /// A text of its own, which contracts see as its bytes.
-#[derive(Debug)]
 pub struct Text {
     text: String,
 }
@@ -93,7 +92,6 @@ impl Eq for Text {
 }
 
 /// The value of a cell.
-#[derive(Debug)]
 pub enum Atom {
     /// A string, a binary value or a reference (RFC 7643 sections 2.3.1, 2.3.6 and 2.3.7).
     Text(Text),

@@ -8,7 +8,7 @@ use scim_schema::{AttributeType, Leaf};
 use scim_text::Moment;
 
 /// A cell of a part or a resource: what stands at a position of a leaf.
-#[derive(Debug, Drop)]
+#[derive(Drop)]
 pub struct Cell {
     pub leaf: Leaf,
     /// The place of the value among those of its attribute, from 0; 0 at a single-valued one.

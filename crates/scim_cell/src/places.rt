@@ -8,7 +8,7 @@ use std::cmp::Ordering;
 
 /// Where a cell stands: an attribute, the position of a value in it from 0, and a sub-attribute of
 /// that value.
-#[derive(Clone, Copy, Debug)]
+#[derive(Clone, Copy)]
 pub struct Place {
     pub attribute: Attribute,
     pub position: usize,

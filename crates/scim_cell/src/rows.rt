@@ -10,7 +10,6 @@ use std::alloc::Global;
 use std::marker::Model;
 
 /// A leaf of a value, and the atom that the value has there.
-#[derive(Debug)]
 pub struct Field {
     pub leaf: Leaf,
     pub atom: Atom,
@@ -28,7 +27,6 @@ impl Drop for Field {
 
 /// One value of a unit: a value of a multi-valued attribute with the fields that it has, in order
 /// of sub-attribute; or the one field of a leaf that is a unit of its own.
-#[derive(Debug)]
 pub struct Row {
     unit: Unit,
     fields: Vec<Field>,

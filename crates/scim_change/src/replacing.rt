@@ -18,7 +18,7 @@ use std::alloc::Global;
 use thiserror::Error;
 
 /// A resource after a change, and whether the change moved anything of it.
-#[derive(Debug, Drop)]
+#[derive(Drop)]
 pub struct Changed {
     pub resource: Resource,
     pub changed: bool,

@@ -10,7 +10,6 @@ use scim_text::NoMemory;
 use std::alloc::Global;
 
 /// What a message is answered.
-#[derive(Debug, Drop)]
 pub enum Answer {
     /// It is refused before it comes to the service.
     Refused(Refusal),
@@ -18,6 +17,17 @@ pub enum Answer {
     Page(Text),
     /// What the service replies.
     Served(Reply),
+}
+
+/// One call, wherever an answer is dropped, in place of a look at each form.
+impl Drop for Answer {
+    fn drop(self) {
+        match self {
+            Answer::Refused(_) => (),
+            Answer::Page(_text) => (),
+            Answer::Served(_reply) => (),
+        }
+    }
 }
 
 impl Answer {

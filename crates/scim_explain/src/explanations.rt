@@ -11,7 +11,7 @@ use std::marker::Model;
 
 /// Why a decision fell: the decision, and for each rule before the one that decided the first thing of it
 /// that doesn't fit; where none decided, for each rule. Contracts see the list and the decision.
-#[derive(Debug, Drop)]
+#[derive(Drop)]
 pub struct Explanation {
     misfits: Vec<Misfit>,
     decision: Decision,

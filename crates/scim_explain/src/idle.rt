@@ -13,7 +13,7 @@ use scim_text::{NoMemory, push};
 use std::alloc::Global;
 
 /// A rule that can never decide, since a rule before it has no target and covers all that it covers.
-#[derive(Clone, Copy, Debug, PartialEq, Eq)]
+#[derive(Clone, Copy, PartialEq, Eq)]
 pub struct IdleRule {
     /// Its number, from 1.
     pub rule: u32,

@@ -12,7 +12,7 @@ use scim_text::{NoMemory, push};
 use std::alloc::Global;
 
 /// A name in a filter.
-#[derive(Debug, Drop)]
+#[derive(Drop)]
 pub struct Named {
     /// The name as it is written, with its URN and the name of a sub-attribute.
     pub text: Text,

@@ -10,7 +10,6 @@ use std::marker::Model;
 
 /// The text that a JSON string in a filter stands for. It is folded, and read as a moment, once for all
 /// resources that it is compared with. Contracts see the text.
-#[derive(Debug)]
 pub struct StringLiteral {
     text: Text,
     folded: Text,

@@ -13,7 +13,7 @@ use scim_text::{Failed, push};
 use std::alloc::Global;
 
 /// A token of a filter's text, from its first byte up to the one behind its last.
-#[derive(Clone, Copy, Debug)]
+#[derive(Clone, Copy)]
 pub struct Token<'a> {
     pub start: usize,
     pub end: usize,

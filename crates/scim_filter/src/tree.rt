@@ -25,7 +25,6 @@ pub enum Operator {
 }
 
 /// What values are compared with.
-#[derive(Debug)]
 pub enum Literal {
     /// What a JSON string stands for.
     Text(StringLiteral),
@@ -47,7 +46,7 @@ impl Drop for Literal {
 }
 
 /// What a path names in the attribute table of a kind.
-#[derive(Clone, Copy, Debug, PartialEq, Eq)]
+#[derive(Clone, Copy, PartialEq, Eq)]
 pub enum Meant {
     /// The kind has no such attribute or sub-attribute.
     Nothing,
@@ -68,7 +67,6 @@ impl Meant {
 }
 
 /// A path, with its names as they are written.
-#[derive(Debug)]
 pub struct Path {
     /// The URN before the last colon.
     pub urn: Option<Text>,

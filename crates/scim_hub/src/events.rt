@@ -5,7 +5,7 @@ use std::alloc::AllocFailed;
 use thiserror::Error;
 
 /// When an event came, and the id for the first resource that it makes.
-#[derive(Clone, Copy, Debug)]
+#[derive(Clone, Copy)]
 pub struct Stamp {
     /// When it came.
     pub moment: Moment,
@@ -15,7 +15,7 @@ pub struct Stamp {
 }
 
 /// What happened to a connection.
-#[derive(Clone, Copy, Debug)]
+#[derive(Clone, Copy)]
 pub enum Happening<'a> {
     /// It was opened.
     Joined,
@@ -26,7 +26,7 @@ pub enum Happening<'a> {
 }
 
 /// What happened to a connection, and when.
-#[derive(Clone, Copy, Debug)]
+#[derive(Clone, Copy)]
 pub struct Event<'a> {
     /// The number of the connection. Once it has left, a new connection may have its number.
     pub connection: u64,
@@ -35,7 +35,7 @@ pub struct Event<'a> {
 }
 
 /// What is to be done for a connection.
-#[derive(Debug, Drop)]
+#[derive(Drop)]
 pub enum Output {
     /// The text is to be written to it.
     Write(u64, String),

@@ -5,7 +5,6 @@ ghost use Rattle.scim_hub.specs.Halls.{seen_of, recorded_of};
 use crate::events::{Event, Happening, Stamp};
 
 /// What happened to a connection, with a piece of its own.
-#[derive(Debug)]
 pub enum Happened {
     /// It was opened.
     Joined,
@@ -26,7 +25,7 @@ impl Drop for Happened {
 }
 
 /// What happened to a connection, and when, with a piece of its own.
-#[derive(Debug, Drop)]
+#[derive(Drop)]
 pub struct Recorded {
     /// The number of the connection.
     pub connection: u64,

@@ -23,7 +23,7 @@ use uuid::Uuid;
 const MOST_READS: u64 = 1_000_000;
 
 /// What came of a stream.
-#[derive(Clone, Copy, Debug, PartialEq, Eq)]
+#[derive(Clone, Copy, PartialEq, Eq)]
 pub struct Served {
     /// How many replies were written, 100 (Continue) aside.
     pub replies: u64,

@@ -5,7 +5,7 @@ ghost use Rattle.scim_operations.specs.Messages as spec;
 use scim_text::same_name;
 
 /// What is to be done at a path (RFC 7644 section 3.5.2).
-#[derive(Clone, Copy, Debug, PartialEq, Eq)]
+#[derive(Clone, Copy, PartialEq, Eq)]
 pub enum Operation {
     Add,
     Replace,

@@ -17,7 +17,6 @@ use std::alloc::Global;
 /// What a policy decides of a client's reading, modifying and deleting of one resource, leaf by leaf.
 ///
 /// Made in one walk over the rules, which tries each rule's target at most once.
-#[derive(Debug)]
 pub struct Rights {
     read: Decisions,
     modify: Decisions,

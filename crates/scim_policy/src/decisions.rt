@@ -20,7 +20,6 @@ use std::alloc::Global;
 ///
 /// It is made at once for all leaves, since a rule that fits the client, the operation and the
 /// resource fits them for each leaf that it covers.
-#[derive(Debug)]
 pub struct Decisions {
     attributes: Vec<AttributeDecisions>,
     rest: Option<Decision>,
@@ -37,7 +36,7 @@ impl Drop for Decisions {
 }
 
 /// What is decided of an attribute: of sub-attributes alone, and after them of the whole.
-#[derive(Debug, Drop)]
+#[derive(Drop)]
 struct AttributeDecisions {
     sub_attributes: Vec<(SubAttribute, Decision)>,
     whole: Option<Decision>,

@@ -11,7 +11,7 @@ use std::fmt;
 use std::marker::Model;
 
 /// Whom a rule is for.
-#[derive(Debug, Drop)]
+#[derive(Drop)]
 pub enum ClientName {
     /// Any client: `*`.
     Everyone,
@@ -31,7 +31,7 @@ pub enum PolicyPath {
 }
 
 /// Which rule decided, from 1, and whether it allows. Where no rule fits it is rule 0, which denies.
-#[derive(Clone, Copy, Debug, PartialEq, Eq)]
+#[derive(Clone, Copy, PartialEq, Eq)]
 pub struct Decision {
     pub rule: u32,
     pub allow: bool,
@@ -46,7 +46,7 @@ pub struct Target {
 
 /// What a rule's paths cover on resources of one kind: of a path that names nothing on that kind,
 /// nothing. Contracts see the kind and the list of paths.
-#[derive(Debug, Drop)]
+#[derive(Drop)]
 pub struct KindPaths {
     kind: Kind,
     paths: Vec<PolicyPath>,
@@ -54,7 +54,7 @@ pub struct KindPaths {
 
 /// Whether some clients may or may not do some operations on some kinds of resources for which a target
 /// holds, and on which attributes of them.
-#[derive(Debug, Drop)]
+#[derive(Drop)]
 pub struct Rule {
     allow: bool,
     clients: Vec<ClientName>,
@@ -65,7 +65,7 @@ pub struct Rule {
 }
 
 /// Rules, numbered from 1 by their place; at most 1,000. Contracts see the list of rules.
-#[derive(Debug, Drop)]
+#[derive(Drop)]
 pub struct Policy {
     rules: Vec<Rule>,
 }

@@ -8,7 +8,7 @@ use crate::queries::Query;
 use scim_filter::{Filter, Named, holds, mentioned_names};
 use scim_policy::Decisions;
 use scim_schema::Attribute;
-use scim_text::{NoMemory, push};
+use scim_text::NoMemory;
 use scim_value::Resource;
 use scim_view::visible_attributes;
 use std::alloc::Global;

@@ -6,7 +6,7 @@ ghost use Rattle.scim_schema.specs.Mutability as written;
 use crate::{Attribute, Kind, Leaf, SubAttribute, Unit};
 
 /// The type of an attribute's values (RFC 7643 section 2.3).
-#[derive(Clone, Copy, Debug, PartialEq, Eq)]
+#[derive(Clone, Copy, PartialEq, Eq)]
 pub enum AttributeType {
     String,
     Boolean,
@@ -17,7 +17,7 @@ pub enum AttributeType {
 }
 
 /// Who may change an attribute, and when (RFC 7643 section 2.2).
-#[derive(Clone, Copy, Debug, PartialEq, Eq)]
+#[derive(Clone, Copy, PartialEq, Eq)]
 pub enum Mutability {
     ReadOnly,
     ReadWrite,
@@ -26,7 +26,7 @@ pub enum Mutability {
 }
 
 /// When an attribute is part of a reply (RFC 7643 section 2.2).
-#[derive(Clone, Copy, Debug, PartialEq, Eq)]
+#[derive(Clone, Copy, PartialEq, Eq)]
 pub enum Returned {
     Always,
     Never,
@@ -35,14 +35,14 @@ pub enum Returned {
 }
 
 /// Whether two resources may hold one value (RFC 7643 section 2.2).
-#[derive(Clone, Copy, Debug, PartialEq, Eq)]
+#[derive(Clone, Copy, PartialEq, Eq)]
 pub enum Uniqueness {
     NotUnique,
     Server,
 }
 
 /// The characteristics of an attribute or a sub-attribute (RFC 7643 section 2.2).
-#[derive(Clone, Copy, Debug, PartialEq, Eq)]
+#[derive(Clone, Copy, PartialEq, Eq)]
 pub struct Characteristics {
     pub attribute_type: AttributeType,
     pub multi_valued: bool,

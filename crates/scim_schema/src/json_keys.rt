@@ -7,7 +7,7 @@ use crate::schemas::Schema;
 use crate::{Attribute, Kind, SubAttribute};
 
 /// What a JSON text of a part is for.
-#[derive(Clone, Copy, Debug, PartialEq, Eq)]
+#[derive(Clone, Copy, PartialEq, Eq)]
 pub enum JsonForm {
     /// To be shown to a client: all cells, and `schemas` (RFC 7643 section 3).
     Shown,
@@ -17,7 +17,7 @@ pub enum JsonForm {
 }
 
 /// A key of the JSON object of a part.
-#[derive(Clone, Copy, Debug, PartialEq, Eq)]
+#[derive(Clone, Copy, PartialEq, Eq)]
 pub enum JsonKey {
     /// The name of an attribute of the core schema.
     Of(Attribute),
@@ -29,7 +29,7 @@ pub enum JsonKey {
 }
 
 /// What the JSON value of an attribute is.
-#[derive(Clone, Copy, Debug, PartialEq, Eq)]
+#[derive(Clone, Copy, PartialEq, Eq)]
 pub enum JsonShape {
     /// The value alone.
     Simple,

@@ -113,7 +113,7 @@ pub enum SubAttribute {
 /// atom of.
 ///
 /// Not every pair is a leaf of a kind: `table::has_leaf` tells.
-#[derive(Clone, Copy, Debug, PartialEq, Eq, Hash)]
+#[derive(Clone, Copy, PartialEq, Eq, Hash)]
 pub struct Leaf {
     pub attribute: Attribute,
     /// None at a simple attribute.
@@ -122,7 +122,7 @@ pub struct Leaf {
 
 /// What is given and written as one: a simple attribute, a sub-attribute of a single complex
 /// attribute, or a whole multi-valued attribute.
-#[derive(Clone, Copy, Debug, PartialEq, Eq)]
+#[derive(Clone, Copy, PartialEq, Eq)]
 pub struct Unit {
     pub attribute: Attribute,
     /// None at a simple attribute and at a whole multi-valued one.

@@ -8,7 +8,6 @@ use std::alloc::Global;
 use thiserror::Error;
 
 /// What happens next.
-#[derive(Debug)]
 pub enum Incident {
     /// Something happened to a connection.
     Event(Recorded),

@@ -10,7 +10,6 @@ use scim_shelf::ShelfFault;
 use scim_text::Failed;
 
 /// What a request is answered.
-#[derive(Debug, Drop)]
 pub enum Reply {
     /// 200, with a JSON text: of a resource, or of a list.
     Shown(Text),
@@ -22,6 +21,17 @@ pub enum Reply {
     Refused(Refusal),
     /// 500: nothing was done, for this cause, which isn't told outside.
     Failed(Failed<ShelfFault>),
+}
+
+/// One call, wherever a reply is dropped, in place of a look at each form.
+impl Drop for Reply {
+    fn drop(self) {
+        match self {
+            Reply::Shown(_text) => (),
+            Reply::Created(_location, _text) => (),
+            Reply::Done | Reply::Refused(_) | Reply::Failed(_) => (),
+        }
+    }
 }
 
 impl Reply {

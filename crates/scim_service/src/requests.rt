@@ -9,7 +9,6 @@ use scim_text::Moment;
 use scim_view::Wanted;
 
 /// What is asked of resources of a kind.
-#[derive(Drop)]
 pub enum Ask {
     /// To show the resource that the request names (RFC 7644 section 3.4.1), of it what is wanted.
     Get(Wanted),
@@ -27,6 +26,20 @@ pub enum Ask {
     Patch(Patch, Wanted),
     /// To remove the resource that the request names (RFC 7644 section 3.6).
     Remove,
+}
+
+/// One call, wherever it is dropped, in place of a look at each form.
+impl Drop for Ask {
+    fn drop(self) {
+        match self {
+            Ask::Get(_wanted) => (),
+            Ask::Search(_query) => (),
+            Ask::Create(_draft, _wanted) => (),
+            Ask::Replace(_draft, _wanted) => (),
+            Ask::Patch(_patch, _wanted) => (),
+            Ask::Remove => (),
+        }
+    }
 }
 
 /// A request of a client.

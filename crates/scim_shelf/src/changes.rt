@@ -8,7 +8,7 @@ use scim_value::Resource;
 use std::alloc::Global;
 
 /// What one request changes of the resources.
-#[derive(Debug, Drop)]
+#[derive(Drop)]
 pub enum Change {
     /// Nothing: a row of the audit is all that is added.
     Nothing,

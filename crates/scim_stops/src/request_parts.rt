@@ -59,7 +59,7 @@ fn turn_of(alloc: Global, parts: RequestParts) -> Option<Turn> {
 /// Whether a request is answered otherwise than by the 500.
 fn is_answered<H: Shelf>(alloc: Global, service: &mut Service<H>, parts: RequestParts) -> bool {
     match turn_of(alloc, parts) {
-        Some(turn) => !matches!(service.answer(alloc, &turn), Reply::Failed(_)),
+        Some(turn) => !matches!(service.answer(alloc, &turn), Reply::Failed(..)),
         None => false,
     }
 }

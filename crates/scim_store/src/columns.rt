@@ -14,7 +14,7 @@ use scim_text::NoMemory;
 use std::alloc::Global;
 
 /// The texts of a row of the audit, which its columns lend.
-#[derive(Debug, Drop)]
+#[derive(Drop)]
 pub struct AuditTexts {
     id: Option<Text>,
     leaf: Option<Text>,

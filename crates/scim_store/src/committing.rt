@@ -29,7 +29,7 @@ use sqlite::{Alter, Connection, Error};
 use std::alloc::Global;
 
 /// What keeps a change from being committed.
-#[derive(Clone, Copy, Debug, PartialEq, Eq)]
+#[derive(Clone, Copy, PartialEq, Eq)]
 pub enum CommitFault {
     /// The database gave this error.
     Database(Error),

@@ -28,11 +28,11 @@ use scim_value::{Resource, UniqueName, unique_names};
 use sqlite::Row;
 use sqlite::types::ValueRef;
 use std::alloc::Global;
-use std::collections::BTreeSet;
+use std::collections::{BTreeSet, HashSet};
 use std::marker::Model;
 
 /// What the rows of the tables of resources are.
-#[derive(Clone, Copy, Debug, PartialEq, Eq)]
+#[derive(Clone, Copy, PartialEq, Eq)]
 pub enum Judged {
     /// Those of resources.
     Sound,
@@ -45,11 +45,11 @@ pub enum Judged {
 }
 
 /// The document of a resource is no UTF-8, so that it can't be read.
-#[derive(Clone, Copy, Debug, PartialEq, Eq)]
+#[derive(Clone, Copy, PartialEq, Eq)]
 pub struct Unreadable;
 
 /// The rows of the tables of resources, as `read_tables` of `scim_tables` tells them.
-#[derive(Debug, Drop)]
+#[derive(Drop)]
 pub struct ResourceRows {
     /// Id, kind and document of each resource.
     pub resources: Vec<Row>,
@@ -306,7 +306,7 @@ fn are_apart(alloc: Global, names: &[Row]) -> Result<bool, NoMemory>
     ensures yes { IfOk result (λ apart. apart ≡ true → IsDistinct spec.is_shared names.now) }
     ensures no { IfOk result (λ apart. apart ≡ false → All code.HasName names.now → IsDistinct spec.is_shared names.now → ⊥) }
 {
-    let mut texts = BTreeSet::new(alloc);
+    let mut texts = HashSet::with_capacity(alloc, names.len())?;
     for name in names {
         let Some(text) = text_of_name(name) else {
             return Ok(false);

@@ -5,7 +5,6 @@ use scim_schema::Kind;
 use scim_value::UniqueName;
 
 /// What goes from the tables and comes into them, where one resource changes.
-#[derive(Debug)]
 pub struct Edits {
     /// The text of the resource's id.
     pub id: Text,

@@ -25,7 +25,7 @@ use sqlite::{Alter, Connection, Error, Transaction};
 use std::alloc::Global;
 
 /// What keeps resources from being brought into a database.
-#[derive(Clone, Copy, Debug, PartialEq, Eq)]
+#[derive(Clone, Copy, PartialEq, Eq)]
 pub enum ImportFault {
     /// The database has a table, an index or a view.
     NotEmpty,

@@ -20,7 +20,7 @@ use sqlite::{Alter, Connection, Error, ErrorCode, Row};
 use std::alloc::Global;
 
 /// What a database is to a store of resources below a base.
-#[derive(Clone, Copy, Debug, PartialEq, Eq)]
+#[derive(Clone, Copy, PartialEq, Eq)]
 pub enum Examined {
     /// It has no table, index or view.
     Empty,

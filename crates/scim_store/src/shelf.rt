@@ -48,7 +48,7 @@ pub struct SqlShelf<S: Alter> {
 }
 
 /// What keeps a database from being opened.
-#[derive(Clone, Copy, Debug, PartialEq, Eq)]
+#[derive(Clone, Copy, PartialEq, Eq)]
 pub enum OpenFault {
     /// Its tables are of another version.
     WrongVersion,

@@ -10,7 +10,7 @@ ghost use Rattle.scim_tables.specs.Steps.{Goes, Keeps};
 use sqlite::{Alter, Error, Transaction, params};
 
 /// The columns of a row of the audit. What is None is NULL in the table.
-#[derive(Clone, Copy, Debug)]
+#[derive(Clone, Copy)]
 pub struct AuditColumns<'a> {
     /// The number of the row, which is its key.
     pub number: u64,

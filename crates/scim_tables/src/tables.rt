@@ -20,7 +20,7 @@ use sqlite::types::ValueRef;
 use sqlite::{Alter, Connection, Error, Row};
 
 /// The rows of the tables, each list in its order, whatever their columns hold.
-#[derive(Debug, Drop)]
+#[derive(Drop)]
 pub struct TableRows {
     /// Id, kind and document of each resource, by id.
     pub resources: Vec<Row>,
@@ -33,7 +33,7 @@ pub struct TableRows {
 }
 
 /// What a database is.
-#[derive(Debug, Drop)]
+#[derive(Drop)]
 pub enum Reading {
     /// It has no table, index or view.
     Empty,

@@ -14,7 +14,7 @@ use std::marker::Model;
 
 /// A second from 1970-01-01T00:00:00Z to 9999-12-31T23:59:59Z, as `meta.created` and
 /// `meta.lastModified` have it (RFC 7643 section 3.1). A day has 86,400 seconds.
-#[derive(Clone, Copy, Debug, PartialEq, Eq, PartialOrd, Ord)]
+#[derive(Clone, Copy, PartialEq, Eq, PartialOrd, Ord)]
 pub struct Moment {
     seconds: u64,
 }

@@ -14,7 +14,7 @@ use thiserror::Error;
 
 /// What the text of a moment stands for. Readings are in the order of the instants: by their second, and
 /// within a second the whole second comes first.
-#[derive(Clone, Copy, Debug, PartialEq, Eq, PartialOrd, Ord)]
+#[derive(Clone, Copy, PartialEq, Eq, PartialOrd, Ord)]
 pub struct Reading {
     /// The whole seconds since 1970-01-01T00:00:00Z, which are negative before it.
     pub second: i64,

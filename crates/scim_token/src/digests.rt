@@ -7,7 +7,7 @@ use hex::FromHex;
 use sha2::{Digest as Hasher, Sha256};
 
 /// The SHA-256 of a token (FIPS 180-4).
-#[derive(Clone, Copy, Debug, PartialEq, Eq, Hash)]
+#[derive(Clone, Copy, PartialEq, Eq, Hash)]
 pub(crate) struct Digest {
     bytes: [u8; 32],
 }

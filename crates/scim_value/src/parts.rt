@@ -27,7 +27,6 @@ use std::marker::Model;
 ///
 /// A part keeps its cells by value, as rows: contracts see the finite map from leaf and position to
 /// atom, and `rows` lends the rows of that map.
-#[derive(Debug)]
 pub struct Part {
     kind: Kind,
     id: Id,

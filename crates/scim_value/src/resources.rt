@@ -21,7 +21,6 @@ use std::marker::Model;
 /// keeps to this server's limits. `validity::is_resource` tells which parts are.
 ///
 /// Contracts see its part, of which they know that it is a resource.
-#[derive(Debug)]
 pub struct Resource {
     part: Part,
 }

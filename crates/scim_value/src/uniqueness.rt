@@ -13,7 +13,7 @@ use std::alloc::Global;
 
 /// A name that a resource has alone: a leaf, and the text by which the name is known there. That is
 /// the folded text, unless the attribute is caseExact.
-#[derive(Debug, PartialEq, Eq, Hash)]
+#[derive(PartialEq, Eq, Hash)]
 pub struct UniqueName {
     pub leaf: Leaf,
     pub text: String,

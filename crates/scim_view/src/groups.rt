@@ -25,7 +25,7 @@ use scim_value::{Part, Resource};
 use std::alloc::Global;
 
 /// A group that a client sees: what of it is shown at its members.
-#[derive(Debug, Drop)]
+#[derive(Drop)]
 pub(crate) struct SeenGroup {
     id: Id,
     /// The `displayName`, where the client may see it.

@@ -14,7 +14,7 @@ use std::collections::HashSet;
 
 /// What the texts of an attribute list name: all attributes of an extension, whole attributes, and
 /// sub-attributes alone.
-#[derive(Debug, Drop)]
+#[derive(Drop)]
 pub struct Names {
     extensions: HashSet<Schema>,
     attributes: HashSet<Attribute>,

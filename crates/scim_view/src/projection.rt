@@ -13,7 +13,6 @@ use std::alloc::Global;
 
 /// What a client wants to be shown. What is returned always is shown whatever it wants, and what is
 /// returned never is not (RFC 7643 section 7).
-#[derive(Debug, Drop)]
 pub enum Wanted {
     /// What is returned by default.
     Default,
@@ -23,6 +22,17 @@ pub enum Wanted {
     /// Of what is returned by default, all but what is named: the parameter `excludedAttributes` of RFC
     /// 7644 section 3.9.
     Without(Names),
+}
+
+/// One call, wherever it is dropped, in place of a look at each form.
+impl Drop for Wanted {
+    fn drop(self) {
+        match self {
+            Wanted::Default => (),
+            Wanted::Only(_names) => (),
+            Wanted::Without(_names) => (),
+        }
+    }
 }
 
 /// The leaves of a kind that are shown.

@@ -15,7 +15,7 @@ use std::alloc::Global;
 pub const MAX_BODY: u64 = 1_048_576;
 
 /// How a body is framed (RFC 9112 section 6).
-#[derive(Clone, Copy, Debug, PartialEq, Eq)]
+#[derive(Clone, Copy, PartialEq, Eq)]
 pub enum Framing {
     /// It has so many bytes.
     Sized(u64),

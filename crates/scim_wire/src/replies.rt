@@ -8,7 +8,7 @@ use scim_text::NoMemory;
 use std::alloc::Global;
 
 /// What is answered to a request.
-#[derive(Clone, Copy, Debug)]
+#[derive(Clone, Copy)]
 pub struct Reply<'a> {
     /// The status code. With 204 no length is told, as there is no body then.
     pub status: StatusCode,

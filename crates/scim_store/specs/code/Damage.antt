@@ -1,7 +1,9 @@
 -- The rows of one resource, as the code compares them.
-use Rattle.std.specs.Prelude.{◌≡◌, ℕ, pos, ◌==◌, Bool, false, ◌&&◌, List, [], ◌∷◌, length, map, All, Option, None, Some}
+use Rattle.std.specs.Prelude.{◌≡◌, ℕ, nat_eq, pos, ◌==◌, Bool, false, ◌&&◌, List, [], ◌∷◌, length, map, All, Option, None, Some}
 use Rattle.std.specs.Ordering.{int_eq, nat_cmp}
-use Rattle.std.specs.Cmp.Lexicographic.{slice_cmp}
+use Rattle.std.specs.Cmp.Lexicographic.{slice_cmp, pointwise}
+use Rattle.std.specs.HashSet.{HashSet, contains_by}
+use denote.Ref.{Bor}
 use Rattle.std.specs.List.Sorted.{IsStrictlySortedBy}
 use Rattle.scim_value.specs.Members.{lists_value}
 use Rattle.scim_store.specs.Stands.{is_among}
@@ -79,3 +81,7 @@ pub record AreAllOwned (tables : Tables) : Type 0 where
   pub resources : All HasOwner tables.resources
   pub names : All HasOwner tables.names
   pub members : All HasOwner tables.members
+
+-- whether a text is among borrowed texts
+abbrev pub is_in : {S : Type 0} → List ℕ → HashSet (Bor (List ℕ)) S → Bool
+is_in text texts = contains_by (λ t. pointwise nat_eq text t.now) texts
