@@ -6,7 +6,7 @@ use scim_ask::ask;
 use scim_command::service_over;
 use scim_exchange::{Answer, Arrival, answer};
 use scim_policy::read_policy;
-use scim_route::{Found, find};
+use scim_route::{Found, Routes};
 use scim_samples::{BASE, POLICY, USERS};
 use scim_service::Service;
 use scim_shelf::MemoryShelf;
@@ -135,8 +135,13 @@ fn print_answer(alloc: Global, answer: &Answer) -> Result<()> {
 }
 
 /// Finds what a GET names, reads what it asks, and prints its answer.
-fn go_round_service(alloc: Global, message: &Message, answer: &Answer) -> Result<()> {
-    let Ok(Found::Resource(route)) = find(
+fn go_round_service(
+    alloc: Global,
+    routes: &Routes,
+    message: &Message,
+    answer: &Answer,
+) -> Result<()> {
+    let Ok(Found::Resource(route)) = routes.find(
         alloc,
         message.method.as_slice(),
         message.target.as_slice(),
@@ -151,11 +156,12 @@ fn go_round_service(alloc: Global, message: &Message, answer: &Answer) -> Result
 /// Answers a GET, and prints the answer.
 fn answer_get(
     alloc: Global,
+    routes: &Routes,
     service: &mut Service<MemoryShelf>,
     arrival: &Arrival<'_>,
     message: &Message,
 ) -> Result<()> {
-    let answer = answer(alloc, service, arrival, message);
+    let answer = answer(alloc, routes, service, arrival, message);
     print_answer(alloc, &answer)
 }
 
@@ -163,13 +169,14 @@ fn answer_get(
 fn measure_answers(
     rt: &impl Clock,
     alloc: Global,
+    routes: &Routes,
     service: &mut Service<MemoryShelf>,
     arrival: &Arrival<'_>,
     message: &Message,
 ) -> Result<u128> {
     let start = Instant::now(rt)?;
     for _ in 0..GETS {
-        answer_get(alloc, service, arrival, message)?;
+        answer_get(alloc, routes, service, arrival, message)?;
     }
     Ok(start.elapsed(rt)?.as_nanos() / GETS as u128)
 }
@@ -178,12 +185,18 @@ fn measure_answers(
 fn measure_beside(
     rt: &impl Clock,
     alloc: Global,
+    routes: &Routes,
     service: &mut Service<MemoryShelf>,
     arrival: &Arrival<'_>,
     message: &Message,
 ) -> Result<u128> {
-    let told = answer(alloc, service, arrival, message);
-    fastest(rt, PASSES, GETS, || go_round_service(alloc, message, &told))
+    let told = answer(alloc, routes, service, arrival, message);
+    fastest(
+        rt,
+        PASSES,
+        GETS,
+        || go_round_service(alloc, routes, message, &told),
+    )
 }
 
 /// Prints what a GET takes, and what of it isn't the service's.
@@ -204,8 +217,9 @@ fn print_gets_of(
         moment: Moment::new(0).unwrap(),
         fresh: id_of(0),
     };
-    let beside = measure_beside(rt, alloc, service, &arrival, message)?;
-    let whole = measure_answers(rt, alloc, service, &arrival, message)?;
+    let routes = Routes::new(alloc)?;
+    let beside = measure_beside(rt, alloc, &routes, service, &arrival, message)?;
+    let whole = measure_answers(rt, alloc, &routes, service, &arrival, message)?;
     let service_alone = whole.saturating_sub(beside);
     print_line(
         rt,

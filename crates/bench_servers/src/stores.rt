@@ -5,10 +5,12 @@ use crate::runs::print_all;
 use anyhow::{Result, bail};
 use bench_stores::{FileWork, over_file, remove_database, unusable};
 use bench_values::{TOKENS, print_heading, read_users, users_file};
+use scim_cache::CachedShelf;
 use scim_cell::Text;
 use scim_hub::Hub;
 use scim_json::read_documents;
 use scim_policy::{Policy, read_policy};
+use scim_route::Routes;
 use scim_samples::BASE;
 use scim_service::Service;
 use scim_shelf::{MemoryShelf, Shelf};
@@ -31,6 +33,7 @@ struct Terms {
     policy: Policy,
     tokens: Tokens,
     base: Text,
+    routes: Routes,
 }
 
 impl Terms {
@@ -38,10 +41,12 @@ impl Terms {
         let base = Text::copy_of(alloc, BASE)?;
         let tokens = Tokens::read(alloc, TOKENS)?;
         let policy = read_policy(alloc, POLICY)?;
+        let routes = Routes::new(alloc)?;
         Ok(Terms {
             policy,
             tokens,
             base,
+            routes,
         })
     }
 
@@ -51,8 +56,9 @@ impl Terms {
             policy,
             tokens,
             base,
+            routes,
         } = self;
-        Hub::new(alloc, Service::new(policy, base, shelf), tokens)
+        Hub::new(alloc, routes, Service::new(policy, base, shelf), tokens)
     }
 }
 
@@ -74,6 +80,8 @@ fn over_memory(rt: &HostRuntime, shelf: MemoryShelf, what: &str) -> Result<()> {
 #[derive(Drop)]
 struct Serving<'a> {
     users: Vec<Resource>,
+    /// Whether the users are kept in memory too.
+    has_cache: bool,
     what: &'a str,
 }
 
@@ -89,32 +97,51 @@ impl FileWork for Serving<'_> {
             return (unusable(), connection);
         }
         match SqlShelf::open(rt.alloc(), connection, BASE) {
-            Ok(shelf) => over_shelf(rt, shelf, self.what),
+            Ok(shelf) => over_shelf(rt, CachedShelf::over(shelf), self.has_cache, self.what),
             Err((_, connection)) => (unusable(), connection),
         }
     }
 }
 
+/// By what a hub answers, over a shelf whose resources are read into memory if they are to be kept there.
+fn terms_over<S: Shelf>(
+    alloc: Global,
+    shelf: &mut CachedShelf<S>,
+    has_cache: bool,
+) -> Result<Terms> {
+    if has_cache {
+        shelf.fill(alloc)?;
+    }
+    Terms::new(alloc)
+}
+
 /// Prints the figures over a store in a database, whose connection is given back.
 fn over_shelf<S: Alter + Drop>(
     rt: &HostRuntime,
-    shelf: SqlShelf<S>,
+    shelf: CachedShelf<SqlShelf<S>>,
+    has_cache: bool,
     what: &str,
 ) -> (Result<()>, Connection<S>) {
-    match Terms::new(rt.alloc()) {
+    let mut shelf = shelf;
+    match terms_over(rt.alloc(), &mut shelf, has_cache) {
         Ok(terms) => {
             let mut hub = terms.hub_over(rt.alloc(), shelf);
             let done = print_all(rt, &mut hub, what);
-            (done, hub.into_service().into_shelf().into_connection())
+            let shelf = hub.into_service().into_shelf();
+            (done, shelf.into_lower().into_connection())
         }
-        Err(fault) => (Err(fault), shelf.into_connection()),
+        Err(fault) => (Err(fault), shelf.into_lower().into_connection()),
     }
 }
 
 /// Prints the figures over a database that is made for them, and removed whatever comes of them.
-fn in_file(rt: &HostRuntime, count: usize, what: &str) -> Result<()> {
+fn in_file(rt: &HostRuntime, count: usize, has_cache: bool, what: &str) -> Result<()> {
     let users = read_users(rt.alloc(), count)?;
-    let mut serving = Serving { users, what };
+    let mut serving = Serving {
+        users,
+        has_cache,
+        what,
+    };
     remove_database(rt);
     let done = over_file(rt, &mut serving);
     remove_database(rt);
@@ -130,6 +157,7 @@ pub fn run(rt: &HostRuntime) -> Result<()> {
     let [few, many] = USERS;
     in_memory(rt, few, "2,000 users in memory")?;
     in_memory(rt, many, "100,000 users in memory")?;
-    in_file(rt, few, "2,000 users in a database")?;
-    in_file(rt, many, "100,000 users in a database")
+    in_file(rt, few, false, "2,000 users in a database")?;
+    in_file(rt, many, false, "100,000 users in a database")?;
+    in_file(rt, many, true, "100,000 users in a database and in memory")
 }

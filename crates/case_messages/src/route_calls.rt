@@ -1,7 +1,7 @@
 //! The calls of `scim_route`.
 use case_values::{Case, CaseFault, debugged, joined, push_all, said};
 use scim_cell::{Id, Text};
-use scim_route::{Found, Parameters, Route, find};
+use scim_route::{Found, Parameters, Route, Routes};
 use scim_text::{Failed, NoMemory};
 use std::alloc::Global;
 
@@ -18,7 +18,8 @@ pub fn answer(case: &Case<'_>, call: &str) -> Option<Result<String, CaseFault>> 
 fn find_call(case: &Case<'_>) -> Result<String, CaseFault> {
     let method = case.text_or("method", "GET").as_bytes();
     let target = case.text("target")?.as_bytes();
-    match find(case.alloc, method, target) {
+    let routes = Routes::new(case.alloc)?;
+    match routes.find(case.alloc, method, target) {
         Ok(found) => found_text(case.alloc, &found),
         Err(Failed::Because(refusal)) => debugged(case.alloc, &refusal),
         Err(Failed::NoMemory) => Err(CaseFault::NoMemory),

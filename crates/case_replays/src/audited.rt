@@ -5,6 +5,7 @@ use scim_command::{DatabaseFault, RunFault, service_over};
 use scim_hub::{Hub, Recorded};
 use scim_policy::read_policy;
 use scim_replay::{Recording, events_of, read_events};
+use scim_route::Routes;
 use scim_shelf::MemoryShelf;
 use scim_token::Tokens;
 use std::alloc::Global;
@@ -39,8 +40,9 @@ pub(crate) fn hub_of(
     let Ok(tokens) = Tokens::read(alloc, recording.tokens) else {
         return Err(CaseFault::Missing("tokens"));
     };
+    let routes = Routes::new(alloc)?;
     match service_over(alloc, policy, recording.users, recording.base) {
-        Ok(service) => Ok(Hub::new(alloc, service, tokens)),
+        Ok(service) => Ok(Hub::new(alloc, routes, service, tokens)),
         Err(_) => Err(CaseFault::Missing("users")),
     }
 }

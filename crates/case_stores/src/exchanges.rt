@@ -4,6 +4,7 @@ use case_runs::request_bytes;
 use case_values::{Case, CaseFault};
 use scim_cell::Id;
 use scim_exchange::{Answer, Arrival, answer as answer_message};
+use scim_route::Routes;
 use scim_service::Service;
 use scim_shelf::Shelf;
 use scim_text::read_printed_moment;
@@ -94,12 +95,13 @@ fn push_answer<S: Shelf>(
     let Some(fresh) = Id::read(step.text_or("first", FRESH)) else {
         return Err(CaseFault::Missing("first"));
     };
+    let routes = Routes::new(step.alloc)?;
     let arrival = Arrival {
         client: client_of(step, message, tokens),
         moment,
         fresh,
     };
-    let answer = answer_message(step.alloc, service, &arrival, message);
+    let answer = answer_message(step.alloc, &routes, service, &arrival, message);
     push_text(step.alloc, &answer, message.close, text)
 }
 

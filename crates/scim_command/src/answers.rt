@@ -7,6 +7,7 @@ ghost use Rattle.scim_command.specs.Once.{IsReplyTo};
 
 use scim_audit::Refusal;
 use scim_exchange::{Answer, Arrival, answer};
+use scim_route::Routes;
 use scim_service::Service;
 use scim_shelf::{MemoryShelf, Shelf};
 use scim_text::NoMemory;
@@ -16,6 +17,7 @@ use std::alloc::Global;
 /// The text of the service's reply to a message that arrives so. NoMemory where none was to be had for it.
 pub(crate) fn reply_text(
     alloc: Global,
+    routes: &Routes,
     service: &mut Service<MemoryShelf>,
     arrival: &Arrival<'_>,
     message: &Message,
@@ -23,7 +25,7 @@ pub(crate) fn reply_text(
     ensures { (store : Store) → ⟦<MemoryShelf as Shelf>⟧.stands service.old.shelf store → IsStore service.old.base store
         → IfOk result (λ t. IsReplyTo service.old.policy service.old.base arrival.now store message.now (string_bytes t)) }
 {
-    let answer = answer(alloc, service, arrival, message);
+    let answer = answer(alloc, routes, service, arrival, message);
     answer.text(alloc, message.close)
 }
 

@@ -23,6 +23,7 @@ use scim_audit::Refusal;
 use scim_cell::Id;
 use scim_exchange::Arrival;
 use scim_policy::read_policy;
+use scim_route::Routes;
 use scim_service::Service;
 use scim_shelf::{MemoryShelf, Shelf};
 use scim_text::{Failed, Moment, NoMemory};
@@ -107,13 +108,14 @@ pub fn once<R: Read, W: Write>(
     ensures silent { IfErr result (λ f. f ≢ RunFault.Output → writer.new ≡ writer.old) }
 {
     let store = refusal_text(alloc, Refusal::Store, false)?;
+    let routes = Routes::new(alloc)?;
     let mut service = service_by(alloc, setting)?;
     let arrival = Arrival {
         client: Some(setting.client),
         moment: setting.at,
         fresh: setting.first,
     };
-    let reply = reply_to(alloc, &mut service, &arrival, reader)?;
+    let reply = reply_to(alloc, &routes, &mut service, &arrival, reader)?;
     write_reply(reply, store.as_str(), writer)
 }
 
@@ -143,6 +145,7 @@ fn service_by(alloc: Global, setting: &Setting<'_>) -> Result<Service<MemoryShel
 /// InputEnded, where the message doesn't end; InputFailed, where a read fails.
 fn reply_to<R: Read>(
     alloc: Global,
+    routes: &Routes,
     service: &mut Service<MemoryShelf>,
     arrival: &Arrival<'_>,
     reader: &mut R,
@@ -154,7 +157,7 @@ fn reply_to<R: Read>(
     ensures fault { IfErr result IsOfInput }
 {
     match read_first(alloc, reader) {
-        Ok(Ok(message)) => Ok(reply_text(alloc, service, arrival, &message)),
+        Ok(Ok(message)) => Ok(reply_text(alloc, routes, service, arrival, &message)),
         Ok(Err(refusal)) => Ok(refusal_text(alloc, refusal, true)),
         Err(Failed::NoMemory) => Ok(Err(NoMemory)),
         Err(Failed::Because(InputFault::Ended)) => Err(RunFault::InputEnded),

@@ -17,7 +17,7 @@ use scim_ask::ask;
 use scim_audit::Refusal;
 use scim_cell::{Id, Text};
 use scim_discovery::page_reply;
-use scim_route::{Found, Page, Route, find};
+use scim_route::{Found, Page, Route, Routes};
 use scim_service::{Ask, Request, Service, Turn};
 use scim_shelf::Shelf;
 use scim_text::{Failed, Moment, NoMemory};
@@ -25,7 +25,7 @@ use scim_wire::Message;
 use std::alloc::Global;
 
 /// Who sent a message, when it came, and the id for the resource that it may create.
-#[derive(Clone, Copy, Debug)]
+#[derive(Clone, Copy)]
 pub struct Arrival<'a> {
     /// The name of the client that has the token of the message; None where no client has it, or there is none.
     pub client: Option<&'a str>,
@@ -84,10 +84,14 @@ fn refusal_for(fault: Failed<Refusal>) -> Refusal
 /// What a message names.
 ///
 /// Fails with the refusal where it names nothing that there is, and with `NoMemory`.
-fn found_in(alloc: Global, message: &Message) -> Result<Found<'_>, Failed<Refusal>>
+fn found_in<'m>(
+    alloc: Global,
+    routes: &Routes,
+    message: &'m Message,
+) -> Result<Found<'m>, Failed<Refusal>>
     ensures { UnlessMemory (Finds (named message.now.method message.now.target) (query_of message.now.target)) result }
 {
-    find(alloc, message.method.as_slice(), message.target.as_slice())
+    routes.find(alloc, message.method.as_slice(), message.target.as_slice())
 }
 
 /// A page of discovery, or the refusal of one; or that of want of memory.
@@ -128,13 +132,14 @@ fn served<S: Shelf>(
     }
 }
 
-/// Answers one message by a service. It is looked through in this order: its endpoint and its method; then, where it
+/// Answers one message by a service, which it reaches by these routes. It is looked through in this order: its endpoint and its method; then, where it
 /// asks for a page of discovery, no token is asked for and nothing is noted; then the client's token; then what it asks,
 /// its body and its query string; and last the service answers it.
 ///
 /// Where memory is wanting the answer is [`Refusal::Store`], and nothing is done or noted.
 pub fn answer<S: Shelf>(
     alloc: Global,
+    routes: &Routes,
     service: &mut Service<S>,
     arrival: &Arrival<'_>,
     message: &Message,
@@ -148,7 +153,7 @@ pub fn answer<S: Shelf>(
     ensures honest { S.is_honest service.new.shelf → S.is_honest service.old.shelf }
     ensures grown { S.failures service.old.shelf ≤ S.failures service.new.shelf }
 {
-    match found_in(alloc, message) {
+    match found_in(alloc, routes, message) {
         Ok(Found::Discovery(page, query)) => page_answer(alloc, page, query),
         Ok(Found::Resource(route)) => served(alloc, service, arrival, &route, message),
         Err(fault) => Answer::Refused(refusal_for(fault)),

@@ -4,6 +4,7 @@ use scim_cell::Id;
 use scim_command::service_over;
 use scim_hub::{Hub, IoFault, NoStamp, Served, Stamp, Stamps, serve_stream};
 use scim_policy::read_policy;
+use scim_route::Routes;
 use scim_samples::{BASE, POLICY};
 use scim_shelf::MemoryShelf;
 use scim_text::Moment;
@@ -50,9 +51,9 @@ pub(crate) fn hub(alloc: Global) -> Option<Hub<MemoryShelf>> {
     let (Ok(policy), Ok(tokens)) = (read_policy(alloc, POLICY), Tokens::read(alloc, "")) else {
         return None;
     };
-    match service_over(alloc, policy, "[]", BASE) {
-        Ok(service) => Some(Hub::new(alloc, service, tokens)),
-        Err(_) => None,
+    match (Routes::new(alloc), service_over(alloc, policy, "[]", BASE)) {
+        (Ok(routes), Ok(service)) => Some(Hub::new(alloc, routes, service, tokens)),
+        _ => None,
     }
 }
 

@@ -12,6 +12,7 @@ ghost use Rattle.scim_hub.specs.code.Replies.{Says, IsReplyToItem, IsReplyToMess
 use crate::events::{Output, Stamp};
 use scim_cell::Id;
 use scim_exchange::{Answer, Arrival, answer};
+use scim_route::Routes;
 use scim_service::Service;
 use scim_shelf::Shelf;
 use scim_text::{NoMemory, push};
@@ -108,6 +109,7 @@ fn continue_reply(alloc: Global) -> Result<Reply, NoMemory>
 /// Answers a message that arrives so. NoMemory where none was to be had for the text: what it changed stands.
 fn answer_message<S: Shelf>(
     alloc: Global,
+    routes: &Routes,
     service: &mut Service<S>,
     arrival: &Arrival<'_>,
     message: &Message,
@@ -119,7 +121,7 @@ fn answer_message<S: Shelf>(
         × IsReplyToMessage service.old.policy service.old.base arrival.now message.now store result next }
     ensures honest { S.is_honest service.new.shelf → S.is_honest service.old.shelf }
 {
-    let answer = answer(alloc, service, arrival, message);
+    let answer = answer(alloc, routes, service, arrival, message);
     reply_with(alloc, &answer, message.close)
 }
 
@@ -127,6 +129,7 @@ fn answer_message<S: Shelf>(
 /// it changed stands.
 fn answer_item<S: Shelf>(
     alloc: Global,
+    routes: &Routes,
     service: &mut Service<S>,
     tokens: &Tokens,
     stamp: &Stamp,
@@ -145,7 +148,7 @@ fn answer_item<S: Shelf>(
         Item::Continue => continue_reply(alloc),
         Item::Whole(message) => {
             let arrival = arrival_of(tokens, stamp, count, message);
-            answer_message(alloc, service, &arrival, message)
+            answer_message(alloc, routes, service, &arrival, message)
         }
         Item::Refused(refusal) => reply_with(alloc, &Answer::Refused(*refusal), true),
     }
@@ -166,6 +169,7 @@ fn whole_count(item: &Item) -> usize
 /// NoMemory where none was to be had: what the items up to one of them changed stands.
 pub(crate) fn answer_items<S: Shelf>(
     alloc: Global,
+    routes: &Routes,
     service: &mut Service<S>,
     tokens: &Tokens,
     stamp: &Stamp,
@@ -183,7 +187,7 @@ pub(crate) fn answer_items<S: Shelf>(
     let mut outputs = Vec::new(alloc);
     let mut count = 0;
     for item in items {
-        let reply = answer_item(alloc, service, tokens, stamp, count, item)?;
+        let reply = answer_item(alloc, routes, service, tokens, stamp, count, item)?;
         let Reply { text, closes } = reply;
         push(&mut outputs, Output::Write(connection, text))?;
         if closes {

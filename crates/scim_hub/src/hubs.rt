@@ -10,6 +10,7 @@ ghost use Rattle.scim_hub.specs.code.Changes.{TakesPiece};
 use crate::answering::{Replies, answer_items};
 use crate::connections::Connections;
 use crate::events::{Event, Happening, HubFault, Output, Stamp};
+use scim_route::Routes;
 use scim_service::Service;
 use scim_shelf::Shelf;
 use scim_text::NoMemory;
@@ -23,19 +24,22 @@ use std::alloc::Global;
 /// follows isn't read.
 #[derive(Drop)]
 pub struct Hub<S> {
+    routes: Routes,
     service: Service<S>,
     tokens: Tokens,
     connections: Connections,
 }
 
 impl<S: Shelf> Hub<S> {
-    /// A hub without connections over the service, whose clients have these tokens. It takes no memory.
-    pub fn new(alloc: Global, service: Service<S>, tokens: Tokens) -> Hub<S>
+    /// A hub without connections over the service, which is reached by these routes and whose clients have these tokens. It
+    /// takes no memory.
+    pub fn new(alloc: Global, routes: Routes, service: Service<S>, tokens: Tokens) -> Hub<S>
         ensures service { result.service ≡ service }
         ensures tokens { result.tokens ≡ tokens }
         ensures hall { (store : Store) → S.stands service.shelf store → IsStore service.base store → IsHall S.stands result (none_joined store) }
     {
         Hub {
+            routes,
             service,
             tokens,
             connections: Connections::new(alloc),
@@ -96,6 +100,7 @@ impl<S: Shelf> Hub<S> {
         let items = self.connections.feed(alloc, connection, piece)?;
         match answer_items(
             alloc,
+            &self.routes,
             &mut self.service,
             &self.tokens,
             stamp,
@@ -155,6 +160,7 @@ impl<S: Shelf> Hub<S> {
         ensures { result ≡ self.service }
     {
         let Hub {
+            routes: _routes,
             service,
             tokens: _tokens,
             connections: _connections,

@@ -23,6 +23,7 @@ use crate::token_files::read_tokens;
 use scim_command::{DatabaseFault, RunFault, service_over, write_or_fault};
 use scim_hub::{Hub, Recorded};
 use scim_policy::read_policy;
+use scim_route::Routes;
 use scim_shelf::{MemoryShelf, Shelf};
 use scim_text::{Failed, NoMemory};
 use std::alloc::Global;
@@ -95,7 +96,8 @@ fn hub_over(alloc: Global, recording: &Recording<'_>) -> Result<Hub<MemoryShelf>
     let policy = read_policy(alloc, recording.policy)?;
     let tokens = read_tokens(alloc, recording.tokens)?;
     let service = service_over(alloc, policy, recording.users, recording.base)?;
-    Ok(Hub::new(alloc, service, tokens))
+    let routes = Routes::new(alloc)?;
+    Ok(Hub::new(alloc, routes, service, tokens))
 }
 
 /// The events of a file. Events, where a line tells none; NoMemory where none was to be had.

@@ -1,8 +1,11 @@
 //! The endpoints of SCIM, and which one a path names (RFC 7644 section 3.2).
 ghost use Rattle.std.specs.Prelude.{◌≡◌, Some, None, option_map};
 ghost use Rattle.scim_route.specs.Endpoints as spec;
-ghost use Rattle.scim_route.specs.code.Places.{place_at};
+ghost use Rattle.std.specs.List.{after_first};
+ghost use Rattle.scim_route.specs.Targets.{is_slash};
+ghost use Rattle.scim_route.specs.code.Places.{place_at, led};
 
+use crate::route_table::{Leads, Routes};
 use scim_schema::{Kind, Schema};
 
 /// A page of what the server tells of itself (RFC 7644 section 4).
@@ -35,84 +38,37 @@ pub(crate) enum Endpoint<'p> {
     Resource(Kind, &'p str),
 }
 
-/// The kind whose resources stand below a name.
-fn kind_below(name: &str) -> Option<Kind>
-    ensures { result ≡ spec.kind_below name.now }
+/// The endpoint that a route leads to, by what stands behind the first slash of the path that takes it.
+fn endpoint_at(leads: Leads, text: &str) -> Option<Endpoint<'_>>
+    ensures { option_map place_at result ≡ led leads text.now }
 {
-    match name {
-        "Users" => Some(Kind::User),
-        "Groups" => Some(Kind::Group),
-        _ => None,
+    match leads {
+        Leads::Unsupported => Some(Endpoint::Unsupported),
+        Leads::Page(page) => Some(Endpoint::Discovery(page)),
+        Leads::ResourceType => Some(Endpoint::Discovery(Page::ResourceType(Kind::named(text)?))),
+        Leads::Schema => Some(Endpoint::Discovery(Page::Schema(Schema::named(text)?))),
+        Leads::Collection(kind) => Some(Endpoint::Collection(kind)),
+        Leads::Search(kind) => Some(Endpoint::Search(kind)),
+        Leads::Resource(kind) => Some(Endpoint::Resource(kind, text)),
     }
 }
 
-/// The endpoints of one segment other than those of kinds.
-fn other_at_top(name: &str) -> Option<Endpoint<'_>>
-    ensures { option_map place_at result ≡ spec.other_at_top name.now }
+/// What stands behind the first slash of a text; nothing where it has none.
+fn behind_slash(text: &str) -> &str
+    ensures { result.now ≡ after_first is_slash text.now }
 {
-    match name {
-        "" | ".search" | "Bulk" | "Me" => Some(Endpoint::Unsupported),
-        "ServiceProviderConfig" => Some(Endpoint::Discovery(Page::ServiceProviderConfig)),
-        "ResourceTypes" => Some(Endpoint::Discovery(Page::ResourceTypes)),
-        "Schemas" => Some(Endpoint::Discovery(Page::Schemas)),
-        _ => None,
-    }
-}
-
-/// The endpoints of one segment.
-fn at_top(name: &str) -> Option<Endpoint<'_>>
-    ensures { option_map place_at result ≡ spec.at_top name.now }
-{
-    match kind_below(name) {
-        Some(kind) => Some(Endpoint::Collection(kind)),
-        None => other_at_top(name),
-    }
-}
-
-/// What stands below the resources of a kind.
-fn among(kind: Kind, text: &str) -> Endpoint<'_>
-    ensures { place_at result ≡ spec.among kind text.now }
-{
-    if text == ".search" {
-        Endpoint::Search(kind)
-    } else {
-        Endpoint::Resource(kind, text)
-    }
-}
-
-/// The endpoints of two segments other than those of kinds.
-fn other_below<'p>(name: &str, text: &'p str) -> Option<Endpoint<'p>>
-    ensures { option_map place_at result ≡ spec.other_below name.now text.now }
-{
-    match name {
-        "Me" => Some(Endpoint::Unsupported),
-        "ResourceTypes" => Some(Endpoint::Discovery(Page::ResourceType(Kind::named(text)?))),
-        "Schemas" => Some(Endpoint::Discovery(Page::Schema(Schema::named(text)?))),
-        _ => None,
-    }
-}
-
-/// The endpoints of two segments.
-fn below<'p>(name: &str, text: &'p str) -> Option<Endpoint<'p>>
-    ensures { option_map place_at result ≡ spec.below name.now text.now }
-{
-    if text.is_empty() || text.as_bytes().contains(&b'/') {
-        return None;
-    }
-    match kind_below(name) {
-        Some(kind) => Some(among(kind, text)),
-        None => other_below(name, text),
+    match text.split_once('/') {
+        Some((_, behind)) => behind,
+        None => "",
     }
 }
 
 /// The endpoint that is named behind the first slash of a path.
-fn in_segments(segments: &str) -> Option<Endpoint<'_>>
+fn in_segments<'p>(routes: &Routes, segments: &'p str) -> Option<Endpoint<'p>>
     ensures { option_map place_at result ≡ spec.in_segments segments.now }
 {
-    match segments.split_once('/') {
-        Some((name, text)) => below(name, text),
-        None => at_top(segments),
-    }
+    let leads = routes.leads(segments)?;
+    endpoint_at(leads, behind_slash(segments))
 }
 
 /// The text without one slash at its end.
@@ -123,9 +79,9 @@ fn without_last_slash(text: &str) -> &str
 }
 
 /// The endpoint of a path; None where the path is that of none.
-pub(crate) fn endpoint_of(path: &str) -> Option<Endpoint<'_>>
+pub(crate) fn endpoint_of<'p>(routes: &Routes, path: &'p str) -> Option<Endpoint<'p>>
     ensures { option_map place_at result ≡ spec.place_of path.now }
 {
     let rest = path.strip_prefix('/')?;
-    in_segments(without_last_slash(rest))
+    in_segments(routes, without_last_slash(rest))
 }

@@ -4,9 +4,11 @@
 
 mod endpoints;
 mod parameters;
+mod route_table;
 mod routes;
 mod targets;
 
 pub use endpoints::Page;
 pub use parameters::Parameters;
-pub use routes::{Form, Found, Route, find};
+pub use route_table::Routes;
+pub use routes::{Form, Found, Route};

@@ -8,6 +8,7 @@ ghost use Rattle.scim_route.specs.Routes.{IsIdOf, Finds, Says};
 ghost use Rattle.scim_route.specs.code.Places.{place_at};
 
 use crate::endpoints::{Endpoint, Page, endpoint_of};
+use crate::route_table::Routes;
 use crate::targets::{decoded, read_target};
 use scim_audit::{Methods, Refusal};
 use scim_cell::Id;
@@ -49,7 +50,7 @@ impl Form {
 }
 
 /// What a request asks of the resources of a kind.
-#[derive(Clone, Copy, Debug, PartialEq, Eq)]
+#[derive(Clone, Copy, PartialEq, Eq)]
 pub struct Route<'t> {
     /// What is asked.
     pub form: Form,
@@ -64,7 +65,7 @@ pub struct Route<'t> {
 }
 
 /// What a request names.
-#[derive(Clone, Copy, Debug, PartialEq, Eq)]
+#[derive(Clone, Copy, PartialEq, Eq)]
 pub enum Found<'t> {
     /// What the server tells of itself (RFC 7644 section 4), and what stands behind the first `?` of the target; None
     /// where there is no `?`.
@@ -151,29 +152,32 @@ fn found_at<'t>(
     }
 }
 
-/// Which endpoint of SCIM a request's method and target name, and what is asked of it (RFC 7644 section 3.2).
-///
-/// Of the target, in origin form or behind `http://`, what stands before the first `?` is the path. Its escapes are
-/// decoded, and then one slash at its end says nothing. A resource's id that is no id in its hyphenated form and lower
-/// case is None: no resource has it.
-///
-/// Fails with NoRoute where there is no such endpoint, NotSupported at one of SCIM that this server hasn't (RFC 7644
-/// sections 3.4.3, 3.7 and 3.11), BadMethod with the endpoint's methods where it hasn't this one, and NoMemory where no
-/// memory is to be had.
-pub fn find<'t>(
-    alloc: Global,
-    method: &[u8],
-    target: &'t [u8],
-) -> Result<Found<'t>, Failed<Refusal>>
-    ensures { UnlessMemory (Finds (spec.named method.now target.now) (query_of target.now)) result }
-{
-    let target = read_target(target);
-    let path = decoded(alloc, target.path)?;
-    let Some(endpoint) = endpoint_of(path.as_str()) else {
-        return Err(Failed::Because(Refusal::NoRoute));
-    };
-    match found_at(method, endpoint, target.query) {
-        Ok(found) => Ok(found),
-        Err(refusal) => Err(Failed::Because(refusal)),
+impl Routes {
+    /// Which endpoint of SCIM a request's method and target name, and what is asked of it (RFC 7644 section 3.2).
+    ///
+    /// Of the target, in origin form or behind `http://`, what stands before the first `?` is the path. Its escapes are
+    /// decoded, and then one slash at its end says nothing. A resource's id that is no id in its hyphenated form and
+    /// lower case is None: no resource has it.
+    ///
+    /// Fails with NoRoute where there is no such endpoint, NotSupported at one of SCIM that this server hasn't (RFC 7644
+    /// sections 3.4.3, 3.7 and 3.11), BadMethod with the endpoint's methods where it hasn't this one, and NoMemory where
+    /// no memory is to be had.
+    pub fn find<'t>(
+        &self,
+        alloc: Global,
+        method: &[u8],
+        target: &'t [u8],
+    ) -> Result<Found<'t>, Failed<Refusal>>
+        ensures { UnlessMemory (Finds (spec.named method.now target.now) (query_of target.now)) result }
+    {
+        let target = read_target(target);
+        let path = decoded(alloc, target.path)?;
+        let Some(endpoint) = endpoint_of(self, path.as_str()) else {
+            return Err(Failed::Because(Refusal::NoRoute));
+        };
+        match found_at(method, endpoint, target.query) {
+            Ok(found) => Ok(found),
+            Err(refusal) => Err(Failed::Because(refusal)),
+        }
     }
 }

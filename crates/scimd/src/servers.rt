@@ -7,6 +7,7 @@ use scim_database::{DatabaseWork, open_cached};
 use scim_hub::Hub;
 use scim_policy::Policy;
 use scim_replay::tokens_at;
+use scim_route::Routes;
 use scim_serve::serve;
 use scim_service::Service;
 use scim_shelf::Shelf;
@@ -25,6 +26,7 @@ struct Serving<'o> {
     base: Text,
     policy: Policy,
     tokens: Tokens,
+    routes: Routes,
 }
 
 impl DatabaseWork for Serving<'_> {
@@ -40,10 +42,11 @@ impl DatabaseWork for Serving<'_> {
             base,
             policy,
             tokens,
+            routes,
         } = self;
         match open_cached(alloc, connection, options.base, options.has_cache) {
             Ok(shelf) => {
-                let mut hub = Hub::new(alloc, Service::new(policy, base, shelf), tokens);
+                let mut hub = Hub::new(alloc, routes, Service::new(policy, base, shelf), tokens);
                 let done = serve_at_port(rt, &options, &mut hub);
                 let shelf = hub.into_service().into_shelf();
                 (done, shelf.into_lower().into_connection())
@@ -61,12 +64,16 @@ pub(crate) fn run_serve(rt: &HostRuntime, matches: &ArgMatches<'_>) -> Result<()
     };
     let policy = policy_at(rt, options.policy)?;
     let tokens = tokens_at(rt, options.tokens)?;
+    let Ok(routes) = Routes::new(rt.alloc()) else {
+        return Err(CommandFault::Run(RunFault::NoMemory));
+    };
     let serving = Serving {
         rt,
         options,
         base,
         policy,
         tokens,
+        routes,
     };
     with_database(rt, options.database, serving)
 }

@@ -1,4 +1,9 @@
 -- What the code knows of a path.
+use Rattle.std.specs.Prelude.{ℕ, List, Option, Some, option_map}
+use Rattle.scim_schema.specs.Lookup.{kind_named, schema_named}
+use Rattle.scim_route.specs.declared.endpoints.Page.TheVariants.{ResourceType as resource_type, Schema as schema}
+use Rattle.scim_route.specs.declared.route_table.Leads.{Leads}
+use Rattle.scim_route.specs.declared.route_table.Leads.TheVariants.{Unsupported as LeadsNowhere, Page as LeadsToPage, ResourceType as LeadsToResourceType, Schema as LeadsToSchema, Collection as LeadsToCollection, Search as LeadsToSearch, Resource as LeadsToResource}
 use Rattle.scim_route.specs.declared.endpoints.Endpoint.{Endpoint}
 use Rattle.scim_route.specs.declared.endpoints.Endpoint.TheVariants.{Unsupported, Discovery, Collection, Search, Resource}
 use Rattle.scim_route.specs.Endpoints.{Place, unsupported, page, collection, search, resource}
@@ -10,3 +15,13 @@ place_at (Discovery p) = page p
 place_at (Collection kind) = collection kind
 place_at (Search kind) = search kind
 place_at (Resource kind text) = resource kind text.now
+
+-- the place that a route leads to, by what stands behind the first slash of its path
+abbrev pub led : Leads → List ℕ → Option Place
+led LeadsNowhere text = Some unsupported
+led (LeadsToPage p) text = Some (page p)
+led LeadsToResourceType text = option_map (λ kind. page (resource_type kind)) (kind_named text)
+led LeadsToSchema text = option_map (λ s. page (schema s)) (schema_named text)
+led (LeadsToCollection kind) text = Some (collection kind)
+led (LeadsToSearch kind) text = Some (search kind)
+led (LeadsToResource kind) text = Some (resource kind text)

@@ -13,10 +13,10 @@ returns-clause-hub c =
     record {
       store = store;
       holds = service.1;
-      hall = c.new.ensures.hall store service.2 below;
+      hall = c.new-2.ensures.hall store service.2 below;
       entries = tokens.0;
       knows = tokens.1;
-      has = rw c.new.ensures.tokens tokens.2;
-      policy = rw (c.new.ensures.service, c.in_ok-service.ensures.policy) (search rules);
-      base = rw c.new.ensures.service c.in_ok-service.ensures.base;
+      has = rw c.new-2.ensures.tokens tokens.2;
+      policy = rw (c.new-2.ensures.service, c.in_ok-service.ensures.policy) (search rules);
+      base = rw c.new-2.ensures.service c.in_ok-service.ensures.base;
     }

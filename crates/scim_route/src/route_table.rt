@@ -1,0 +1,106 @@
+//! The routes of SCIM's endpoints, and which one a path takes (RFC 7644 section 3.2).
+ghost use Rattle.std.specs.Prelude.{◌≡◌, ℕ, List, [], IfOk, OnOk, map};
+ghost use Rattle.matchit.specs.Seek.{first};
+ghost use Rattle.matchit.specs.Router.{rename};
+ghost use Rattle.scim_route.specs.code.Table as spec;
+
+use crate::endpoints::Page;
+use matchit::Router;
+use scim_schema::Kind;
+use scim_text::NoMemory;
+use std::alloc::Global;
+
+/// What a route leads to.
+#[derive(Clone, Copy)]
+pub(crate) enum Leads {
+    /// An endpoint of SCIM that this server hasn't.
+    Unsupported,
+    /// What the server tells of itself.
+    Page(Page),
+    /// The page of the resource type that the last segment names.
+    ResourceType,
+    /// The page of the schema that the last segment names.
+    Schema,
+    /// The resources of a kind.
+    Collection(Kind),
+    /// The search of these.
+    Search(Kind),
+    /// One of these, by the last segment.
+    Resource(Kind),
+}
+
+/// The routes, without the slash at their start.
+static ROUTES: [(&str, Leads); 16] = [
+    ("", Leads::Unsupported),
+    (".search", Leads::Unsupported),
+    ("Bulk", Leads::Unsupported),
+    ("Me", Leads::Unsupported),
+    ("Me/{id}", Leads::Unsupported),
+    (
+        "ServiceProviderConfig",
+        Leads::Page(Page::ServiceProviderConfig),
+    ),
+    ("ResourceTypes", Leads::Page(Page::ResourceTypes)),
+    ("ResourceTypes/{name}", Leads::ResourceType),
+    ("Schemas", Leads::Page(Page::Schemas)),
+    ("Schemas/{urn}", Leads::Schema),
+    ("Users", Leads::Collection(Kind::User)),
+    ("Users/.search", Leads::Search(Kind::User)),
+    ("Users/{id}", Leads::Resource(Kind::User)),
+    ("Groups", Leads::Collection(Kind::Group)),
+    ("Groups/.search", Leads::Search(Kind::Group)),
+    ("Groups/{id}", Leads::Resource(Kind::Group)),
+];
+
+/// The routes of SCIM's endpoints, made once and asked for each request.
+pub struct Routes {
+    router: Router<Leads>,
+    ghost whole: { rename (λ r. r.value) router ≡ spec.routes },
+}
+
+/// One call, wherever they are dropped.
+impl Drop for Routes {
+    fn drop(self) {
+        let Routes { router: _router } = self;
+    }
+}
+
+/// Enters a route.
+fn enter(router: &mut Router<Leads>, path: &str, leads: Leads) -> Result<(), NoMemory>
+    ensures { OnOk result (rename (λ r. r.value) router.new ≡ spec.with_path path.now leads (rename (λ r. r.value) router.old)) }
+{
+    if router.insert(path, leads).is_err() {
+        return Err(NoMemory);
+    }
+    Ok(())
+}
+
+/// A router of these routes.
+fn router_of(alloc: Global, routes: &[(&str, Leads)]) -> Result<Router<Leads>, NoMemory>
+    ensures { IfOk result (λ router. rename (λ r. r.value) router ≡ spec.with_paths (map (λ r. (r.0.now, r.1)) routes.now) []) }
+{
+    let mut router = Router::new(alloc);
+    for (path, leads) in routes {
+        enter(&mut router, path, *leads)?;
+    }
+    Ok(router)
+}
+
+impl Routes {
+    /// The routes of SCIM's endpoints. NoMemory where none was to be had.
+    pub fn new(alloc: Global) -> Result<Routes, NoMemory> {
+        Ok(Routes {
+            router: router_of(alloc, &ROUTES)?,
+        })
+    }
+
+    /// What the route leads to that a path takes, without the slash at its start; None where it takes none.
+    pub(crate) fn leads(&self, path: &str) -> Option<Leads>
+        ensures { result ≡ first spec.routes path.now }
+    {
+        match self.router.at(path) {
+            Ok(found) => Some(*found.value),
+            Err(_) => None,
+        }
+    }
+}
