@@ -2,7 +2,7 @@
 use crate::loopback::Loopback;
 use anyhow::{Result, bail, ensure};
 use bench_values::{Asked, print_figures, requests_of};
-use scim_cell::Id;
+use scim_cell::id_of;
 use scim_hub::{Event, Happening, Hub, Output, Stamp};
 use scim_serve::serve;
 use scim_shelf::Shelf;
@@ -31,7 +31,7 @@ fn hear<S: Shelf>(
     };
     let stamp = Stamp {
         moment,
-        first: Id::of(Uuid::from_u128(number)),
+        first: id_of(Uuid::from_u128(number)),
     };
     let event = Event {
         connection: ALONE,

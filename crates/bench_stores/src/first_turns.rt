@@ -5,7 +5,7 @@ use scim_body::{UseFor, read_body};
 use scim_cell::Text;
 use scim_operations::read_patch;
 use scim_schema::{Kind, Op};
-use scim_service::{Ask, Request, Service, Turn};
+use scim_service::{Ask, Request, Service, Turn, status_of};
 use scim_shelf::Shelf;
 use scim_text::Moment;
 use scim_view::Wanted;
@@ -85,7 +85,7 @@ fn figure<S: Shelf>(
     status: u16,
 ) -> Result<u128> {
     let start = Instant::now(rt)?;
-    let answered = service.answer(rt.alloc(), turn).status();
+    let answered = status_of(&service.answer(rt.alloc(), turn));
     let spent = start.elapsed(rt)?;
     ensure!(answered.as_u16() == status, "a turn is answered otherwise");
     Ok(spent.as_nanos())

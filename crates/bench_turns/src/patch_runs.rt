@@ -2,12 +2,12 @@
 //! message names.
 use crate::directories::service_over_nothing;
 use crate::put_runs::{group_body, members_text, policy_text};
-use crate::turns::{heading, make, making_turn, turn_with};
+use crate::turns::{heading, in_turn, make, making_turn, turn_with};
 use anyhow::{Result, ensure};
 use bench_values::{print_heading, print_line};
 use scim_operations::read_patch;
 use scim_schema::{Kind, Op};
-use scim_service::{Ask, Service, Turn};
+use scim_service::{Ask, Service, Turn, status_of};
 use scim_shelf::MemoryShelf;
 use scim_view::Wanted;
 use std::alloc::Global;
@@ -107,7 +107,7 @@ fn patch(alloc: Global, service: &mut Service<MemoryShelf>, text: &str) -> Resul
 }
 
 fn answer(alloc: Global, service: &mut Service<MemoryShelf>, turn: &Turn) -> Result<()> {
-    let status = service.answer(alloc, turn).status();
+    let status = status_of(&service.answer(alloc, turn));
     ensure!(status.as_u16() == 200, "a PATCH is answered otherwise");
     Ok(())
 }
@@ -174,9 +174,7 @@ fn compare(
     what: &str,
     changes: [Change; 2],
 ) -> Result<()> {
-    let [fewer, more] = changes;
-    let few = measure(rt, alloc, fewer)?;
-    let many = measure(rt, alloc, more)?;
+    let [few, many] = in_turn(changes, |change| measure(rt, alloc, change))?;
     print_line(rt, what, few, many)
 }
 

@@ -1,7 +1,7 @@
 //! What turns of a service over a store in memory take, by how many users it has; and what bodies take.
 use crate::directories::{make_groups, service_over_nothing};
 use crate::lists::list_of;
-use crate::turns::{draft_of, heading, make_from, timed, turn_with};
+use crate::turns::{draft_of, heading, in_turn, make_from, timed, turn_with};
 use anyhow::Result;
 use bench_values::{fastest, numbered, print_heading, print_line};
 use scim_body::{Draft, UseFor};
@@ -230,9 +230,7 @@ pub fn run(rt: &(impl Clock + Print), alloc: Global) -> Result<()> {
     print_line(rt, "create", few.create, many.create)?;
     print_line(rt, "remove", few.remove, many.remove)?;
     print_line(rt, "search by userName", few.search, many.search)?;
-    let [shorter, longer] = EMAILS;
-    let few = measure_body(rt, alloc, shorter)?;
-    let many = measure_body(rt, alloc, longer)?;
+    let [few, many] = in_turn(EMAILS, |emails| measure_body(rt, alloc, emails))?;
     print_line(
         rt,
         "reading a body of 1,000 emails and of 10,000",

@@ -4,12 +4,29 @@ use bench_values::id_of;
 use scim_body::{Draft, UseFor, read_body};
 use scim_cell::Text;
 use scim_schema::{Kind, Op};
-use scim_service::{Ask, Reply, Request, Service, Turn};
+use scim_service::{Ask, Reply, Request, Service, Turn, status_of};
 use scim_shelf::Shelf;
 use scim_text::Moment;
 use scim_view::Wanted;
 use std::alloc::Global;
 use std::time::{Clock, Instant};
+
+/// Two sizes are measured in turn so often.
+const ROUNDS: usize = 5;
+
+/// The figures of two sizes, each the least of several that were taken in turn: a processor is faster at one moment than
+/// at another.
+pub fn in_turn<T: Copy, F: Fn(T) -> Result<u128>>(sizes: [T; 2], measure: F) -> Result<[u128; 2]>
+    requires { F.IsAlwaysCallable measure }
+{
+    let [fewer, more] = sizes;
+    let (mut few, mut many) = (u128::MAX, u128::MAX);
+    for _ in 0..ROUNDS {
+        few = few.min(measure(fewer)?);
+        many = many.min(measure(more)?);
+    }
+    Ok([few, many])
+}
 
 /// The draft of a body.
 pub fn draft_of(alloc: Global, kind: Kind, use_for: UseFor, body: &str) -> Result<Draft> {
@@ -94,7 +111,7 @@ fn nanoseconds_since(
     let spent = start.elapsed(rt)?;
     for reply in replies {
         ensure!(
-            reply.status().as_u16() == status,
+            status_of(reply).as_u16() == status,
             "a turn is answered otherwise"
         );
     }

@@ -3,7 +3,7 @@ use crate::printing::{numbered, print_figure, print_heading, print_line, push_al
 use crate::timing::{fastest, let_go};
 use crate::values::value_of;
 use anyhow::{Result, bail, ensure};
-use scim_cell::Id;
+use scim_cell::id_of;
 use scim_json::{read_documents, read_stored, stored_text, to_json};
 use scim_samples::BASE;
 use scim_value::Resource;
@@ -101,7 +101,7 @@ pub fn users_file(alloc: Global, users: usize) -> Result<String> {
 }
 
 fn push_user(alloc: Global, number: usize, text: &mut String) -> Result<()> {
-    let id = Id::of(Uuid::from_u128(number as u128)).text(alloc)?;
+    let id = id_of(Uuid::from_u128(number as u128)).text(alloc)?;
     let name = numbered(alloc, "user", number, "")?;
     if number > 0 {
         text.push(',')?;

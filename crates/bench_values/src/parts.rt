@@ -1,7 +1,7 @@
 //! Parts: groups of more and more members, each with four sub-attributes.
 use crate::printing::{numbered, print_figure, print_heading};
 use anyhow::{Result, bail, ensure};
-use scim_cell::{Cell, Id, Row, RowTest};
+use scim_cell::{Cell, Row, RowTest, id_of};
 use scim_samples::{ALICE, BASE, read_cells};
 use scim_schema::{Attribute, Kind, Leaf, SubAttribute};
 use scim_value::Part;
@@ -102,7 +102,7 @@ fn measure_once(
 fn made(rt: &impl Clock, alloc: Global, members: usize, figures: &mut Figures) -> Result<Part> {
     let cells = group(alloc, members)?;
     let start = Instant::now(rt)?;
-    let Ok(part) = Part::of(alloc, Kind::Group, Id::of(Uuid::nil()), cells) else {
+    let Ok(part) = Part::of(alloc, Kind::Group, id_of(Uuid::nil()), cells) else {
         bail!("a group was refused")
     };
     figures.make = figures.make.saturating_add(start.elapsed(rt)?);

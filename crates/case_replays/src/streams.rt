@@ -3,7 +3,7 @@ use crate::audited::hub_of;
 use crate::recordings::Texts;
 use case_runs::request_bytes;
 use case_values::{Case, CaseFault, joined, shown};
-use scim_cell::Id;
+use scim_cell::id_of;
 use scim_hub::{Hub, IoFault, NoStamp, Served, Stamp, Stamps, serve_stream};
 use scim_replay::Recording;
 use scim_shelf::MemoryShelf;
@@ -68,7 +68,7 @@ fn stamp(alloc: Global) -> Option<Stamp> {
     match read_printed_moment(alloc, "2024-06-01T12:00:00Z") {
         Ok(Some(moment)) => Some(Stamp {
             moment,
-            first: Id::of(Uuid::from_u128(0x0000_0000_0000_4000_8000_0000_0000_00e1)),
+            first: id_of(Uuid::from_u128(0x0000_0000_0000_4000_8000_0000_0000_00e1)),
         }),
         _ => None,
     }

@@ -7,7 +7,7 @@ use case_values::{Case, CaseFault, named, push_all, push_rows_after, shown};
 use scim_audit::{AuditRow, Refusal};
 use scim_body::{BodyFault, Draft, read_body};
 use scim_cell::{Id, Text};
-use scim_service::{Ask, Reply, Request, Service, Turn};
+use scim_service::{Ask, Reply, Request, Service, Turn, status_of};
 use scim_shelf::MemoryShelf;
 use scim_text::{Failed, Moment, push};
 use std::alloc::Global;
@@ -108,7 +108,7 @@ fn push_reply_to(
 }
 
 fn push_reply(alloc: Global, reply: &Reply, text: &mut String) -> Result<(), CaseFault> {
-    let status = shown(alloc, &reply.status().as_u16())?;
+    let status = shown(alloc, &status_of(reply).as_u16())?;
     text.push_str(status.as_str())?;
     if let Some(location) = reply.location() {
         push_all(text, &[" at ", location])?;

@@ -3,7 +3,7 @@ use crate::arguments::{debugged, joined, push_all, said, shown};
 use crate::case::Case;
 use crate::faults::CaseFault;
 use crate::tables::named;
-use scim_audit::{AuditRow, Decided, Methods, Refusal, leaf_path, print_row};
+use scim_audit::{AuditRow, Decided, Methods, Refusal, leaf_path, print_row, status_of};
 use scim_cell::{Id, Text};
 use scim_text::read_printed_moment;
 use std::alloc::Global;
@@ -101,7 +101,7 @@ fn refusal_call(case: &Case<'_>) -> Result<String, CaseFault> {
 
 fn number_and_status(alloc: Global, refusal: Refusal) -> Result<String, CaseFault> {
     let number = shown(alloc, &refusal.number())?;
-    let status = shown(alloc, &refusal.status().as_u16())?;
+    let status = shown(alloc, &status_of(refusal).as_u16())?;
     joined(alloc, &["F", number.as_str(), " ", status.as_str()])
 }
 

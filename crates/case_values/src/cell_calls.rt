@@ -6,6 +6,7 @@ use crate::row_tests::OfSubAttribute;
 use crate::tables::named;
 use scim_cell::{
     Atom, Cell, Field, Id, Row, Text, are_values, compare_units, has_type, sub_attributes_by_place,
+    uuid_of,
 };
 use scim_samples::{atom_text, leaf_text, read_cells, read_leaf, row_text};
 use scim_schema::{characteristics_of, unit_of};
@@ -100,7 +101,7 @@ fn id_call(case: &Case<'_>, told: OfId) -> Result<String, CaseFault> {
     };
     match told {
         OfId::Text => Ok(id.text(case.alloc)?.into_string()),
-        OfId::Bytes => Ok(hex::encode(case.alloc, id.uuid().into_bytes())?),
+        OfId::Bytes => Ok(hex::encode(case.alloc, uuid_of(id).into_bytes())?),
         OfId::Written => {
             let mut buffer = [0; 40];
             said(case.alloc, id.write(&mut buffer))

@@ -4,7 +4,6 @@ ghost use Rattle.std.specs.Option.{option_copied};
 ghost use Rattle.scim_audit.specs.Refusals as spec;
 
 use crate::methods::Methods;
-use http::StatusCode;
 
 /// Why a request isn't answered with what it asks for, in the order in which it is looked for.
 #[derive(Clone, Copy, Debug, PartialEq, Eq)]
@@ -104,32 +103,6 @@ impl Refusal {
             Refusal::Widens => 19,
             Refusal::IdInUse => 20,
             Refusal::Store => 21,
-        }
-    }
-
-    /// The status code of the reply.
-    pub fn status(self) -> StatusCode
-        ensures { result ≡ spec.status_of self }
-    {
-        match self {
-            Refusal::BadHead
-            | Refusal::BadFraming
-            | Refusal::Syntax
-            | Refusal::Filter
-            | Refusal::Path
-            | Refusal::MessageValue
-            | Refusal::Mutability
-            | Refusal::NoTarget
-            | Refusal::ResultValue => StatusCode::BAD_REQUEST,
-            Refusal::TooLarge => StatusCode::PAYLOAD_TOO_LARGE,
-            Refusal::UnknownCoding | Refusal::NotSupported => StatusCode::NOT_IMPLEMENTED,
-            Refusal::NoRoute | Refusal::NotFound => StatusCode::NOT_FOUND,
-            Refusal::BadMethod(_) => StatusCode::METHOD_NOT_ALLOWED,
-            Refusal::NoToken => StatusCode::UNAUTHORIZED,
-            Refusal::Denied | Refusal::Widens => StatusCode::FORBIDDEN,
-            Refusal::Taken => StatusCode::CONFLICT,
-            Refusal::IdInUse => StatusCode::SERVICE_UNAVAILABLE,
-            Refusal::Store => StatusCode::INTERNAL_SERVER_ERROR,
         }
     }
 

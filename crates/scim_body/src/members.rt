@@ -19,10 +19,13 @@ pub fn value_named<'a>(members: &'a Map<String, Value>, name: &str) -> Option<&'
     None
 }
 
-/// Whether two keys are the name.
+/// Whether two keys are the name. An object with one key isn't gone through, as most values of a long list are.
 pub fn is_twice(members: &Map<String, Value>, name: &str) -> bool
     ensures { result ≡ spec.is_twice name.now (members_view members.now.entries) }
 {
+    if members.len() < 2 {
+        return false;
+    }
     let mut is_found = false;
     for (key, _) in members.iter() {
         if same_name(name, key.as_str()) {

@@ -11,11 +11,11 @@ use uuid::Uuid;
 /// The id of a resource: a UUID, whose text is in the hyphenated form with letters in lower case
 /// (RFC 9562 section 4).
 ///
-/// Contracts see an id as its sixteen bytes. Ids are ordered by their bytes, the first byte first,
+/// Contracts see an id as its sixteen bytes, which it holds. Ids are ordered by their bytes, the first byte first,
 /// which is the order of their texts too.
 #[derive(Clone, Copy, Debug, PartialEq, Eq, PartialOrd, Ord, Hash)]
 pub struct Id {
-    uuid: Uuid,
+    bytes: [u8; 16],
 }
 
 impl Model for Id {
@@ -24,33 +24,16 @@ impl Model for Id {
 
     ghost Value = { List ℕ };
 
-    ghost view = { λ i. i.uuid };
+    ghost view = { λ i. i.bytes };
 
-    ghost invariant = { λ i. IsId i.uuid };
+    ghost invariant = { λ i. IsId i.bytes };
 
-    ghost inverse = { λ bytes. record { uuid = bytes } };
+    ghost inverse = { λ bytes. record { bytes = bytes } };
 }
 
 impl Id {
     /// How many bytes the text of an id has.
     pub const TEXT_LENGTH: usize = 36;
-
-    /// The id that a UUID stands for.
-    pub fn of(uuid: Uuid) -> Id
-        ensures value { result ≡ uuid }
-        ensures id { IsId result }
-    {
-        bytes_fit(uuid.as_bytes());
-        Id { uuid }
-    }
-
-    /// The UUID of this id.
-    pub fn uuid(self) -> Uuid
-        ensures value { result ≡ self }
-        ensures id { IsId result }
-    {
-        self.uuid
-    }
 
     /// Reads the text of an id: the hyphenated form with letters in lower case, and nothing else.
     ///
@@ -61,7 +44,7 @@ impl Id {
         ensures value { IfSome result (λ id. text.now ≡ id_text id) }
         ensures id { IfSome result IsId }
     {
-        let id = Id::of(Uuid::try_parse(text).ok()?);
+        let id = id_of(Uuid::try_parse(text).ok()?);
         let mut buffer = [0; Id::TEXT_LENGTH];
         (id.write(&mut buffer) == text).then_some(id)
     }
@@ -86,8 +69,31 @@ impl Id {
         ensures value { result.now ≡ id_text self }
         ensures id { IsId self }
     {
-        self.uuid.hyphenated().encode_lower(buffer)
+        Uuid::from_bytes(self.bytes)
+            .hyphenated()
+            .encode_lower(buffer)
     }
+}
+
+/// The id that a UUID stands for.
+///
+/// This call and `uuid_of` stand apart from the id's own, so that who names an id needn't know what a UUID is.
+pub fn id_of(uuid: Uuid) -> Id
+    ensures value { result ≡ uuid }
+    ensures id { IsId result }
+{
+    bytes_fit(uuid.as_bytes());
+    Id {
+        bytes: uuid.into_bytes(),
+    }
+}
+
+/// The UUID of an id.
+pub fn uuid_of(id: Id) -> Uuid
+    ensures value { result ≡ id }
+    ensures id { IsId result }
+{
+    Uuid::from_bytes(id.bytes)
 }
 
 // A proof knows that each byte of a slice fits, and not that each byte of an array does.

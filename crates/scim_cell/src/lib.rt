@@ -11,7 +11,7 @@ mod rows;
 
 pub use atoms::{Atom, Text};
 pub use cells::{Cell, has_type};
-pub use ids::{Id, ids_ordered_as_texts, ids_read_back};
+pub use ids::{Id, id_of, ids_ordered_as_texts, ids_read_back, uuid_of};
 pub use places::{Place, compare_units, sub_attributes_by_place};
 pub use row_checks::are_values;
 pub use rows::{Field, Row, RowTest};

@@ -20,7 +20,7 @@ use crate::inputs::{InputFault, read_first};
 use crate::services::service_over;
 use crate::writing::write_or_fault;
 use scim_audit::Refusal;
-use scim_cell::Id;
+use scim_cell::{Id, id_of};
 use scim_exchange::Arrival;
 use scim_policy::read_policy;
 use scim_route::Routes;
@@ -61,7 +61,7 @@ impl<'a> Setting<'a> {
             client,
             base,
             at: first_moment(),
-            first: Id::of(Uuid::nil()),
+            first: id_of(Uuid::nil()),
         }
     }
 }

@@ -18,7 +18,7 @@ pub(crate) fn refusal_text(alloc: Global, refusal: Refusal, close: bool) -> Resu
     ensures { IfOk result (λ t. string_bytes t ≡ spec.refusal_text refusal close) }
 {
     let reply = WireReply {
-        status: refusal.status(),
+        status: scim_audit::status_of(refusal),
         body: Some(refusal.body()),
         location: None,
         allow: refusal.allow(),
@@ -43,7 +43,7 @@ fn success_text(alloc: Global, reply: &Reply, close: bool) -> Result<String, NoM
     ensures { IfOk result (λ t. string_bytes t ≡ spec.success_text reply.now close) }
 {
     let reply = WireReply {
-        status: reply.status(),
+        status: scim_service::status_of(reply),
         body: reply.body(),
         location: reply.location(),
         allow: None,

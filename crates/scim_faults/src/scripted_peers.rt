@@ -1,5 +1,5 @@
 //! Connections of which a script says beforehand what happens. What they took is looked at by tests: to a contract they are as sockets.
-use scim_cell::Id;
+use scim_cell::id_of;
 use scim_hub::{Happened, Recorded, Stamp};
 use scim_serve::{Incident, Peers, PeersFault};
 use scim_text::Moment;
@@ -34,7 +34,7 @@ fn incident(alloc: Global, connection: u64, bytes: &str) -> Result<Option<Incide
         connection,
         stamp: Stamp {
             moment,
-            first: Id::of(Uuid::nil()),
+            first: id_of(Uuid::nil()),
         },
         happened,
     })))

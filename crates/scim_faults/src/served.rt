@@ -1,6 +1,6 @@
 //! What `serve_stream` does where a read or a write fails, where there is no stamp, and where a stream comes to no end.
 use crate::streams::{EmptyLines, Stutter, Trickle};
-use scim_cell::Id;
+use scim_cell::id_of;
 use scim_command::service_over;
 use scim_hub::{Hub, IoFault, NoStamp, Served, Stamp, Stamps, serve_stream};
 use scim_policy::read_policy;
@@ -39,7 +39,7 @@ impl Stamps for Few {
         match Moment::new(0) {
             Some(moment) => Ok(Stamp {
                 moment,
-                first: Id::of(Uuid::nil()),
+                first: id_of(Uuid::nil()),
             }),
             None => Err(NoStamp),
         }

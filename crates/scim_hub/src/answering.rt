@@ -10,7 +10,7 @@ ghost use Rattle.scim_exchange.specs.Replies.{answer_text};
 ghost use Rattle.scim_hub.specs.code.Replies.{Says, IsReplyToItem, IsReplyToMessage, AreReplies};
 
 use crate::events::{Output, Stamp};
-use scim_cell::Id;
+use scim_cell::{Id, id_of, uuid_of};
 use scim_exchange::{Answer, Arrival, answer};
 use scim_route::Routes;
 use scim_service::Service;
@@ -45,8 +45,8 @@ pub(crate) struct Replies {
 fn id_after(first: Id, count: usize) -> Id
     ensures { result ≡ spec.id_after first count }
 {
-    let number = first.uuid().as_u128();
-    Id::of(Uuid::from_u128(number.wrapping_add(count as u128)))
+    let number = uuid_of(first).as_u128();
+    id_of(Uuid::from_u128(number.wrapping_add(count as u128)))
 }
 
 /// The client that has the token of a message; None where no client has it, or there is none.

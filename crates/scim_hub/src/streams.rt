@@ -12,7 +12,7 @@ use crate::hubs::Hub;
 use crate::io_faults::IoFault;
 use crate::stamps::Stamps;
 use crate::writing::{is_any_shutting, reply_count, write_outputs};
-use scim_cell::Id;
+use scim_cell::id_of;
 use scim_shelf::Shelf;
 use scim_text::Moment;
 use std::alloc::Global;
@@ -41,7 +41,7 @@ struct Written {
 fn idle_stamp() -> Stamp {
     Stamp {
         moment: Moment::new(0).unwrap(),
-        first: Id::of(Uuid::nil()),
+        first: id_of(Uuid::nil()),
     }
 }
 

@@ -8,6 +8,7 @@ ghost use Rattle.scim_service.specs.laws.Requests.{IsAsk, IsTurn};
 
 use crate::requests::{Ask, Turn};
 use scim_audit::Refusal;
+use scim_cell::uuid_of;
 
 /// One request of a client, over two stores that are alike for it, is answered alike, and the stores stay alike. That
 /// is for every policy, every client and whatever is asked; the id for what it may create is in use in neither store.
@@ -62,6 +63,6 @@ pub fn turn_is_sound(turn: &Turn)
     ensures { IsTurn turn.now }
 {
     ask_is_sound(&turn.request.ask);
-    let _ = turn.fresh.uuid();
+    let _ = uuid_of(turn.fresh);
     let _ = turn.moment.seconds();
 }

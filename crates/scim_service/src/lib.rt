@@ -18,6 +18,6 @@ mod shared_decisions;
 mod visitors;
 mod walks;
 
-pub use replies::Reply;
+pub use replies::{Reply, status_of};
 pub use requests::{Ask, Request, Turn};
 pub use service::Service;

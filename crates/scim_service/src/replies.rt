@@ -46,19 +46,6 @@ impl Reply {
         }
     }
 
-    /// The status code.
-    pub fn status(&self) -> StatusCode
-        ensures { result ≡ spec.status_of self.now }
-    {
-        match self {
-            Reply::Shown(_) => StatusCode::OK,
-            Reply::Created(_, _) => StatusCode::CREATED,
-            Reply::Done => StatusCode::NO_CONTENT,
-            Reply::Refused(refusal) => refusal.status(),
-            Reply::Failed(_) => Refusal::Store.status(),
-        }
-    }
-
     /// The body, if it has one: a JSON text.
     pub fn body(&self) -> Option<&str>
         ensures { option_copied result ≡ spec.body_of self.now }
@@ -80,5 +67,19 @@ impl Reply {
             Reply::Created(location, _) => Some(location.as_str()),
             _ => None,
         }
+    }
+}
+
+/// The status code of a reply. It stands apart from the reply's own calls, so that who names a reply needn't know what a
+/// status code is.
+pub fn status_of(reply: &Reply) -> StatusCode
+    ensures { result ≡ spec.status_of reply.now }
+{
+    match reply {
+        Reply::Shown(_) => StatusCode::OK,
+        Reply::Created(_, _) => StatusCode::CREATED,
+        Reply::Done => StatusCode::NO_CONTENT,
+        Reply::Refused(refusal) => scim_audit::status_of(*refusal),
+        Reply::Failed(_) => scim_audit::status_of(Refusal::Store),
     }
 }

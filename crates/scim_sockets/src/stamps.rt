@@ -3,7 +3,7 @@ ghost use Rattle.std.specs.Prelude.{◌≡◌, min, IfOk};
 ghost use Rattle.scim_text.specs.Moments.{last_moment};
 ghost use Rattle.uuid.specs.Uuid.{version_num};
 
-use scim_cell::Id;
+use scim_cell::id_of;
 use scim_hub::Stamp;
 use scim_serve::PeersFault;
 use scim_text::Moment;
@@ -45,6 +45,6 @@ pub(crate) fn stamp_now<R: Clock + RandomSource>(rt: &R) -> Result<Stamp, PeersF
     let (Ok(moment), Ok(uuid)) = (present(rt), fresh(rt)) else {
         return Err(PeersFault);
     };
-    let first = Id::of(uuid);
+    let first = id_of(uuid);
     Ok(Stamp { moment, first })
 }

@@ -10,7 +10,7 @@ use uuid::Uuid;
 
 /// The id of a number.
 pub fn id_of(number: usize) -> Id {
-    Id::of(Uuid::from_u128(number as u128))
+    scim_cell::id_of(Uuid::from_u128(number as u128))
 }
 
 /// A user of 15 cells, with this family name, whose user name has the number.

@@ -37,6 +37,6 @@ returns-in_err-ok-clause-form c = (
 
 pub returns-clause-form : goal.returns-clause-form
 returns-clause-form c =
-    let reads : parsed c.args.text.now ≡ Some c.of-id.result =
-    parsed_as c.try_parse.result c.args.text.now c.of-id.result c.try_parse.ensures.bytes (ap Some c.of-id.ensures.value ∙ c.in_ok-ok.ensures.value) in
-    accepted c.args.text.now c.of-id.result c.write.result.now c.eq.result c.then_some.result c.write.ensures.value reads c.eq.ensures c.then_some.ensures
+    let reads : parsed c.args.text.now ≡ Some c.id_of-id.result =
+    parsed_as c.try_parse.result c.args.text.now c.id_of-id.result c.try_parse.ensures.bytes (ap Some c.id_of-id.ensures.value ∙ c.in_ok-ok.ensures.value) in
+    accepted c.args.text.now c.id_of-id.result c.write.result.now c.eq.result c.then_some.result c.write.ensures.value reads c.eq.ensures c.then_some.ensures
