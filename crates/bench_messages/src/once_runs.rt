@@ -1,6 +1,6 @@
 //! One GET over a users file, beside what serde_json takes to read the file.
 use anyhow::{Result, ensure};
-use bench_values::{fastest, id_of, print_heading, print_line, users_file};
+use bench_values::{fastest, numbered_id, print_heading, print_line, users_file};
 use scim_command::{Setting, once};
 use scim_samples::BASE;
 use serde_json::Value;
@@ -20,7 +20,7 @@ const POLICY: &str =
 
 /// The head of a GET of the last of so many users of a file.
 fn request(alloc: Global, users: usize) -> Result<String> {
-    let last = id_of(users.saturating_sub(1)).text(alloc)?;
+    let last = numbered_id(users.saturating_sub(1)).text(alloc)?;
     let pieces = [
         "GET /Users/",
         last.as_str(),

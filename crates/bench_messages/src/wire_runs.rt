@@ -1,7 +1,7 @@
 //! Messages: how the reading of a body grows with its length and with the pieces in which it comes, and what a GET takes
 //! beside what the service takes for it.
 use anyhow::{Result, bail, ensure};
-use bench_values::{fastest, id_of, numbered, print_heading, print_line};
+use bench_values::{fastest, numbered, numbered_id, print_heading, print_line};
 use scim_ask::ask;
 use scim_command::service_over;
 use scim_exchange::{Answer, Arrival, answer};
@@ -215,7 +215,7 @@ fn print_gets_of(
     let arrival = Arrival {
         client: Some("hr"),
         moment: Moment::new(0).unwrap(),
-        fresh: id_of(0),
+        fresh: numbered_id(0),
     };
     let routes = Routes::new(alloc)?;
     let beside = measure_beside(rt, alloc, &routes, service, &arrival, message)?;

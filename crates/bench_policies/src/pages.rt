@@ -1,7 +1,7 @@
 //! Pages of what a client sees of many users, their groups among it.
 use crate::decisions::{CLIENT, FEW, MANY, OTHER_CLIENT, policy_text};
 use anyhow::{Result, bail};
-use bench_values::{fastest, id_of, numbered, print_heading, print_line, push_member, user};
+use bench_values::{fastest, numbered, numbered_id, print_heading, print_line, push_member, user};
 use scim_filter::read_filter;
 use scim_policy::{Policy, read_policy};
 use scim_query::{Page, Query, search_view};
@@ -41,7 +41,7 @@ struct Directory {
 
 /// A group of the users that follow those of the group before it.
 fn group(alloc: Global, number: usize, users: usize) -> Result<Resource> {
-    let id = id_of(number.saturating_add(1_000_000)).text(alloc)?;
+    let id = numbered_id(number.saturating_add(1_000_000)).text(alloc)?;
     let mut cells = numbered(alloc, "displayName=Team ", number, "")?;
     for place in 0..MEMBERS {
         let first = number.saturating_mul(MEMBERS);

@@ -1,6 +1,6 @@
 //! What the first turns over a store take, each with its row of the audit.
 use anyhow::{Result, bail, ensure};
-use bench_values::{id_of, numbered};
+use bench_values::{numbered, numbered_id};
 use scim_body::{UseFor, read_body};
 use scim_cell::Text;
 use scim_operations::read_patch;
@@ -28,7 +28,7 @@ fn turn_with(alloc: Global, op: Op, number: usize, ask: Ask) -> Result<Turn> {
         bail!("there is no such moment");
     };
     let client = Text::copy_of(alloc, "hr")?;
-    let id = id_of(number);
+    let id = numbered_id(number);
     let request = Request {
         client,
         op,

@@ -1,6 +1,6 @@
 //! What a shelf takes to find a resource.
 use anyhow::{Result, ensure};
-use bench_values::{id_of, numbered};
+use bench_values::{numbered, numbered_id};
 use scim_cell::{Id, Text};
 use scim_schema::{Attribute, Kind, Leaf};
 use scim_shelf::Shelf;
@@ -54,7 +54,7 @@ impl Look {
 }
 
 fn user_sought(alloc: Global, number: usize) -> Result<Sought> {
-    let id = id_of(number);
+    let id = numbered_id(number);
     let value = id.text(alloc)?;
     let leaf = Leaf {
         attribute: Attribute::UserName,

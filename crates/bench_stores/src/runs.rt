@@ -6,7 +6,7 @@ use crate::first_turns::ASKED;
 use crate::looks::{LOOKS, users_sought};
 use crate::measuring::{Measuring, OPENINGS};
 use anyhow::Result;
-use bench_values::{id_of, numbered, print_heading, print_line, push_member, read_users};
+use bench_values::{numbered, numbered_id, print_heading, print_line, push_member, read_users};
 use scim_samples::{BASE, resource};
 use scim_schema::Kind;
 use scim_store::import;
@@ -56,7 +56,7 @@ impl FileWork for Filling {
 }
 
 fn group(alloc: Global, number: usize) -> Result<Resource> {
-    let id = id_of(number.saturating_add(FIRST_GROUP)).text(alloc)?;
+    let id = numbered_id(number.saturating_add(FIRST_GROUP)).text(alloc)?;
     let mut cells = numbered(alloc, "displayName=Team ", number, "")?;
     let first = number.saturating_mul(MEMBERS);
     for place in 0..MEMBERS {

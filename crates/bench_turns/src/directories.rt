@@ -1,7 +1,7 @@
 //! Services over stores in memory, and the groups that requests make there.
 use crate::turns::make_from;
 use anyhow::Result;
-use bench_values::{id_of, numbered, push_all};
+use bench_values::{numbered, numbered_id, push_all};
 use scim_cell::Text;
 use scim_policy::read_policy;
 use scim_samples::BASE;
@@ -64,6 +64,6 @@ fn group_body(alloc: Global, number: usize, users: usize) -> Result<String> {
 }
 
 fn push_member(alloc: Global, before: &str, user: usize, body: &mut String) -> Result<()> {
-    let member = id_of(user).text(alloc)?;
+    let member = numbered_id(user).text(alloc)?;
     push_all(body, &[before, "{\"value\":\"", member.as_str(), "\"}"])
 }

@@ -1,6 +1,6 @@
 //! Turns, and how long they take.
 use anyhow::{Result, bail, ensure};
-use bench_values::id_of;
+use bench_values::numbered_id;
 use scim_body::{Draft, UseFor, read_body};
 use scim_cell::Text;
 use scim_schema::{Kind, Op};
@@ -47,7 +47,7 @@ pub fn heading(alloc: Global) -> Result<(Text, Moment)> {
 /// A turn for the resource of a number.
 pub fn turn_with(heading: (Text, Moment), op: Op, kind: Kind, number: usize, ask: Ask) -> Turn {
     let (client, moment) = heading;
-    let id = id_of(number);
+    let id = numbered_id(number);
     Turn {
         request: Request {
             client,

@@ -1,9 +1,9 @@
 //! The JSON of a user of 15 cells, beside what serde_json takes for the same texts, and users files.
+use crate::filters::samples::numbered_id;
 use crate::printing::{numbered, print_figure, print_heading, print_line, push_all};
 use crate::timing::{fastest, let_go};
 use crate::values::value_of;
 use anyhow::{Result, bail, ensure};
-use scim_cell::id_of;
 use scim_json::{read_documents, read_stored, stored_text, to_json};
 use scim_samples::BASE;
 use scim_value::Resource;
@@ -11,7 +11,6 @@ use serde_json::Value;
 use std::alloc::Global;
 use std::io::Print;
 use std::time::Clock;
-use uuid::Uuid;
 
 /// Of so many passes of so many calls the fastest counts.
 const PASSES: usize = 5;
@@ -101,7 +100,7 @@ pub fn users_file(alloc: Global, users: usize) -> Result<String> {
 }
 
 fn push_user(alloc: Global, number: usize, text: &mut String) -> Result<()> {
-    let id = id_of(Uuid::from_u128(number as u128)).text(alloc)?;
+    let id = numbered_id(number).text(alloc)?;
     let name = numbered(alloc, "user", number, "")?;
     if number > 0 {
         text.push(',')?;

@@ -1,7 +1,7 @@
 //! Filters: reading short, long and deep ones, and holding them on users and on groups.
 pub mod samples;
 
-use crate::filters::samples::{group, id_of, user};
+use crate::filters::samples::{group, numbered_id, user};
 use crate::printing::{print_figure, print_heading, print_line};
 use crate::timing::{fastest, let_go};
 use anyhow::{Result, bail};
@@ -238,7 +238,7 @@ fn holding_last(rt: &impl Clock, alloc: Global, members: usize, around: [&str; 2
 /// The filter that names the last of so many members, between two texts.
 fn filter_on_last(alloc: Global, members: usize, around: [&str; 2]) -> Result<Filter> {
     let [before, behind] = around;
-    let last = id_of(members.saturating_sub(1)).text(alloc)?;
+    let last = numbered_id(members.saturating_sub(1)).text(alloc)?;
     let written = [before, last.as_str(), behind].concat(alloc)?;
     Ok(read_filter(alloc, Kind::Group, written.as_str())?)
 }

@@ -1,14 +1,14 @@
 //! Parts: groups of more and more members, each with four sub-attributes.
+use crate::filters::samples::numbered_id;
 use crate::printing::{numbered, print_figure, print_heading};
 use anyhow::{Result, bail, ensure};
-use scim_cell::{Cell, Row, RowTest, id_of};
+use scim_cell::{Cell, Row, RowTest};
 use scim_samples::{ALICE, BASE, read_cells};
 use scim_schema::{Attribute, Kind, Leaf, SubAttribute};
 use scim_value::Part;
 use std::alloc::Global;
 use std::io::Print;
 use std::time::{Clock, Duration, Instant};
-use uuid::Uuid;
 
 /// How many members the groups have; a group has two cells beside theirs.
 const SIZES: [usize; 3] = [2, 250, 10_000];
@@ -102,7 +102,7 @@ fn measure_once(
 fn made(rt: &impl Clock, alloc: Global, members: usize, figures: &mut Figures) -> Result<Part> {
     let cells = group(alloc, members)?;
     let start = Instant::now(rt)?;
-    let Ok(part) = Part::of(alloc, Kind::Group, id_of(Uuid::nil()), cells) else {
+    let Ok(part) = Part::of(alloc, Kind::Group, numbered_id(0), cells) else {
         bail!("a group was refused")
     };
     figures.make = figures.make.saturating_add(start.elapsed(rt)?);

@@ -1,5 +1,5 @@
 //! The requests of HTTP whose answering is measured.
-use crate::filters::samples::id_of;
+use crate::filters::samples::numbered_id;
 use crate::printing::numbered;
 use anyhow::Result;
 use scim_text::push;
@@ -95,7 +95,7 @@ fn create(alloc: Global, own: usize) -> Result<String> {
 
 /// The method and the target of a request for the user of a number.
 fn target(alloc: Global, method: &str, user: usize) -> Result<String> {
-    let id = id_of(user).text(alloc)?;
+    let id = numbered_id(user).text(alloc)?;
     Ok([method, " /Users/", id.as_str()].concat(alloc)?)
 }
 

@@ -19,7 +19,7 @@ pub fn value_named<'a>(members: &'a Map<String, Value>, name: &str) -> Option<&'
     None
 }
 
-/// Whether two keys are the name. An object with one key isn't gone through, as most values of a long list are.
+/// Whether two keys are the name. An object with one key isn't gone through: most values of a long list have one.
 pub fn is_twice(members: &Map<String, Value>, name: &str) -> bool
     ensures { result ≡ spec.is_twice name.now (members_view members.now.entries) }
 {

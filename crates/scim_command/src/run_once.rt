@@ -81,7 +81,7 @@ fn first_moment() -> Moment
 /// Policy, where the policy file is faulty; else Users, where the users file is damaged; else
 /// InputEnded, where the message doesn't end, and InputFailed, where a read fails. These write nothing.
 /// Output, where a write fails: then a front of the reply has been written, perhaps none or all of it, and
-/// nothing else. NoMemory where none was to be had for the files; it writes nothing.
+/// nothing else. NoMemory where none was to be had before the message is read; it writes nothing.
 pub fn once<R: Read, W: Write>(
     alloc: Global,
     setting: &Setting<'_>,

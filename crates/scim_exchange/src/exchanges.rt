@@ -132,9 +132,9 @@ fn served<S: Shelf>(
     }
 }
 
-/// Answers one message by a service, which it reaches by these routes. It is looked through in this order: its endpoint and its method; then, where it
-/// asks for a page of discovery, no token is asked for and nothing is noted; then the client's token; then what it asks,
-/// its body and its query string; and last the service answers it.
+/// Answers one message by a service, which it reaches by these routes. It is looked through in this order: its endpoint and
+/// its method; then, where it asks for a page of discovery, no token is asked for and nothing is noted; then the client's
+/// token; then what it asks, its body and its query string; and last the service answers it.
 ///
 /// Where memory is wanting the answer is [`Refusal::Store`], and nothing is done or noted.
 pub fn answer<S: Shelf>(

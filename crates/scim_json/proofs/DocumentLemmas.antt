@@ -35,7 +35,7 @@ none_left (v ∷ vs) zero long = absurd (omega arith)
 none_left (v ∷ vs) (suc i) long = none_left vs i (omega arith)
 
 -- one document more
-documents_and-push : (cs : List Content) (c : Content) (ds : Items) → documents_and (cs ++ c ∷ []) ds ≡ documents_and cs (item (stored_data c) ds)
+pub documents_and-push : (cs : List Content) (c : Content) (ds : Items) → documents_and (cs ++ c ∷ []) ds ≡ documents_and cs (item (stored_data c) ds)
 documents_and-push [] c ds = refl
 documents_and-push (b ∷ cs) c ds = ap (item (stored_data b)) (documents_and-push cs c ds)
 

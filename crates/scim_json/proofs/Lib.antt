@@ -15,4 +15,5 @@ pub mod ReadBack
 pub mod ReadingLemmas
 pub mod TakenLemmas
 pub mod DocumentLemmas
+pub mod ListedLemmas
 pub mod OwnRows

@@ -1,3 +1,4 @@
--- How the code writes JSON, and what it remembers of the items before.
+-- How the code writes JSON, how it takes the items of a list, and what it remembers of the items before.
+pub mod Listed
 pub mod Taken
 pub mod Tokens

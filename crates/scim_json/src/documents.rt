@@ -1,23 +1,33 @@
 //! Users files: JSON lists of stored documents.
-ghost use Rattle.std.specs.Prelude.{◌≡◌, ◌≤◌, ◌∷◌, ◌++◌, ℕ, List, [], Some, Err, All, IfOk, IsTrue, IsFalse};
+ghost use Rattle.std.specs.Prelude.{◌≡◌, ◌≤◌, ◌<◌, ◌∷◌, ◌++◌, ℕ, List, [], Some, Err, All, IfOk, IfSome, IsTrue, IsFalse, length};
+ghost use Rattle.json.specs.Value.{value_view};
+ghost use Rattle.json.specs.Tree.{HasNumbers, depth as nesting};
 ghost use Rattle.serde_json.specs.Data.{array, items_depth};
-ghost use Rattle.serde_json.specs.Read.{read, max_depth};
+ghost use Rattle.serde_json.specs.Read.{read, max_depth, of_json};
 ghost use Rattle.serde_json.specs.View.{items_view};
 ghost use Rattle.scim_cell.specs.Content.{Content};
 ghost use Rattle.scim_value.specs.Uniqueness.{AreApart};
 ghost use Rattle.scim_text.specs.Failures.{UnlessMemory, IfFault};
 ghost use Rattle.scim_json.specs.declared.faults.DamagedItem.{DamagedItem};
-ghost use Rattle.scim_json.specs.Documents.{IsDocumentsText, IsDamagedAt};
+ghost use Rattle.scim_json.specs.PartData.{stored_data};
+ghost use Rattle.scim_json.specs.Stored.{IsResourceBelow, IsDocumentText};
+ghost use Rattle.scim_json.specs.Documents.{AreResourcesBelow, IsDocumentsText, IsDamagedAt};
 ghost use Rattle.scim_json.specs.code.Taken.{Records};
+ghost use Rattle.scim_json.specs.code.Listed.{ReadsItem, ReadsItems};
 
+use crate::as_written::resource_with;
 use crate::faults::{Damaged, DamagedItem};
-use crate::reading::{parse, read_document};
+use crate::reading::{parse, read_document, read_spelled};
+use json::{Error, Reader, Scratch, Token};
 use scim_cell::Id;
 use scim_text::{Failed, NoMemory, push};
 use scim_value::{Resource, UniqueName, unique_names};
 use serde_json::Value;
 use std::alloc::Global;
 use std::collections::HashSet;
+
+/// How deep an item of the list may nest: one level less than the whole text.
+const ITEM_DEPTH: usize = 126;
 
 /// What the resources so far have, and no later one may have too.
 #[derive(Drop)]
@@ -34,6 +44,114 @@ struct Taken {
 /// unique name of one before it; with 0 where the text is no JSON list. NoMemory where none was to be
 /// had.
 pub fn read_documents(
+    alloc: Global,
+    base: &str,
+    text: &str,
+) -> Result<Vec<Resource>, Failed<DamagedItem>>
+    ensures documents { IfOk result (λ v. IsDocumentsText base.now text.now v.items) }
+    ensures damaged { IfFault result (λ item. IsDamagedAt base.now text.now item.0) }
+{
+    match read_one_by_one(alloc, base, text)? {
+        Some(resources) => Ok(resources),
+        None => read_together(alloc, base, text),
+    }
+}
+
+/// The resources of a users file, where it is one. It is read item by item, so that the values of one item alone are held
+/// beside the resources. NoMemory where none was to be had.
+fn read_one_by_one(alloc: Global, base: &str, text: &str) -> Result<Option<Vec<Resource>>, NoMemory>
+    ensures { IfOk result (λ found. IfSome found (λ v. IsDocumentsText base.now text.now v.items)) }
+{
+    let mut scratch = Scratch::new(alloc);
+    let mut reader = Reader::new(text, &mut scratch)?;
+    let Some(Token::BeginArray) = reader.next() else {
+        return Ok(None);
+    };
+    let resources = read_listed(alloc, base, &mut reader)?;
+    if reader.next().is_some() {
+        return Ok(None);
+    }
+    Ok(resources)
+}
+
+/// The resources of the items that are left, where each of them is a document. NoMemory where none was to be had.
+fn read_listed(
+    alloc: Global,
+    base: &str,
+    reader: &mut Reader<'_>,
+) -> Result<Option<Vec<Resource>>, NoMemory>
+    ensures { IfOk result (λ found. IfSome found (λ v. AreResourcesBelow base.now v.items
+        × ReadsItems reader.old v.items reader.new)) }
+{
+    let mut resources = Vec::new(alloc);
+    let mut taken = Taken::new(alloc);
+    'items: while !reader.take_end_array() {
+        let Some(resource) = read_next(alloc, base, reader)? else {
+            return Ok(None);
+        };
+        if !taken.add(alloc, &resource)? {
+            return Ok(None);
+        }
+        push(&mut resources, resource)?;
+    }
+    Ok(Some(resources))
+}
+
+/// The resource that the next item is the document of, where it is one. NoMemory where none was to be had.
+fn read_next(
+    alloc: Global,
+    base: &str,
+    reader: &mut Reader<'_>,
+) -> Result<Option<Resource>, NoMemory>
+    ensures { IfOk result (λ found. IfSome found (λ r. IsResourceBelow base.now r
+        × ReadsItem reader.old r reader.new × (length reader.new < length reader.old))) }
+{
+    match json::Value::read(alloc, reader, ITEM_DEPTH) {
+        Ok(item) => read_item(alloc, base, &item),
+        Err(Error::OutOfMemory) => Err(NoMemory),
+        Err(_) => Ok(None),
+    }
+}
+
+/// The resource that an item is the document of, where it is one. NoMemory where none was to be had.
+fn read_item(
+    alloc: Global,
+    base: &str,
+    item: &json::Value<'_>,
+) -> Result<Option<Resource>, NoMemory>
+    requires numbers { HasNumbers (value_view item.now) }
+    requires nests { nesting (value_view item.now) ≤ max_depth }
+    ensures { IfOk result (λ found. IfSome found (λ r. IsResourceBelow base.now r
+        × (of_json (value_view item.now) ≡ Some (stored_data r)))) }
+{
+    let text = unsafe { String::from_utf8_unchecked(json::to_vec(alloc, item)?) };
+    read_printed(alloc, base, item, text.as_str())
+}
+
+/// The resource that the text of an item is a document of, where it is one. NoMemory where none was to be had.
+fn read_printed(
+    alloc: Global,
+    base: &str,
+    item: &json::Value<'_>,
+    text: &str,
+) -> Result<Option<Resource>, NoMemory>
+    ensures { IfOk result (λ found. IfSome found (IsDocumentText base.now text.now)) }
+{
+    if let Some(resource) = resource_with(alloc, base, item, text)? {
+        return Ok(Some(resource));
+    }
+    match read_spelled(alloc, base, text) {
+        Ok(resource) => Ok(Some(resource)),
+        Err(Failed::Because(Damaged)) => Ok(None),
+        Err(Failed::NoMemory) => Err(NoMemory),
+    }
+}
+
+/// The resources of a users file, as `read_documents` answers, whose values are all read before the first resource is: so
+/// it is known of a text with a damaged item whether it is a JSON list at all.
+///
+/// Errors: as there.
+fn read_together(
     alloc: Global,
     base: &str,
     text: &str,

@@ -2,6 +2,7 @@
 //! 3 and 8, RFC 7644 section 3).
 #![tactic(auto)]
 
+mod as_written;
 mod documents;
 mod faults;
 mod laws;

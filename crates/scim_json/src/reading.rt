@@ -15,6 +15,7 @@ ghost use Rattle.scim_json.specs.PartData.{stored_data};
 ghost use Rattle.scim_json.specs.Found as spec;
 ghost use Rattle.scim_json.specs.Stored.{IsDocument, GivesStored};
 
+use crate::as_written::read_as_written;
 use crate::faults::Damaged;
 use crate::writing::stored_text;
 use scim_cell::{Atom, Cell, Id, Text, sub_attributes_by_place};
@@ -37,13 +38,24 @@ use std::alloc::Global;
 pub fn read_stored(alloc: Global, base: &str, text: &str) -> Result<Resource, Failed<Damaged>>
     ensures { UnlessMemory (GivesStored base.now text.now) result }
 {
-    let value = parse(alloc, text)?;
-    let resource = resource_in(alloc, base, &value)?;
-    if is_stored_text(alloc, &resource, text)? || is_kept_of(alloc, &resource, &value)? {
-        Ok(resource)
-    } else {
-        Err(Failed::Because(Damaged))
+    match read_as_written(alloc, base, text)? {
+        Some(resource) => Ok(resource),
+        None => read_spelled(alloc, base, text),
     }
+}
+
+/// The resource that the text is a stored document of, however it is spelled, as `read_stored` answers.
+///
+/// Errors: as there.
+pub(crate) fn read_spelled(
+    alloc: Global,
+    base: &str,
+    text: &str,
+) -> Result<Resource, Failed<Damaged>>
+    ensures { UnlessMemory (GivesStored base.now text.now) result }
+{
+    let value = parse(alloc, text)?;
+    read_document(alloc, base, &value)
 }
 
 /// The JSON value of a text (RFC 8259). Damaged where it has none; NoMemory where none was to be had.
@@ -82,14 +94,6 @@ pub(crate) fn read_document(
     } else {
         Err(Failed::Because(Damaged))
     }
-}
-
-/// Whether the text is the one that `stored_text` writes, as it mostly is where it comes from a
-/// database: its value needn't be written then.
-fn is_stored_text(alloc: Global, resource: &Resource, text: &str) -> Result<bool, NoMemory>
-    ensures { IfOk result (λ b. IsTrue b → read text.now ≡ Some (stored_data resource.now)) }
-{
-    Ok(stored_text(alloc, resource)?.as_str() == text)
 }
 
 /// Whether the value is the one that is kept of the resource.

@@ -9,13 +9,13 @@ use std::alloc::Global;
 use uuid::Uuid;
 
 /// The id of a number.
-pub fn id_of(number: usize) -> Id {
+pub fn numbered_id(number: usize) -> Id {
     scim_cell::id_of(Uuid::from_u128(number as u128))
 }
 
 /// A user of 15 cells, with this family name, whose user name has the number.
 pub fn user(alloc: Global, number: usize, family_name: &str) -> Result<Resource> {
-    let id = id_of(number).text(alloc)?;
+    let id = numbered_id(number).text(alloc)?;
     let cells = user_cells(alloc, number, family_name)?;
     Ok(resource(alloc, Kind::User, id.as_str(), cells.as_str())?)
 }
@@ -37,7 +37,7 @@ fn user_cells(alloc: Global, number: usize, family_name: &str) -> Result<String>
 /// A group with so many members, whose values are the first ids.
 pub fn group(alloc: Global, members: usize) -> Result<Part> {
     let cells = group_cells(alloc, members)?;
-    let id = id_of(0).text(alloc)?;
+    let id = numbered_id(0).text(alloc)?;
     Ok(part(alloc, Kind::Group, id.as_str(), cells.as_str())?)
 }
 
@@ -61,7 +61,7 @@ pub fn push_member(
     number: usize,
     cells: &mut String,
 ) -> Result<()> {
-    let id = id_of(number).text(alloc)?;
+    let id = numbered_id(number).text(alloc)?;
     let place = numbered(alloc, "; members[", position, "].value=")?;
     push_all(cells, &[place.as_str(), id.as_str()])
 }

@@ -1,0 +1,219 @@
+//! Reading a document that is as the server writes it, as nearly all are. What is found here is a guess: it counts where what
+//! is kept of it is the document, so nothing needs to be known of how it was found. It is read from a tree that borrows from
+//! the text, and takes half as long as a reading that has to find whatever is there.
+ghost use Rattle.std.specs.Prelude.{◌≡◌, IfOk, IfSome, IsTrue, Some};
+ghost use Rattle.serde_json.specs.Read.{read};
+ghost use Rattle.scim_value.specs.Resource.{HasBase};
+ghost use Rattle.scim_json.specs.PartData.{stored_data};
+ghost use Rattle.scim_json.specs.Stored.{IsDocumentText};
+
+use crate::writing::stored_text;
+use json::{Error, Scratch, Value};
+use scim_cell::{Atom, Cell, Id, Text, sub_attributes_by_place};
+use scim_schema::{
+    Attribute, AttributeType, JsonShape, Kind, Leaf, SubAttribute, attributes, characteristics_of,
+    extension_of, shape_of,
+};
+use scim_text::{Failed, NoMemory, push, read_printed_moment};
+use scim_value::{Invalid, Part, Resource, location};
+use std::alloc::Global;
+
+/// The resource that the text is kept of, where it is the text that `stored_text` writes; None where it isn't. NoMemory where
+/// none was to be had.
+pub(crate) fn read_as_written(
+    alloc: Global,
+    base: &str,
+    text: &str,
+) -> Result<Option<Resource>, NoMemory>
+    ensures { IfOk result (λ found. IfSome found (IsDocumentText base.now text.now)) }
+{
+    let mut scratch = Scratch::new(alloc);
+    match Value::parse(alloc, text, &mut scratch) {
+        Ok(value) => resource_with(alloc, base, &value, text),
+        Err(Error::OutOfMemory) => Err(NoMemory),
+        Err(_) => Ok(None),
+    }
+}
+
+/// The resource below the base that is guessed from the value, where the text is the one that is kept of it. NoMemory where
+/// none was to be had.
+pub(crate) fn resource_with(
+    alloc: Global,
+    base: &str,
+    value: &Value<'_>,
+    text: &str,
+) -> Result<Option<Resource>, NoMemory>
+    ensures { IfOk result (λ found. IfSome found (IsDocumentText base.now text.now)) }
+{
+    let Some(resource) = guessed(alloc, base, value)? else {
+        return Ok(None);
+    };
+    if is_stored_text(alloc, &resource, text)? {
+        Ok(Some(resource))
+    } else {
+        Ok(None)
+    }
+}
+
+/// Whether the text is the one that `stored_text` writes. NoMemory where none was to be had.
+fn is_stored_text(alloc: Global, resource: &Resource, text: &str) -> Result<bool, NoMemory>
+    ensures { IfOk result (λ b. IsTrue b → read text.now ≡ Some (stored_data resource.now)) }
+{
+    Ok(stored_text(alloc, resource)?.as_str() == text)
+}
+
+/// A resource below the base that the value may be kept of. NoMemory where none was to be had.
+fn guessed(alloc: Global, base: &str, value: &Value<'_>) -> Result<Option<Resource>, NoMemory>
+    ensures { IfOk result (λ found. IfSome found (HasBase base.now)) }
+{
+    let Some((kind, id)) = kind_and_id(value) else {
+        return Ok(None);
+    };
+    let cells = cells_in(alloc, base, kind, id, value)?;
+    match Part::of_sorted(alloc, kind, id, cells) {
+        Ok(part) => Ok(Resource::of(part, base).ok()),
+        Err(Failed::Because(Invalid)) => Ok(None),
+        Err(Failed::NoMemory) => Err(NoMemory),
+    }
+}
+
+/// The kind that `meta.resourceType` names, and the id.
+fn kind_and_id(value: &Value<'_>) -> Option<(Kind, Id)> {
+    let meta = value.get(Attribute::Meta.name())?;
+    let kind = Kind::named(meta.get(SubAttribute::ResourceType.name())?.as_str()?)?;
+    let id = Id::read(value.get(Attribute::Id.name())?.as_str()?)?;
+    Some((kind, id))
+}
+
+/// The cells of the value, and behind them that of `meta.location`. NoMemory where none was to be had.
+fn cells_in(
+    alloc: Global,
+    base: &str,
+    kind: Kind,
+    id: Id,
+    value: &Value<'_>,
+) -> Result<Vec<Cell>, NoMemory> {
+    let mut cells = Vec::new(alloc);
+    push_attributes(alloc, value, kind, &mut cells)?;
+    let cell = Cell {
+        leaf: Leaf::of(Attribute::Meta, SubAttribute::Location),
+        position: 0,
+        atom: Atom::Text(location(alloc, base, kind, id)?),
+    };
+    push(&mut cells, cell)?;
+    Ok(cells)
+}
+
+/// Adds the cells of all attributes. NoMemory where none was to be had.
+fn push_attributes(
+    alloc: Global,
+    value: &Value<'_>,
+    kind: Kind,
+    cells: &mut Vec<Cell>,
+) -> Result<(), NoMemory> {
+    for attribute in attributes(kind) {
+        if let Some(found) = attribute_in(value, *attribute) {
+            push_attribute(alloc, found, kind, *attribute, cells)?;
+        }
+    }
+    Ok(())
+}
+
+/// The value of an attribute, in the object of the resource or in that of its extension.
+fn attribute_in<'a, 'b>(value: &'a Value<'b>, attribute: Attribute) -> Option<&'a Value<'b>> {
+    match extension_of(attribute) {
+        Some(schema) => value.get(schema.urn())?.get(attribute.name()),
+        None => value.get(attribute.name()),
+    }
+}
+
+/// Adds the cells of an attribute. NoMemory where none was to be had.
+fn push_attribute(
+    alloc: Global,
+    found: &Value<'_>,
+    kind: Kind,
+    attribute: Attribute,
+    cells: &mut Vec<Cell>,
+) -> Result<(), NoMemory> {
+    match (shape_of(attribute), found) {
+        (JsonShape::Simple, _) => {
+            push_cell(alloc, found, kind, Leaf::simple(attribute), 0, cells)
+        }
+        (JsonShape::Complex, _) => push_object(alloc, found, kind, attribute, 0, cells),
+        (JsonShape::MultiValued, Value::Array(items)) => {
+            push_items(alloc, items.as_slice(), kind, attribute, cells)
+        }
+        (JsonShape::MultiValued, _) => Ok(()),
+    }
+}
+
+/// Adds the cells of the values of a multi-valued attribute. NoMemory where none was to be had.
+fn push_items(
+    alloc: Global,
+    items: &[Value<'_>],
+    kind: Kind,
+    attribute: Attribute,
+    cells: &mut Vec<Cell>,
+) -> Result<(), NoMemory> {
+    for (position, item) in items.iter().enumerate() {
+        push_object(alloc, item, kind, attribute, position, cells)?;
+    }
+    Ok(())
+}
+
+/// Adds the cells of one value of a complex attribute. NoMemory where none was to be had.
+fn push_object(
+    alloc: Global,
+    object: &Value<'_>,
+    kind: Kind,
+    attribute: Attribute,
+    position: usize,
+    cells: &mut Vec<Cell>,
+) -> Result<(), NoMemory> {
+    for sub_attribute in sub_attributes_by_place(attribute) {
+        if let Some(found) = object.get(sub_attribute.name()) {
+            let leaf = Leaf::of(attribute, *sub_attribute);
+            push_cell(alloc, found, kind, leaf, position, cells)?;
+        }
+    }
+    Ok(())
+}
+
+/// Adds the cell of a leaf; none where the value isn't of its type. NoMemory where none was to be had.
+fn push_cell(
+    alloc: Global,
+    found: &Value<'_>,
+    kind: Kind,
+    leaf: Leaf,
+    position: usize,
+    cells: &mut Vec<Cell>,
+) -> Result<(), NoMemory> {
+    let attribute_type = characteristics_of(kind, leaf).attribute_type;
+    if let Some(atom) = atom_in(alloc, found, attribute_type)? {
+        let cell = Cell {
+            leaf,
+            position,
+            atom,
+        };
+        push(cells, cell)?;
+    }
+    Ok(())
+}
+
+/// The value as an atom of a type. NoMemory where none was to be had.
+fn atom_in(
+    alloc: Global,
+    value: &Value<'_>,
+    attribute_type: AttributeType,
+) -> Result<Option<Atom>, NoMemory> {
+    if attribute_type == AttributeType::Boolean {
+        return Ok(value.as_bool().map(Atom::Truth));
+    }
+    let Some(text) = value.as_str() else {
+        return Ok(None);
+    };
+    if attribute_type == AttributeType::DateTime {
+        return Ok(read_printed_moment(alloc, text)?.map(Atom::Moment));
+    }
+    Ok(Some(Atom::Text(Text::copy_of(alloc, text)?)))
+}
