@@ -12,7 +12,7 @@ use std::alloc::Global;
 use std::time::{Clock, Instant};
 
 /// Two sizes are measured in turn so often.
-const ROUNDS: usize = 5;
+const ROUNDS: usize = 15;
 
 /// The figures of two sizes, each the least of several that were taken in turn: a processor is faster at one moment than
 /// at another.
