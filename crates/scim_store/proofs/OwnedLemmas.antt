@@ -1,11 +1,12 @@
 -- Values against a text, and the rows that begin with it.
-use Rattle.std.proofs.Common.{◌≡◌, ℕ, zero, suc, ◌+◌, ◌<◌, ◌≤◌, refl, sym, ◌∙◌, ap, subst, Bool, true, false, inl, inr, List, [], ◌∷◌, ◌++◌, length, take, drop, get_or, filter, arith}
+use Rattle.std.proofs.Common.{◌≡◌, ℕ, zero, suc, ◌+◌, ◌-◌, ◌<◌, ◌≤◌, refl, sym, ◌∙◌, ap, subst, Bool, true, false, true≢false, inl, inr, List, [], ◌∷◌, ◌++◌, length, take, drop, get_or, filter, arith}
 use Rattle.std.specs.List.{AllWithin}
 use Rattle.std.specs.List.Sorted.{IsPartitionedBy, IsPartitionPoint}
-use Rattle.std.specs.Ordering.{nat_cmp, is_eq, is_lt, is_le, ordering_then, ordering_reverse}
+use Rattle.std.specs.Ordering.{nat_cmp, is_eq, is_lt, is_le, is_gt, ordering_then, ordering_reverse}
 use Rattle.std.specs.declared.cmp.Ordering.{Ordering}
 use Rattle.std.specs.declared.cmp.Ordering.TheVariants.{Less, Equal, Greater}
 use Rattle.std.specs.Cmp.Lexicographic.{slice_cmp}
+use Rattle.std.proofs.lemmas.Bool.{false_from_ne_true}
 use Rattle.std.proofs.lemmas.Cmp.{alike_right}
 use Rattle.std.proofs.Math.Nat.{eq-or-lt_of_le}
 use Rattle.std.proofs.lemmas.List.{length-take-le, length-drop, get_or-take, get_or-drop, take-append-drop, append-nil}
@@ -18,6 +19,7 @@ use Rattle.sqlite.specs.Order.{Row, column, value_cmp}
 use Rattle.sqlite_value.specs.Order.{class}
 use Rattle.sqlite_value.proofs.OrderLemmas.{value_cmp-Text, value_cmp-apart, value_cmp_total}
 use Rattle.scim_tables.specs.Lists.{is_text, has_text}
+use Rattle.scim_store.specs.code.Damage.{IsPartedAt}
 
 pub text_against : (v : Value) (bytes text : List ℕ) → Text bytes ≡ v → value_cmp v (Text text) ≡ slice_cmp nat_cmp bytes text
 text_against v bytes text is = ap (λ x. value_cmp x (Text text)) (sym is) ∙ value_cmp-Text bytes text
@@ -85,6 +87,13 @@ parted_below text rows up = parted (λ row. is_lt (against text row)) (λ a b f 
 pub parted_to : (text : List ℕ) (rows : List Row) → IsAscending Follows rows → IsPartitionedBy (λ row. is_le (against text row)) rows
 parted_to text rows up = parted (λ row. is_le (against text row)) (λ a b f low. no_higher_too (column a 0) (column b 0) (Text text) f low) rows up
 
+-- where no row that passes comes after one that fails, the rows beside a place tell of all
+pub parted_at : (p : Row → Bool) (rows : List Row) (n : ℕ) → IsPartitionedBy p rows → IsPartedAt p rows n → IsPartitionPoint (λ r. p r ≡ true) (λ r. p r ≡ false) rows n
+parted_at p rows n parted at = (
+  λ k d from to. parted k (n - 1) d (omega arith) (omega (arith, at.within)) (at.before d (omega arith)),
+  λ k d from to. false_from_ne_true (p (get_or rows k d)) (λ passes. true≢false (sym (parted n k d from to passes) ∙ at.behind d (omega arith))),
+)
+
 pub ascending-drop : (n : ℕ) (rows : List Row) → IsAscending Follows rows → IsAscending Follows (drop n rows)
 ascending-drop zero rows up = up
 ascending-drop (suc n) [] up = tt
@@ -120,6 +129,11 @@ above_fails : (o : Ordering) → is_le o ≡ false → is_eq o ≡ false
 above_fails Less h = refl
 above_fails Equal h = absurd cc
 above_fails Greater h = refl
+
+pub above_no_more : (o : Ordering) → is_gt o ≡ true → is_le o ≡ false
+above_no_more Less h = absurd cc
+above_no_more Equal h = absurd cc
+above_no_more Greater h = refl
 
 pub run : (text : List ℕ) (rows : List Row) (s c : ℕ) → s ≤ length rows → c ≤ length (drop s rows)
     → IsPartitionPoint (λ r. is_lt (against text r) ≡ true) (λ r. is_lt (against text r) ≡ false) rows s

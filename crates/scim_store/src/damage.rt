@@ -235,12 +235,21 @@ fn are_of_one(
     }
 }
 
+/// Where in each table the rows behind those of the last id begin.
+#[derive(Clone, Copy)]
+struct Places {
+    resources: usize,
+    names: usize,
+    members: usize,
+}
+
 /// Whether the rows of an id are those of one resource below the base, or there are none.
 fn holds_at(
     alloc: Global,
     base: &str,
     tables: &ResourceRows,
     id: Id,
+    places: &mut Places,
 ) -> Result<bool, Failed<Unreadable>>
     ensures id { IsId id }
     ensures yes { spec.AreOrdered tables.now → IfOk result (λ holds. holds ≡ true → spec.HoldsAt base.now tables.now id) }
@@ -248,9 +257,9 @@ fn holds_at(
 {
     let mut buffer = [0; Id::TEXT_LENGTH];
     let text = id.write(&mut buffer);
-    let resources = rows_of(tables.resources.as_slice(), text);
-    let names = rows_of(tables.names.as_slice(), text);
-    let members = rows_of(tables.members.as_slice(), text);
+    let resources = rows_of(tables.resources.as_slice(), text, &mut places.resources);
+    let names = rows_of(tables.names.as_slice(), text, &mut places.names);
+    let members = rows_of(tables.members.as_slice(), text, &mut places.members);
     are_of_one(alloc, base, resources, names, members)
 }
 
@@ -267,8 +276,13 @@ fn first_damage(
     ensures ids { IfOk result (λ found. found ≡ None → All IsId ids.now.keys) }
     ensures rising { IsStrictlySortedBy (slice_cmp nat_cmp) ids.now.keys }
 {
+    let mut places = Places {
+        resources: 0,
+        names: 0,
+        members: 0,
+    };
     for id in ids {
-        if !holds_at(alloc, base, tables, *id)? {
+        if !holds_at(alloc, base, tables, *id, &mut places)? {
             return Ok(Some(*id));
         }
     }

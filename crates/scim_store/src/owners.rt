@@ -1,7 +1,8 @@
 //! Whom the rows of the tables belong to.
 
-ghost use Rattle.std.specs.Prelude.{◌≡◌, ◌||◌, ℕ, List, [], ◌∷◌, All, true, false, filter, IfSome, IfOk, OnOk, None};
-ghost use Rattle.std.specs.Ordering.{nat_cmp};
+ghost use Rattle.std.specs.Prelude.{◌≡◌, ◌≤◌, ◌||◌, ℕ, List, [], ◌∷◌, All, true, false, filter, length, IfSome, IfOk, OnOk, None};
+ghost use Rattle.std.specs.Ordering.{nat_cmp, is_lt, is_le};
+ghost use Rattle.std.specs.List.Sorted.{IsPartitionPoint};
 ghost use Rattle.std.specs.Cmp.Lexicographic.{slice_cmp};
 ghost use Rattle.std.specs.BTreeSet.{contains};
 ghost use Rattle.sqlite.specs.declared.types.Value.TheVariants.{Text};
@@ -11,6 +12,7 @@ ghost use Rattle.scim_cell.specs.Ids.{IsId, id_text};
 ghost use Rattle.scim_tables.specs.Lists as tables;
 ghost use Rattle.scim_tables.specs.Reading.{DoNotFall};
 ghost use Rattle.scim_store.specs.Owners.{is_of, HasOwner, is_owner};
+ghost use Rattle.scim_store.specs.code.Damage.{IsPartedAt};
 
 use scim_cell::Id;
 use scim_text::NoMemory;
@@ -53,13 +55,52 @@ fn compare_owner(row: &Row, text: &str) -> Ordering
     }
 }
 
-/// The rows that begin with the text, if the rows are in order of what they begin with.
-pub(crate) fn rows_of<'r>(rows: &'r [Row], text: &str) -> &'r [Row]
+/// Whether a place parts the rows that begin with less than the text from the others, if the rows are in order of what they begin
+/// with: by the two rows beside it.
+fn is_start(rows: &[Row], text: &str, place: usize) -> bool
+    ensures { result ≡ true → IsPartedAt (λ r. is_lt (value_cmp (column r 0) (Text text.now))) rows.now place }
+{
+    place <= rows.len()
+        && (place == 0 || compare_owner(&rows[place - 1], text).is_lt())
+        && (place == rows.len() || compare_owner(&rows[place], text).is_ge())
+}
+
+/// How many rows begin with less than the text, if the rows are in order of what they begin with. A place that it may be is tried
+/// first.
+fn start_of(rows: &[Row], text: &str, near: usize) -> usize
+    ensures within { result ≤ length rows.now }
+    ensures start { DoNotFall (0 ∷ []) rows.now → IsPartitionPoint (λ r. is_lt (value_cmp (column r 0) (Text text.now)) ≡ true)
+        (λ r. is_lt (value_cmp (column r 0) (Text text.now)) ≡ false) rows.now result }
+{
+    if is_start(rows, text, near) {
+        return near;
+    }
+    rows.partition_point(|row| compare_owner(row, text).is_lt())
+}
+
+/// How many rows begin with the text or less, if the rows are in order of what they begin with. They are gone through one by one.
+fn count_of(rows: &[Row], text: &str) -> usize
+    ensures within { result ≤ length rows.now }
+    ensures count { DoNotFall (0 ∷ []) rows.now → IsPartitionPoint (λ r. is_le (value_cmp (column r 0) (Text text.now)) ≡ true)
+        (λ r. is_le (value_cmp (column r 0) (Text text.now)) ≡ false) rows.now result }
+{
+    for (place, row) in rows.iter().enumerate() {
+        if compare_owner(row, text).is_gt() {
+            return place;
+        }
+    }
+    rows.len()
+}
+
+/// The rows that begin with the text, if the rows are in order of what they begin with. They are looked for at `near` first, which is
+/// moved behind them: of texts in order each is found without a search.
+pub(crate) fn rows_of<'r>(rows: &'r [Row], text: &str, near: &mut usize) -> &'r [Row]
     ensures { DoNotFall (0 ∷ []) rows.now → result.now ≡ filter (tables.has_text 0 text.now) rows.now }
 {
-    let start = rows.partition_point(|row| compare_owner(row, text).is_lt());
+    let start = start_of(rows, text, *near);
     let rest = &rows[start..];
-    let count = rest.partition_point(|row| compare_owner(row, text).is_le());
+    let count = count_of(rest, text);
+    *near = start + count;
     &rest[..count]
 }
 

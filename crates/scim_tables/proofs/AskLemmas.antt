@@ -18,9 +18,16 @@ pub asks_settings : IsAsk (codes "SELECT name, number FROM setting") (rows_query
 unfolding understood everything
 asks_settings = record { names = codes "name" ∷ codes "number" ∷ []; command = refl; plain = (refl, refl); unlisted = refl }
 
-pub asks_resources : IsAsk resources_text (rows_query Resource)
+abbrev pub resources : Query
+resources = one_table 2 [] (col 1 1 ∷ col 1 2 ∷ col 1 3 ∷ []) ((col 1 1, up) ∷ [])
+
+pub asks_resources : IsAsk resources_text resources
 unfolding understood everything
 asks_resources = record { names = codes "id" ∷ codes "kind" ∷ codes "document" ∷ []; command = refl; plain = (refl, refl); unlisted = refl }
+
+pub asks_all_resources : IsAsk (codes "SELECT id, kind, document FROM resource ORDER BY id, kind") (rows_query Resource)
+unfolding understood everything
+asks_all_resources = record { names = codes "id" ∷ codes "kind" ∷ codes "document" ∷ []; command = refl; plain = (refl, refl); unlisted = refl }
 
 pub asks_names : IsAsk (codes "SELECT id, attribute, folded FROM taken ORDER BY id, attribute, folded") (rows_query Taken)
 unfolding understood everything

@@ -1,16 +1,17 @@
 -- What the queries tell of the tables.
-use Rattle.std.proofs.Common.{◌≡◌, ℕ, ℤ, pos, List, [], ◌∷◌, map, filter, Option, IsTrue, refl, sym, subst}
+use Rattle.std.proofs.Common.{◌≡◌, ℕ, ℤ, pos, List, [], ◌∷◌, map, filter, Option, IsTrue, Ordering, Less, Equal, Greater, false, refl, sym, subst}
 use Rattle.std.specs.Prelude.{IsPermutation}
+use Rattle.std.specs.Ordering.{is_lt, ordering_then}
 use Rattle.std.proofs.lemmas.List.Sorted.{IsPermutation-map, IsPermutation-trans}
-use Rattle.sqlite_trees.proofs.ListLemmas.{map-map, filter-map}
+use Rattle.sqlite_trees.proofs.ListLemmas.{map-map, filter-map, ascending_weaker}
 use Rattle.sqlite.specs.declared.types.Value.TheVariants.{Int, Text}
-use Rattle.sqlite.specs.Order.{Row}
+use Rattle.sqlite.specs.Order.{Row, column, value_cmp}
 use Rattle.sqlite.specs.Query.{Query}
 use Rattle.sqlite.specs.Term.{col}
 use Rattle.sqlite.specs.State.{State, IsUnchanged}
 use Rattle.scim_tables.specs.Tables.{store_schema}
 use Rattle.scim_tables.specs.Lists.{Lists, has_text, has_texts, pair, triple, entry}
-use Rattle.scim_tables.specs.Reading.{group_alone, Rests, HasTables, Holds, Tells, Finds, IsTextOfFirst, shown, owner_first, group_first, is_resource, is_between}
+use Rattle.scim_tables.specs.Reading.{columns_cmp, group_alone, Rests, HasTables, Holds, Tells, Finds, IsTextOfFirst, shown, owner_first, group_first, is_resource, is_between}
 use Rattle.scim_tables.specs.code.Asks.{IsAsk, IsAnswered}
 use Rattle.scim_tables.specs.code.Queries.{is_column, up, tree_of, rows_query, keys_query}
 use Rattle.scim_tables.specs.code.Keys.{key_alone}
@@ -18,7 +19,7 @@ use Rattle.scim_tables.specs.code.Told.{AreRows, AreKeys}
 use Rattle.scim_tables.specs.Whole.{AreInOrder}
 use Rattle.scim_tables.specs.declared.queries.Table.{Table}
 use Rattle.scim_tables.specs.declared.queries.Table.TheVariants.{Setting, Resource, Taken, Member, Audit}
-use Rattle.scim_tables.proofs.AskLemmas.{groups_text, groups, asks_groups, resources_text, asks_resources, document_text, document, asks_document, owner_text, owner, asks_owner, between_text, between, asks_between}
+use Rattle.scim_tables.proofs.AskLemmas.{groups_text, groups, asks_groups, resources_text, resources, asks_resources, document_text, document, asks_document, owner_text, owner, asks_owner, between_text, between, asks_between}
 use Rattle.scim_tables.proofs.AnswerLemmas.{passing, answered_columns, found_first, unchanged_rests}
 use Rattle.scim_tables.proofs.KeyLemmas.{keys_told}
 use Rattle.scim_tables.proofs.OrderLemmas.{told_in_order, told_where}
@@ -30,9 +31,24 @@ use Rattle.scim_tables.proofs.TextLemmas.{key_tests, resource_tests, between_tes
 ordered : {places : List ℕ} {values : List Row} {old new : State} {rows : List Row} → Tells places values old new rows → IsUnchanged old new × AreInOrder places values rows
 ordered told = (told.unchanged, record { same = told.same; order = told.order })
 
+first_alone : (o p : Ordering) → is_lt (ordering_then o (ordering_then p Equal)) ≡ false → is_lt (ordering_then o Equal) ≡ false
+first_alone Less p h = h
+first_alone Equal p h = refl
+first_alone Greater p h = refl
+
+-- what is in order by two columns is by the first
+by_first : {values : List Row} {old new : State} {rows : List Row} → Tells (0 ∷ 1 ∷ []) values old new rows → IsUnchanged old new × AreInOrder (0 ∷ []) values rows
+by_first {values} {old} {new} {rows} told = (
+  told.unchanged,
+  record {
+    same = told.same;
+    order = ascending_weaker (λ a b. is_lt (columns_cmp (0 ∷ 1 ∷ []) b a) ≡ false) (λ a b. is_lt (columns_cmp (0 ∷ []) b a) ≡ false) (λ a b h. first_alone (value_cmp (column b 0) (column a 0)) (value_cmp (column b 1) (column a 1)) h) rows told.order;
+  },
+)
+
 pub rows_told : (table : Table) (old new : State) (rows : List Row) → IsAnswered (rows_query table) [] old new rows → IsUnchanged old new × AreRows table old.now rows
 rows_told Setting old new rows it = ordered (told_in_order 0 (col 1 1 ∷ col 1 2 ∷ []) [] [] old.now.trees rows pair old new refl (λ r. tt) (λ r. refl) it.unchanged it.answer)
-rows_told Resource old new rows it = ordered (told_in_order 2 (col 1 1 ∷ col 1 2 ∷ col 1 3 ∷ []) ((col 1 1, up) ∷ []) (0 ∷ []) old.now.trees rows triple old new refl (λ r. (refl, tt)) (λ r. refl) it.unchanged it.answer)
+rows_told Resource old new rows it = by_first (told_in_order 2 (col 1 1 ∷ col 1 2 ∷ col 1 3 ∷ []) ((col 1 1, up) ∷ (col 1 2, up) ∷ []) (0 ∷ 1 ∷ []) old.now.trees rows triple old new refl (λ r. (refl, (refl, tt))) (λ r. refl) it.unchanged it.answer)
 rows_told Taken old new rows it =
     ordered (subst (λ values. Tells (0 ∷ 1 ∷ 2 ∷ []) values old new rows) (sym (map-map owner_first triple (old.now.trees 4)))
     (told_in_order 4 (col 1 3 ∷ col 1 1 ∷ col 1 2 ∷ []) ((col 1 3, up) ∷ (col 1 1, up) ∷ (col 1 2, up) ∷ []) (0 ∷ 1 ∷ 2 ∷ []) old.now.trees rows (λ r. owner_first (triple r)) old new refl (λ r. (refl, (refl, (refl, tt)))) (λ r. refl) it.unchanged it.answer))
@@ -57,7 +73,7 @@ module _ (old new : State) (rows : List Row) (opened : IsTrue old.is_open) where
 
   pub resources_told : Answered resources_text [] old new rows → HasTables old → Tells (0 ∷ []) (shown old.now).resources old new rows
   resources_told answers has =
-      let it = answers (rows_query Resource) asks_resources (has opened) in
+      let it = answers resources asks_resources (has opened) in
       told_in_order 2 (col 1 1 ∷ col 1 2 ∷ col 1 3 ∷ []) ((col 1 1, up) ∷ []) (0 ∷ []) old.now.trees rows triple old new refl (λ r. (refl, tt)) (λ r. refl) it.unchanged it.answer
 
   -- ---- by a key

@@ -19,12 +19,15 @@ pub(crate) enum Table {
 }
 
 /// The text that asks for all rows of a table, in order.
+///
+/// Resources are sorted by more than the key, so that the rows are taken as they lie in the file: in order of the key's index each
+/// would be looked up alone, and with ids in no order each look-up would read a page.
 pub(crate) fn rows_query(table: Table) -> &'static str
     ensures { IsAsk result.now (spec.rows_query table) }
 {
     match table {
         Table::Setting => "SELECT name, number FROM setting",
-        Table::Resource => "SELECT id, kind, document FROM resource ORDER BY id",
+        Table::Resource => "SELECT id, kind, document FROM resource ORDER BY id, kind",
         Table::Taken => "SELECT id, attribute, folded FROM taken ORDER BY id, attribute, folded",
         Table::Member => "SELECT group_id, value FROM member ORDER BY group_id, value",
         Table::Audit => {

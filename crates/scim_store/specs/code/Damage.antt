@@ -1,5 +1,5 @@
 -- The rows of one resource, as the code compares them.
-use Rattle.std.specs.Prelude.{◌≡◌, ℕ, nat_eq, pos, ◌==◌, Bool, false, ◌&&◌, List, [], ◌∷◌, length, map, All, Option, None, Some}
+use Rattle.std.specs.Prelude.{◌≡◌, ◌<◌, ◌≤◌, ◌-◌, ℕ, nat_eq, pos, ◌==◌, Bool, true, false, ◌&&◌, List, [], ◌∷◌, length, get_or, map, All, Option, None, Some}
 use Rattle.std.specs.Ordering.{int_eq, nat_cmp}
 use Rattle.std.specs.Cmp.Lexicographic.{slice_cmp, pointwise}
 use Rattle.std.specs.HashSet.{HashSet, contains_by}
@@ -85,3 +85,9 @@ pub record AreAllOwned (tables : Tables) : Type 0 where
 -- whether a text is among borrowed texts
 abbrev pub is_in : {S : Type 0} → List ℕ → HashSet (Bor (List ℕ)) S → Bool
 is_in text texts = contains_by (λ t. pointwise nat_eq text t.now) texts
+
+-- a place parts the rows that pass a test from the others, as far as the rows beside it tell
+pub record IsPartedAt (test : Row → Bool) (rows : List Row) (place : ℕ) : Type 0 where
+  pub within : place ≤ length rows
+  pub before : (d : Row) → 0 < place → test (get_or rows (place - 1) d) ≡ true
+  pub behind : (d : Row) → place < length rows → test (get_or rows place d) ≡ false

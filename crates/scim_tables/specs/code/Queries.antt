@@ -43,7 +43,7 @@ tree_of Audit = 8
 -- all rows of a table, in order
 abbrev pub rows_query : Table → Query
 rows_query Setting = one_table 0 [] (col 1 1 ∷ col 1 2 ∷ []) []
-rows_query Resource = one_table 2 [] (col 1 1 ∷ col 1 2 ∷ col 1 3 ∷ []) ((col 1 1, up) ∷ [])
+rows_query Resource = one_table 2 [] (col 1 1 ∷ col 1 2 ∷ col 1 3 ∷ []) ((col 1 1, up) ∷ (col 1 2, up) ∷ [])
 rows_query Taken = one_table 4 [] (col 1 3 ∷ col 1 1 ∷ col 1 2 ∷ []) ((col 1 3, up) ∷ (col 1 1, up) ∷ (col 1 2, up) ∷ [])
 rows_query Member = one_table 6 [] (col 1 2 ∷ col 1 1 ∷ []) ((col 1 2, up) ∷ (col 1 1, up) ∷ [])
 rows_query Audit = one_table 8 [] (col 1 0 ∷ col 1 2 ∷ col 1 3 ∷ col 1 4 ∷ col 1 5 ∷ col 1 6 ∷ col 1 7 ∷ col 1 8 ∷ col 1 9 ∷ col 1 10 ∷ []) ((col 1 0, up) ∷ [])
