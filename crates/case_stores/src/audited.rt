@@ -3,6 +3,7 @@ use crate::databases::opened;
 use crate::faults::StoreFault;
 use case_values::{Case, CaseFault};
 use scim_audit::AuditRow;
+use scim_cache::CachedShelf;
 use scim_shelf::{MemoryShelf, Shelf};
 use scim_store::SqlShelf;
 use scim_text::push;
@@ -47,6 +48,32 @@ impl<S: Alter + Drop> Audited for SqlShelf<S> {
 
     fn close(self) {
         let _connection = self.into_connection();
+    }
+}
+
+impl<S: Audited> Audited for CachedShelf<S> {
+    fn rows_after(&mut self, alloc: Global, known: u64) -> Result<Vec<AuditRow>, StoreFault> {
+        self.lower_mut().rows_after(alloc, known)
+    }
+
+    fn reopened(self, case: &Case<'_>) -> Result<CachedShelf<S>, StoreFault> {
+        cached(case.alloc, self.into_lower().reopened(case)?)
+    }
+
+    fn close(self) {
+        self.into_lower().close();
+    }
+}
+
+/// A store whose resources are kept in memory too.
+pub fn cached<S: Audited>(alloc: Global, shelf: S) -> Result<CachedShelf<S>, StoreFault> {
+    let mut both = CachedShelf::over(shelf);
+    match both.fill(alloc) {
+        Ok(()) => Ok(both),
+        Err(_) => {
+            both.close();
+            Err(StoreFault::NotRead)
+        }
     }
 }
 

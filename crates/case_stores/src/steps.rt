@@ -1,5 +1,5 @@
-//! The steps of a case, over a store in memory and over one in a database.
-use crate::audited::Audited;
+//! The steps of a case, over a store in memory, over one in a database, and over one in a database that is kept in memory too.
+use crate::audited::{Audited, cached};
 use crate::databases::{OverDatabase, filled, over_new_database, shelf_of};
 use crate::exchanges::push_replies;
 use crate::faults::{StoreFault, told_or_fault};
@@ -13,22 +13,25 @@ use scim_token::Tokens;
 use sqlite::{Alter, Connection};
 
 /// What the steps are answered over a store in memory; and behind it, where that is another text, what they are over one
-/// in a database.
+/// in a database, and over one that is kept in memory too.
 pub fn answered(case: &Case<'_>) -> Result<String, CaseFault> {
     let tokens = tokens_of(case)?;
-    told_of_both(case, &tokens)
+    told_of_all(case, &tokens)
 }
 
-fn told_of_both(case: &Case<'_>, tokens: &Tokens) -> Result<String, CaseFault> {
+fn told_of_all(case: &Case<'_>, tokens: &Tokens) -> Result<String, CaseFault> {
     let in_memory = told_or_fault(case.alloc, told_in_memory(case, tokens))?;
-    let in_database = told_or_fault(case.alloc, told_in_database(case, tokens))?;
-    if in_memory == in_database {
+    let in_database = told_or_fault(case.alloc, told_in_database(case, tokens, false))?;
+    let in_both = told_or_fault(case.alloc, told_in_database(case, tokens, true))?;
+    if in_memory == in_database && in_memory == in_both {
         return Ok(in_memory);
     }
     let texts = [
         in_memory.as_str(),
         "\nand something else over a database: ",
         in_database.as_str(),
+        "\nor over one that is kept in memory too: ",
+        in_both.as_str(),
     ];
     joined(case.alloc, &texts)
 }
@@ -37,25 +40,40 @@ fn told_in_memory(case: &Case<'_>, tokens: &Tokens) -> Result<String, StoreFault
     let mut text = String::new(case.alloc);
     for store in stores_of(case) {
         let shelf = shelf_of(case, store.users)?;
-        push_steps(case, &Asked { store, tokens }, shelf, &mut text)?;
+        let asked = Asked {
+            store,
+            tokens,
+            is_cached: false,
+        };
+        push_steps(case, &asked, shelf, &mut text)?;
     }
     Ok(text)
 }
 
-fn told_in_database(case: &Case<'_>, tokens: &Tokens) -> Result<String, StoreFault> {
+fn told_in_database(
+    case: &Case<'_>,
+    tokens: &Tokens,
+    is_cached: bool,
+) -> Result<String, StoreFault> {
     let mut text = String::new(case.alloc);
     for store in stores_of(case) {
-        let told = over_new_database(case, &Asked { store, tokens })?;
+        let asked = Asked {
+            store,
+            tokens,
+            is_cached,
+        };
+        let told = over_new_database(case, &asked)?;
         text.push_str(told.as_str())?;
     }
     Ok(text)
 }
 
-/// Which of the stores of a case is asked, and who has which token.
+/// Which of the stores of a case is asked, who has which token, and whether the resources of a database are kept in memory too.
 #[derive(Clone, Copy)]
 struct Asked<'a> {
     store: &'a Store,
     tokens: &'a Tokens,
+    is_cached: bool,
 }
 
 impl OverDatabase for Asked<'_> {
@@ -66,7 +84,11 @@ impl OverDatabase for Asked<'_> {
     ) -> Result<String, StoreFault> {
         let shelf = filled(case, self.store.users, connection)?;
         let mut text = String::new(case.alloc);
-        push_steps(case, self, shelf, &mut text)?;
+        if self.is_cached {
+            push_steps(case, self, cached(case.alloc, shelf)?, &mut text)?;
+        } else {
+            push_steps(case, self, shelf, &mut text)?;
+        }
         Ok(text)
     }
 }

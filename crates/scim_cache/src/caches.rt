@@ -1,5 +1,7 @@
 //! A shelf that keeps the resources of the shelf below it in memory.
 ghost use Rattle.std.specs.Prelude.{◌≡◌, IsTrue, ◌↔◌, OnOk, OnErr};
+ghost use Rattle.std.specs.Borrow.{Lends, sem};
+ghost use Rattle.scim_cache.specs.contracts.caches.CachedShelf.{the_row};
 ghost use Rattle.scim_shelf.specs.Stores.{Store, CanKeep, changed};
 ghost use Rattle.scim_shelf.specs.Shelves.{OnlyReads};
 ghost use Rattle.scim_cache.specs.Caches.{AreThose, HasKeyed, IsFilled};
@@ -59,6 +61,15 @@ impl<S: Shelf> CachedShelf<S> {
         ensures { IsTrue result ↔ IsFilled self.now }
     {
         self.resources.is_some()
+    }
+
+    /// The shelf below, to be asked for what it alone has, as the rows of its audit. Whoever changes its resources by this is one of those
+    /// others whose writing isn't seen.
+    pub fn lower_mut(&mut self) -> &mut S
+        ensures* writes_back { sem 𝓛 (Lends (the_row S.row) S.row self.entry result (λ lower. record self.old { lower = lower })) }
+        ensures shows { result.now ≡ self.old.lower }
+    {
+        &mut self.lower
     }
 
     /// The shelf below, which has all that was committed.
