@@ -1,10 +1,9 @@
 -- Bodies that are in UTF-8, and others.
-use Rattle.std.proofs.Common.{◌≡◌, refl, ap, ℕ, List, Bool, true, false}
-use Rattle.std.specs.Prelude.{Some, None, Ok, Err}
+use Rattle.std.proofs.Common.{◌≡◌, refl, ap, ℕ, List, false}
+use Rattle.std.specs.Prelude.{Err, ok_or}
 use Rattle.std.specs.Str.{IsUtf8, is_utf8}
 use Rattle.std.proofs.lemmas.Bool.{false_from_ne_true}
 use Rattle.std.proofs.lemmas.Str.{IsUtf8-from_is_utf8, is_utf8-from_IsUtf8}
-use Rattle.serde_json.specs.Data.{Data}
 use Rattle.serde_json.specs.Read.{read}
 use Rattle.scim_schema.specs.declared.Kind.{Kind}
 use Rattle.scim_audit.specs.declared.refusals.Refusal.TheVariants.{Syntax}
@@ -16,19 +15,14 @@ not_utf8 : (body : List ℕ) → (IsUtf8 body → ⊥) → is_utf8 body ≡ fals
 not_utf8 body broken = false_from_ne_true (is_utf8 body) (λ t. broken (IsUtf8-from_is_utf8 body t))
 
 -- a body in UTF-8 has the value of its text
-pub value_read : (body : List ℕ) (d : Data) → IsUtf8 body → read body ≡ Some d → value_in body ≡ Ok d
+pub value_of_text : (body text : List ℕ) → text ≡ body → IsUtf8 body → ok_or (read text) Syntax ≡ value_in body
 unfolding value_in
-value_read body d utf8 given = let passes = is_utf8-from_IsUtf8 body utf8 in rw (passes, given) refl
+value_of_text body text same utf8 = let passes = is_utf8-from_IsUtf8 body utf8 in rw passes (ap (λ t. ok_or (read t) Syntax) same)
 
-by_test : {P : Type 0} (b : Bool) → (b ≡ true → P) → (b ≡ false → P) → P
-by_test true t f = t refl
-by_test false t f = f refl
-
--- a text without one has none, nor has a body that is no text
-pub no_value : (body : List ℕ) → (IsUtf8 body → read body ≡ None) → value_in body ≡ Err Syntax
+-- and another has none
+pub no_value : (body : List ℕ) → (IsUtf8 body → ⊥) → value_in body ≡ Err Syntax
 unfolding value_in
-no_value body none =
-    by_test (is_utf8 body) (λ t. let n : read body ≡ None = none (IsUtf8-from_is_utf8 body t) in rw (t, n) refl) (λ f. rw f refl)
+no_value body broken = let fails = not_utf8 body broken in rw fails refl
 
 -- a body in UTF-8 gives the draft of its text
 pub draft_of_text : (use_for : UseFor) (kind : Kind) (body text : List ℕ) → text ≡ body → IsUtf8 body → draft_in use_for kind text ≡ draft_asked use_for kind body

@@ -4,13 +4,13 @@ use Rattle.std.specs.Prelude.{option_and_then}
 use Rattle.std.proofs.lemmas.Bool.Decides.{nat_tests}
 use Rattle.std.proofs.lemmas.List.{at_drop_more}
 use Rattle.serde_json.specs.Data.{array}
-use Rattle.serde_json.specs.View.{items_view}
-use Rattle.serde_json.specs.declared.value.Value.{Value}
+use Rattle.scim_tree.specs.View.{items_view}
+use Rattle.scim_tree.specs.declared.trees.Tree.{Tree}
 use Rattle.scim_body.specs.BodyValues.{is_absent, collected}
 use Rattle.scim_body.specs.code.Given.{after}
 
 -- an array counts as none exactly where it has no item
-pub absent_items : (vs : List Value) → (length vs == 0) ≡ is_absent (array (items_view vs))
+pub absent_items : (vs : List Tree) → (length vs == 0) ≡ is_absent (array (items_view vs))
 absent_items [] = refl
 absent_items (v ∷ vs) = grind (arith, nat_tests)
 

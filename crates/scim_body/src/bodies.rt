@@ -3,7 +3,7 @@
 ghost use Rattle.std.specs.Prelude.{◌≡◌, ◌++◌, IfOk, OnOk, Some, None, option_map, map};
 ghost use Rattle.std.specs.List.{flat_map};
 ghost use Rattle.serde_json.specs.Read.{read};
-ghost use Rattle.serde_json.specs.View.{view, members_view};
+ghost use Rattle.scim_tree.specs.View.{view, members_view};
 ghost use Rattle.scim_schema.specs.JsonKeys.{shape_of};
 ghost use Rattle.scim_text.specs.Failures.{UnlessMemory, OnFault};
 ghost use Rattle.scim_body.specs.BodyValues.{collected, values_of};
@@ -17,14 +17,14 @@ use crate::drafts::{Draft, UseFor};
 use crate::members::given_named;
 use crate::required::lacks_required;
 use crate::values::{WrongValue, read_atom, read_fields, read_values};
+use json::Scratch;
 use scim_cell::{Atom, Field, Row};
-use scim_json::{Damaged, parse};
 use scim_schema::{
     Attribute, JsonShape, Kind, Leaf, Schema, Unit, attributes, characteristics_of, extension_of,
     is_read_only, is_write_only, shape_of, unit_of,
 };
 use scim_text::{Failed, NoMemory, push};
-use serde_json::{Map, Value};
+use scim_tree::{Member, NotJson, Tree};
 use std::alloc::Global;
 use thiserror::Error;
 
@@ -69,12 +69,13 @@ pub fn read_body(
 ) -> Result<Draft, Failed<BodyFault>>
     ensures { UnlessMemory (GivesDraft kind use_for (read text.now)) result }
 {
-    let value = match parse(alloc, text) {
-        Ok(value) => value,
-        Err(Failed::Because(Damaged)) => return Err(Failed::Because(BodyFault::Syntax)),
+    let mut scratch = Scratch::new(alloc);
+    let tree = match Tree::read(alloc, text, &mut scratch) {
+        Ok(tree) => tree,
+        Err(Failed::Because(NotJson)) => return Err(Failed::Because(BodyFault::Syntax)),
         Err(Failed::NoMemory) => return Err(Failed::NoMemory),
     };
-    let Some(members) = value.as_object() else {
+    let Some(members) = tree.as_object() else {
         return Err(Failed::Because(BodyFault::Syntax));
     };
     if body_clashes(members, kind) {
@@ -93,14 +94,14 @@ pub fn read_body(
 /// none was to be had.
 fn read_draft(
     alloc: Global,
-    members: &Map<String, Value>,
+    members: &[Member<'_>],
     kind: Kind,
     use_for: UseFor,
 ) -> Result<Draft, Failed<WrongValue>>
     ensures given { IfOk result
-        (λ d. spec.body_with kind use_for (spec.all_given kind (members_view members.now.entries)) ≡ spec.drafted d) }
+        (λ d. spec.body_with kind use_for (spec.all_given kind (members_view members.now)) ≡ spec.drafted d) }
     ensures wrong { OnFault result
-        (spec.body_with kind use_for (spec.all_given kind (members_view members.now.entries)) ≡ spec.wrong) }
+        (spec.body_with kind use_for (spec.all_given kind (members_view members.now)) ≡ spec.wrong) }
 {
     let given = read_all(alloc, members, kind)?;
     draft_of(alloc, kind, use_for, given)
@@ -112,12 +113,12 @@ fn read_draft(
 #[tactic(auto, unfolding(crate::specs::Bodies::all_given))]
 fn read_all(
     alloc: Global,
-    members: &Map<String, Value>,
+    members: &[Member<'_>],
     kind: Kind,
 ) -> Result<Vec<UnitGiven>, Failed<WrongValue>>
     ensures given { IfOk result
-        (λ v. spec.all_given kind (members_view members.now.entries) ≡ Some (units_given v.items)) }
-    ensures wrong { OnFault result (spec.all_given kind (members_view members.now.entries) ≡ None) }
+        (λ v. spec.all_given kind (members_view members.now) ≡ Some (units_given v.items)) }
+    ensures wrong { OnFault result (spec.all_given kind (members_view members.now) ≡ None) }
 {
     let mut given = Vec::new(alloc);
     read_attributes(alloc, members, kind, attributes(kind), &mut given)?;
@@ -130,16 +131,16 @@ fn read_all(
 /// to be had.
 fn read_attributes(
     alloc: Global,
-    members: &Map<String, Value>,
+    members: &[Member<'_>],
     kind: Kind,
     attributes: &[Attribute],
     given: &mut Vec<UnitGiven>,
 ) -> Result<(), Failed<WrongValue>>
     ensures given { OnOk result
-        (with_given given.old.items (collected (spec.given_of kind (members_view members.now.entries)) attributes.now)
+        (with_given given.old.items (collected (spec.given_of kind (members_view members.now)) attributes.now)
         ≡ Some (units_given given.new.items)) }
     ensures wrong { OnFault result
-        (collected (spec.given_of kind (members_view members.now.entries)) attributes.now ≡ None) }
+        (collected (spec.given_of kind (members_view members.now)) attributes.now ≡ None) }
 {
     for attribute in attributes {
         read_given(alloc, members, kind, *attribute, given)?;
@@ -152,16 +153,16 @@ fn read_attributes(
 /// Errors: as `read_attributes`.
 fn read_given(
     alloc: Global,
-    members: &Map<String, Value>,
+    members: &[Member<'_>],
     kind: Kind,
     attribute: Attribute,
     given: &mut Vec<UnitGiven>,
 ) -> Result<(), Failed<WrongValue>>
     ensures given { OnOk result
-        (with_given given.old.items (spec.given_of kind (members_view members.now.entries) attribute)
+        (with_given given.old.items (spec.given_of kind (members_view members.now) attribute)
         ≡ Some (units_given given.new.items)) }
     ensures wrong { OnFault result
-        (spec.given_of kind (members_view members.now.entries) attribute ≡ None) }
+        (spec.given_of kind (members_view members.now) attribute ≡ None) }
 {
     match schema_members(members, extension_of(attribute))? {
         Some(object) => read_attribute(alloc, object, kind, attribute, given),
@@ -171,13 +172,13 @@ fn read_given(
 
 /// The object in which the attributes of an extension stand, or of the core schema; None where it isn't
 /// given. WrongValue where it is no object.
-fn schema_members(
-    members: &Map<String, Value>,
+fn schema_members<'a, 'b>(
+    members: &'a [Member<'b>],
     schema: Option<Schema>,
-) -> Result<Option<&Map<String, Value>>, Failed<WrongValue>>
-    ensures given { IfOk result (λ o. spec.schema_members schema (members_view members.now.entries)
-        ≡ Some (members_or_none (option_map (λ m. members_view m.now.entries) o))) }
-    ensures wrong { OnFault result (spec.schema_members schema (members_view members.now.entries) ≡ None) }
+) -> Result<Option<&'a [Member<'b>]>, Failed<WrongValue>>
+    ensures given { IfOk result (λ o. spec.schema_members schema (members_view members.now)
+        ≡ Some (members_or_none (option_map (λ m. members_view m.now) o))) }
+    ensures wrong { OnFault result (spec.schema_members schema (members_view members.now) ≡ None) }
 {
     let Some(schema) = schema else {
         return Ok(Some(members));
@@ -196,16 +197,16 @@ fn schema_members(
 /// Errors: as `read_attributes`.
 fn read_attribute(
     alloc: Global,
-    members: &Map<String, Value>,
+    members: &[Member<'_>],
     kind: Kind,
     attribute: Attribute,
     given: &mut Vec<UnitGiven>,
 ) -> Result<(), Failed<WrongValue>>
     ensures given { OnOk result
-        (with_given given.old.items (spec.attribute_given kind attribute (members_view members.now.entries))
+        (with_given given.old.items (spec.attribute_given kind attribute (members_view members.now))
         ≡ Some (units_given given.new.items)) }
     ensures wrong { OnFault result
-        (spec.attribute_given kind attribute (members_view members.now.entries) ≡ None) }
+        (spec.attribute_given kind attribute (members_view members.now) ≡ None) }
 {
     if is_read_only(kind, Leaf::simple(attribute)) {
         return Ok(());
@@ -221,7 +222,7 @@ fn read_attribute(
 /// Errors: as `read_attributes`.
 fn read_shaped(
     alloc: Global,
-    value: &Value,
+    value: &Tree<'_>,
     kind: Kind,
     attribute: Attribute,
     given: &mut Vec<UnitGiven>,
@@ -245,7 +246,7 @@ fn read_shaped(
 /// WrongValue where the value is refused, as `read_body` tells. NoMemory where none was to be had.
 pub fn read_units(
     alloc: Global,
-    value: &Value,
+    value: &Tree<'_>,
     kind: Kind,
     attribute: Attribute,
 ) -> Result<Vec<UnitGiven>, Failed<WrongValue>>
@@ -264,7 +265,7 @@ pub fn read_units(
 /// Errors: as `read_attributes`.
 fn read_simple(
     alloc: Global,
-    value: &Value,
+    value: &Tree<'_>,
     kind: Kind,
     attribute: Attribute,
     given: &mut Vec<UnitGiven>,
@@ -313,7 +314,7 @@ pub fn field_given(alloc: Global, kind: Kind, field: Field) -> Result<UnitGiven,
 /// Errors: as `read_attributes`.
 fn read_complex(
     alloc: Global,
-    value: &Value,
+    value: &Tree<'_>,
     kind: Kind,
     attribute: Attribute,
     given: &mut Vec<UnitGiven>,
@@ -348,7 +349,7 @@ fn push_fields(
 /// Errors: as `read_attributes`.
 fn read_multi_valued(
     alloc: Global,
-    value: &Value,
+    value: &Tree<'_>,
     kind: Kind,
     attribute: Attribute,
     given: &mut Vec<UnitGiven>,

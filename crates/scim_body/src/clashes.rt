@@ -1,7 +1,7 @@
 //! Keys of a body that clash: two keys of one object that are one name leave open which of their values is meant.
 ghost use Rattle.std.specs.Prelude.{◌≡◌};
 ghost use Rattle.std.specs.List.{list_any};
-ghost use Rattle.serde_json.specs.View.{view, items_view, members_view};
+ghost use Rattle.scim_tree.specs.View.{view, items_view, members_view};
 ghost use Rattle.scim_body.specs.BodyNames as spec;
 
 use crate::members::{is_twice, value_named};
@@ -9,11 +9,11 @@ use scim_schema::{
     Attribute, Kind, Leaf, Schema, attributes, extension_of, extensions, is_multi_valued,
     is_read_only, sub_attributes,
 };
-use serde_json::{Map, Value};
+use scim_tree::{Member, Tree};
 
 /// Whether two keys name one sub-attribute of the attribute.
-fn sub_attributes_clash(members: &Map<String, Value>, attribute: Attribute) -> bool
-    ensures { result ≡ spec.sub_attributes_clash attribute (members_view members.now.entries) }
+fn sub_attributes_clash(members: &[Member<'_>], attribute: Attribute) -> bool
+    ensures { result ≡ spec.sub_attributes_clash attribute (members_view members.now) }
 {
     for sub_attribute in sub_attributes(attribute) {
         if is_twice(members, sub_attribute.name()) {
@@ -24,7 +24,7 @@ fn sub_attributes_clash(members: &Map<String, Value>, attribute: Attribute) -> b
 }
 
 /// Whether two keys of a value of the attribute name one of its sub-attributes.
-pub fn value_clashes(value: &Value, attribute: Attribute) -> bool
+pub fn value_clashes(value: &Tree<'_>, attribute: Attribute) -> bool
     ensures { result ≡ spec.value_clashes attribute (view value.now) }
 {
     match value.as_object() {
@@ -34,7 +34,7 @@ pub fn value_clashes(value: &Value, attribute: Attribute) -> bool
 }
 
 /// Whether they do in one of some values.
-fn any_clashes(values: &[Value], attribute: Attribute) -> bool
+fn any_clashes(values: &[Tree<'_>], attribute: Attribute) -> bool
     ensures { result ≡ list_any (spec.value_clashes attribute) (spec.items_list (items_view values.now)) }
 {
     for value in values {
@@ -47,7 +47,7 @@ fn any_clashes(values: &[Value], attribute: Attribute) -> bool
 
 /// Whether two keys name one sub-attribute in what a body has for the attribute: in some value of a multi-valued one, also
 /// in one that counts as none.
-pub fn values_clash(value: &Value, attribute: Attribute) -> bool
+pub fn values_clash(value: &Tree<'_>, attribute: Attribute) -> bool
     ensures { result ≡ spec.values_clash attribute (view value.now) }
 {
     if !is_multi_valued(attribute) {
@@ -62,8 +62,8 @@ pub fn values_clash(value: &Value, attribute: Attribute) -> bool
 /// Whether two keys name the attribute, or one of its sub-attributes in a value. What is readOnly is
 /// ignored, and isn't looked into.
 #[tactic(auto, unfolding(crate::specs::BodyNames::attribute_clashes))]
-fn attribute_clashes(members: &Map<String, Value>, kind: Kind, attribute: Attribute) -> bool
-    ensures { result ≡ spec.attribute_clashes kind (members_view members.now.entries) attribute }
+fn attribute_clashes(members: &[Member<'_>], kind: Kind, attribute: Attribute) -> bool
+    ensures { result ≡ spec.attribute_clashes kind (members_view members.now) attribute }
 {
     if is_twice(members, attribute.name()) {
         return true;
@@ -78,8 +78,8 @@ fn attribute_clashes(members: &Map<String, Value>, kind: Kind, attribute: Attrib
 }
 
 /// Whether two keys clash in an object with the attributes of an extension, or of the core schema.
-fn schema_clashes(members: &Map<String, Value>, kind: Kind, schema: Option<Schema>) -> bool
-    ensures { result ≡ spec.schema_clashes kind schema (members_view members.now.entries) }
+fn schema_clashes(members: &[Member<'_>], kind: Kind, schema: Option<Schema>) -> bool
+    ensures { result ≡ spec.schema_clashes kind schema (members_view members.now) }
 {
     for attribute in attributes(kind) {
         if extension_of(*attribute) == schema && attribute_clashes(members, kind, *attribute) {
@@ -90,21 +90,21 @@ fn schema_clashes(members: &Map<String, Value>, kind: Kind, schema: Option<Schem
 }
 
 /// Whether two keys are the URN of the extension, or clash in its object.
-fn extension_clashes(members: &Map<String, Value>, kind: Kind, schema: Schema) -> bool
-    ensures { result ≡ spec.extension_clashes kind (members_view members.now.entries) schema }
+fn extension_clashes(members: &[Member<'_>], kind: Kind, schema: Schema) -> bool
+    ensures { result ≡ spec.extension_clashes kind (members_view members.now) schema }
 {
     if is_twice(members, schema.urn()) {
         return true;
     }
-    match value_named(members, schema.urn()).and_then(Value::as_object) {
+    match value_named(members, schema.urn()).and_then(Tree::as_object) {
         Some(extended) => schema_clashes(extended, kind, Some(schema)),
         None => false,
     }
 }
 
 /// Whether they do for one of these extensions.
-fn any_extension_clashes(members: &Map<String, Value>, kind: Kind, schemas: &[Schema]) -> bool
-    ensures { result ≡ list_any (spec.extension_clashes kind (members_view members.now.entries)) schemas.now }
+fn any_extension_clashes(members: &[Member<'_>], kind: Kind, schemas: &[Schema]) -> bool
+    ensures { result ≡ list_any (spec.extension_clashes kind (members_view members.now)) schemas.now }
 {
     for schema in schemas {
         if extension_clashes(members, kind, *schema) {
@@ -117,8 +117,8 @@ fn any_extension_clashes(members: &Map<String, Value>, kind: Kind, schemas: &[Sc
 /// Whether two keys that differ name one attribute of the kind, the same extension, or one
 /// sub-attribute within a value of an attribute that isn't readOnly, anywhere in a body.
 #[tactic(auto, unfolding(crate::specs::BodyNames::body_clashes))]
-pub(crate) fn body_clashes(members: &Map<String, Value>, kind: Kind) -> bool
-    ensures { result ≡ spec.body_clashes kind (members_view members.now.entries) }
+pub(crate) fn body_clashes(members: &[Member<'_>], kind: Kind) -> bool
+    ensures { result ≡ spec.body_clashes kind (members_view members.now) }
 {
     schema_clashes(members, kind, None) || any_extension_clashes(members, kind, extensions(kind))
 }

@@ -1,7 +1,7 @@
 //! The values of a body (RFC 7643 sections 2.3 to 2.5).
 ghost use Rattle.std.specs.Prelude.{◌≡◌, ◌∷◌, [], IfOk, OnOk, Some, None, option_map, count_by};
 ghost use Rattle.std.specs.List.{list_any};
-ghost use Rattle.serde_json.specs.View.{view, items_view, members_view};
+ghost use Rattle.scim_tree.specs.View.{view, items_view, members_view};
 ghost use Rattle.scim_text.specs.Failures.{OnFault};
 ghost use Rattle.scim_body.specs.BodyNames.{items_list};
 ghost use Rattle.scim_cell.specs.Rows.{is_primary};
@@ -18,7 +18,7 @@ use scim_schema::{
     sub_attributes,
 };
 use scim_text::{Failed, push, same_name};
-use serde_json::{Map, Value};
+use scim_tree::{Member, Tree};
 use std::alloc::Global;
 use std::slice;
 
@@ -30,7 +30,7 @@ const LONGEST_TEXT: usize = 65_536;
 pub struct WrongValue;
 
 /// A boolean, or the text that names it in any case of its letters.
-fn read_truth(value: &Value) -> Option<bool>
+fn read_truth(value: &Tree<'_>) -> Option<bool>
     ensures { result ≡ spec.truth_of (view value.now) }
 {
     if let Some(truth) = value.as_bool() {
@@ -61,7 +61,7 @@ fn is_short(atom: &Atom) -> bool
 /// WrongValue where it isn't one, or a text over the limit. NoMemory where none was to be had.
 pub fn read_atom(
     alloc: Global,
-    value: &Value,
+    value: &Tree<'_>,
     attribute_type: AttributeType,
 ) -> Result<Atom, Failed<WrongValue>>
     ensures given { IfOk result (λ a. spec.given_atom attribute_type (view value.now) ≡ Some a) }
@@ -73,7 +73,7 @@ pub fn read_atom(
             None => Err(Failed::Because(WrongValue)),
         };
     }
-    let Some(atom) = atom_of(alloc, value, attribute_type)? else {
+    let Some(atom) = atom_of(alloc, value.as_bool(), value.as_str(), attribute_type)? else {
         return Err(Failed::Because(WrongValue));
     };
     if is_short(&atom) {
@@ -88,7 +88,7 @@ pub fn read_atom(
 /// Errors: as `read_atom`.
 pub fn read_field(
     alloc: Global,
-    value: &Value,
+    value: &Tree<'_>,
     kind: Kind,
     attribute: Attribute,
     sub_attribute: SubAttribute,
@@ -107,17 +107,17 @@ pub fn read_field(
 /// Errors: as `read_atom`; nothing is added then.
 fn read_sub_attribute(
     alloc: Global,
-    members: &Map<String, Value>,
+    members: &[Member<'_>],
     kind: Kind,
     attribute: Attribute,
     sub_attribute: SubAttribute,
     fields: &mut Vec<Field>,
 ) -> Result<(), Failed<WrongValue>>
     ensures given { OnOk result
-        (after fields.old.items (spec.field_in kind attribute (members_view members.now.entries) sub_attribute)
+        (after fields.old.items (spec.field_in kind attribute (members_view members.now) sub_attribute)
         ≡ Some fields.new.items) }
     ensures wrong { OnFault result
-        (spec.field_in kind attribute (members_view members.now.entries) sub_attribute ≡ None) }
+        (spec.field_in kind attribute (members_view members.now) sub_attribute ≡ None) }
 {
     if is_read_only(kind, Leaf::of(attribute, sub_attribute)) {
         return Ok(());
@@ -135,14 +135,14 @@ fn read_sub_attribute(
 /// Errors: as `read_atom`.
 fn read_object(
     alloc: Global,
-    members: &Map<String, Value>,
+    members: &[Member<'_>],
     kind: Kind,
     attribute: Attribute,
 ) -> Result<Vec<Field>, Failed<WrongValue>>
     ensures given { IfOk result
-        (λ v. spec.fields_in kind attribute (members_view members.now.entries) ≡ Some v.items) }
+        (λ v. spec.fields_in kind attribute (members_view members.now) ≡ Some v.items) }
     ensures wrong { OnFault result
-        (spec.fields_in kind attribute (members_view members.now.entries) ≡ None) }
+        (spec.fields_in kind attribute (members_view members.now) ≡ None) }
 {
     let mut fields = Vec::new(alloc);
     for sub_attribute in sub_attributes_by_place(attribute) {
@@ -168,7 +168,7 @@ fn has_value(attribute: Attribute) -> bool
 /// Errors: as `read_atom`; WrongValue where the attribute has no such sub-attribute.
 fn read_alone(
     alloc: Global,
-    value: &Value,
+    value: &Tree<'_>,
     kind: Kind,
     attribute: Attribute,
 ) -> Result<Vec<Field>, Failed<WrongValue>>
@@ -189,7 +189,7 @@ fn read_alone(
 /// WrongValue where it is of another type, or one of them is. NoMemory where none was to be had.
 pub fn read_fields(
     alloc: Global,
-    value: &Value,
+    value: &Tree<'_>,
     kind: Kind,
     attribute: Attribute,
 ) -> Result<Vec<Field>, Failed<WrongValue>>
@@ -208,7 +208,7 @@ pub fn read_fields(
 /// Errors: as `read_fields`; nothing is added then.
 fn read_value(
     alloc: Global,
-    value: &Value,
+    value: &Tree<'_>,
     kind: Kind,
     attribute: Attribute,
     values: &mut Vec<Row>,
@@ -234,7 +234,7 @@ fn read_value(
 /// WrongValue where one is of another type, or a text is over the limit. NoMemory where none was to be had.
 pub fn read_listed(
     alloc: Global,
-    value: &Value,
+    value: &Tree<'_>,
     kind: Kind,
     attribute: Attribute,
 ) -> Result<Vec<Row>, Failed<WrongValue>>
@@ -252,7 +252,7 @@ pub fn read_listed(
 /// Errors: as `read_fields`.
 fn read_items(
     alloc: Global,
-    items: &[Value],
+    items: &[Tree<'_>],
     kind: Kind,
     attribute: Attribute,
 ) -> Result<Vec<Row>, Failed<WrongValue>>
@@ -301,7 +301,7 @@ fn any_nameless(attribute: Attribute, values: &[Row]) -> bool
 /// `value`. NoMemory where none was to be had.
 pub(crate) fn read_values(
     alloc: Global,
-    value: &Value,
+    value: &Tree<'_>,
     kind: Kind,
     attribute: Attribute,
 ) -> Result<Vec<Row>, Failed<WrongValue>>

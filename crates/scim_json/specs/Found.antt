@@ -1,5 +1,5 @@
 -- The cells that stand in the JSON of a resource, by look-ups in order of place.
-use Rattle.std.specs.Prelude.{ℕ, ◌+◌, Option, None, Some, option_map, option_and_then, List, [], ◌∷◌, ◌++◌}
+use Rattle.std.specs.Prelude.{ℕ, Bool, ◌+◌, Option, None, Some, option_map, option_and_then, List, [], ◌∷◌, ◌++◌}
 use Rattle.std.specs.List.{flat_map}
 use Rattle.serde_json.specs.Data.{Data, Items, no_items, item}
 use Rattle.serde_json.specs.Find.{get, as_str, as_bool, as_array}
@@ -29,14 +29,18 @@ use Rattle.scim_schema.specs.declared.json_keys.JsonShape.{JsonShape}
 use Rattle.scim_schema.specs.declared.json_keys.JsonShape.TheVariants.{Simple, Complex, MultiValued}
 use Rattle.scim_schema.specs.JsonKeys.{shape_of}
 
+-- the atom of a type that a value is which has this truth value, or this text
+abbrev pub atom_from : AttributeType → Option Bool → Option (List ℕ) → Option Atom
+atom_from Boolean truth text = option_map Truth truth
+atom_from DateTime truth text = option_map Moment (option_and_then moment_of text)
+atom_from String truth text = option_map Text text
+atom_from Reference truth text = option_map Text text
+atom_from Binary truth text = option_map Text text
+atom_from ComplexType truth text = None
+
 -- the value as an atom of a type, where it is one (RFC 7643 section 2.3)
 abbrev pub atom_of : AttributeType → Data → Option Atom
-atom_of Boolean d = option_map Truth (as_bool d)
-atom_of DateTime d = option_map Moment (option_and_then moment_of (as_str d))
-atom_of String d = option_map Text (as_str d)
-atom_of Reference d = option_map Text (as_str d)
-atom_of Binary d = option_map Text (as_str d)
-atom_of ComplexType d = None
+atom_of t d = atom_from t (as_bool d) (as_str d)
 
 -- nothing, where there is no value
 abbrev pub if_there : {A : Type 0} → (A → List Entry) → Option A → List Entry

@@ -7,14 +7,15 @@ ghost use Rattle.scim_value.specs.Resource.{HasBase};
 ghost use Rattle.scim_json.specs.PartData.{stored_data};
 ghost use Rattle.scim_json.specs.Stored.{IsDocumentText};
 
+use crate::atoms::atom_of;
 use crate::writing::stored_text;
 use json::{Error, Scratch, Value};
-use scim_cell::{Atom, Cell, Id, Text, sub_attributes_by_place};
+use scim_cell::{Atom, Cell, Id, sub_attributes_by_place};
 use scim_schema::{
-    Attribute, AttributeType, JsonShape, Kind, Leaf, SubAttribute, attributes, characteristics_of,
-    extension_of, shape_of,
+    Attribute, JsonShape, Kind, Leaf, SubAttribute, attributes, characteristics_of, extension_of,
+    shape_of,
 };
-use scim_text::{Failed, NoMemory, push, read_printed_moment};
+use scim_text::{Failed, NoMemory, push};
 use scim_value::{Invalid, Part, Resource, location};
 use std::alloc::Global;
 
@@ -189,7 +190,7 @@ fn push_cell(
     cells: &mut Vec<Cell>,
 ) -> Result<(), NoMemory> {
     let attribute_type = characteristics_of(kind, leaf).attribute_type;
-    if let Some(atom) = atom_in(alloc, found, attribute_type)? {
+    if let Some(atom) = atom_of(alloc, found.as_bool(), found.as_str(), attribute_type)? {
         let cell = Cell {
             leaf,
             position,
@@ -198,22 +199,4 @@ fn push_cell(
         push(cells, cell)?;
     }
     Ok(())
-}
-
-/// The value as an atom of a type. NoMemory where none was to be had.
-fn atom_in(
-    alloc: Global,
-    value: &Value<'_>,
-    attribute_type: AttributeType,
-) -> Result<Option<Atom>, NoMemory> {
-    if attribute_type == AttributeType::Boolean {
-        return Ok(value.as_bool().map(Atom::Truth));
-    }
-    let Some(text) = value.as_str() else {
-        return Ok(None);
-    };
-    if attribute_type == AttributeType::DateTime {
-        return Ok(read_printed_moment(alloc, text)?.map(Atom::Moment));
-    }
-    Ok(Some(Atom::Text(Text::copy_of(alloc, text)?)))
 }

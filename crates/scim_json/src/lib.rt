@@ -3,6 +3,7 @@
 #![tactic(auto)]
 
 mod as_written;
+mod atoms;
 mod documents;
 mod faults;
 mod laws;
@@ -10,11 +11,12 @@ mod lists;
 mod reading;
 mod writing;
 
+pub use atoms::atom_of;
 pub use documents::read_documents;
 pub use faults::{Damaged, DamagedItem};
 pub use laws::{
     documents_are_apart, documents_read_back, parts_are_shown_whole, stored_resources_read_back,
 };
 pub use lists::to_list_json;
-pub use reading::{atom_of, parse, read_stored};
+pub use reading::{parse, read_stored};
 pub use writing::{stored_text, to_json};

@@ -16,14 +16,15 @@ ghost use Rattle.scim_json.specs.Found as spec;
 ghost use Rattle.scim_json.specs.Stored.{IsDocument, GivesStored};
 
 use crate::as_written::read_as_written;
+use crate::atoms::atom_of;
 use crate::faults::Damaged;
 use crate::writing::stored_text;
-use scim_cell::{Atom, Cell, Id, Text, sub_attributes_by_place};
+use scim_cell::{Atom, Cell, Id, sub_attributes_by_place};
 use scim_schema::{
-    Attribute, AttributeType, JsonShape, Kind, Leaf, SubAttribute, attributes, characteristics_of,
-    extension_of, shape_of,
+    Attribute, JsonShape, Kind, Leaf, SubAttribute, attributes, characteristics_of, extension_of,
+    shape_of,
 };
-use scim_text::{Failed, NoMemory, push, read_printed_moment};
+use scim_text::{Failed, NoMemory, push};
 use scim_value::{Invalid, Part, Resource, location};
 use serde_json::Value;
 use std::alloc::Global;
@@ -276,7 +277,7 @@ fn read_cell(
         ≡ entries_of cells.old.items ++ spec.found_value kind leaf position (view value.now)) }
 {
     let attribute_type = characteristics_of(kind, leaf).attribute_type;
-    if let Some(atom) = atom_of(alloc, value, attribute_type)? {
+    if let Some(atom) = atom_of(alloc, value.as_bool(), value.as_str(), attribute_type)? {
         let cell = Cell {
             leaf,
             position,
@@ -285,41 +286,4 @@ fn read_cell(
         push(cells, cell)?;
     }
     Ok(())
-}
-
-/// The value as an atom of a type; None where it isn't one (RFC 7643 section 2.3). NoMemory where none was to be
-/// had.
-pub fn atom_of(
-    alloc: Global,
-    value: &Value,
-    attribute_type: AttributeType,
-) -> Result<Option<Atom>, NoMemory>
-    ensures { IfOk result (λ o. o ≡ spec.atom_of attribute_type (view value.now)) }
-{
-    match attribute_type {
-        AttributeType::Boolean => Ok(value.as_bool().map(Atom::Truth)),
-        AttributeType::DateTime => moment_atom(alloc, value),
-        AttributeType::String | AttributeType::Reference | AttributeType::Binary => {
-            text_atom(alloc, value)
-        }
-        AttributeType::Complex => Ok(None),
-    }
-}
-
-fn moment_atom(alloc: Global, value: &Value) -> Result<Option<Atom>, NoMemory>
-    ensures { IfOk result (λ o. o ≡ spec.atom_of AttributeType.DateTime (view value.now)) }
-{
-    match value.as_str() {
-        Some(text) => Ok(read_printed_moment(alloc, text)?.map(Atom::Moment)),
-        None => Ok(None),
-    }
-}
-
-fn text_atom(alloc: Global, value: &Value) -> Result<Option<Atom>, NoMemory>
-    ensures { IfOk result (λ o. o ≡ spec.atom_of AttributeType.String (view value.now)) }
-{
-    match value.as_str() {
-        Some(text) => Ok(Some(Atom::Text(Text::copy_of(alloc, text)?))),
-        None => Ok(None),
-    }
 }

@@ -2,8 +2,8 @@
 use Rattle.std.proofs.Common.{◌≡◌, ◌==◌, ◌<◌, ◌≤◌, suc, ℕ, Bool, true, false, List, [], ◌∷◌, length, map, Ok, Err, refl, sym, ap, ◌∙◌, arith, true≢false}
 use Rattle.std.specs.Prelude.{nat_lt, if◌then◌else◌}
 use Rattle.std.proofs.lemmas.Bool.{lt-ltb, le-ltb}
-use Rattle.serde_json.specs.declared.value.Value.{Value}
-use Rattle.serde_json.specs.View.{items_view}
+use Rattle.scim_tree.specs.declared.trees.Tree.{Tree}
+use Rattle.scim_tree.specs.View.{items_view}
 use Rattle.scim_schema.specs.declared.Kind.{Kind}
 use Rattle.scim_body.specs.BodyNames.{items_list}
 use Rattle.scim_operations.specs.declared.faults.PatchFault.TheVariants as fault
@@ -11,20 +11,20 @@ use Rattle.scim_operations.specs.Readings.{Read, both, joined}
 use Rattle.scim_operations.specs.Messages.{operation_steps, if_few, list_steps}
 use Rattle.scim_operations.proofs.BothLemmas.{both_assoc, both_nil}
 
-items_length : (vs : List Value) → length (items_list (items_view vs)) ≡ length vs
+items_length : (vs : List Tree) → length (items_list (items_view vs)) ≡ length vs
 items_length [] = refl
 items_length (v ∷ vs) = ap suc (items_length vs)
 
 -- too many are refused
-pub many_refused : (vs : List Value) (old : Read) → 1000 < length vs → both old (Err fault.Value) ≡ both old (if_few (items_list (items_view vs)))
+pub many_refused : (vs : List Tree) (old : Read) → 1000 < length vs → both old (Err fault.Value) ≡ both old (if_few (items_list (items_view vs)))
 many_refused vs old many = rw (items_length vs, lt-ltb 1000 (length vs) many) refl
 
 -- and others not
-pub few_pass : (vs : List Value) (old : Read) → length vs ≤ 1000 → old ≡ both old (if_few (items_list (items_view vs)))
+pub few_pass : (vs : List Tree) (old : Read) → length vs ≤ 1000 → old ≡ both old (if_few (items_list (items_view vs)))
 few_pass vs old few = rw (items_length vs, le-ltb 1000 (length vs) few) (sym (both_nil old))
 
 -- then each is read
-pub list_read : (kind : Kind) (vs : List Value) (old new last : Read) → (length vs == 0) ≡ false → new ≡ both old (if_few (items_list (items_view vs)))
+pub list_read : (kind : Kind) (vs : List Tree) (old new last : Read) → (length vs == 0) ≡ false → new ≡ both old (if_few (items_list (items_view vs)))
     → last ≡ both new (joined (map (operation_steps kind) (items_list (items_view vs)))) → last ≡ both old (list_steps kind (items_list (items_view vs)))
 list_read kind [] old new last some e f = absurd (true≢false some)
 list_read kind (v ∷ vs) old new last some e f =

@@ -2,7 +2,7 @@
 ghost use Rattle.std.specs.Prelude.{◌≡◌, OnOk, IfOk, Some, None, option_map, option_and_then, map};
 ghost use Rattle.serde_json.specs.Find.{as_array, as_object, as_str};
 ghost use Rattle.serde_json.specs.Read.{read};
-ghost use Rattle.serde_json.specs.View.{view, items_view, members_view};
+ghost use Rattle.scim_tree.specs.View.{view, items_view, members_view};
 ghost use Rattle.scim_text.specs.Failures.{UnlessMemory};
 ghost use Rattle.scim_body.specs.BodyNames.{items_list};
 ghost use Rattle.scim_path.specs.Paths.{path_target};
@@ -14,14 +14,14 @@ use crate::faults::PatchFault;
 use crate::operations::Operation;
 use crate::readings::Reading;
 use crate::targets::{is_fixed_path, present, push_target, target_of};
+use json::Scratch;
 use scim_body::{given_named, is_twice, value_named};
 use scim_filter::{Meant, attribute_path};
-use scim_json::{Damaged, parse};
 use scim_patch::Patch;
 use scim_path::Path;
 use scim_schema::Kind;
 use scim_text::{Failed, NoMemory};
-use serde_json::{Map, Value};
+use scim_tree::{Member, NotJson, Tree};
 use std::alloc::Global;
 
 /// How many operations a message may have.
@@ -44,7 +44,7 @@ fn push_member(
     kind: Kind,
     operation: Operation,
     key: &str,
-    value: &Value,
+    value: &Tree<'_>,
     reading: &mut Reading,
 ) -> Result<(), NoMemory>
     ensures { OnOk result (read_of reading.new ≡ both (read_of reading.old)
@@ -72,14 +72,14 @@ fn push_members(
     alloc: Global,
     kind: Kind,
     operation: Operation,
-    members: &Map<String, Value>,
+    members: &[Member<'_>],
     reading: &mut Reading,
 ) -> Result<(), NoMemory>
     ensures { OnOk result (read_of reading.new ≡ both (read_of reading.old)
-        (each_member (spec.member_steps kind operation) (members_view members.now.entries))) }
+        (each_member (spec.member_steps kind operation) (members_view members.now))) }
 {
-    for (key, value) in members.iter() {
-        push_member(alloc, kind, operation, key.as_str(), value, reading)?;
+    for member in members {
+        push_member(alloc, kind, operation, member.0, &member.1, reading)?;
     }
     Ok(())
 }
@@ -89,7 +89,7 @@ fn push_pathless(
     alloc: Global,
     kind: Kind,
     operation: Operation,
-    value: Option<&Value>,
+    value: Option<&Tree<'_>>,
     reading: &mut Reading,
 ) -> Result<(), NoMemory>
     ensures { OnOk result (read_of reading.new ≡ both (read_of reading.old)
@@ -98,7 +98,7 @@ fn push_pathless(
     if operation == Operation::Remove {
         return reading.push_pathless();
     }
-    match value.and_then(Value::as_object) {
+    match value.and_then(Tree::as_object) {
         Some(members) => push_members(alloc, kind, operation, members, reading),
         None => {
             reading.refuse(PatchFault::Value);
@@ -113,7 +113,7 @@ fn push_valued(
     kind: Kind,
     operation: Operation,
     path: Path,
-    value: Option<&Value>,
+    value: Option<&Tree<'_>>,
     reading: &mut Reading,
 ) -> Result<(), NoMemory>
     ensures { OnOk result (read_of reading.new ≡ both (read_of reading.old)
@@ -137,7 +137,7 @@ fn push_text(
     kind: Kind,
     operation: Operation,
     text: &str,
-    value: Option<&Value>,
+    value: Option<&Tree<'_>>,
     reading: &mut Reading,
 ) -> Result<(), NoMemory>
     ensures { OnOk result (read_of reading.new ≡ both (read_of reading.old)
@@ -158,11 +158,11 @@ fn push_named(
     alloc: Global,
     kind: Kind,
     operation: Operation,
-    members: &Map<String, Value>,
+    members: &[Member<'_>],
     reading: &mut Reading,
 ) -> Result<(), NoMemory>
     ensures { OnOk result (read_of reading.new ≡ both (read_of reading.old)
-        (spec.named_steps kind (members_view members.now.entries) (Some operation))) }
+        (spec.named_steps kind (members_view members.now) (Some operation))) }
 {
     let value = value_named(members, "value");
     let Some(path) = given_named(members, "path") else {
@@ -178,17 +178,17 @@ fn push_named(
 }
 
 /// Whether a key of an operation is there in two spellings.
-fn keys_clash(members: &Map<String, Value>) -> bool
-    ensures { result ≡ spec.keys_clash (members_view members.now.entries) }
+fn keys_clash(members: &[Member<'_>]) -> bool
+    ensures { result ≡ spec.keys_clash (members_view members.now) }
 {
     is_twice(members, "op") || is_twice(members, "path") || is_twice(members, "value")
 }
 
 /// What an operation does, where it tells.
-fn operation_of(members: &Map<String, Value>) -> Option<Operation>
-    ensures { result ≡ spec.member_operation (members_view members.now.entries) }
+fn operation_of(members: &[Member<'_>]) -> Option<Operation>
+    ensures { result ≡ spec.member_operation (members_view members.now) }
 {
-    let name = value_named(members, "op").and_then(Value::as_str)?;
+    let name = value_named(members, "op").and_then(Tree::as_str)?;
     Operation::named(name)
 }
 
@@ -196,11 +196,11 @@ fn operation_of(members: &Map<String, Value>) -> Option<Operation>
 fn push_object(
     alloc: Global,
     kind: Kind,
-    members: &Map<String, Value>,
+    members: &[Member<'_>],
     reading: &mut Reading,
 ) -> Result<(), NoMemory>
     ensures { OnOk result (read_of reading.new ≡ both (read_of reading.old)
-        (spec.object_operation kind (Some (members_view members.now.entries)))) }
+        (spec.object_operation kind (Some (members_view members.now)))) }
 {
     if keys_clash(members) {
         reading.refuse(PatchFault::Syntax);
@@ -220,7 +220,7 @@ fn push_object(
 fn push_operation(
     alloc: Global,
     kind: Kind,
-    item: &Value,
+    item: &Tree<'_>,
     reading: &mut Reading,
 ) -> Result<(), NoMemory>
     ensures { OnOk result (read_of reading.new ≡ both (read_of reading.old) (spec.operation_steps kind (view item.now))) }
@@ -238,7 +238,7 @@ fn push_operation(
 fn push_operations(
     alloc: Global,
     kind: Kind,
-    items: &[Value],
+    items: &[Tree<'_>],
     reading: &mut Reading,
 ) -> Result<(), NoMemory>
     ensures { OnOk result (read_of reading.new ≡ both (read_of reading.old)
@@ -251,7 +251,7 @@ fn push_operations(
 }
 
 /// Too many operations are refused.
-fn refuse_many(items: &[Value], reading: &mut Reading)
+fn refuse_many(items: &[Tree<'_>], reading: &mut Reading)
     ensures { read_of reading.new ≡ both (read_of reading.old) (spec.if_few (items_list (items_view items.now))) }
 {
     if items.len() > MOST_OPERATIONS {
@@ -263,7 +263,7 @@ fn refuse_many(items: &[Value], reading: &mut Reading)
 fn push_list(
     alloc: Global,
     kind: Kind,
-    items: &[Value],
+    items: &[Tree<'_>],
     reading: &mut Reading,
 ) -> Result<(), NoMemory>
     ensures { OnOk result (read_of reading.new ≡ both (read_of reading.old)
@@ -281,18 +281,18 @@ fn push_list(
 fn push_message(
     alloc: Global,
     kind: Kind,
-    members: &Map<String, Value>,
+    members: &[Member<'_>],
     reading: &mut Reading,
 ) -> Result<(), NoMemory>
     ensures { OnOk result (read_of reading.new ≡ both (read_of reading.old)
-        (spec.object_message kind (Some (members_view members.now.entries)))) }
+        (spec.object_message kind (Some (members_view members.now)))) }
 {
     if is_twice(members, "Operations") {
         reading.refuse(PatchFault::Syntax);
         return Ok(());
     }
-    match value_named(members, "Operations").and_then(Value::as_array) {
-        Some(items) => push_list(alloc, kind, items.as_slice(), reading),
+    match value_named(members, "Operations").and_then(Tree::as_array) {
+        Some(items) => push_list(alloc, kind, items, reading),
         None => {
             reading.refuse(PatchFault::Syntax);
             Ok(())
@@ -306,15 +306,16 @@ fn reading_of(alloc: Global, kind: Kind, text: &str) -> Result<Reading, NoMemory
     ensures { IfOk result (λ r. read_of r ≡ spec.message_steps kind (read text.now)) }
 {
     let mut reading = Reading::new(alloc);
-    let value = match parse(alloc, text) {
-        Ok(value) => value,
-        Err(Failed::Because(Damaged)) => {
+    let mut scratch = Scratch::new(alloc);
+    let tree = match Tree::read(alloc, text, &mut scratch) {
+        Ok(tree) => tree,
+        Err(Failed::Because(NotJson)) => {
             reading.refuse(PatchFault::Syntax);
             return Ok(reading);
         }
         Err(Failed::NoMemory) => return Err(NoMemory),
     };
-    match value.as_object() {
+    match tree.as_object() {
         Some(members) => push_message(alloc, kind, members, &mut reading)?,
         None => reading.refuse(PatchFault::Syntax),
     }

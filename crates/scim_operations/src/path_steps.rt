@@ -2,7 +2,7 @@
 //! is given.
 ghost use Rattle.std.specs.Prelude.{◌≡◌, ◌∷◌, [], IfOk, OnOk, Ok, map, option_map};
 ghost use Rattle.std.specs.List.{flat_map};
-ghost use Rattle.serde_json.specs.View.{view};
+ghost use Rattle.scim_tree.specs.View.{view};
 ghost use Rattle.scim_schema.specs.JsonKeys.{shape_of as shape_in};
 ghost use Rattle.scim_steps.specs.Changes.{change_of};
 ghost use Rattle.scim_operations.specs.PathSteps as spec;
@@ -20,7 +20,7 @@ use scim_schema::{
 };
 use scim_steps::Change;
 use scim_text::{Failed, NoMemory, push};
-use serde_json::Value;
+use scim_tree::Tree;
 use std::alloc::Global;
 
 /// A unit without a value: it is kept or cleared; one that is readOnly is left out. NoMemory where none was to
@@ -100,7 +100,7 @@ fn push_set(
     alloc: Global,
     kind: Kind,
     attribute: Attribute,
-    value: &Value,
+    value: &Tree<'_>,
     reading: &mut Reading,
 ) -> Result<(), NoMemory>
     ensures { OnOk result (read_of reading.new ≡ both (read_of reading.old)
@@ -158,7 +158,7 @@ fn push_listed(
     kind: Kind,
     operation: Operation,
     attribute: Attribute,
-    value: &Value,
+    value: &Tree<'_>,
     reading: &mut Reading,
 ) -> Result<(), NoMemory>
     ensures { OnOk result (read_of reading.new ≡ both (read_of reading.old)
@@ -187,7 +187,7 @@ fn push_given(
     kind: Kind,
     operation: Operation,
     attribute: Attribute,
-    value: &Value,
+    value: &Tree<'_>,
     reading: &mut Reading,
 ) -> Result<(), NoMemory>
     ensures { OnOk result (read_of reading.new ≡ both (read_of reading.old)
@@ -209,7 +209,7 @@ pub(crate) fn push_attribute(
     kind: Kind,
     operation: Operation,
     attribute: Attribute,
-    value: Option<&Value>,
+    value: Option<&Tree<'_>>,
     reading: &mut Reading,
 ) -> Result<(), NoMemory>
     ensures { OnOk result (read_of reading.new ≡ both (read_of reading.old)

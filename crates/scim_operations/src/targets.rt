@@ -1,6 +1,6 @@
 //! What the steps of an operation are at whatever a path names (RFC 7644 section 3.5.2).
 ghost use Rattle.std.specs.Prelude.{◌≡◌, Some, OnOk, option_map, map};
-ghost use Rattle.serde_json.specs.View.{view, members_view};
+ghost use Rattle.scim_tree.specs.View.{view, members_view};
 ghost use Rattle.scim_text.specs.Failures.{UnlessMemory};
 ghost use Rattle.scim_body.specs.BodyValues as values;
 ghost use Rattle.scim_path.specs.Paths.{path_target};
@@ -21,11 +21,11 @@ use scim_schema::{
     Attribute, Kind, Leaf, Schema, attribute_named_in, attributes, is_read_only, schema_of,
 };
 use scim_text::{Failed, NoMemory};
-use serde_json::{Map, Value};
+use scim_tree::{Member, Tree};
 use std::alloc::Global;
 
 /// A value, unless it counts as none.
-pub(crate) fn present(value: &Value) -> Option<&Value>
+pub(crate) fn present<'a, 'b>(value: &'a Tree<'b>) -> Option<&'a Tree<'b>>
     ensures { option_map (λ v. view v.now) result ≡ values.present (Some (view value.now)) }
 {
     if is_absent(value) { None } else { Some(value) }
@@ -98,7 +98,7 @@ fn push_own_member(
     operation: Operation,
     schema: Schema,
     key: &str,
-    value: &Value,
+    value: &Tree<'_>,
     reading: &mut Reading,
 ) -> Result<(), NoMemory>
     ensures { OnOk result (read_of reading.new ≡ both (read_of reading.old)
@@ -118,14 +118,14 @@ fn push_own_members(
     kind: Kind,
     operation: Operation,
     schema: Schema,
-    members: &Map<String, Value>,
+    members: &[Member<'_>],
     reading: &mut Reading,
 ) -> Result<(), NoMemory>
     ensures { OnOk result (read_of reading.new ≡ both (read_of reading.old)
-        (each_member (spec.own_member kind operation schema) (members_view members.now.entries))) }
+        (each_member (spec.own_member kind operation schema) (members_view members.now))) }
 {
-    for (key, value) in members.iter() {
-        push_own_member(alloc, kind, operation, schema, key.as_str(), value, reading)?;
+    for member in members {
+        push_own_member(alloc, kind, operation, schema, member.0, &member.1, reading)?;
     }
     Ok(())
 }
@@ -137,7 +137,7 @@ fn push_extension(
     kind: Kind,
     operation: Operation,
     schema: Schema,
-    value: Option<&Value>,
+    value: Option<&Tree<'_>>,
     reading: &mut Reading,
 ) -> Result<(), NoMemory>
     ensures { OnOk result (read_of reading.new ≡ both (read_of reading.old)
@@ -162,7 +162,7 @@ fn push_values(
     kind: Kind,
     operation: Operation,
     path: ValuePath,
-    value: Option<&Value>,
+    value: Option<&Tree<'_>>,
     reading: &mut Reading,
 ) -> Result<(), NoMemory>
     ensures { OnOk result (read_of reading.new ≡ both (read_of reading.old)
@@ -194,7 +194,7 @@ pub(crate) fn push_target(
     kind: Kind,
     operation: Operation,
     path: Path,
-    value: Option<&Value>,
+    value: Option<&Tree<'_>>,
     reading: &mut Reading,
 ) -> Result<(), NoMemory>
     ensures { OnOk result (read_of reading.new ≡ both (read_of reading.old)

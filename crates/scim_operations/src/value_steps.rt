@@ -1,7 +1,7 @@
 //! The steps that an operation asks for at a sub-attribute, and at the values that a filter chooses (RFC 7644
 //! section 3.5.2). A value is None where none is given.
 ghost use Rattle.std.specs.Prelude.{◌≡◌, OnOk, Ok, option_map};
-ghost use Rattle.serde_json.specs.View.{view};
+ghost use Rattle.scim_tree.specs.View.{view};
 ghost use Rattle.scim_filter.specs.Tree.{tree_of};
 ghost use Rattle.scim_steps.specs.Changes.{change_of};
 ghost use Rattle.scim_operations.specs.PathSteps as spec;
@@ -18,7 +18,7 @@ use scim_schema::{
 };
 use scim_steps::Change;
 use scim_text::{Failed, NoMemory};
-use serde_json::Value;
+use scim_tree::Tree;
 use std::alloc::Global;
 
 /// A sub-attribute to which nothing is added.
@@ -49,7 +49,7 @@ fn push_sub_attribute_set(
     kind: Kind,
     attribute: Attribute,
     sub_attribute: SubAttribute,
-    value: &Value,
+    value: &Tree<'_>,
     reading: &mut Reading,
 ) -> Result<(), NoMemory>
     ensures { OnOk result (read_of reading.new ≡ both (read_of reading.old)
@@ -78,7 +78,7 @@ pub(crate) fn push_sub_attribute(
     operation: Operation,
     attribute: Attribute,
     sub_attribute: SubAttribute,
-    value: Option<&Value>,
+    value: Option<&Tree<'_>>,
     reading: &mut Reading,
 ) -> Result<(), NoMemory>
     ensures { OnOk result (read_of reading.new ≡ both (read_of reading.old)
@@ -107,7 +107,7 @@ fn push_matches_given(
     replaces: bool,
     attribute: Attribute,
     filter: Filter,
-    value: &Value,
+    value: &Tree<'_>,
     reading: &mut Reading,
 ) -> Result<(), NoMemory>
     ensures { OnOk result (read_of reading.new ≡ both (read_of reading.old)
@@ -141,7 +141,7 @@ pub(crate) fn push_matches(
     operation: Operation,
     attribute: Attribute,
     filter: Filter,
-    value: Option<&Value>,
+    value: Option<&Tree<'_>>,
     reading: &mut Reading,
 ) -> Result<(), NoMemory>
     ensures { OnOk result (read_of reading.new ≡ both (read_of reading.old)
@@ -173,7 +173,7 @@ fn push_at_matches_given(
     attribute: Attribute,
     filter: Filter,
     sub_attribute: SubAttribute,
-    value: &Value,
+    value: &Tree<'_>,
     reading: &mut Reading,
 ) -> Result<(), NoMemory>
     ensures { OnOk result (read_of reading.new ≡ both (read_of reading.old)
@@ -201,7 +201,7 @@ pub(crate) fn push_at_matches(
     attribute: Attribute,
     filter: Filter,
     sub_attribute: SubAttribute,
-    value: Option<&Value>,
+    value: Option<&Tree<'_>>,
     reading: &mut Reading,
 ) -> Result<(), NoMemory>
     ensures { OnOk result (read_of reading.new ≡ both (read_of reading.old)

@@ -1,5 +1,5 @@
 use Rattle.std.proofs.Common.{◌≡◌, drop, map}
-use Rattle.serde_json.specs.View.{items_view}
+use Rattle.scim_tree.specs.View.{items_view}
 use Rattle.scim_body.specs.BodyNames.{items_list}
 use Rattle.scim_operations.specs.Messages.{operation_steps}
 use Rattle.scim_operations.specs.Readings.{both, joined}

@@ -1,12 +1,12 @@
-use Rattle.std.proofs.Common.{◌≡◌}
-use Rattle.serde_json.specs.View.{members_view}
+use Rattle.std.proofs.Common.{◌≡◌, drop}
+use Rattle.scim_tree.specs.View.{members_view}
 use Rattle.scim_operations.specs.PathSteps.{own_member}
 use Rattle.scim_operations.specs.Readings.{both, each_member}
 use Rattle.scim_operations.specs.code.Inside.{read_of}
 use Rattle.scim_operations.proofs.targets.push_own_members.Given as goal
 
 -- what is read and what is left to read make all
-abbrev pub invariant-loop-key : goal.invariant-loop-key
-invariant-loop-key l =
-    both (read_of l.fn.reading) (each_member (own_member l.kind l.operation l.schema) (members_view l.members.entries))
-    ≡ both (read_of l.reading) (each_member (own_member l.kind l.operation l.schema) (members_view l.key-iterator))
+abbrev pub invariant-loop-member : goal.invariant-loop-member
+invariant-loop-member l =
+    both (read_of l.fn.reading) (each_member (own_member l.kind l.operation l.schema) (members_view l.members))
+    ≡ both (read_of l.reading) (each_member (own_member l.kind l.operation l.schema) (members_view (drop l.member-index l.members)))

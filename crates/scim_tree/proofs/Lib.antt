@@ -1,0 +1,3 @@
+mod NumberLemmas
+pub mod Views
+mod ReadingLemmas
