@@ -67,11 +67,11 @@ impl<S: Audited> Audited for CachedShelf<S> {
 
 /// A store whose resources are kept in memory too.
 pub fn cached<S: Audited>(alloc: Global, shelf: S) -> Result<CachedShelf<S>, StoreFault> {
-    let mut both = CachedShelf::over(shelf);
-    match both.fill(alloc) {
-        Ok(()) => Ok(both),
+    let mut store = CachedShelf::over(shelf);
+    match store.fill(alloc) {
+        Ok(()) => Ok(store),
         Err(_) => {
-            both.close();
+            store.close();
             Err(StoreFault::NotRead)
         }
     }

@@ -22,8 +22,8 @@ pub fn answered(case: &Case<'_>) -> Result<String, CaseFault> {
 fn told_of_all(case: &Case<'_>, tokens: &Tokens) -> Result<String, CaseFault> {
     let in_memory = told_or_fault(case.alloc, told_in_memory(case, tokens))?;
     let in_database = told_or_fault(case.alloc, told_in_database(case, tokens, false))?;
-    let in_both = told_or_fault(case.alloc, told_in_database(case, tokens, true))?;
-    if in_memory == in_database && in_memory == in_both {
+    let in_cache = told_or_fault(case.alloc, told_in_database(case, tokens, true))?;
+    if in_memory == in_database && in_memory == in_cache {
         return Ok(in_memory);
     }
     let texts = [
@@ -31,7 +31,7 @@ fn told_of_all(case: &Case<'_>, tokens: &Tokens) -> Result<String, CaseFault> {
         "\nand something else over a database: ",
         in_database.as_str(),
         "\nor over one that is kept in memory too: ",
-        in_both.as_str(),
+        in_cache.as_str(),
     ];
     joined(case.alloc, &texts)
 }
