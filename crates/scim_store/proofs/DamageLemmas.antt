@@ -32,7 +32,7 @@ use Rattle.std.specs.Cmp.Lexicographic.{slice_cmp}
 use Rattle.scim_store.proofs.ValueLemmas.{texts_of}
 use denote.Ref.{Bor}
 use Rattle.scim_store.specs.code.Damage.{pair_of, triple_of, is_pair, is_triple, is_number, is_row, text_in, IsRowOf, HasRows, AreOfOne}
-use Rattle.scim_store.proofs.IdTextLemmas.{text_of}
+use Rattle.scim_tables.proofs.TestLemmas.{text_of}
 use Rattle.scim_store.proofs.EntryLemmas.{tied}
 
 -- ---- rows of two or three texts

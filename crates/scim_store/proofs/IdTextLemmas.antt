@@ -14,14 +14,14 @@ use Rattle.std.proofs.lemmas.Str.{IsUtf8-from_ascii}
 use Rattle.std.proofs.lemmas.Cmp.{tied_itself, nat_list_cmp_total}
 use Rattle.std.proofs.lemmas.Map.Text.{is_eq-slice_cmp}
 use Rattle.std.proofs.lemmas.Slice.Eq.{bytes_eq-Decides}
-use Rattle.sqlite.specs.declared.types.Value.{Value}
-use Rattle.sqlite.specs.declared.types.Value.TheVariants.{Null, Int, Real, Text, Blob}
+use Rattle.sqlite.specs.declared.types.Value.TheVariants.{Text}
 use Rattle.sqlite.specs.Order.{Row, column}
 use Rattle.scim_cell.specs.Ids.{IsId, IsIdText, IsLowerHexDigit, id_text}
 use Rattle.scim_cell.proofs.Facts.{IsIdText-id_text, slice_cmp-id_text}
 use Rattle.std.proofs.lemmas.List.{take_more}
 use Rattle.std.proofs.lemmas.List.Folds.{list_any-append}
 use Rattle.scim_tables.specs.Lists.{is_text}
+use Rattle.scim_tables.proofs.TestLemmas.{text_of}
 use Rattle.scim_store.specs.Owners.{is_of, HasOwner, is_owner}
 
 -- what may stand in the text of an id is ASCII: a hyphen, or a digit
@@ -52,13 +52,6 @@ no_text bytes none row at id is =
 pub of_some : (o : Option (List ℕ)) (bytes : List ℕ) (row : Row) → Text bytes ≡ column row 0 → IfSome o (λ id. bytes ≡ id_text id) → IfSome o (λ id. is_of id row ≡ true)
 of_some None bytes row at h = tt
 of_some (Some id) bytes row at h = of_text id bytes row at h
-
-pub text_of : (text : List ℕ) (v : Value) → is_text text v ≡ true → v ≡ Text text
-text_of text Null h = absurd cc
-text_of text (Int n) h = absurd cc
-text_of text (Real x) h = absurd cc
-text_of text (Text t) h = ap (λ x. Text x) ((bytes_eq-Decides t text).0 (sym (is_eq-slice_cmp t text) ∙ h))
-text_of text (Blob b) h = absurd cc
 
 -- a row that is of an id is of another just where they are one
 pub same_owner : (o id : List ℕ) (row : Row) → IsId o → IsId id → is_of o row ≡ true → is_of id row ≡ is_eq (slice_cmp nat_cmp o id)

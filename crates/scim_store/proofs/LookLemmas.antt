@@ -59,4 +59,4 @@ module _ (old new : State) (rows : List Row) (opened : IsTrue old.is_open) where
       let are = holds opened in
       let it = answers old_query asks_old are.schema in
       found_first 2 _ rows found old new it.unchanged
-      (answered_columns 2 (is_column 1 0 ∷ []) (col 1 3 ∷ []) [] old.now.trees (Text id ∷ []) rows lists.resources triple (has_text 0 id) _ (passes_text 2 id) (λ r. refl) are.resources.same it.answer) first
+      (answered_columns 2 (is_column 1 0 ∷ []) (col 1 3 ∷ []) [] old.now.trees (Text id ∷ []) rows lists.resources triple (has_text 0 id) _ (passes_text 2 id []) (λ r. refl) are.resources.same it.answer) first

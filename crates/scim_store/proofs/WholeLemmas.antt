@@ -28,7 +28,8 @@ use Rattle.scim_value.specs.Uniqueness.{Name, AreApart, unique_names}
 use Rattle.scim_store.specs.Owners.{is_of}
 use Rattle.scim_store.specs.Damage.{Tables, AreThoseOf, AreSound, HoldsAt, rows_at, AreOwned, is_shared}
 use Rattle.scim_store.specs.Stands.{Entry, IsEntry, resource_row, name_row, name_rows, member_rows}
-use Rattle.scim_store.proofs.IdTextLemmas.{same_owner, text_of}
+use Rattle.scim_tables.proofs.TestLemmas.{text_of}
+use Rattle.scim_store.proofs.IdTextLemmas.{same_owner}
 use Rattle.scim_store.proofs.OwnerLemmas.{contents}
 use Rattle.scim_store.proofs.SoundLemmas.{sound_id}
 

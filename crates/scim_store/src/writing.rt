@@ -1,10 +1,10 @@
 //! A change of the store, written in one transaction.
 
-ghost use Rattle.std.specs.Prelude.{◌≡◌, ◌≤◌, ◌++◌, false, OnOk, OnErr};
+ghost use Rattle.std.specs.Prelude.{◌≡◌, ◌≤◌, ◌∷◌, ◌++◌, false, OnOk, OnErr};
 ghost use Rattle.sqlite.specs.State.{HasCleanDisk, Survives};
 ghost use Rattle.sqlite.specs.Held.{state};
 ghost use Rattle.scim_tables.specs.Audit.{last_number, audit_values};
-ghost use Rattle.scim_tables.specs.Lists.{Lists, Are, without, has_text};
+ghost use Rattle.scim_tables.specs.Lists.{Lists, Are, without, has_text, resource_values};
 ghost use Rattle.scim_tables.specs.Steps.{Goes, Keeps, Became, Undoes, Leaves};
 ghost use Rattle.scim_store.specs.Edits.{is_name, is_member, rows_of_names, rows_of_members, rows_of_document, edited, edited_by, with_row, Writes};
 
@@ -13,10 +13,10 @@ use crate::edits::Edits;
 use scim_cell::Text;
 use scim_tables::{
     AuditColumns, delete_member, delete_name, delete_resource, insert_audit, insert_member,
-    insert_name, insert_resource,
+    insert_name, insert_resource, update_resource,
 };
 use scim_value::UniqueName;
-use sqlite::{Alter, Connection, Error, Transaction};
+use sqlite::{Alter, Connection, Error, ErrorCode, Transaction};
 
 /// Takes out names.
 fn delete_names<S: Alter>(tx: &mut Transaction<'_, S>, names: &[UniqueName]) -> Result<(), Error>
@@ -108,12 +108,58 @@ fn put_resource<S: Alter>(tx: &mut Transaction<'_, S>, edits: &Edits) -> Result<
     }
 }
 
-/// Takes out what goes.
-fn take_rows<S: Alter>(tx: &mut Transaction<'_, S>, edits: &Edits) -> Result<(), Error>
+/// Writes the row of a resource: in place of the one with the id, or as a new one where there is none. The error is
+/// that several have the id, so that the database is corrupt, or the database's own.
+fn replace_resource<S: Alter>(
+    tx: &mut Transaction<'_, S>,
+    id: &str,
+    kind: u32,
+    document: &str,
+) -> Result<(), Error>
+    ensures same_reference { tx.new.conn.ghost_name ≡ tx.old.conn.ghost_name }
+    ensures went { Goes (state S.Store tx.old.conn.now) (state S.Store tx.new.conn.now) result (λ old new.
+        (lists : Lists) → Are old lists → Are new (record lists { resources = resource_values id.now kind document.now ∷ without (has_text 0 id.now) lists.resources })) }
+    ensures kept { Keeps (state S.Store tx.old.conn.now) (state S.Store tx.new.conn.now) }
+    ensures survives { Survives (state S.Store tx.old.conn.now) (state S.Store tx.new.conn.now) (λ _. ⊥) }
+{
+    // A row that is changed in its place makes fewer pages dirty than one that is taken out and put in again.
+    match update_resource(tx, id, kind, document)? {
+        0 => {
+            insert_resource(tx, id, kind, document)?;
+            Ok(())
+        }
+        1 => Ok(()),
+        _ => Err(Error::SqliteFailure(ErrorCode::DatabaseCorrupt)),
+    }
+}
+
+/// Writes the row of the resource, if there is a document, and else takes it out.
+fn edit_resource<S: Alter>(tx: &mut Transaction<'_, S>, edits: &Edits) -> Result<(), Error>
+    ensures same_reference { tx.new.conn.ghost_name ≡ tx.old.conn.ghost_name }
+    ensures went { Goes (state S.Store tx.old.conn.now) (state S.Store tx.new.conn.now) result (λ old new.
+        (lists : Lists) → Are old lists → Are new (record lists { resources = rows_of_document edits.now ++ without (has_text 0 edits.now.id) lists.resources })) }
+    ensures kept { Keeps (state S.Store tx.old.conn.now) (state S.Store tx.new.conn.now) }
+    ensures survives { Survives (state S.Store tx.old.conn.now) (state S.Store tx.new.conn.now) (λ _. ⊥) }
+{
+    match &edits.document {
+        Some(document) => replace_resource(
+            tx,
+            edits.id.as_str(),
+            kind_number(edits.kind),
+            document.as_str(),
+        ),
+        None => {
+            delete_resource(tx, edits.id.as_str())?;
+            Ok(())
+        }
+    }
+}
+
+/// Takes out the names and members that go.
+fn take_names_and_members<S: Alter>(tx: &mut Transaction<'_, S>, edits: &Edits) -> Result<(), Error>
     ensures same_reference { tx.new.conn.ghost_name ≡ tx.old.conn.ghost_name }
     ensures went { Goes (state S.Store tx.old.conn.now) (state S.Store tx.new.conn.now) result (λ old new.
         (lists : Lists) → Are old lists → Are new (record lists {
-          resources = without (has_text 0 edits.now.id) lists.resources;
           taken = without (is_name edits.now.names_gone.items) lists.taken;
           member = without (is_member edits.now.id edits.now.members_gone.items) lists.member;
         })) }
@@ -121,12 +167,25 @@ fn take_rows<S: Alter>(tx: &mut Transaction<'_, S>, edits: &Edits) -> Result<(),
     ensures survives { Survives (state S.Store tx.old.conn.now) (state S.Store tx.new.conn.now) (λ _. ⊥) }
 {
     delete_names(tx, edits.names_gone.as_slice())?;
-    delete_members(tx, edits.id.as_str(), edits.members_gone.as_slice())?;
-    delete_resource(tx, edits.id.as_str())?;
-    Ok(())
+    delete_members(tx, edits.id.as_str(), edits.members_gone.as_slice())
 }
 
-/// Puts in what comes.
+/// Puts in the names and members that come.
+fn put_names_and_members<S: Alter>(tx: &mut Transaction<'_, S>, edits: &Edits) -> Result<(), Error>
+    ensures same_reference { tx.new.conn.ghost_name ≡ tx.old.conn.ghost_name }
+    ensures went { Goes (state S.Store tx.old.conn.now) (state S.Store tx.new.conn.now) result (λ old new.
+        (lists : Lists) → Are old lists → Are new (record lists {
+          taken = rows_of_names edits.now.id edits.now.names_come.items ++ lists.taken;
+          member = rows_of_members edits.now.id edits.now.members_come.items ++ lists.member;
+        })) }
+    ensures kept { Keeps (state S.Store tx.old.conn.now) (state S.Store tx.new.conn.now) }
+    ensures survives { Survives (state S.Store tx.old.conn.now) (state S.Store tx.new.conn.now) (λ _. ⊥) }
+{
+    insert_names(tx, edits.id.as_str(), edits.names_come.as_slice())?;
+    insert_members(tx, edits.id.as_str(), edits.members_come.as_slice())
+}
+
+/// Puts in what comes, where the resource isn't there.
 pub(crate) fn put_rows<S: Alter>(tx: &mut Transaction<'_, S>, edits: &Edits) -> Result<(), Error>
     ensures same_reference { tx.new.conn.ghost_name ≡ tx.old.conn.ghost_name }
     ensures went { Goes (state S.Store tx.old.conn.now) (state S.Store tx.new.conn.now) result (λ old new.
@@ -139,8 +198,7 @@ pub(crate) fn put_rows<S: Alter>(tx: &mut Transaction<'_, S>, edits: &Edits) -> 
     ensures survives { Survives (state S.Store tx.old.conn.now) (state S.Store tx.new.conn.now) (λ _. ⊥) }
 {
     put_resource(tx, edits)?;
-    insert_names(tx, edits.id.as_str(), edits.names_come.as_slice())?;
-    insert_members(tx, edits.id.as_str(), edits.members_come.as_slice())
+    put_names_and_members(tx, edits)
 }
 
 /// Takes out what goes, and puts in what comes.
@@ -151,8 +209,9 @@ fn edit_rows<S: Alter>(tx: &mut Transaction<'_, S>, edits: &Edits) -> Result<(),
     ensures kept { Keeps (state S.Store tx.old.conn.now) (state S.Store tx.new.conn.now) }
     ensures survives { Survives (state S.Store tx.old.conn.now) (state S.Store tx.new.conn.now) (λ _. ⊥) }
 {
-    take_rows(tx, edits)?;
-    put_rows(tx, edits)
+    take_names_and_members(tx, edits)?;
+    edit_resource(tx, edits)?;
+    put_names_and_members(tx, edits)
 }
 
 /// Makes the edits, if there are any.
@@ -190,7 +249,8 @@ fn write_rows<S: Alter>(
 /// Makes the edits of a change, if it has any, and adds its row to the audit, in one transaction.
 ///
 /// The error is the one that the database gave: a constraint where what comes is there, or what the disk or the memory
-/// did. Then nothing is changed, or the connection is shut.
+/// did; or that the database is corrupt, where several rows have the id. Then nothing is changed, or the connection is
+/// shut.
 pub fn write_change<S: Alter>(
     conn: &mut Connection<S>,
     edits: &Option<Edits>,

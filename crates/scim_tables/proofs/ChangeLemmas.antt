@@ -1,6 +1,6 @@
 -- What a statement on one table makes of its rows.
-use Rattle.std.proofs.Common.{◌≡◌, ◌⊎◌, inl, inr, ℕ, ℤ, List, [], ◌∷◌, map, filter, not, ◌&&◌, Bool, true, false, cond, length, ◌/◌, Option, None, Ok, Err, Result, OnOk, IsTrue, refl, sym, ap, subst, ◌∙◌}
-use Rattle.std.specs.Prelude.{IsPermutation}
+use Rattle.std.proofs.Common.{◌≡◌, ◌⊎◌, inl, inr, ℕ, ℤ, List, [], ◌∷◌, map, filter, drop, not, ◌&&◌, Bool, true, false, cond, length, ◌/◌, Option, None, Ok, Err, Result, OnOk, IfOk, IsTrue, refl, sym, ap, subst, ◌∙◌}
+use Rattle.std.specs.Prelude.{IsPermutation, Some, unwrap_or}
 use Rattle.std.proofs.lemmas.List.Sorted.{IsPermutation-map}
 use Rattle.sqlite_trees.proofs.ListLemmas.{map-map}
 use Rattle.sqlite.specs.declared.types.Value.{Value}
@@ -11,21 +11,21 @@ use Rattle.sqlite.specs.Ops.{unary}
 use Rattle.sqlite.specs.Kind.TheVariants.{Integer}
 use Rattle.sqlite.specs.Source.TheVariants.{Values}
 use Rattle.sqlite.specs.Command.{Command}
-use Rattle.sqlite.specs.Command.TheVariants.{Insert, Delete}
-use Rattle.sqlite.specs.Edit.{edit_of, are_fresh, put_all, id_in, IsNoIndex}
-use Rattle.sqlite.specs.Cast.{cast}
+use Rattle.sqlite.specs.Command.TheVariants.{Insert, Update, Delete}
+use Rattle.sqlite.specs.Edit.{edit_of, are_fresh, put_all, numbered, id_in, IsNoIndex}
+use Rattle.sqlite.specs.Cast.{cast, cast_row}
 use Rattle.sqlite.specs.Rowids.{Rowids}
 use Rattle.sqlite.specs.Rowids.TheVariants.{Chosen, Given}
 use Rattle.sqlite.specs.Does.{Tally, Does, OnRows, WritesRows}
-use Rattle.sqlite.specs.Rows.{Written, Task, Inserts, Deletes, stamped, Counts, rowids_for}
+use Rattle.sqlite.specs.Rows.{Written, Task, Inserts, Updates, Deletes, stamped, Counts, rowids_for}
 use Rattle.sqlite_rules.specs.Action.{Writes as Wrote}
 use Rattle.sqlite_rules.specs.Calls.{ids_of}
 use Rattle.sqlite_schema.specs.declared.program.Program.{Program}
 use Rattle.sqlite_schema.specs.declared.schema.Keys.TheVariants.{Enforced}
 use Rattle.sqlite.specs.Table.{Table}
 use Rattle.sqlite.specs.declared.run.Mode.{Mode}
-use Rattle.sqlite.specs.Term.{Term, col}
-use Rattle.sqlite.specs.Tree.{Trees, rowid}
+use Rattle.sqlite.specs.Term.{Term, col, eval_all}
+use Rattle.sqlite.specs.Tree.{Trees, rowid, put_row}
 use Rattle.sqlite.specs.Effect.{Database, value_rows, Answers}
 use Rattle.sqlite.specs.Program.{overlay}
 use Rattle.sqlite.specs.State.{State, mode_of, Executes, ExecutesInside}
@@ -33,11 +33,11 @@ use Rattle.sqlite.specs.Listing.{understood}
 use Rattle.sqlite.proofs.Callers.{runs_as, statement_of, one_step}
 use Rattle.scim_tables.specs.Tables.{store_schema}
 use Rattle.scim_tables.specs.Lists.{AreKeyed}
-use Rattle.scim_tables.specs.code.Changes.{Puts, Takes}
+use Rattle.scim_tables.specs.code.Changes.{Puts, Takes, Turns}
 use Rattle.scim_tables.specs.code.Queries.{one_table}
 use Rattle.scim_tables.proofs.QueryLemmas.{selected, passes, no_lets}
 use Rattle.scim_tables.proofs.RowidLemmas.{without_found}
-use Rattle.scim_tables.proofs.StatementLemmas.{IsInsert, IsDelete}
+use Rattle.scim_tables.proofs.StatementLemmas.{IsInsert, IsUpdate, IsDelete}
 
 either : (b : Bool) (x : Value) → cond b x x ≡ x
 either true x = refl
@@ -64,12 +64,13 @@ same_value e = cc
 module _ (task : Task) where
   open task use {keys, schema, table, params}
 
-  -- with no RETURNING, the database has the trees that the statement wrote
+  -- with no RETURNING, the database has the trees that the statement wrote, and its rows are counted
   pub on_rows : (mode : Mode) (command : Command) (db : Trees) (tally : Tally) (after : Database) → OnRows task mode None command db (Ok (tally, after))
-      → (w : Written) × WritesRows task db command (Ok w) × (after ≡ record { schema = task.schema; trees = w.trees })
+      → (w : Written) × WritesRows task db command (Ok w) × (after ≡ record { schema = task.schema; trees = w.trees }) × (tally.rows ≡ Some (length w.rows))
   on_rows mode command db tally after h =
       let done = went h in
-      (done.0, done.1, ap (λ (p : Tally × Database). p.1) (same_value (went (went done.2).2).2))
+      let ended = same_value (went (went done.2).2).2 in
+      (done.0, done.1, ap (λ (p : Tally × Database). p.1) ended, ap (λ (p : Tally × Database). p.0.rows) ended)
 
   uncounts : table.is_counted ≡ false → (mid next : Trees) (counter : Option Row) (top : ℤ) → Counts task mid counter top (Ok next) → next ≡ mid
   uncounts uncounted mid next counter top h = same_value (rw uncounted at h)
@@ -96,6 +97,15 @@ module _ (task : Task) where
       let trees : written.0 ≡ w.trees = sym (ap (λ (it : Written). it.trees) (same_value written.2)) in
       (found.0, found.1, subst (λ (t : Trees). Wrote schema keys db (edit_of db table (ids_of found.0) Given 0 []) (Ok t)) trees written.1)
 
+  pub updates : (q : Program) (db : Trees) (w : Written) → Updates task q params db (Ok w)
+      → (rows : List Row) × Answers (record { schema = task.schema; trees = db }) q params rows × Wrote schema keys db (edit_of db table (ids_of rows) Given 1 rows) (Ok w.trees) × (w.rows ≡ (edit_of db table (ids_of rows) Given 1 rows).news)
+  updates q db w h =
+      let found = went h in
+      let written = went found.2 in
+      let ended = same_value written.2 in
+      let trees : written.0 ≡ w.trees = sym (ap (λ (it : Written). it.trees) ended) in
+      (found.0, found.1, subst (λ (t : Trees). Wrote schema keys db (edit_of db table (ids_of found.0) Given 1 found.0) (Ok t)) trees written.1, ap (λ (it : Written). it.rows) ended)
+
 -- ---- one statement on one of the five tables
 
 abbrev pub task_on : Table → Option ℕ → Row → Task
@@ -104,6 +114,11 @@ task_on table limit params = record { limit = limit; keys = Enforced; schema = s
 fresh_alone : (b : Bool) → (not b && true) ≡ true → b ≡ false
 fresh_alone true h = absurd cc
 fresh_alone false h = refl
+
+-- no rowid is chosen where each is given
+given_all : (rows news : List Row) → numbered Given rows news ≡ news
+given_all rows [] = refl
+given_all rows (r ∷ news) = ap (λ (l : List Row). r ∷ l) (given_all (put_row r rows) news)
 
 module _ (table : Table) (limit : Option ℕ) (mode : Mode) (params : Row) (old : Database) (has : old.schema ≡ store_schema) where
   abbrev task : Task
@@ -149,6 +164,37 @@ module _ (table : Table) (limit : Option ℕ) (mode : Mode) (params : Row) (old 
         others = λ t other bare. ap (λ (d : Database). d.trees t) done.2 ∙ applied.others t other (subst (λ s. IsNoIndex s t) has bare);
       }
 
+  -- an UPDATE of the rows that pass tests
+  pub turns : (place : ℕ) (tests columns : List Term) (tally : Tally) (new : Database) → AreKeyed (old.trees table.tree)
+      → OnRows task mode None (Update place (record { lets = []; body = one_table table.tree tests (col 1 0 ∷ columns) [] })) old.trees (Ok (tally, new))
+      → Turns table.tree (passes table.tree tests (col 1 0 ∷ columns) [] params) (λ r. cast_row table (eval_all columns (params ∷ r ∷ []))) (unwrap_or tally.rows 0) old new
+  turns place tests columns tally new keys h =
+      let db = old.trees in
+      let q : Program = record { lets = []; body = one_table table.tree tests (col 1 0 ∷ columns) [] } in
+      let test = passes table.tree tests (col 1 0 ∷ columns) [] params in
+      let done = on_rows task mode (Update place q) db tally new h in
+      let wrote = updates task q db done.0 done.1 in
+      let edit = edit_of db table (ids_of wrote.0) Given 1 wrote.0 in
+      let found = selected table.tree tests (col 1 0 ∷ columns) [] (overlay db []) params wrote.0 (wrote.1.answer Null) in
+      let here : IsPermutation (map (λ r. eval_all (col 1 0 ∷ columns) (params ∷ r ∷ [])) (filter test (db table.tree))) wrote.0 =
+      subst (λ rows. IsPermutation (map (λ r. eval_all (col 1 0 ∷ columns) (params ∷ r ∷ [])) (filter test rows)) wrote.0) (no_lets db table.tree) found in
+      let ids : IsPermutation (map (λ r. id_in (rowid r)) (filter test (db table.tree))) (ids_of wrote.0) =
+      subst (λ xs. IsPermutation xs (ids_of wrote.0)) (map-map _ _ _) (IsPermutation-map (λ (r : Row). id_in (rowid r)) _ _ here) in
+      let left = without_found test (db table.tree) (ids_of wrote.0) keys ids in
+      let news : edit.news ≡ map (λ s. cast_row table (drop 1 s)) wrote.0 = given_all _ _ in
+      let applied = one_step store_schema Enforced db done.0.trees edit refl wrote.2 in
+      record {
+        schema = ap (λ (d : Database). d.schema) done.2 ∙ sym has;
+        news = edit.news;
+        same = subst (λ xs. IsPermutation (map (λ r. cast_row table (eval_all columns (params ∷ r ∷ []))) (filter test (db table.tree))) xs) (sym news)
+            (subst (λ xs. IsPermutation xs (map (λ s. cast_row table (drop 1 s)) wrote.0)) (map-map _ _ _) (IsPermutation-map (λ s. cast_row table (drop 1 s)) _ _ here));
+        counted = ap (λ o. unwrap_or o 0) done.3 ∙ ap length wrote.3;
+        keyed = applied.keyed;
+        fresh = subst (λ rows. are_fresh rows edit.news ≡ true) left applied.fresh;
+        rows = ap (λ (d : Database). d.trees table.tree) done.2 ∙ applied.rows ∙ ap (λ rows. put_all rows edit.news) left;
+        others = λ t other bare. ap (λ (d : Database). d.trees t) done.2 ∙ applied.others t other (subst (λ s. IsNoIndex s t) has bare);
+      }
+
 -- ---- a text
 
 -- `at` finds the table by its place in the schema, and is `λ tally h. h` where both are written out
@@ -176,9 +222,24 @@ module _ (old new : State) (text : List ℕ) (params : Row) (table : Table) (has
       takes table old.step_limit (mode_of old) params old.now has place tests w.tally new.now keys
       (at w.tally (subst (λ s. Does old.step_limit (mode_of old) params (record old.now { schema = s }) (statement_of text (understood store_schema text)) None command (Ok (w.tally, new.now))) has w.changed))
 
+  pub updated : (place : ℕ) (tests columns : List Term) → IsUpdate text place table.tree tests columns → FindsTable (Update place (record { lets = []; body = one_table table.tree tests (col 1 0 ∷ columns) [] }))
+      → AreKeyed (old.now.trees table.tree) → (count : ℕ) → Executes text params old new (Ok count)
+      → Turns table.tree (passes table.tree tests (col 1 0 ∷ columns) [] params) (λ r. cast_row table (eval_all columns (params ∷ r ∷ []))) count old.now new.now
+  updated place tests columns is at keys count h =
+      let command = Update place (record { lets = []; body = one_table table.tree tests (col 1 0 ∷ columns) [] }) in
+      let w = runs_as text params old new store_schema has command is.command is.plain count h in
+      subst (λ n. Turns table.tree (passes table.tree tests (col 1 0 ∷ columns) [] params) (λ r. cast_row table (eval_all columns (params ∷ r ∷ []))) n old.now new.now) (sym w.counted)
+      (turns table old.step_limit (mode_of old) params old.now has place tests columns w.tally new.now keys
+      (at w.tally (subst (λ s. Does old.step_limit (mode_of old) params (record old.now { schema = s }) (statement_of text (understood store_schema text)) None command (Ok (w.tally, new.now))) has w.changed)))
+
 -- ---- the same, inside a transaction
 
 pub inside : (text : List ℕ) (params : Row) (old new : State) (r : Result ℕ Error) {P : Type 0} → ((count : ℕ) → Executes text params old new (Ok count) → P)
     → ExecutesInside 0 text params old new r → OnOk r (IsTrue new.in_transaction × P)
 inside text params old new (Err e) does h = tt
 inside text params old new (Ok count) does h = (h.1.mode, does count h.0)
+
+pub inside_by : (text : List ℕ) (params : Row) (old new : State) (r : Result ℕ Error) {P : ℕ → Type 0} → ((count : ℕ) → Executes text params old new (Ok count) → P count)
+    → ExecutesInside 0 text params old new r → IfOk r (λ count. IsTrue new.in_transaction × P count)
+inside_by text params old new (Err e) does h = tt
+inside_by text params old new (Ok count) does h = (h.1.mode, does count h.0)

@@ -107,7 +107,7 @@ module _ (old new : State) (rows : List Row) (opened : IsTrue old.is_open) where
       let are = holds opened in
       let it = answers groups asks_groups are.schema in
       let test = λ (r : Row). has_text 0 value (pair r) in
-      let told = told_where 6 (is_column 1 0 ∷ []) (col 1 2 ∷ []) ((col 1 2, up) ∷ []) (0 ∷ []) old.now.trees (Text value ∷ []) rows test (λ r. group_alone (pair r)) old new refl (λ r. (refl, tt)) (λ r. refl) (passes_text 6 value) it.unchanged it.answer in
+      let told = told_where 6 (is_column 1 0 ∷ []) (col 1 2 ∷ []) ((col 1 2, up) ∷ []) (0 ∷ []) old.now.trees (Text value ∷ []) rows test (λ r. group_alone (pair r)) old new refl (λ r. (refl, tt)) (λ r. refl) (passes_text 6 value []) it.unchanged it.answer in
       record {
         unchanged = told.unchanged;
         same = IsPermutation-trans _ _ _ (IsPermutation-map group_alone _ _ (passing pair (has_text 0 value) (old.now.trees 6) lists.member are.member.same)) (subst (λ xs. IsPermutation xs rows) (sym (map-map group_alone pair (filter test (old.now.trees 6)))) told.same);

@@ -1,23 +1,26 @@
 -- What the tables hold after a statement.
-use Rattle.std.proofs.Common.{◌≡◌, ◌≢◌, ℕ, ℤ, ◌≤◌, List, [], ◌∷◌, map, filter, not, ◌||◌, Bool, true, false, cond, length, refl, sym, ap, subst, ◌∙◌, arith}
-use Rattle.std.specs.Prelude.{IsPermutation}
+use Rattle.std.proofs.Common.{◌≡◌, ◌≢◌, ℕ, ℤ, ◌≤◌, List, [], ◌∷◌, ◌++◌, map, filter, not, ◌&&◌, ◌||◌, Bool, true, false, cond, length, refl, sym, ap, subst, subst₂, ◌∙◌, arith}
+use Rattle.std.specs.Prelude.{IsPermutation, replicate}
 use Rattle.std.specs.List.{list_any}
 use Rattle.std.specs.Ordering.{is_eq, match_ordering}
 use Rattle.std.specs.declared.cmp.Ordering.{Ordering}
 use Rattle.std.specs.declared.cmp.Ordering.TheVariants.{Less, Equal, Greater}
 use Rattle.std.proofs.lemmas.Cmp.{alike_right}
+use Rattle.std.proofs.lemmas.List.{length-map}
 use Rattle.std.proofs.lemmas.List.Sorted.{length_permutation, IsPermutation-refl, IsPermutation-middle, IsPermutation-cons, IsPermutation-trans, IsPermutation-map, IsPermutation-sym}
 use Rattle.sqlite_value.proofs.OrderLemmas.{value_cmp_total}
-use Rattle.sqlite_trees.proofs.ListLemmas.{all-filter, filter-map, IsPermutation-filter}
+use Rattle.sqlite_trees.proofs.ListLemmas.{all-filter, filter-map, map-map, pull_back, IsPermutation-filter}
 use Rattle.sqlite_trees.proofs.TreeLemmas.{all-put_row}
+use Rattle.sqlite_rules.proofs.TableLemmas.{int_is}
+use Rattle.sqlite.specs.declared.types.Value.{Value}
 use Rattle.sqlite.specs.declared.types.Value.TheVariants.{Int}
 use Rattle.sqlite.specs.Order.{Row, value_cmp}
 use Rattle.sqlite.specs.Tree.{put_row, rowid, has_rowid}
-use Rattle.sqlite.specs.Edit.{is_taken, IsNoIndex}
+use Rattle.sqlite.specs.Edit.{is_taken, have_rowids, are_fresh, put_all, id_in, IsNoIndex}
 use Rattle.sqlite.specs.Effect.{Database}
 use Rattle.scim_tables.specs.Tables.{store_schema}
 use Rattle.scim_tables.specs.Lists.{IsTableOf, Lists, Are, pair, triple, entry, without}
-use Rattle.scim_tables.specs.code.Changes.{Puts, Takes}
+use Rattle.scim_tables.specs.code.Changes.{Puts, Takes, Turns}
 
 -- ---- rows are taken out
 
@@ -81,6 +84,40 @@ put_among shows rows values n v shown of free = record {
   same = IsPermutation-trans _ _ _ (IsPermutation-sym _ _ (IsPermutation-map shows _ _ (put_in (Int n ∷ v) rows free))) (subst (λ (x : Row). IsPermutation (x ∷ map shows rows) (v ∷ values)) (sym shown) (IsPermutation-cons v _ _ of.same));
 }
 
+-- ---- rows are turned into others
+
+and_parts : (a b : Bool) → (a && b) ≡ true → (a ≡ true) × (b ≡ true)
+and_parts true b h = (refl, h)
+and_parts false b h = absurd cc
+
+not_parts : (a : Bool) → not a ≡ true → a ≡ false
+not_parts true h = absurd cc
+not_parts false h = refl
+
+-- rows of the same values, with these rowids
+abbrev keyed_by : Row → List Value → List Row
+keyed_by v = map (λ id. id ∷ v)
+
+put_all_among : (shows : Row → Row) (v : Row) → ((n : ℤ) → shows (Int n ∷ v) ≡ v) → (ids : List Value) (rows values : List Row) → IsTableOf shows rows values
+    → have_rowids (keyed_by v ids) ≡ true → are_fresh rows (keyed_by v ids) ≡ true → IsTableOf shows (put_all rows (keyed_by v ids)) (replicate (length ids) v ++ values)
+put_all_among shows v shown [] rows values of keyed fresh = of
+put_all_among shows v shown (id ∷ ids) rows values of keyed fresh =
+    let int = and_parts _ _ keyed in
+    let free = and_parts _ _ fresh in
+    let put : IsTableOf shows (put_row (id ∷ v) rows) (v ∷ values) =
+    subst (λ x. is_taken rows (x ∷ v) ≡ false → IsTableOf shows (put_row (x ∷ v) rows) (v ∷ values)) (sym (int_is id int.0)) (put_among shows rows values (id_in id) v (shown _) of) (not_parts _ free.0) in
+    let rest = put_all_among shows v shown ids (put_row (id ∷ v) rows) (v ∷ values) put int.1 free.1 in
+    record { keys = rest.keys; same = IsPermutation-trans _ _ _ rest.same (IsPermutation-middle (replicate (length ids) v) v values) }
+
+-- two functions that agree on the rows that pass
+same_turned : (test : Row → Bool) (f g : Row → Row) → ((r : Row) → test r ≡ true → f r ≡ g r) → (rows : List Row) → map f (filter test rows) ≡ map g (filter test rows)
+same_turned test f g same [] = refl
+same_turned test f g same (r ∷ rows) = go (test r) refl (same_turned test f g same rows)
+  where
+    go : (b : Bool) → test r ≡ b → map f (filter test rows) ≡ map g (filter test rows) → map f (cond b (r ∷ filter test rows) (filter test rows)) ≡ map g (cond b (r ∷ filter test rows) (filter test rows))
+    go true e more = rw (same r e, more)
+    go false e more = more
+
 -- ---- one statement on the tables
 
 -- the trees of the tables are no indexes
@@ -116,6 +153,29 @@ module _ (a b : Database) (lists : Lists) (are : Are a lists) where
     member = other_table 2 6 step.others (λ e. omega arith) no_index_6 _ are.member;
     audit = other_audit 2 step.others (λ e. omega arith);
   }
+
+  -- where each row that passes is turned into one of the same values
+  pub turns_resource : (test : Row → Bool) (turned : Row → Row) (key : Row → Value) (v : Row) → ((r : Row) → test (triple r) ≡ true → turned r ≡ key r ∷ v) → ((n : ℤ) → triple (Int n ∷ v) ≡ v)
+      → (count : ℕ) → Turns 2 (λ r. test (triple r)) turned count a b → (count ≡ length (filter test lists.resources)) × Are b (record lists { resources = replicate count v ++ without test lists.resources })
+  turns_resource test turned key v turns shown count step =
+      let found = filter (λ r. test (triple r)) (a.trees 2) in
+      let with_key : Row → Row = λ r. key r ∷ v in
+      let back = pull_back with_key (map with_key found) step.news (subst (λ xs. IsPermutation xs step.news) (same_turned _ turned with_key turns (a.trees 2)) step.same) found refl in
+      let news : step.news ≡ keyed_by v (map key back.0) = back.2 ∙ sym (map-map _ _ _) in
+      let many : length (map key back.0) ≡ count = sym (step.counted ∙ ap length news ∙ length-map _ _) in
+      let put = put_all_among triple v shown (map key back.0) _ _ (taken_out triple test _ _ are.resources)
+      (subst (λ rows. have_rowids rows ≡ true) news step.keyed) (subst (λ rows. are_fresh (filter (λ r. not (test (triple r))) (a.trees 2)) rows ≡ true) news step.fresh) in
+      let passed : IsPermutation (map triple found) (filter test lists.resources) = subst (λ xs. IsPermutation xs (filter test lists.resources)) (filter-map test triple _) (IsPermutation-filter test _ _ are.resources.same) in (
+        step.counted ∙ length_permutation _ _ step.same ∙ length-map _ _ ∙ sym (length-map found triple) ∙ sym (length_permutation _ _ passed),
+        record {
+          schema = step.schema ∙ are.schema;
+          version = other_table 2 0 step.others (λ e. omega arith) no_index_0 _ are.version;
+          resources = subst₂ (λ rows n. IsTableOf triple rows (replicate n v ++ without test lists.resources)) (sym (step.rows ∙ ap (put_all (filter (λ r. not (test (triple r))) (a.trees 2))) news)) many put;
+          taken = other_table 2 4 step.others (λ e. omega arith) no_index_4 _ are.taken;
+          member = other_table 2 6 step.others (λ e. omega arith) no_index_6 _ are.member;
+          audit = other_audit 2 step.others (λ e. omega arith);
+        },
+      )
 
   pub takes_taken : (test : Row → Bool) → Takes 4 (λ r. test (triple r)) a b → Are b (record lists { taken = without test lists.taken })
   takes_taken test step = record {

@@ -1,7 +1,9 @@
 -- What a test of a column tells.
-use Rattle.std.proofs.Common.{◌≡◌, ℕ, ℤ, pos, List, [], ◌∷◌, ◌&&◌, not, filter, Bool, true, false, Some, refl, ◌∙◌}
+use Rattle.std.proofs.Common.{◌≡◌, ℕ, ℤ, pos, List, [], ◌∷◌, ◌&&◌, not, filter, Bool, true, false, Some, refl, sym, ap, ◌∙◌}
 use Rattle.std.specs.Ordering.{is_eq, is_lt, is_ge, nat_cmp}
 use Rattle.std.specs.Cmp.Lexicographic.{slice_cmp}
+use Rattle.std.proofs.lemmas.Map.Text.{is_eq-slice_cmp}
+use Rattle.std.proofs.lemmas.Slice.Eq.{bytes_eq-Decides}
 use Rattle.sqlite.specs.declared.types.Value.{Value}
 use Rattle.sqlite.specs.declared.types.Value.TheVariants.{Null, Int, Real, Text, Blob}
 use Rattle.sqlite_sql.specs.declared.ops.BinaryOp.TheVariants as by
@@ -44,6 +46,14 @@ is_the_text (Real x) text = refl
 is_the_text (Text other) text = told (is_eq (slice_cmp nat_cmp other text))
 is_the_text (Blob b) text = refl
 
+-- a value that is the text
+pub text_of : (text : List ℕ) (v : Value) → is_text text v ≡ true → v ≡ Text text
+text_of text Null h = absurd cc
+text_of text (Int n) h = absurd cc
+text_of text (Real x) h = absurd cc
+text_of text (Text t) h = ap (λ x. Text x) ((bytes_eq-Decides t text).0 (sym (is_eq-slice_cmp t text) ∙ h))
+text_of text (Blob b) h = absurd cc
+
 -- a value is compared with a number
 pub is_the_number : (v : Value) (n : ℤ) → is_true (binary (by.Compare Eq Binary) v (Int n)) ≡ is_eq (value_cmp v (Int n))
 unfolding binary
@@ -63,8 +73,8 @@ one true = refl
 one false = refl
 
 -- one column is tested
-pub passes_text : (tree : ℕ) (text : List ℕ) (r : Row) → passes tree (is_column 1 0 ∷ []) (col 1 0 ∷ []) [] (Text text ∷ []) r ≡ is_text text (column r 1)
-passes_text tree text r = one _ ∙ is_the_text (column r 1) text
+pub passes_text : (tree : ℕ) (text : List ℕ) (more r : Row) → passes tree (is_column 1 0 ∷ []) (col 1 0 ∷ []) [] (Text text ∷ more) r ≡ is_text text (column r 1)
+passes_text tree text more r = one _ ∙ is_the_text (column r 1) text
 
 -- two columns are tested
 pub passes_texts : (tree : ℕ) (first second : List ℕ) (r : Row) → passes tree key_tests (col 1 0 ∷ []) [] (Text first ∷ Text second ∷ []) r ≡ (is_text first (column r 1) && is_text second (column r 2))

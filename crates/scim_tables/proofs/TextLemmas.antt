@@ -9,7 +9,7 @@ use Rattle.sqlite_sql.specs.declared.ops.UnaryOp.TheVariants.{ToNumeric}
 use Rattle.sqlite.specs.Listing.{understood}
 use Rattle.sqlite_tied.specs.Compute.{everything}
 use Rattle.scim_tables.specs.code.Queries.{is_column}
-use Rattle.scim_tables.proofs.StatementLemmas.{IsInsert, IsDelete}
+use Rattle.scim_tables.proofs.StatementLemmas.{IsInsert, IsUpdate, IsDelete}
 
 abbrev pub insert_resource_text : List ℕ
 insert_resource_text = codes "INSERT INTO resource (id, kind, document) VALUES (?1, ?2, ?3)"
@@ -21,6 +21,17 @@ three_terms = lit Null ∷ col 0 0 ∷ col 0 1 ∷ col 0 2 ∷ []
 pub inserts_resource : IsInsert insert_resource_text 1 three_terms 4
 unfolding understood everything
 inserts_resource = record { command = refl; plain = (refl, refl) }
+
+abbrev pub update_resource_text : List ℕ
+update_resource_text = codes "UPDATE resource SET kind = ?2, document = ?3 WHERE id = ?1"
+
+-- the rowid and the id stay, and the other columns are parameters
+abbrev pub resource_columns : List Term
+resource_columns = col 1 0 ∷ col 1 1 ∷ col 0 1 ∷ col 0 2 ∷ []
+
+pub updates_resource : IsUpdate update_resource_text 1 2 (is_column 1 0 ∷ []) resource_columns
+unfolding understood everything
+updates_resource = record { command = refl; plain = (refl, refl) }
 
 abbrev pub delete_resource_text : List ℕ
 delete_resource_text = codes "DELETE FROM resource WHERE id = ?1"

@@ -1,18 +1,23 @@
 -- What the statements that write make of the tables.
-use Rattle.std.proofs.Common.{ℕ, pos, List, [], ◌∷◌, Result, OnOk, IsTrue, refl}
+use Rattle.std.proofs.Common.{◌≡◌, ℕ, pos, List, [], ◌∷◌, ◌++◌, length, filter, Result, OnOk, IfOk, IsTrue, refl, subst}
+use Rattle.std.specs.Prelude.{replicate}
 use Rattle.sqlite.specs.declared.types.Value.TheVariants.{Int, Text}
 use Rattle.sqlite.specs.declared.error.Error.{Error}
-use Rattle.sqlite.specs.Order.{Row}
+use Rattle.sqlite.specs.Order.{Row, column}
+use Rattle.sqlite.specs.Cast.{cast, cast_row}
+use Rattle.sqlite.specs.Kind.TheVariants.{Integer}
 use Rattle.sqlite.specs.Table.{Table}
 use Rattle.sqlite.specs.Edit.{next_rowid}
+use Rattle.sqlite.specs.Term.{eval_all}
 use Rattle.sqlite.specs.State.{State, ExecutesInside}
 use Rattle.scim_tables.specs.Tables.{resource_table, taken_table, member_table}
 use Rattle.scim_tables.specs.Lists.{Lists, Are, without, has_text, has_texts, pair, triple, resource_values, name_values, member_values}
+use Rattle.scim_tables.specs.code.Changes.{Turns}
 use Rattle.scim_tables.specs.code.Queries.{is_column}
-use Rattle.scim_tables.proofs.TextLemmas.{insert_resource_text, inserts_resource, delete_resource_text, deletes_resource, insert_name_text, inserts_name, delete_name_text, deletes_name, insert_member_text, inserts_member, delete_member_text, deletes_member, three_terms, two_terms, key_tests}
-use Rattle.scim_tables.proofs.ChangeLemmas.{cast_null, cast_int, inserted, deleted, inside}
-use Rattle.scim_tables.proofs.TestLemmas.{passes_text, passes_texts, takes_same}
-use Rattle.scim_tables.proofs.TableLemmas.{takes_resource, takes_taken, takes_member, puts_resource, puts_taken, puts_member}
+use Rattle.scim_tables.proofs.TextLemmas.{insert_resource_text, inserts_resource, update_resource_text, updates_resource, resource_columns, delete_resource_text, deletes_resource, insert_name_text, inserts_name, delete_name_text, deletes_name, insert_member_text, inserts_member, delete_member_text, deletes_member, three_terms, two_terms, key_tests}
+use Rattle.scim_tables.proofs.ChangeLemmas.{cast_null, cast_int, inserted, updated, deleted, inside, inside_by}
+use Rattle.scim_tables.proofs.TestLemmas.{text_of, passes_text, passes_texts, takes_same}
+use Rattle.scim_tables.proofs.TableLemmas.{turns_resource, takes_resource, takes_taken, takes_member, puts_resource, puts_taken, puts_member}
 
 -- the statement edits the lists, and the transaction goes on
 abbrev pub Edits : State → State → Result ℕ Error → (Lists → Lists) → Type 0
@@ -46,13 +51,24 @@ module _ (old new : State) (r : Result ℕ Error) where
       let step = inserted old new insert_member_text params table are.schema 3 two_terms 3 (Int (next_rowid (old.now.trees 6)) ∷ member_values value group_id) inserts_member refl (rw cast_null) (λ tally does. does) count h in
       puts_member old.now new.now lists are _ _ step refl)
 
+  pub updates_resource_row : (id document : List ℕ) (kind : ℕ) → ExecutesInside 0 update_resource_text (Text id ∷ Int (pos kind) ∷ Text document ∷ []) old new r
+      → IfOk r (λ count. IsTrue new.in_transaction × ((lists : Lists) → Are old.now lists → (count ≡ length (filter (has_text 0 id) lists.resources)) × Are new.now (record lists { resources = replicate count (resource_values id kind document) ++ without (has_text 0 id) lists.resources })))
+  updates_resource_row id document kind =
+      let params : Row = Text id ∷ Int (pos kind) ∷ Text document ∷ [] in
+      let table : Table = record resource_table { tree = 2 } in
+      let turned : Row → Row = λ r. cast_row table (eval_all resource_columns (params ∷ r ∷ [])) in
+      inside_by update_resource_text params old new r (λ count h lists are.
+      let step = updated old new update_resource_text params table are.schema 1 (is_column 1 0 ∷ []) resource_columns updates_resource (λ tally does. does) are.resources.keys count h in
+      turns_resource old.now new.now lists are (has_text 0 id) turned (λ r. cast Integer (column r 0)) (resource_values id kind document) (λ r has. rw (text_of id (column r 1) has, cast_int (pos kind))) (λ n. refl) count
+      (subst (λ test. Turns 2 test turned count old.now new.now) (λ i r. passes_text 2 id (Int (pos kind) ∷ Text document ∷ []) r i) step))
+
   pub deletes_resource_row : (id : List ℕ) → ExecutesInside 0 delete_resource_text (Text id ∷ []) old new r → Edits old new r (λ lists. record lists { resources = without (has_text 0 id) lists.resources })
   deletes_resource_row id =
       let params : Row = Text id ∷ [] in
       let table : Table = record resource_table { tree = 2 } in
       inside delete_resource_text params old new r (λ count h lists are.
       let step = deleted old new delete_resource_text params table are.schema 1 (is_column 1 0 ∷ []) deletes_resource (λ tally does. does) are.resources.keys count h in
-      takes_resource old.now new.now lists are (has_text 0 id) (takes_same 2 _ (λ r. has_text 0 id (triple r)) old.now new.now (passes_text 2 id) step))
+      takes_resource old.now new.now lists are (has_text 0 id) (takes_same 2 _ (λ r. has_text 0 id (triple r)) old.now new.now (passes_text 2 id []) step))
 
   pub deletes_name_row : (attribute folded : List ℕ) → ExecutesInside 0 delete_name_text (Text attribute ∷ Text folded ∷ []) old new r
       → Edits old new r (λ lists. record lists { taken = without (has_texts attribute folded) lists.taken })

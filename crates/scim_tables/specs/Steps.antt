@@ -1,5 +1,5 @@
 -- A step inside a transaction, and a whole transaction.
-use Rattle.std.specs.Prelude.{◌≡◌, IsTrue, Result, OnOk}
+use Rattle.std.specs.Prelude.{◌≡◌, IsTrue, Result, OnOk, IfOk}
 use Rattle.sqlite.specs.declared.error.Error.{Error}
 use Rattle.sqlite.specs.Tree.{Trees}
 use Rattle.sqlite.specs.Effect.{Database}
@@ -8,6 +8,10 @@ use Rattle.sqlite.specs.State.{State, HasCleanDisk, KeepsCommit, Survives}
 -- at Ok the transaction goes on, and its database has changed by this
 abbrev pub Goes : {T E : Type 0} → State → State → Result T E → (Database → Database → Type 0) → Type 0
 Goes old new result P = HasCleanDisk new → IsTrue old.in_transaction → OnOk result (IsTrue new.in_transaction × P old.now new.now)
+
+-- the same, where the change is one that the answer tells of
+abbrev pub GoesBy : {T E : Type 0} → State → State → Result T E → (T → Database → Database → Type 0) → Type 0
+GoesBy old new result P = HasCleanDisk new → IsTrue old.in_transaction → IfOk result (λ answer. IsTrue new.in_transaction × P answer old.now new.now)
 
 -- nothing is committed
 abbrev pub Keeps : State → State → Type 0

@@ -19,4 +19,5 @@ pub use schema::is_store_schema;
 pub use tables::{Reading, TableRows, read_tables};
 pub use writes::{
     delete_member, delete_name, delete_resource, insert_member, insert_name, insert_resource,
+    update_resource,
 };

@@ -4,11 +4,11 @@
 //! constraint where the key is in the table, or a want of memory, or what the disk did. Then nothing is committed, and
 //! the transaction may have been rolled back, so it is to be dropped.
 
-ghost use Rattle.std.specs.Prelude.{◌≡◌, ◌∷◌};
+ghost use Rattle.std.specs.Prelude.{◌≡◌, ◌∷◌, ◌++◌, length, filter, replicate};
 ghost use Rattle.sqlite.specs.State.{Survives};
 ghost use Rattle.sqlite.specs.Held.{state};
 ghost use Rattle.scim_tables.specs.Lists.{Lists, Are, without, has_text, has_texts, resource_values, name_values, member_values};
-ghost use Rattle.scim_tables.specs.Steps.{Goes, Keeps};
+ghost use Rattle.scim_tables.specs.Steps.{Goes, GoesBy, Keeps};
 
 use sqlite::{Alter, Error, Transaction, params};
 
@@ -27,6 +27,27 @@ pub fn insert_resource<S: Alter>(
 {
     tx.execute(
         "INSERT INTO resource (id, kind, document) VALUES (?1, ?2, ?3)",
+        params![id, kind, document],
+    )
+}
+
+/// Gives the resource with an id, if there is one, this kind and document in place of its own. It answers how many rows
+/// have the id. The error is the database's own.
+pub fn update_resource<S: Alter>(
+    tx: &mut Transaction<'_, S>,
+    id: &str,
+    kind: u32,
+    document: &str,
+) -> Result<usize, Error>
+    ensures same_reference { tx.new.conn.ghost_name ≡ tx.old.conn.ghost_name }
+    ensures went { GoesBy (state S.Store tx.old.conn.now) (state S.Store tx.new.conn.now) result (λ count old new. (lists : Lists) → Are old lists
+        → (count ≡ length (filter (has_text 0 id.now) lists.resources))
+        × Are new (record lists { resources = replicate count (resource_values id.now kind document.now) ++ without (has_text 0 id.now) lists.resources })) }
+    ensures kept { Keeps (state S.Store tx.old.conn.now) (state S.Store tx.new.conn.now) }
+    ensures survives { Survives (state S.Store tx.old.conn.now) (state S.Store tx.new.conn.now) (λ _. ⊥) }
+{
+    tx.execute(
+        "UPDATE resource SET kind = ?2, document = ?3 WHERE id = ?1",
         params![id, kind, document],
     )
 }

@@ -1,8 +1,8 @@
 -- What one statement makes of one table.
-use Rattle.std.specs.Prelude.{◌≡◌, ◌≢◌, ℕ, Bool, false, not, filter}
+use Rattle.std.specs.Prelude.{◌≡◌, ◌≢◌, ℕ, Bool, true, false, not, List, map, filter, length, IsPermutation}
 use Rattle.sqlite.specs.Order.{Row}
 use Rattle.sqlite.specs.Tree.{put_row}
-use Rattle.sqlite.specs.Edit.{is_taken, IsNoIndex}
+use Rattle.sqlite.specs.Edit.{is_taken, have_rowids, are_fresh, put_all, IsNoIndex}
 use Rattle.sqlite.specs.Effect.{Database}
 
 -- one row is put into one table, where no row has its rowid, and no other table is changed
@@ -16,4 +16,15 @@ pub record Puts (tree : ℕ) (row : Row) (old new : Database) : Type 0 where
 pub record Takes (tree : ℕ) (test : Row → Bool) (old new : Database) : Type 0 where
   pub schema : new.schema ≡ old.schema
   pub rows : new.trees tree ≡ filter (λ r. not (test r)) (old.trees tree)
+  pub others : (t : ℕ) → t ≢ tree → IsNoIndex old.schema t → new.trees t ≡ old.trees t
+
+-- the rows of one table that pass the test, so many, are turned into others, and no other table is changed
+pub record Turns (tree : ℕ) (test : Row → Bool) (turned : Row → Row) (count : ℕ) (old new : Database) : Type 0 where
+  pub schema : new.schema ≡ old.schema
+  pub news : List Row
+  pub same : IsPermutation (map turned (filter test (old.trees tree))) news
+  pub counted : count ≡ length news
+  pub keyed : have_rowids news ≡ true
+  pub fresh : are_fresh (filter (λ r. not (test r)) (old.trees tree)) news ≡ true
+  pub rows : new.trees tree ≡ put_all (filter (λ r. not (test r)) (old.trees tree)) news
   pub others : (t : ℕ) → t ≢ tree → IsNoIndex old.schema t → new.trees t ≡ old.trees t

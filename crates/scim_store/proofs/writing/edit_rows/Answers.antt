@@ -1,17 +1,12 @@
 use Rattle.std.proofs.Common.{arith}
-use Rattle.scim_tables.specs.Lists.{has_text, without}
+use Rattle.sqlite.specs.Held.{state}
+use Rattle.sqlite.specs.State.{HasCleanDisk}
 use Rattle.scim_tables.proofs.StepLemmas.{goes_then}
-use Rattle.scim_store.specs.Edits.{is_member, is_name}
 use Rattle.scim_store.proofs.writing.edit_rows.Goals as goal
 
 pub returns-clause-went : goal.returns-clause-went
 returns-clause-went g c clean inside =
-    let e = c.args.edits.now in
-    let first = c.in_ok-take_rows.ensures.went (omega (arith, c.put_rows.ensures.survives.clean)) inside in
-    goes_then c.put_rows.result (λ h. (
-      h.0,
-      λ lists are.
-          h.1
-          (record lists { resources = without (has_text 0 e.id) lists.resources; taken = without (is_name e.names_gone.items) lists.taken; member = without (is_member e.id e.members_gone.items) lists.member })
-          (first.1 lists are),
-    )) (c.put_rows.ensures.went clean first.0)
+    let two : HasCleanDisk (state g.S.Store c.edit_resource.new.tx.conn.now) = omega (arith, c.put_names_and_members.ensures.survives.clean) in
+    let first = c.in_ok-take_names_and_members.ensures.went (omega (arith, two, c.edit_resource.ensures.survives.clean)) inside in
+    let second = c.in_ok-edit_resource.ensures.went two first.0 in
+    goes_then c.put_names_and_members.result (λ h. (h.0, λ lists are. h.1 _ (second.1 _ (first.1 lists are)))) (c.put_names_and_members.ensures.went clean second.0)

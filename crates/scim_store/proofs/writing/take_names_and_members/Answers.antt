@@ -1,0 +1,8 @@
+use Rattle.std.proofs.Common.{arith}
+use Rattle.scim_tables.proofs.StepLemmas.{goes_then}
+use Rattle.scim_store.proofs.writing.take_names_and_members.Goals as goal
+
+pub returns-clause-went : goal.returns-clause-went
+returns-clause-went g c clean inside =
+    let first = c.in_ok-delete_names.ensures.went (omega (arith, c.delete_members.ensures.survives.clean)) inside in
+    goes_then c.delete_members.result (λ h. (h.0, λ lists are. rw (c.as_slice.ensures.value, c.as_slice-2.ensures.value, c.as_str.ensures) at (h.1 _ (first.1 lists are)))) (c.delete_members.ensures.went clean first.0)
