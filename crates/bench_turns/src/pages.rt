@@ -14,27 +14,24 @@ use std::alloc::Global;
 use std::io::Print;
 use std::time::Clock;
 
-/// How many users a store has, and how many of them are found by name and by title.
+/// How many users a store has, and how many of them are found by title; by name all are.
 #[derive(Clone, Copy)]
 struct Size {
     users: usize,
-    named: usize,
     titled: usize,
 }
 
 const FEWER: Size = Size {
     users: 10_000,
-    named: 111,
     titled: 10,
 };
 
 const MORE: Size = Size {
     users: 100_000,
-    named: 1_111,
     titled: 100,
 };
 
-const BY_NAME: &str = "userName sw \"USER12\"";
+const BY_NAME: &str = "userName sw \"USER\"";
 
 const BY_TITLE: &str = "title co \"X\"";
 
@@ -67,15 +64,36 @@ struct Figures {
     by_title: u128,
 }
 
+/// The rule by which the client may read and make all, with the end of a policy file.
+const LAST_RULE: &str =
+    "{\"allow\":true,\"clients\":[\"hr\"],\"ops\":[\"read\",\"create\"],\"types\":[\"User\",\"Group\"],\"paths\":[\"*\"]}]}";
+
+/// How many rules of another client stand before those of the client, in the longer policy file with a target.
+const OTHERS: usize = 998;
+
 /// A policy file of ten rules without targets, all for the client: by the last it may read and make all.
 fn policy_text(alloc: Global) -> Result<String> {
     let mut text = String::from_str(alloc, "{\"version\":1,\"rules\":[")?;
     for path in PATHS {
         push_rule(&mut text, path)?;
     }
+    text.push_str(LAST_RULE)?;
+    Ok(text)
+}
+
+/// A policy file of two rules for the client, behind so many of another: the first hides whom its target means, by the last it
+/// may read and make all.
+fn target_text(alloc: Global, others: usize) -> Result<String> {
+    let mut text = String::from_str(alloc, "{\"version\":1,\"rules\":[")?;
+    for _ in 0..others {
+        text.push_str(
+            "{\"allow\":true,\"clients\":[\"mail\"],\"ops\":[\"read\"],\"types\":[\"User\"],\"paths\":[\"title\"]},",
+        )?;
+    }
     text.push_str(
-        "{\"allow\":true,\"clients\":[\"hr\"],\"ops\":[\"read\",\"create\"],\"types\":[\"User\",\"Group\"],\"paths\":[\"*\"]}]}",
+        "{\"allow\":false,\"clients\":[\"hr\"],\"ops\":[\"read\"],\"types\":[\"User\"],\"target\":\"userType eq \\\"Contractor\\\"\",\"paths\":[\"*\"]},",
     )?;
+    text.push_str(LAST_RULE)?;
     Ok(text)
 }
 
@@ -193,10 +211,9 @@ fn figure(
     fastest_timed(rt, alloc, service, turns.as_slice(), PASSES)
 }
 
-/// What searches take over a store of this size.
-fn measure(rt: &impl Clock, alloc: Global, size: Size) -> Result<Figures> {
-    let policy = policy_text(alloc)?;
-    let mut service = service_over_nothing(alloc, policy.as_str())?;
+/// What searches take over a store of this size, by the text of a policy.
+fn measure(rt: &impl Clock, alloc: Global, policy: &str, size: Size) -> Result<Figures> {
+    let mut service = service_over_nothing(alloc, policy)?;
     measure_service(rt, alloc, &mut service, size)
 }
 
@@ -208,7 +225,7 @@ fn measure_service(
 ) -> Result<Figures> {
     fill(alloc, service, size.users)?;
     Ok(Figures {
-        by_name: figure(rt, alloc, service, BY_NAME, size.named)?,
+        by_name: figure(rt, alloc, service, BY_NAME, size.users)?,
         by_title: figure(rt, alloc, service, BY_TITLE, size.titled)?,
     })
 }
@@ -219,8 +236,24 @@ pub fn run(rt: &(impl Clock + Print), alloc: Global) -> Result<()> {
         rt,
         "nanoseconds, for a page of a service over 10,000 users and over 100,000, by 10 rules without targets; the limit is 12 times",
     )?;
-    let few = measure(rt, alloc, FEWER)?;
-    let many = measure(rt, alloc, MORE)?;
+    let policy = policy_text(alloc)?;
+    let few = measure(rt, alloc, policy.as_str(), FEWER)?;
+    let many = measure(rt, alloc, policy.as_str(), MORE)?;
+    print_line(rt, BY_NAME, few.by_name, many.by_name)?;
+    print_line(rt, BY_TITLE, few.by_title, many.by_title)?;
+    compare_targets(rt, alloc)
+}
+
+/// Compares policies of two rules, one with a target, and of the same behind many of another client.
+fn compare_targets(rt: &(impl Clock + Print), alloc: Global) -> Result<()> {
+    print_heading(
+        rt,
+        "over 10,000 users, where a rule has a target, by 2 rules and by these behind 998 of another client",
+    )?;
+    let alone = target_text(alloc, 0)?;
+    let behind = target_text(alloc, OTHERS)?;
+    let few = measure(rt, alloc, alone.as_str(), FEWER)?;
+    let many = measure(rt, alloc, behind.as_str(), FEWER)?;
     print_line(rt, BY_NAME, few.by_name, many.by_name)?;
     print_line(rt, BY_TITLE, few.by_title, many.by_title)
 }

@@ -5,6 +5,7 @@ pub mod Decide
 pub mod File
 pub mod Lists
 pub mod Paths
+pub mod Picked
 pub mod Rules
 pub mod Table
 pub mod Targets

@@ -14,6 +14,7 @@ mod misfits;
 mod paths;
 mod reading;
 mod rules;
+mod rules_about;
 mod shared_decisions;
 mod targets;
 
@@ -25,3 +26,4 @@ pub use misfits::Misfit;
 pub use paths::is_client_name;
 pub use reading::read_policy;
 pub use rules::{ClientName, Decision, KindPaths, Policy, PolicyPath, Rule, Target};
+pub use rules_about::RulesAbout;

@@ -21,11 +21,14 @@ more_in_order query found done (p ∷ ps) is =
     subst (λ (xs : List Content). IsInOrder query xs (with_placed query (placed (before query) p done) ps)) (append_assoc found (p ∷ []) ps)
     (more_in_order query (found ++ p ∷ []) (placed (before query) p done) ps (in_order_more query found done p is))
 
+pub arranged_in_order : (query : Query) (parts : List Content) → IsInOrder query (matching query.filter parts) (arranged query parts)
+arranged_in_order query parts = more_in_order query [] [] (matching query.filter parts) (none_in_order query)
+
 -- the items of a page
-page_items : (parts : List Content) (query : Query) (page : Page) → IsPage parts query page → page.items.items ≡ slice_of query.start query.count (arranged query parts)
+pub page_items : (parts : List Content) (query : Query) (page : Page) → IsPage parts query page → page.items.items ≡ slice_of query.start query.count (arranged query parts)
 page_items parts query page is =
     is.items ∙ ap (slice_of query.start query.count)
-    (one_list_in_order query (matching query.filter parts) is.sorted (arranged query parts) is.is_sorted (more_in_order query [] [] (matching query.filter parts) (none_in_order query)))
+    (one_list_in_order query (matching query.filter parts) is.sorted (arranged query parts) is.is_sorted (arranged_in_order query parts))
 
 -- what a page of a client's view says, by the view
 pub record Says (view : List Content) (query : Query) (page : Page) : Type 0 where

@@ -3,7 +3,8 @@ pub mod OrderLemmas
 pub mod PageLemmas
 pub mod PagerLemmas
 pub mod PlacedLemmas
+pub mod PossibleMatchLemmas
+pub mod AlikeLemmas
 pub mod ArrangedLemmas
 pub mod Facts
 pub mod NeededLemmas
-pub mod SieveLemmas

@@ -3,8 +3,7 @@ use Rattle.std.proofs.Common.{◌≡◌, ℕ, ◌+◌, ◌-◌, Bool, true, fals
 use Rattle.std.specs.Option.{is_some}
 use Rattle.std.specs.Cmp.{IsStrictWeakOrder}
 use Rattle.std.specs.List.Sorted.{IsSorted, IsSortedBy}
-use Rattle.std.proofs.lemmas.List.{append-nil, drop-take, take-map, drop-map, map-append}
-use Rattle.std.proofs.lemmas.List.Elements.{filter-append}
+use Rattle.std.proofs.lemmas.List.{drop-take, take-map, drop-map, map-append}
 use Rattle.std.proofs.lemmas.List.Kept.{IsSortedBy-filter}
 use Rattle.std.proofs.lemmas.List.Sorted.{IsPermutation-refl, ranks_by}
 use Rattle.scim_schema.specs.declared.Leaf.{Leaf}
@@ -12,10 +11,9 @@ use Rattle.scim_cell.specs.Content.{Content}
 use Rattle.scim_cell.specs.Order.{id_cmp}
 use Rattle.scim_query.specs.declared.queries.Query.{Query}
 use Rattle.scim_query.specs.declared.kept_parts.KeptPart.{KeptPart}
-use Rattle.scim_query.specs.declared.pagers.Pager.{Pager}
 use Rattle.scim_query.specs.Order.{part_cmp, rank_of, rank_cmp}
 use Rattle.scim_query.specs.Pages.{is_match, matching, IsInOrder, slice_of}
-use Rattle.scim_query.specs.Pagers.{keyed, Holds, HoldsFirst, HasTaken, ComeInOrder}
+use Rattle.scim_query.specs.Pagers.{keyed, Holds, HoldsFirst, ComeInOrder}
 use Rattle.scim_query.specs.Arranged.{placed, before}
 use Rattle.scim_query.specs.code.Kept.{kept_rank, kept_cmp, comes_before}
 use Rattle.scim_query.proofs.OrderLemmas.{rank_cmp_total}
@@ -132,10 +130,3 @@ ended_in_order query found held h =
     let n = query.start - 1 in
     sym (drop-map part n held) ∙ ap (λ (ks : List KeptPart). drop n (map part ks)) h.first
     ∙ ap (drop n) (parts_keyed query.sort_by (take (n + query.count) h.sorted)) ∙ drop-take n query.count h.sorted
-
--- a part that doesn't match may be passed over
-pub not_taken : (parts : List Content) (part : Content) (pager : Pager) → HasTaken parts pager → is_match pager.query.now.filter part ≡ false → HasTaken (parts ++ part ∷ []) pager
-not_taken parts part pager taken none =
-    let query = pager.query.now in
-    let same : matching query.filter (parts ++ part ∷ []) ≡ matching query.filter parts = filter-append (is_match query.filter) parts (part ∷ []) ∙ rw none (append-nil (matching query.filter parts)) in
-    record { total = taken.total ∙ ap length (sym same); held = subst (λ (found : List Content). Holds query.sort_by query found pager.held.items) (sym same) taken.held }

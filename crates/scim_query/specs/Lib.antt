@@ -2,9 +2,10 @@ pub mod Arranged
 pub mod ClientSearches
 pub mod SortKeys
 pub mod Keys
+pub mod NamedAttributes
 pub mod Needed
 pub mod Order
 pub mod Pages
 pub mod Pagers
-pub mod Sieves
+pub mod PossibleMatches
 pub mod code

@@ -7,15 +7,15 @@ mod entries;
 mod kept_parts;
 mod keys;
 mod laws;
+mod named_attributes;
 mod needed_texts;
 mod pagers;
+mod possible_matches;
 mod queries;
-mod sieves;
 mod sort_keys;
 
 pub use client_searches::{search_view, shown_page};
 pub use laws::queries_have_one_page;
 pub use pagers::Pager;
 pub use queries::{Page, Query, search};
-pub use sieves::Sieve;
 pub use sort_keys::read_sort_by;

@@ -17,3 +17,4 @@ pub mod LawLemmas
 pub mod ListLemmas
 pub mod CellLemmas
 pub mod LookupLemmas
+pub mod WalkLemmas

@@ -36,6 +36,7 @@ use Rattle.scim_view.specs.View.{Viewer, read_decision, may_be_seen, sees, visib
 use Rattle.scim_view.specs.Groups.{seen, memberships, visible_with, with_groups, views}
 use Rattle.scim_shelf.specs.Stores.{AreKeyed, is_at, below, above, keep, without}
 use Rattle.scim_service.proofs.RowLemmas.{filter_swap, restricted_put}
+use Rattle.scim_service.proofs.StoreViews.{made_map, made_views}
 
 -- of a resource: its kind and id, the rows of what may be seen of it, and what the policy decides by
 pub record Traits : Type 0 where
@@ -276,11 +277,7 @@ module _ (v : Viewer) where
 
   -- all that are seen, with their groups
   pub views_map : (gs cs : List Content) → views v gs cs ≡ map (with_groups v gs) (filter (sees v) cs)
-  views_map gs [] = refl
-  views_map gs (c ∷ cs) = elim (cases_Bool (sees v c)) [
-    | inl yes' ↦ rw yes' (ap (λ ds. with_groups v gs c ∷ ds) (views_map gs cs))
-    | inr no' ↦ rw no' (views_map gs cs)
-  ]
+  views_map gs cs = sym (made_views v gs cs) ∙ made_map (with_groups v gs) v cs
 
   pub views_same : (kind : Kind) (s t : List Content) → seen_traits v s ≡ seen_traits v t
       → views v (of_kind Group s) (of_kind kind s) ≡ views v (of_kind Group t) (of_kind kind t)

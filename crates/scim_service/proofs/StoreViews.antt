@@ -1,6 +1,6 @@
 -- What of a store a service looks at: the groups that list a user, and what a client sees in order of id.
-use Rattle.std.proofs.Common.{◌≡◌, refl, sym, ◌∙◌, ap, subst, ℕ, zero, suc, ◌+◌, false, List, [], ◌∷◌, filter, inl, inr, arith, is_lt}
-use Rattle.std.specs.Prelude.{All, Option, Some}
+use Rattle.std.proofs.Common.{◌≡◌, refl, sym, ◌∙◌, ap, ap₂, subst, ℕ, zero, suc, ◌+◌, false, List, [], ◌∷◌, map, filter, inl, inr, arith, is_lt}
+use Rattle.std.specs.Prelude.{All}
 use Rattle.std.specs.List.{AllByRecursion}
 use Rattle.std.specs.List.Sorted.{IsStrictlySortedBy, IsSorted}
 use Rattle.std.specs.Ordering.{nat_cmp, ordering_reverse}
@@ -9,19 +9,20 @@ use Rattle.std.specs.declared.cmp.Ordering.TheVariants.{Less}
 use Rattle.std.specs.List.{slice_index_or}
 use Rattle.std.proofs.lemmas.Bool.{cases_Bool}
 use Rattle.std.proofs.lemmas.Cmp.{nat_list_cmp_total}
-use Rattle.std.proofs.lemmas.List.Elements.{All-weaker}
-use denote.Enum.Bare.{same_true}
+use Rattle.std.proofs.lemmas.List.Elements.{All-head, All-tail, All-weaker}
 use Rattle.scim_schema.specs.declared.Kind.TheVariants.{Group}
-use Rattle.scim_schema.specs.contracts.Kind.{the_type as the_kind}
 use Rattle.scim_cell.specs.Content.{Content, IsPart}
 use Rattle.scim_cell.specs.Ids.{id_text}
-use Rattle.scim_cell.specs.Kinds.{is_of, of_kind}
+use Rattle.scim_cell.specs.Kinds.{of_kind}
 use Rattle.scim_cell.specs.Order.{id_cmp}
 use Rattle.scim_value.specs.Resource.{IsResource, HasBase}
-use Rattle.scim_view.specs.View.{Viewer, sees}
+use Rattle.scim_view.specs.View.{Viewer, sees, visible_attributes}
 use Rattle.scim_view.specs.Groups.{and_those, with_groups, visible_with, view_with_groups, views}
 use Rattle.scim_view.proofs.Facts.{narrowed_groups}
 use Rattle.scim_shelf.specs.Stores.{Store, IsStore, is_group_with}
+use Rattle.scim_service.specs.declared.sights.Shows.{Shows}
+use Rattle.scim_service.specs.declared.sights.Shows.TheVariants.{Named, Whole}
+use Rattle.scim_service.specs.Sights.{made, made_of_all}
 
 -- the resources of a store are parts
 pub parts_of : (base : List ℕ) (store : Store) → IsStore base store → All IsPart store.resources
@@ -37,42 +38,56 @@ pub none_of_group : (v : Viewer) (gs hs : List Content) (c : Content) → c.kind
 unfolding with_groups visible_with
 none_of_group v gs hs c is = rw is refl
 
-view_of_group : (v : Viewer) (gs hs : List Content) (c : Content) → c.kind ≡ Group → view_with_groups v gs c ≡ view_with_groups v hs c
-view_of_group v gs hs c is = elim (cases_Bool (sees v c)) [ inl t ↦ rw t (ap (λ (w : Content). Some w) (none_of_group v gs hs c is)) | inr f ↦ rw f refl ]
+-- what is made of a resource has its id
+pub made_id : (v : Viewer) (groups : List Content) (shows : Shows) (c : Content) → (made v groups shows c).id ≡ c.id
+unfolding with_groups visible_with visible_attributes
+made_id v groups (Named attributes) c = refl
+made_id v groups (Whole index) c = refl
 
--- so a client's view of groups is told without looking at others
-pub views_of_groups : (v : Viewer) (gs hs cs : List Content) → views v gs (of_kind Group cs) ≡ views v hs (of_kind Group cs)
-views_of_groups v gs hs [] = refl
-views_of_groups v gs hs (c ∷ cs) =
-    let rest = views_of_groups v gs hs cs in
-    elim (cases_Bool (is_of Group c)) [
-      | inl t ↦ rw t (ap (λ (o : Option Content). and_those o (views v gs (of_kind Group cs))) (view_of_group v gs hs c (same_true the_kind tt c.kind Group t)) ∙ ap (and_those (view_with_groups v hs c)) rest)
-      | inr f ↦ rw f rest
-    ]
+-- what is made of all that is seen
+module _ (make : Content → Content) (v : Viewer) where
+  pub made_map : (cs : List Content) → made_of_all make v cs ≡ map make (filter (sees v) cs)
+  made_map [] = refl
+  made_map (c ∷ cs) = elim (cases_Bool (sees v c)) [
+    | inl yes' ↦ rw yes' (ap (λ ds. make c ∷ ds) (made_map cs))
+    | inr no' ↦ rw no' (made_map cs)
+  ]
 
--- ids above one stay above it in a client's view
-id_kept : (v : Viewer) (groups : List Content) (c : Content) → (with_groups v groups c).id ≡ c.id
-unfolding with_groups visible_with
-id_kept v groups c = refl
+  -- what keeps ids keeps their order
+  module _ (keeps : (c : Content) → (make c).id ≡ c.id) where
+    made_above : (id : List ℕ) (cs : List Content) → AllByRecursion (λ d. slice_cmp nat_cmp id d.id ≡ Less) cs
+        → AllByRecursion (λ d. slice_cmp nat_cmp id d.id ≡ Less) (made_of_all make v cs)
+    made_above id [] up = up
+    made_above id (c ∷ cs) up =
+        let rest = made_above id cs up.1 in
+        elim (cases_Bool (sees v c)) [
+          | inl t ↦ rw t (subst (λ (i : List ℕ). slice_cmp nat_cmp id i ≡ Less) (sym (keeps c)) up.0, rest)
+          | inr f ↦ rw f rest
+        ]
 
-views_above : (v : Viewer) (groups : List Content) (id : List ℕ) (cs : List Content) → AllByRecursion (λ d. slice_cmp nat_cmp id d.id ≡ Less) cs
-    → AllByRecursion (λ d. slice_cmp nat_cmp id d.id ≡ Less) (views v groups cs)
-views_above v groups id [] up = up
-views_above v groups id (c ∷ cs) up =
-    let rest = views_above v groups id cs up.1 in
+    pub made_ascends : (cs : List Content) → IsStrictlySortedBy id_cmp cs → IsStrictlySortedBy id_cmp (made_of_all make v cs)
+    unfolding IsStrictlySortedBy
+    made_ascends [] up = up
+    made_ascends (c ∷ cs) up =
+        let rest = made_ascends cs up.1 in
+        elim (cases_Bool (sees v c)) [
+          | inl t ↦ rw t (subst (λ (i : List ℕ). AllByRecursion (λ (d : Content). slice_cmp nat_cmp i d.id ≡ Less) (made_of_all make v cs)) (sym (keeps c)) (made_above c.id cs up.0), rest)
+          | inr f ↦ rw f rest
+        ]
+
+-- a client's view of resources is what is made of them whole
+pub made_views : (v : Viewer) (groups cs : List Content) → made_of_all (with_groups v groups) v cs ≡ views v groups cs
+made_views v groups [] = refl
+made_views v groups (c ∷ cs) = ap (and_those (view_with_groups v groups c)) (made_views v groups cs)
+
+-- resources with the same groups by two lists of groups are viewed alike by both
+pub views_alike : (v : Viewer) (gs hs cs : List Content) → All (λ c. with_groups v gs c ≡ with_groups v hs c) cs → views v gs cs ≡ views v hs cs
+views_alike v gs hs [] same = refl
+views_alike v gs hs (c ∷ cs) same =
+    let Same : Content → Type 0 = λ d. with_groups v gs d ≡ with_groups v hs d in
+    let rest = views_alike v gs hs cs (All-tail Same c cs same) in
     elim (cases_Bool (sees v c)) [
-      | inl t ↦ rw t (subst (λ (i : List ℕ). slice_cmp nat_cmp id i ≡ Less) (sym (id_kept v groups c)) up.0, rest)
-      | inr f ↦ rw f rest
-    ]
-
--- a client's view of resources in order of id is in order of id
-pub views_ascend : (v : Viewer) (groups cs : List Content) → IsStrictlySortedBy id_cmp cs → IsStrictlySortedBy id_cmp (views v groups cs)
-unfolding IsStrictlySortedBy
-views_ascend v groups [] up = up
-views_ascend v groups (c ∷ cs) up =
-    let rest = views_ascend v groups cs up.1 in
-    elim (cases_Bool (sees v c)) [
-      | inl t ↦ rw t (subst (λ (i : List ℕ). AllByRecursion (λ (d : Content). slice_cmp nat_cmp i d.id ≡ Less) (views v groups cs)) (sym (id_kept v groups c)) (views_above v groups c.id cs up.0), rest)
+      | inl t ↦ rw t (ap₂ ◌∷◌ (All-head Same c cs same) rest)
       | inr f ↦ rw f rest
     ]
 

@@ -1,105 +1,85 @@
 -- What becomes of a visitor that is shown a list.
-use Rattle.std.proofs.Common.{◌≡◌, List, [], ◌∷◌, ◌++◌, refl, sym, ap, ◌∙◌, append_assoc, subst, inl, inr}
+use Rattle.std.proofs.Common.{◌≡◌, ℕ, List, [], ◌∷◌, ◌++◌, refl, sym, ap, ◌∙◌, append_assoc, subst}
+use Rattle.std.specs.Prelude.{Result, Ok, Err, OnOk}
 use Rattle.std.specs.List.{FoldsTo}
-use Rattle.std.proofs.Math.Path.{fun_ext}
 use Rattle.std.proofs.lemmas.List.{append-nil}
-use Rattle.std.proofs.lemmas.Bool.{cases_Bool}
 use denote.Ref.{Bor}
-use Rattle.scim_schema.specs.declared.Leaf.{Leaf}
 use Rattle.scim_cell.specs.Content.{Content}
-use Rattle.scim_policy.specs.declared.rules.Decision.{Decision}
 use Rattle.scim_view.specs.declared.viewers.Viewer.{Viewer as ViewerInCode}
-use Rattle.scim_view.specs.View.{Viewer, viewer_of, read_decision, sees}
-use Rattle.scim_view.specs.Groups.{and_those, seen, memberships, visible_with, with_groups, view_with_groups, views}
+use Rattle.scim_view.specs.View.{viewer_of}
+use Rattle.scim_view.specs.Groups.{and_those}
 use Rattle.scim_view.specs.Indexes.{IsIndexOf}
+use Rattle.scim_view.specs.code.Index.{answers_for}
 use Rattle.scim_view.proofs.Facts.{and_those_append}
-use Rattle.scim_query.specs.declared.pagers.Pager.{Pager}
-use Rattle.scim_query.specs.declared.queries.Query.{Query}
-use Rattle.scim_query.specs.Pages.{is_match}
 use Rattle.scim_query.specs.Pagers.{HasTaken}
-use Rattle.scim_query.specs.Sieves.{IsSieveOf, NeverMatches}
-use Rattle.scim_query.proofs.Facts.{not_taken}
+use Rattle.scim_service.specs.declared.sights.Sight.{Sight}
 use Rattle.scim_service.specs.declared.visitors.GroupVisitor.{GroupVisitor}
 use Rattle.scim_service.specs.declared.visitors.SearchVisitor.{SearchVisitor}
-use Rattle.scim_service.specs.Visits.{AreShared, TakesGroup, TakesResource}
+use Rattle.scim_service.specs.ReadDecisions.{AreDecisions}
+use Rattle.scim_service.specs.Sights.{made, made_of_all, part_of, CanTell, IsSight}
+use Rattle.scim_service.specs.Visits.{TakesGroup, TakesResource}
+
+-- what holds at Ok by two that do
+pub both_ok : {T E : Type 0} (r : Result T E) (P Q R : Type 0) → (P → Q → R) → OnOk r P → OnOk r Q → OnOk r R
+both_ok (Ok t) P Q R make p q = make p q
+both_ok (Err e) P Q R make p q = tt
 
 -- whether a group joins the index that a visitor has, or a list of them
 abbrev Joins : GroupVisitor → List Content → GroupVisitor → Type 0
-Joins v cs w = (groups : List Content) → AreShared (viewer_of v.viewer.now) v.shared → IsIndexOf (viewer_of v.viewer.now) groups v.index
+Joins v cs w = (groups : List Content) → AreDecisions (viewer_of v.viewer.now) v.decisions → IsIndexOf (viewer_of v.viewer.now) groups v.index
     → IsIndexOf (viewer_of v.viewer.now) (groups ++ cs) w.index
 
 pub record TookGroups (v : GroupVisitor) (cs : List Content) (w : GroupVisitor) : Type 0 where
+  pub answers : (id : List ℕ) → answers_for w.index id ≡ answers_for v.index id
   pub index : Joins v cs w
 
 -- what joins by the next visitor joins by one with the same viewer and decisions
-joins_as : (v j w : GroupVisitor) (cs : List Content) → j.viewer ≡ v.viewer → j.shared ≡ v.shared → Joins j cs w
-    → (groups : List Content) → AreShared (viewer_of v.viewer.now) v.shared → IsIndexOf (viewer_of v.viewer.now) groups j.index
+joins_as : (v j w : GroupVisitor) (cs : List Content) → j.viewer ≡ v.viewer → j.decisions ≡ v.decisions → Joins j cs w
+    → (groups : List Content) → AreDecisions (viewer_of v.viewer.now) v.decisions → IsIndexOf (viewer_of v.viewer.now) groups j.index
     → IsIndexOf (viewer_of v.viewer.now) (groups ++ cs) w.index
-joins_as v j w cs viewer shared joins groups are is =
-    let are' : AreShared (viewer_of j.viewer.now) j.shared = subst (λ (u : Bor ViewerInCode). AreShared (viewer_of u.now) j.shared) (sym viewer) (subst (AreShared (viewer_of v.viewer.now)) (sym shared) are) in
+joins_as v j w cs viewer decisions joins groups are is =
+    let are' : AreDecisions (viewer_of j.viewer.now) j.decisions
+    = subst (λ (u : Bor ViewerInCode). AreDecisions (viewer_of u.now) j.decisions) (sym viewer) (subst (AreDecisions (viewer_of v.viewer.now)) (sym decisions) are) in
     let is' : IsIndexOf (viewer_of j.viewer.now) groups j.index = subst (λ (u : Bor ViewerInCode). IsIndexOf (viewer_of u.now) groups j.index) (sym viewer) is in
     subst (λ (u : Bor ViewerInCode). IsIndexOf (viewer_of u.now) (groups ++ cs) w.index) viewer (joins groups are' is')
 
 pub took_groups : (v : GroupVisitor) (cs : List Content) (w : GroupVisitor) → FoldsTo TakesGroup v cs w → TookGroups v cs w
-took_groups v [] w same = rw (← same) (record { index = λ groups are is. rw (append-nil groups) is })
+took_groups v [] w same = rw (← same) (record { answers = λ id. refl; index = λ groups are is. rw (append-nil groups) is })
 took_groups v (c ∷ cs) w steps =
     let j = steps.0 in
     let one = steps.1 in
     let rest = took_groups j cs w steps.2 in
     record {
+      answers = λ id. rest.answers id ∙ one.answers id;
       index = λ groups are is.
           subst (λ (gs : List Content). IsIndexOf (viewer_of v.viewer.now) gs w.index) (append_assoc groups (c ∷ []) cs)
-          (joins_as v j w cs one.viewer one.shared rest.index (groups ++ c ∷ []) are (one.index groups are is));
+          (joins_as v j w cs one.viewer one.decisions rest.index (groups ++ c ∷ []) are (one.index groups are is));
     }
 
--- what a visitor has been shown has been handed to its pager, as the viewer sees it
-abbrev Hands : SearchVisitor → List Content → SearchVisitor → Type 0
-Hands v cs w = (groups parts : List Content) → AreShared (viewer_of v.viewer.now) v.shared → IsSieveOf v.pager.query.now.filter v.sieve
-    → IsIndexOf (viewer_of v.viewer.now) groups v.index.now → HasTaken parts v.pager → HasTaken (parts ++ views (viewer_of v.viewer.now) groups cs) w.pager
+-- what is made of what a visitor has been shown has been handed to its pager
+abbrev made_by : List Content → Sight → List Content → List Content
+made_by groups sight cs = made_of_all (made (viewer_of sight.viewer.now) groups sight.shows) (viewer_of sight.viewer.now) cs
 
 pub record TookResources (v : SearchVisitor) (cs : List Content) (w : SearchVisitor) : Type 0 where
   pub query : w.pager.query ≡ v.pager.query
-  pub taken : Hands v cs w
-
-hands_as : (v j w : SearchVisitor) (c : Content) (cs : List Content) → TakesResource v c j → Hands j cs w
-    → (groups parts : List Content) → AreShared (viewer_of v.viewer.now) v.shared → IsSieveOf v.pager.query.now.filter v.sieve
-    → IsIndexOf (viewer_of v.viewer.now) groups v.index.now → HasTaken parts j.pager → HasTaken (parts ++ views (viewer_of v.viewer.now) groups cs) w.pager
-hands_as v j w c cs one hands groups parts are sieved is was =
-    let viewer = viewer_of v.viewer.now in
-    let are' : AreShared (viewer_of j.viewer.now) j.shared = subst (λ (u : Bor ViewerInCode). AreShared (viewer_of u.now) j.shared) (sym one.viewer) (subst (AreShared viewer) (sym one.shared) are) in
-    let sieved' : IsSieveOf j.pager.query.now.filter j.sieve
-    = subst (λ (q : Bor Query). IsSieveOf q.now.filter j.sieve) (sym one.query) (subst (IsSieveOf v.pager.query.now.filter) (sym one.sieve) sieved) in
-    let is' : IsIndexOf (viewer_of j.viewer.now) groups j.index.now
-    = subst (λ (u : Bor ViewerInCode). IsIndexOf (viewer_of u.now) groups j.index.now) (sym one.viewer) (subst (λ (i : Bor _). IsIndexOf viewer groups i.now) (sym one.index) is) in
-    subst (λ (u : Bor ViewerInCode). HasTaken (parts ++ views (viewer_of u.now) groups cs) w.pager) one.viewer (hands groups parts are' sieved' is' was)
+  pub taken : (groups parts : List Content) → IsSight groups v.sight → ((id : List ℕ) → CanTell v.sight.shows id) → HasTaken parts v.pager
+      → HasTaken (parts ++ made_by groups v.sight cs) w.pager
 
 pub took_resources : (v : SearchVisitor) (cs : List Content) (w : SearchVisitor) → FoldsTo TakesResource v cs w → TookResources v cs w
-took_resources v [] w same = rw (← same) (record { query = refl; taken = λ groups parts are sieved is was. rw (append-nil parts) was })
+took_resources v [] w same = rw (← same) (record { query = refl; taken = λ groups parts is tells was. rw (append-nil parts) was })
 took_resources v (c ∷ cs) w steps =
     let j = steps.0 in
     let one = steps.1 in
     let rest = took_resources j cs w steps.2 in
     record {
       query = rest.query ∙ one.query;
-      taken = λ groups parts are sieved is was.
-          let viewer = viewer_of v.viewer.now in
-          let first = and_those (view_with_groups viewer groups c) [] in
-          let all : (parts ++ first) ++ views viewer groups cs ≡ parts ++ views viewer groups (c ∷ cs)
-          = append_assoc parts first (views viewer groups cs) ∙ ap (λ (t : List Content). parts ++ t) (sym (and_those_append (view_with_groups viewer groups c) [] (views viewer groups cs))) in
-          subst (λ (t : List Content). HasTaken t w.pager) all
-          (hands_as v j w c cs one rest.taken groups (parts ++ first) are sieved is (one.taken groups parts are sieved is was));
+      taken = λ groups parts is tells was.
+          let first = and_those (part_of groups v.sight c) [] in
+          let all : (parts ++ first) ++ made_by groups v.sight cs ≡ parts ++ made_by groups v.sight (c ∷ cs)
+          = append_assoc parts first (made_by groups v.sight cs)
+          ∙ ap (λ (t : List Content). parts ++ t) (sym (and_those_append (part_of groups v.sight c) [] (made_by groups v.sight cs))) in
+          let more : HasTaken ((parts ++ first) ++ made_by groups j.sight cs) w.pager
+          = rest.taken groups (parts ++ first) (subst (IsSight groups) (sym one.sight) is) (λ id. subst (λ (s : Sight). CanTell s.shows id) (sym one.sight) (tells id))
+          (one.taken groups parts is (tells c.id) was) in
+          subst (λ (t : List Content). HasTaken t w.pager) all (subst (λ (s : Sight). HasTaken ((parts ++ first) ++ made_by groups s cs) w.pager) one.sight more);
     }
-
--- a resource that doesn't match, whatever groups list it, needs no handing over
-pub stopped : (v : Viewer) (groups parts : List Content) (c : Content) (decides : Leaf → Decision) (pager : Pager)
-    → ((l : Leaf) → decides l ≡ read_decision v c l) → NeverMatches pager.query.now.filter decides c
-    → HasTaken parts pager → HasTaken (parts ++ and_those (view_with_groups v groups c) []) pager
-unfolding with_groups
-stopped v groups parts c decides pager same never was =
-    elim (cases_Bool (sees v c)) [
-      | inl t ↦
-          let other : visible_with decides (memberships v.base (seen v groups) c.id) c ≡ with_groups v groups c
-          = ap (λ (f : Leaf → Decision). visible_with f (memberships v.base (seen v groups) c.id) c) (fun_ext same) in
-          rw t (not_taken parts (with_groups v groups c) pager was (ap (is_match pager.query.now.filter) (sym other) ∙ never v.base (seen v groups)))
-      | inr f ↦ rw f (rw (append-nil parts) was)
-    ]

@@ -10,13 +10,15 @@ mod names;
 mod patches;
 mod plans;
 mod reached;
+mod read_decisions;
 mod replacements;
 mod replies;
 mod requests;
 mod service;
-mod shared_decisions;
+mod sights;
 mod visitors;
 mod walks;
+mod whole_items;
 
 pub use replies::{Reply, status_of};
 pub use requests::{Ask, Request, Turn};

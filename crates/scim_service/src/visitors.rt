@@ -1,19 +1,15 @@
 //! What is done with resources as the store is walked.
-ghost use Rattle.std.specs.Prelude.{◌≡◌, ◌++◌, List, [], IfOk, OnOk};
-ghost use Rattle.scim_schema.specs.declared.Leaf.{Leaf};
+ghost use Rattle.std.specs.Prelude.{◌≡◌, ℕ, List, [], IfOk};
 ghost use Rattle.scim_cell.specs.Content.{Content};
-ghost use Rattle.scim_policy.specs.Table.{decision};
-ghost use Rattle.scim_view.specs.Groups.{and_those, view_with_groups};
-ghost use Rattle.scim_view.specs.Indexes.{IsIndexOf};
-ghost use Rattle.scim_view.specs.View.{Viewer as SpecViewer, read_decision, viewer_of};
+ghost use Rattle.scim_view.specs.View.{viewer_of};
 ghost use Rattle.scim_query.specs.Pages.{IsPage};
 ghost use Rattle.scim_query.specs.Pagers.{HasTaken, ComeInOrder};
-ghost use Rattle.scim_query.specs.Sieves.{IsSieveOf};
-ghost use Rattle.scim_service.specs.Visits.{AreShared, TakesGroup, TakesResource};
+ghost use Rattle.scim_service.specs.ReadDecisions.{AreDecisions};
+ghost use Rattle.scim_service.specs.Visits.{TakesGroup, TakesResource};
 
-use crate::shared_decisions::SharedDecisions;
-use scim_policy::Decisions;
-use scim_query::{Page, Pager, Query, Sieve};
+use crate::read_decisions::ReadDecisions;
+use crate::sights::Sight;
+use scim_query::{Page, Pager, Query};
 use scim_schema::Kind;
 use scim_shelf::Visitor;
 use scim_text::NoMemory;
@@ -25,22 +21,26 @@ use std::alloc::Global;
 #[derive(Drop)]
 pub(crate) struct GroupVisitor<'a> {
     viewer: &'a Viewer<'a>,
-    shared: SharedDecisions,
+    decisions: ReadDecisions<'a>,
     index: GroupIndex,
 }
 
 impl<'a> GroupVisitor<'a> {
-    /// NoMemory where none was to be had.
-    pub(crate) fn new(alloc: Global, viewer: &'a Viewer<'a>) -> Result<GroupVisitor<'a>, NoMemory>
+    /// One that goes on with this index. NoMemory where none was to be had.
+    pub(crate) fn new(
+        alloc: Global,
+        viewer: &'a Viewer<'a>,
+        index: GroupIndex,
+    ) -> Result<GroupVisitor<'a>, NoMemory>
         ensures viewer { IfOk result (λ visitor. visitor.viewer ≡ viewer.entry) }
-        ensures shared { IfOk result (λ visitor. AreShared (viewer_of viewer.entry.now) visitor.shared) }
-        ensures index { IfOk result (λ visitor. (v : SpecViewer) → IsIndexOf v [] visitor.index) }
+        ensures decisions { IfOk result (λ visitor. AreDecisions (viewer_of viewer.entry.now) visitor.decisions) }
+        ensures index { IfOk result (λ visitor. visitor.index ≡ index) }
     {
-        let shared = SharedDecisions::of(alloc, viewer, Kind::Group)?;
+        let decisions = ReadDecisions::of(alloc, viewer, Kind::Group)?;
         Ok(GroupVisitor {
             viewer,
-            shared,
-            index: GroupIndex::new(alloc),
+            decisions,
+            index,
         })
     }
 
@@ -55,51 +55,34 @@ impl<'a> Visitor for GroupVisitor<'a> {
     ghost takes = { TakesGroup };
 
     fn take(&mut self, alloc: Global, resource: &Resource) -> Result<(), NoMemory> {
-        match self.shared.on(resource) {
+        match self.decisions.on_all(resource) {
             Some(decisions) => self.index.push(alloc, decisions, resource),
             None => {
-                let decisions = self.viewer.decisions(alloc, resource)?;
+                let decisions = self.decisions.on(alloc, self.viewer, resource)?;
                 self.index.push(alloc, &decisions, resource)
             }
         }
     }
 }
 
-/// Hands a pager what a client sees of resources, of those that may match.
+/// Hands a pager what is made of the resources that a client sees.
 #[derive(Drop)]
 pub(crate) struct SearchVisitor<'a> {
-    viewer: &'a Viewer<'a>,
-    shared: SharedDecisions,
-    sieve: Sieve<'a>,
-    index: &'a GroupIndex,
+    sight: Sight<'a>,
     pager: Pager<'a>,
 }
 
 impl<'a> SearchVisitor<'a> {
-    /// NoMemory where none was to be had.
-    pub(crate) fn new(
-        alloc: Global,
-        viewer: &'a Viewer<'a>,
-        kind: Kind,
-        index: &'a GroupIndex,
-        query: &'a Query,
-    ) -> Result<SearchVisitor<'a>, NoMemory>
-        ensures viewer { IfOk result (λ visitor. visitor.viewer ≡ viewer.entry) }
-        ensures shared { IfOk result (λ visitor. AreShared (viewer_of viewer.entry.now) visitor.shared) }
-        ensures sieve { IfOk result (λ visitor. IsSieveOf query.entry.now.filter visitor.sieve) }
-        ensures index { IfOk result (λ visitor. visitor.index ≡ index.entry) }
-        ensures query { IfOk result (λ visitor. visitor.pager.query ≡ query.entry) }
-        ensures taken { IfOk result (λ visitor. HasTaken [] visitor.pager) }
+    /// It takes no memory.
+    pub(crate) fn new(alloc: Global, sight: Sight<'a>, query: &'a Query) -> SearchVisitor<'a>
+        ensures sight { result.sight ≡ sight.entry }
+        ensures query { result.pager.query ≡ query.entry }
+        ensures taken { HasTaken [] result.pager }
     {
-        let shared = SharedDecisions::of(alloc, viewer, kind)?;
-        let sieve = Sieve::new(alloc, query)?;
-        Ok(SearchVisitor {
-            viewer,
-            shared,
-            sieve,
-            index,
+        SearchVisitor {
+            sight,
             pager: Pager::new(alloc, query),
-        })
+        }
     }
 
     pub(crate) fn end(self) -> Result<Page, NoMemory>
@@ -110,49 +93,13 @@ impl<'a> SearchVisitor<'a> {
     }
 }
 
-/// Hands the pager what the client sees of the resource by these decisions, unless the sieve tells that it
-/// doesn't match.
-fn hand_over(
-    alloc: Global,
-    viewer: &Viewer<'_>,
-    decisions: &Decisions,
-    sieve: &Sieve<'_>,
-    index: &GroupIndex,
-    pager: &mut Pager<'_>,
-    resource: &Resource,
-) -> Result<(), NoMemory>
-    ensures query { pager.new.query ≡ pager.old.query }
-    ensures taken { OnOk result ((groups parts : List Content)
-        → ((l : Leaf) → decision decisions.now l ≡ read_decision (viewer_of viewer.now) resource.now l)
-        → IsIndexOf (viewer_of viewer.now) groups index.now → IsSieveOf pager.old.query.now.filter sieve.now → HasTaken parts pager.old
-        → HasTaken (parts ++ and_those (view_with_groups (viewer_of viewer.now) groups resource.now) []) pager.new) }
-{
-    if sieve.stops(alloc, decisions, resource)? {
-        return Ok(());
-    }
-    match viewer.view_by_index(alloc, decisions, index, resource)? {
-        Some(part) => pager.push(part),
-        None => Ok(()),
-    }
-}
-
 impl<'a> Visitor for SearchVisitor<'a> {
     ghost takes = { TakesResource };
 
     fn take(&mut self, alloc: Global, resource: &Resource) -> Result<(), NoMemory> {
-        let SearchVisitor {
-            viewer,
-            shared,
-            sieve,
-            index,
-            pager,
-        } = self;
-        match shared.on(resource) {
-            Some(decisions) => hand_over(alloc, viewer, decisions, sieve, index, pager, resource),
-            None => {
-                let decisions = viewer.decisions(alloc, resource)?;
-                hand_over(alloc, viewer, &decisions, sieve, index, pager, resource)
-            }
+        match self.sight.part_of(alloc, resource)? {
+            Some(part) => self.pager.push(part),
+            None => Ok(()),
         }
     }
 }

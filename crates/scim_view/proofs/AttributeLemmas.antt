@@ -5,8 +5,9 @@ use Rattle.std.specs.List.{list_any}
 use Rattle.std.specs.declared.cmp.Ordering.{Ordering}
 use Rattle.std.specs.declared.cmp.Ordering.TheVariants.{Less, Equal, Greater}
 use Rattle.std.specs.Ordering.{is_lt, is_eq, is_gt}
-use Rattle.std.proofs.lemmas.Bool.{cases_Bool}
+use Rattle.std.proofs.lemmas.Bool.{cases_Bool, or_parts}
 use Rattle.std.proofs.lemmas.List.Elements.{All-head, All-tail, All-weaker, filter-append}
+use Rattle.std.proofs.lemmas.List.Folds.{list_any_at}
 use denote.Enum.Bare.{sameb, same_true}
 use Rattle.scim_schema.specs.declared.Kind.{Kind}
 use Rattle.scim_schema.specs.declared.Kind.TheVariants.{User}
@@ -16,17 +17,18 @@ use Rattle.scim_schema.specs.declared.Attribute.TheVariants.{Groups}
 use Rattle.scim_schema.specs.contracts.Attribute.{the_type as the_attribute}
 use Rattle.scim_schema.specs.declared.Leaf.{Leaf}
 use Rattle.scim_schema.specs.declared.Unit.{Unit as AttributeUnit}
+use Rattle.scim_schema.specs.Table.{HasLeaf, leaves}
 use Rattle.scim_schema.specs.Units.{whole}
 use Rattle.scim_cell.specs.declared.rows.Field.{Field}
 use Rattle.scim_cell.specs.Place.{unit_cmp}
 use Rattle.scim_cell.specs.Content.{Content, IsPart}
 use Rattle.scim_cell.specs.Order.{id_cmp}
-use Rattle.scim_cell.specs.Rows.{Row, Test, rows, put_values, restricted, restricted_row, has_fields, AreSound, AreValues, Precedes}
+use Rattle.scim_cell.specs.Rows.{Row, Test, rows, put_values, restricted, restricted_row, has_fields, AreSound, AreValues, IsSoundField, IsSoundRow, Precedes}
 use Rattle.scim_value.specs.Members.{lists}
 use Rattle.scim_value.proofs.Facts.{sound_part, unit_same, unit_total, rows_content, put_sound, restricted_sound}
 use Rattle.scim_policy.specs.declared.rules.Decision.{Decision}
 use Rattle.scim_policy.proofs.Facts.{kept_rows}
-use Rattle.scim_view.specs.View.{may_be_seen, may_be_seen_of, visible_attributes}
+use Rattle.scim_view.specs.View.{may_be_seen, may_be_seen_of, shows_some, visible_attributes}
 use Rattle.scim_view.specs.Groups.{memberships, rows_with, visible_with}
 use Rattle.scim_view.specs.Sorted.{sorted_by}
 use Rattle.scim_view.proofs.GroupLemmas.{restricted-put_values, seen_values}
@@ -191,3 +193,52 @@ attributes_alike attributes d base gs c part none =
     ∙ left_alike keep some all (rows c) alike
     ∙ sym (kept_with keep none d base gs c part)
     ∙ sym (ap (kept_rows keep) (rows_content c.kind c.id _ (sound_with d base gs c part)))
+
+-- ---- attributes of which nothing may be seen
+
+-- no leaf of an attribute of which nothing may be seen may be seen
+hidden_leaf : (d : Leaf → Decision) (kind : Kind) (a : Attribute) (r : Row) (l : Leaf) → HasLeaf kind l → sameb the_attribute l.attribute a ≡ true → shows_some d kind a ≡ false → may_be_seen d kind r l ≡ false
+hidden_leaf d kind a r l there own none =
+    let test : Leaf → Bool = λ m. sameb the_attribute m.attribute a && may_be_seen d kind r m in
+    elim (cases_Bool (may_be_seen d kind r l)) [
+      | inr f ↦ f
+      | inl t ↦
+          let shown : test l ≡ true = rw (own, t) refl in
+          let some : shows_some d kind a ≡ true = list_any_at test (leaves kind) there.0 l there.1 (ap test there.2 ∙ shown) in
+          absurd (cc)
+    ]
+
+-- nor any of some such attributes
+hidden : (attributes : List Attribute) (d : Leaf → Decision) (kind : Kind) (r : Row) (l : Leaf) → HasLeaf kind l → l.attribute ≡ r.unit.attribute → list_any (shows_some d kind) attributes ≡ false
+    → may_be_seen_of attributes d kind r l ≡ false
+hidden [] d kind r l there own none = refl
+hidden (a ∷ attributes) d kind r l there own none =
+    let parts = or_parts (shows_some d kind a) (list_any (shows_some d kind) attributes) none in
+    elim (cases_Bool (sameb the_attribute r.unit.attribute a)) [
+      | inl t ↦ rw (t, hidden_leaf d kind a r l there (ap (λ (b : Attribute). sameb the_attribute b a) own ∙ t) parts.0) refl
+      | inr f ↦ rw f (hidden attributes d kind r l there own parts.1)
+    ]
+
+no_fields : (p : Field → Bool) (fs : List Field) → All (λ f. p f ≡ false) fs → filter p fs ≡ []
+no_fields p [] all = refl
+no_fields p (f ∷ fs) all =
+    let test : Field → Type 0 = λ g. p g ≡ false in
+    rw (All-head test f fs all) (no_fields p fs (All-tail test f fs all))
+
+-- nothing is left of rows by a test that no field passes
+none_left : (test : Test) (kind : Kind) (rs : List Row) → ((r : Row) (f : Field) → IsSoundField kind r.unit f → test r f.leaf ≡ false) → All (IsSoundRow kind) rs → restricted test rs ≡ []
+none_left test kind [] fails own = refl
+none_left test kind (r ∷ rs) fails own =
+    let sound = All-head (IsSoundRow kind) r rs own in
+    let none : filter (λ (f : Field). test r f.leaf) r.fields ≡ [] =
+    no_fields (λ f. test r f.leaf) r.fields (All-weaker (IsSoundField kind r.unit) (λ f. test r f.leaf ≡ false) (fails r) r.fields sound.own) in
+    rw none (none_left test kind rs fails (All-tail (IsSoundRow kind) r rs own))
+
+-- of attributes of which nothing may be seen there are no rows in what may be seen of them
+pub none_shown : (attributes : List Attribute) (d : Leaf → Decision) (c : Content) → IsPart c → list_any (shows_some d c.kind) attributes ≡ false → rows (visible_attributes attributes d c) ≡ []
+unfolding visible_attributes
+none_shown attributes d c part none =
+    let test = may_be_seen_of attributes d c.kind in
+    let sound = sound_part c part in
+    rows_content c.kind c.id _ (restricted_sound c.kind test (rows c) sound)
+    ∙ none_left test c.kind (rows c) (λ r f own. hidden attributes d c.kind r f.leaf own.1 (ap (λ (u : AttributeUnit). u.attribute) own.0) none) sound.own

@@ -1,5 +1,5 @@
 -- What other crates may use of the proofs here.
-pub use Rattle.scim_view.proofs.AttributeLemmas.{attributes_alike}
+pub use Rattle.scim_view.proofs.AttributeLemmas.{attributes_alike, none_shown}
 pub use Rattle.scim_view.proofs.IndexLemmas.{seen_more, and_those_append}
 pub use Rattle.scim_view.proofs.ListLemmas.{views_more}
 pub use Rattle.scim_view.proofs.NarrowedLemmas.{narrowed_groups, narrowed_view}

@@ -10,6 +10,7 @@ use Rattle.scim_schema.specs.contracts.Attribute.{the_type as the_attribute}
 use Rattle.scim_schema.specs.declared.Op.TheVariants.{Read}
 use Rattle.scim_schema.specs.Units.{simple}
 use Rattle.scim_schema.specs.Mutability.{is_write_only}
+use Rattle.scim_schema.specs.Table.{leaves}
 use Rattle.scim_cell.specs.Content.{Content}
 use Rattle.scim_cell.specs.Rows.{Test, rows, restricted, content}
 use Rattle.scim_policy.specs.declared.rules.Decision.{Decision}
@@ -42,6 +43,10 @@ sees v c = may_read v c (simple Id)
 -- the leaves of a kind that may be seen by these decisions on reading
 abbrev pub may_be_seen : (Leaf → Decision) → Kind → Test
 may_be_seen decision kind _ l = not (is_write_only kind l) && (decision l).allow
+
+-- whether some leaf of the attribute may be seen of resources of the kind by these decisions on reading them
+abbrev pub shows_some : (Leaf → Decision) → Kind → Attribute → Bool
+shows_some decision kind a = list_any (λ l. sameb the_attribute l.attribute a && (not (is_write_only kind l) && (decision l).allow)) (leaves kind)
 
 -- what may be seen of the resource by these decisions on reading: values without a visible cell are left out, and positions close up
 unfoldable pub visible_by : (Leaf → Decision) → Content → Content

@@ -16,4 +16,4 @@ pub use laws::nothing_comes_into_view;
 pub use names::Names;
 pub use projection::{Wanted, project};
 pub use viewers::Viewer;
-pub use views::visible_attributes;
+pub use views::{shows_some, visible_attributes};

@@ -10,7 +10,7 @@ ghost use Rattle.scim_view.specs.View as spec;
 use crate::viewers::Viewer;
 use scim_cell::{Row, RowTest};
 use scim_policy::Decisions;
-use scim_schema::{Attribute, Kind, Leaf, Op, is_write_only};
+use scim_schema::{Attribute, Kind, Leaf, Op, is_write_only, leaves};
 use scim_text::NoMemory;
 use scim_value::{Part, Resource};
 use std::alloc::Global;
@@ -162,4 +162,15 @@ pub fn visible_attributes(
         },
     };
     resource.part().restrict(alloc, &test)
+}
+
+/// Whether some leaf of the attribute may be seen of resources of the kind, by these decisions on reading them.
+/// Where none may, [`visible_attributes`] has no cell of the attribute to give.
+pub fn shows_some(decisions: &Decisions, kind: Kind, attribute: Attribute) -> bool
+    ensures { result ≡ spec.shows_some (decision decisions.now) kind attribute }
+{
+    let seen = MayBeSeen { kind, decisions };
+    leaves(kind)
+        .iter()
+        .any(|leaf| leaf.attribute == attribute && seen.shows(*leaf))
 }

@@ -1,14 +1,23 @@
-use Rattle.std.proofs.Common.{subst, List}
-use Rattle.std.proofs.lemmas.Result.{IfOk-weaker}
-use Rattle.scim_cell.specs.Content.{Content}
+use Rattle.std.proofs.Common.{sym, ◌∙◌, subst, [], arith}
+use denote.Ref.{Bor}
+use Rattle.scim_schema.specs.declared.Kind.TheVariants.{Group}
+use Rattle.scim_cell.specs.Kinds.{of_kind}
+use Rattle.scim_view.specs.View.{viewer_of}
+use Rattle.scim_view.specs.Groups.{views}
+use Rattle.scim_query.specs.declared.queries.Query.{Query}
 use Rattle.scim_query.specs.Pages.{IsPage}
+use Rattle.scim_service.proofs.LookupLemmas.{page_of_matching, one_in_order}
+use Rattle.scim_service.proofs.WalkLemmas.{none_matches}
 use Rattle.scim_service.proofs.walks.page_of_all.Goals as goal
 
-pub returns-clause-page : goal.returns-clause-page
-returns-clause-page g c =
-    IfOk-weaker c.page_by_index.result _ _
-    (λ found answer store stands honest base is.
-    let index = c.in_ok-index.ensures.index store stands (c.page_by_index.ensures.read.honest honest) in
-    let walked = answer store (c.in_ok-index.ensures.read.store store stands) honest index.0 base index.1 is in
-    subst (λ (view : List Content). IsPage view c.args.query.now found) index.2 walked)
-    c.page_by_index.ensures.page
+pub returns-then-not-may_find-clause-page : goal.returns-then-not-may_find-clause-page
+returns-then-not-may_find-clause-page g c store stands honest base is =
+    let viewer = viewer_of c.args.viewer.now in
+    let kind = c.args.kind in
+    let query = c.args.query.now in
+    let page = c.in_ok-end.field-0 in
+    let none : IsPage [] query page
+    = subst (λ (q : Bor Query). IsPage [] q.now page) c.new.ensures.query (c.in_ok-end.ensures [] c.new.ensures.taken (λ e. one_in_order [] (omega arith))) in
+    page_of_matching [] (views viewer (of_kind Group store.resources) (of_kind kind store.resources)) query page
+    (none_matches viewer kind (of_kind Group store.resources) query.filter base store is
+    (λ d part own seen. c.may_find.ensures c.if-not-may_find.true viewer (of_kind Group store.resources) d c.in_ok-decisions.ensures.decisions part (own ∙ sym c.in_ok-decisions.ensures.kind) seen)) none

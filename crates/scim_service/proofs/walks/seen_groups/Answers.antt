@@ -1,4 +1,4 @@
-use Rattle.std.proofs.Common.{sym, subst, []}
+use Rattle.std.proofs.Common.{sym, ◌∙◌, ap, subst, []}
 use denote.Ref.{Bor}
 use Rattle.scim_schema.specs.declared.Kind.TheVariants.{Group}
 use Rattle.scim_cell.specs.Kinds.{of_kind}
@@ -6,7 +6,8 @@ use Rattle.scim_view.specs.declared.viewers.Viewer.{Viewer as ViewerInCode}
 use Rattle.scim_view.specs.declared.index.GroupIndex.{GroupIndex}
 use Rattle.scim_view.specs.View.{viewer_of}
 use Rattle.scim_view.specs.Indexes.{IsIndexOf}
-use Rattle.scim_service.specs.Visits.{AreShared}
+use Rattle.scim_view.specs.code.Index.{answers_for}
+use Rattle.scim_service.specs.ReadDecisions.{AreDecisions}
 use Rattle.scim_service.proofs.VisitLemmas.{took_groups}
 use Rattle.scim_service.proofs.walks.seen_groups.Goals as goal
 
@@ -16,8 +17,11 @@ returns-clause-index g c store stands honest =
     let first = c.in_ok-groups.groups in
     let last = c.each.new.visitor in
     let walk = took_groups first gs last (c.in_ok-each.ensures.answer store stands honest) in
-    let shared : AreShared (viewer_of first.viewer.now) first.shared
-    = subst (λ (u : Bor ViewerInCode). AreShared (viewer_of u.now) first.shared) (sym c.in_ok-groups.ensures.viewer) c.in_ok-groups.ensures.shared in
-    let made : IsIndexOf (viewer_of first.viewer.now) gs last.index = walk.index [] shared (c.in_ok-groups.ensures.index (viewer_of first.viewer.now)) in
-    subst (λ (i : GroupIndex). IsIndexOf (viewer_of c.args.viewer.now) gs i) (sym c.end.ensures)
-    (subst (λ (u : Bor ViewerInCode). IsIndexOf (viewer_of u.now) gs last.index) c.in_ok-groups.ensures.viewer made)
+    let are : AreDecisions (viewer_of first.viewer.now) first.decisions
+    = subst (λ (u : Bor ViewerInCode). AreDecisions (viewer_of u.now) first.decisions) (sym c.in_ok-groups.ensures.viewer) c.in_ok-groups.ensures.decisions in
+    let none : IsIndexOf (viewer_of first.viewer.now) [] first.index
+    = subst (IsIndexOf (viewer_of first.viewer.now) []) (sym c.in_ok-groups.ensures.index) (c.requires (viewer_of first.viewer.now)) in (
+      subst (λ (i : GroupIndex). IsIndexOf (viewer_of c.args.viewer.now) gs i) (sym c.end.ensures)
+          (subst (λ (u : Bor ViewerInCode). IsIndexOf (viewer_of u.now) gs last.index) c.in_ok-groups.ensures.viewer (walk.index [] are none)),
+      λ id. ap (λ (i : GroupIndex). answers_for i id) c.end.ensures ∙ walk.answers id ∙ ap (λ (i : GroupIndex). answers_for i id) c.in_ok-groups.ensures.index,
+    )

@@ -1,0 +1,41 @@
+-- Filters that hold of nothing that may be seen.
+use Rattle.std.specs.Prelude.{◌≡◌, ℕ, Bool, false, not, Option, Some, List, [], filter}
+use Rattle.std.specs.Option.{option_eq}
+use Rattle.scim_schema.specs.declared.Kind.{Kind}
+use Rattle.scim_schema.specs.declared.Leaf.{Leaf}
+use Rattle.scim_schema.specs.Characteristics.{is_multi_valued}
+use Rattle.scim_schema.specs.Units.{is_same_attribute}
+use Rattle.scim_cell.specs.Content.{Content, IsPart}
+use Rattle.scim_cell.specs.Rows.{Row, rows}
+use Rattle.scim_filter.specs.declared.tree.Filter.{Filter}
+use Rattle.scim_filter.specs.declared.tree.Meant.{Meant}
+use Rattle.scim_filter.specs.declared.tree.Meant.TheVariants as meant
+use Rattle.scim_filter.specs.Mentions.{mentioned_attribute}
+use Rattle.scim_policy.specs.declared.rules.Decision.{Decision}
+use Rattle.scim_view.specs.Groups.{memberships, visible_with}
+use Rattle.scim_query.specs.Pages.{is_match}
+
+-- whatever groups list the resource, what may be seen of it by these decisions doesn't match
+abbrev pub NeverMatches : Option Filter → (Leaf → Decision) → Content → Type 0
+NeverMatches filter decision c = (base : List ℕ) (groups : List Content) → is_match filter (visible_with decision (memberships base groups c.id) c) ≡ false
+
+-- the rows of what may be seen of whatever resource of the kind, by these decisions, have a property
+abbrev pub AllRows : (List Row → Type 0) → Kind → (Leaf → Decision) → Type 0
+AllRows P kind decision = (c : Content) → IsPart c → c.kind ≡ kind → (base : List ℕ) (groups : List Content) → P (rows (visible_with decision (memberships base groups c.id) c))
+
+-- a test fails of all of those
+abbrev pub NeverHolds : (List Row → Bool) → Kind → (Leaf → Decision) → Type 0
+NeverHolds test kind decision = AllRows (λ rs. test rs ≡ false) kind decision
+
+-- the rows of the attribute that a path means, or whose sub-attribute it means
+abbrev pub rows_meant : Meant → List Row → List Row
+rows_meant m rs = filter (λ (r : Row). option_eq is_same_attribute (mentioned_attribute m) (Some r.unit.attribute)) rs
+
+-- nothing of that attribute may be seen
+abbrev pub StaysUnseen : Meant → Kind → (Leaf → Decision) → Type 0
+StaysUnseen m kind decision = AllRows (λ rs. rows_meant m rs ≡ []) kind decision
+
+-- what stands between the brackets of a value path is asked of no rows too, where its attribute isn't multi-valued
+abbrev pub is_asked_of_none : Meant → Bool
+is_asked_of_none (meant.Attribute a) = not (is_multi_valued a)
+is_asked_of_none _ = false

@@ -1,0 +1,83 @@
+//! Whether resources may match at all, by what may be seen of them.
+ghost use Rattle.std.specs.Prelude.{◌≡◌, false, []};
+ghost use Rattle.scim_cell.specs.Content.{Content, IsPart};
+ghost use Rattle.scim_filter.specs.declared.tree.Meant.TheVariants.{Nothing};
+ghost use Rattle.scim_filter.specs.Tree.{view};
+ghost use Rattle.scim_filter.specs.Truth.{compares, truth};
+ghost use Rattle.scim_policy.specs.Table.{decision};
+ghost use Rattle.scim_query.specs.PossibleMatches as spec;
+
+use crate::queries::Query;
+use scim_filter::{Literal, Meant, Node, Operator};
+use scim_policy::Decisions;
+use scim_schema::{Attribute, Kind, is_multi_valued};
+use scim_view::shows_some;
+
+/// Whether a comparison holds of what has no cell.
+fn holds_of_none(operator: Operator, literal: &Literal) -> bool
+    ensures { result ≡ compares Nothing operator literal.now [] }
+{
+    match (operator, literal) {
+        (Operator::Eq, Literal::Null) => true,
+        (Operator::Ne, Literal::Null) => false,
+        (other, _) => other == Operator::Ne,
+    }
+}
+
+/// Whether what stands between the brackets of a value path is asked of an attribute that isn't there too.
+fn is_asked_of_none(meant: Meant) -> bool
+    ensures { result ≡ spec.is_asked_of_none meant }
+{
+    match meant {
+        Meant::Attribute(attribute) => !is_multi_valued(attribute),
+        Meant::Nothing | Meant::SubAttribute(_, _) => false,
+    }
+}
+
+/// Whether anything may be seen of the attribute that a path means, or whose sub-attribute it means.
+fn may_be_seen(meant: Meant, kind: Kind, decisions: &Decisions) -> bool
+    ensures { result ≡ false → spec.StaysUnseen meant kind (decision decisions.now) }
+{
+    match meant.mentioned_attribute() {
+        Some(attribute) => {
+            attribute == Attribute::Groups || shows_some(decisions, kind, attribute)
+        }
+        None => false,
+    }
+}
+
+/// Whether the filter may hold of what may be seen of a resource of the kind.
+fn may_hold(node: &Node, kind: Kind, decisions: &Decisions) -> bool
+    ensures { result ≡ false → spec.NeverHolds (truth (view node.now)) kind (decision decisions.now) }
+{
+    match node {
+        Node::Or(first, second) => {
+            may_hold(first, kind, decisions) || may_hold(second, kind, decisions)
+        }
+        Node::And(first, second) => {
+            may_hold(first, kind, decisions) && may_hold(second, kind, decisions)
+        }
+        Node::Not(_) => true,
+        Node::Present(path) => may_be_seen(path.meant, kind, decisions),
+        Node::Compare(path, operator, literal) => {
+            holds_of_none(*operator, literal) || may_be_seen(path.meant, kind, decisions)
+        }
+        Node::Values(path, _) => {
+            is_asked_of_none(path.meant) || may_be_seen(path.meant, kind, decisions)
+        }
+    }
+}
+
+impl Query {
+    /// Whether a resource of the kind may match at all, as the client sees it, where these are the decisions
+    /// on reading each: where false, no resource does. It takes no memory.
+    pub fn may_match(&self, kind: Kind, decisions: &Decisions) -> bool
+        ensures { result ≡ false → (c : Content) → IsPart c → c.kind ≡ kind
+            → spec.NeverMatches self.now.filter (decision decisions.now) c }
+    {
+        match &self.filter {
+            Some(filter) => may_hold(filter.tree(), kind, decisions),
+            None => true,
+        }
+    }
+}
