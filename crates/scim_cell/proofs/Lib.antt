@@ -1,5 +1,6 @@
 pub mod IdLemmas
 pub mod IdOrderLemmas
 pub mod FieldLemmas
+pub mod KeptLemmas
 pub mod EqualityLemmas
 pub mod Facts

@@ -1,5 +1,6 @@
 //! Rows: the values of units, one by one.
-ghost use Rattle.std.specs.Prelude.{◌≡◌, IfOk, filter};
+ghost use Rattle.std.specs.Prelude.{◌≡◌, false, IfOk, filter};
+ghost use Rattle.scim_schema.specs.declared.Leaf.{Leaf};
 ghost use Rattle.std.specs.Option.{option_copied};
 ghost use Rattle.scim_cell.specs.Rows as spec;
 
@@ -65,6 +66,14 @@ pub trait RowTest {
     /// Whether the row's field of the leaf is kept.
     fn is_kept(&self, row: &Row, leaf: Leaf) -> bool
         ensures { result ≡ keeps self.now row.now leaf };
+
+    /// Whether a field of the row may be kept. Where none may, no field is looked at, which for most rows spares a
+    /// look into memory that nobody else wants.
+    fn may_keep(&self, row: &Row) -> bool
+        ensures { result ≡ false → (leaf : Leaf) → keeps self.now row.now leaf ≡ false }
+    {
+        true
+    }
 }
 
 impl Field {
@@ -170,6 +179,9 @@ fn copy_fields(alloc: Global, fields: &[Field]) -> Result<Vec<Field>, NoMemory>
 fn kept_fields<T: RowTest>(alloc: Global, row: &Row, test: &T) -> Result<Vec<Field>, NoMemory>
     ensures { IfOk result (λ v. v.items ≡ filter (λ f. T.keeps test.now row.now f.leaf) row.now.fields) }
 {
+    if !test.may_keep(row) {
+        return Ok(Vec::new(alloc));
+    }
     let mut copies = Vec::new(alloc);
     for field in row.fields() {
         if test.is_kept(row, field.leaf) {
