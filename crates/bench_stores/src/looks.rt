@@ -1,11 +1,13 @@
 //! What a shelf takes to find a resource.
+ghost use Rattle.std.specs.Prelude.{⊤};
+
 use anyhow::{Result, ensure};
 use bench_values::{numbered, numbered_id};
 use scim_cell::{Id, Text};
 use scim_schema::{Attribute, Kind, Leaf};
-use scim_shelf::Shelf;
-use scim_text::push;
-use scim_value::UniqueName;
+use scim_shelf::{Shelf, Visitor};
+use scim_text::{NoMemory, push};
+use scim_value::{Resource, UniqueName};
 use std::alloc::Global;
 use std::time::Instant;
 
@@ -19,6 +21,21 @@ pub(crate) struct Sought {
     name: UniqueName,
     /// The id, as members of groups have it.
     value: Text,
+}
+
+/// Notes whether it is shown a group.
+#[derive(Drop)]
+struct AnyGroup {
+    is_shown: bool,
+}
+
+impl Visitor for AnyGroup {
+    ghost takes = { λ _ _ _. ⊤ };
+
+    fn take(&mut self, _alloc: Global, _group: &Resource) -> Result<(), NoMemory> {
+        self.is_shown = true;
+        Ok(())
+    }
 }
 
 /// By what a user is looked for.
@@ -36,8 +53,9 @@ impl Look {
             Look::ById => Ok(shelf.by_id(alloc, Kind::User, sought.id)?.is_some()),
             Look::ByName => Ok(shelf.name_owner(alloc, &sought.name)?.is_some()),
             Look::Groups => {
-                let groups = shelf.groups_with(alloc, sought.value.as_str())?;
-                Ok(!groups.is_empty())
+                let mut seen = AnyGroup { is_shown: false };
+                shelf.groups_with(alloc, sought.value.as_str(), &mut seen)?;
+                Ok(seen.is_shown)
             }
         }
     }

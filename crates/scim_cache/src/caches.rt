@@ -122,14 +122,15 @@ impl<S: Shelf> Shelf for CachedShelf<S> {
         }
     }
 
-    fn groups_with(
+    fn groups_with<V: Visitor>(
         &mut self,
         alloc: Global,
         value: &str,
-    ) -> Result<Vec<Resource>, Failed<ShelfFault>> {
+        visitor: &mut V,
+    ) -> Result<(), Failed<ShelfFault>> {
         match &self.resources {
-            Some(resources) => Ok(resources.groups_with(alloc, value)?),
-            None => self.lower.groups_with(alloc, value),
+            Some(resources) => Ok(resources.show_groups_with(alloc, value, visitor)?),
+            None => self.lower.groups_with(alloc, value, visitor),
         }
     }
 

@@ -1,5 +1,5 @@
 -- Names and ids in use, and what a client is shown of what is made.
-use Rattle.std.proofs.Common.{◌≡◌, refl, sym, ◌∙◌, ap, subst, ◌≤◌, ℕ, Bool, true, false, ◌&&◌, ◌||◌, List, [], ◌∷◌, ◌++◌, is_some, ◌-◌, length, length-drop, get_or, drop, take, take_all, inl, inr, arith}
+use Rattle.std.proofs.Common.{◌≡◌, refl, sym, ◌∙◌, ap, subst, ℕ, Bool, true, false, ◌&&◌, ◌||◌, List, [], ◌∷◌, ◌++◌, is_some, inl, inr}
 use Rattle.std.specs.Prelude.{find, not, Option, None, Some}
 use Rattle.std.specs.List.{list_any}
 use Rattle.std.proofs.lemmas.Bool.{cases_Bool}
@@ -30,23 +30,9 @@ use Rattle.scim_service.specs.declared.requests.Turn.{Turn}
 use Rattle.scim_service.specs.declared.plans.Plan.{Plan}
 use Rattle.scim_audit.specs.declared.refusals.Refusal.TheVariants.{Taken, IdInUse}
 use Rattle.scim_service.specs.Step.{refused, resource_text, kept_text, create_decision, is_decided, first_denied, new_resource, made_with, made_if_free, is_for, creating}
-use Rattle.scim_service.proofs.StoreViews.{none_of_group}
-
--- what isn't denied is so
-pub not_false : (b : Bool) → not b ≡ false → b ≡ true
-not_false true e = refl
-not_false false e = cc
-
--- of which the rest is all that is behind it
-pub rest_whole : {X : Type 0} (xs : List X) → take (length xs - 1) (drop 1 xs) ≡ drop 1 xs
-rest_whole xs = take_all (length xs - 1) (drop 1 xs) (let long = length-drop 1 xs in omega (arith, long))
+use Rattle.scim_search.proofs.Facts.{none_of_group}
 
 -- ---- names
-
--- a list with an element is its first and the rest
-pub first_and_rest : {X : Type 0} (xs : List X) (x : X) → 1 ≤ length xs → x ≡ get_or xs 0 x → xs ≡ x ∷ drop 1 xs
-first_and_rest [] x long e = absurd (omega (arith, long))
-first_and_rest (y ∷ ys) x long e = ap (λ z. z ∷ ys) (sym e)
 
 -- whether another has a name, by the one who is found to have it
 pub owner_other : (own : Option (List ℕ)) (n : Name) (cs : List Content) (owner : Option Content) → AreKeyed cs → owner ≡ find (has_name n) cs

@@ -1,5 +1,3 @@
-pub mod StoreViews
-pub mod VisitLemmas
 pub mod PlanLemmas
 pub mod CreationLemmas
 pub mod StepLemmas
@@ -16,5 +14,3 @@ pub mod RequestLemmas
 pub mod LawLemmas
 pub mod ListLemmas
 pub mod CellLemmas
-pub mod LookupLemmas
-pub mod WalkLemmas

@@ -4,13 +4,12 @@ use Rattle.std.specs.Prelude.{All, AllPairs, Some, find}
 use Rattle.std.specs.List.{list_any, flat_map}
 use Rattle.std.specs.Ordering.{nat_cmp, is_eq}
 use Rattle.std.specs.declared.cmp.Ordering.TheVariants.{Less, Equal, Greater}
-use Rattle.std.specs.Cmp.Lexicographic.{slice_cmp, bytes_decides}
+use Rattle.std.specs.Cmp.Lexicographic.{slice_cmp}
 use Rattle.std.proofs.lemmas.Bool.{cases_Bool, or_parts, or_from, or_right, false_from_ne_true}
 use Rattle.std.proofs.lemmas.Cmp.{tied_itself, nat_list_cmp_total}
 use Rattle.std.proofs.lemmas.List.Elements.{All-head, All-tail, All-weaker}
 use Rattle.std.proofs.lemmas.List.Folds.{list_any-append, list_any_none, list_any_at}
 use Rattle.std.proofs.lemmas.Map.Lookups.{exact_bytes}
-use Rattle.std.proofs.lemmas.Map.Views.{Contains-from_any}
 use Rattle.std.proofs.lemmas.Slice.Eq.{bytes_eq-Decides}
 use mathlib.Core.Path.{fun_ext}
 use denote.Enum.Bare.{true_same}
@@ -20,7 +19,6 @@ use Rattle.scim_schema.specs.declared.Unit.{Unit as AttributeUnit}
 use Rattle.scim_schema.specs.contracts.Attribute.{the_type as the_attribute}
 use Rattle.scim_schema.specs.Units.{unit_of, is_same_attribute}
 use Rattle.scim_schema.specs.UniqueLeaves.{unique_leaves}
-use Rattle.scim_schema.proofs.Facts.{and_first, and_second, leaf_one}
 use Rattle.scim_cell.specs.Place.{unit_cmp}
 use Rattle.scim_cell.specs.Content.{Content, IsPart}
 use Rattle.scim_cell.specs.Equality.{is_same_id}
@@ -33,6 +31,7 @@ use Rattle.scim_policy.specs.Control.{is_named_in, is_unique, control}
 use Rattle.scim_shelf.specs.Stores.{AreKeyed, is_at, is_same_name, has_name, is_taken, is_used, below, above, keep, without}
 use Rattle.scim_service.specs.laws.Alike.{is_in_use}
 use Rattle.scim_service.proofs.RowLemmas.{filter_implied}
+use Rattle.scim_search.proofs.Facts.{not_both}
 
 -- a name is in use in a list with a resource more where the resource has it, or it is in use in the list
 swapped : (p q r : Bool) → (p || (q || r)) ≡ (q || (p || r))
@@ -69,17 +68,6 @@ in_use_absent id (d ∷ ds) name unused =
     let parts = or_parts (is_same_id id d.id) (is_used ds id) unused in
     let differs : d.id ≢ id = λ same. (let yes' : is_same_id id d.id ≡ true = (bytes_eq-Decides id d.id).1 (sym same) in cc) in
     in_use_beside id d ds name differs ∙ ap (λ b. has_name name d || b) (in_use_absent id ds name parts.1)
-
--- resources that are apart share no id and no unique name
-same_name : (n m : Name) → is_same_name n m ≡ true → n ≡ m
-same_name n m e =
-    let leaf : n.leaf ≡ m.leaf = leaf_one n.leaf m.leaf (and_first _ _ e) in
-    let text : n.text ≡ m.text = (bytes_decides n.text m.text).0 (and_second _ _ e) in
-    λ i. record { leaf = leaf i; text = text i }
-
-pub not_both : (name : Name) (c d : Content) → AreApart c d → has_name name c ≡ true → has_name name d ≡ true → ⊥
-not_both name c d apart has also =
-    apart.names name (Contains-from_any same_name name (unique_names c) has) (Contains-from_any same_name name (unique_names d) also)
 
 pub unnamed_later : (d : Content) (ds : List Content) (name : Name) → All (AreApart d) ds → has_name name d ≡ true → is_in_use ds name ≡ false
 unnamed_later d ds name apart has =

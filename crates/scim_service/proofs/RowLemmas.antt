@@ -16,10 +16,6 @@ pub filter_implied : {X : Type 0} (p q : X → Bool) → ((x : X) → q x ≡ tr
 filter_implied p q implied [] = refl
 filter_implied p q implied (x ∷ xs) = grind (arith, filter_implied p q implied xs, implied x)
 
-pub filter_swap : {X : Type 0} (p q : X → Bool) (xs : List X) → filter q (filter p xs) ≡ filter p (filter q xs)
-filter_swap p q [] = refl
-filter_swap p q (x ∷ xs) = grind (arith, filter_swap p q xs)
-
 -- a test of leaves, whatever the row
 abbrev pub by_leaf : (Leaf → Bool) → Test
 by_leaf keep r l = keep l

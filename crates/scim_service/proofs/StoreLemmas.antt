@@ -8,7 +8,6 @@ use Rattle.std.proofs.Math.Path.{fun_ext}
 use Rattle.std.proofs.lemmas.Bool.{cases_Bool}
 use Rattle.std.proofs.lemmas.List.{map-append}
 use Rattle.std.proofs.lemmas.List.Elements.{All-head, All-tail, All-filter, filter-append}
-use Rattle.std.proofs.lemmas.Slice.Eq.{bytes_eq-Decides}
 use denote.Enum.Bare.{sameb}
 use Rattle.scim_schema.specs.contracts.Kind.{the_type as the_kind}
 use Rattle.scim_schema.specs.declared.Kind.{Kind}
@@ -19,10 +18,9 @@ use Rattle.scim_schema.specs.declared.Op.{Op}
 use Rattle.scim_schema.specs.declared.Op.TheVariants.{Read, Modify, Delete}
 use Rattle.scim_schema.specs.Mutability.{is_write_only}
 use Rattle.scim_schema.specs.Units.{simple, whole}
-use Rattle.scim_schema.proofs.Facts.{and_second}
 use Rattle.scim_cell.specs.Content.{Content}
 use Rattle.scim_cell.specs.Equality.{is_same_id}
-use Rattle.scim_cell.specs.Kinds.{is_of, of_kind}
+use Rattle.scim_cell.specs.Kinds.{of_kind}
 use Rattle.scim_cell.specs.Rows.{Row, Test, rows, content, put_values, restricted}
 use Rattle.scim_value.specs.Resource.{IsResource}
 use Rattle.scim_value.specs.Uniqueness.{AreApart}
@@ -35,8 +33,8 @@ use Rattle.scim_policy.proofs.Facts.{decide_same}
 use Rattle.scim_view.specs.View.{Viewer, read_decision, may_be_seen, sees, visible, visible_by}
 use Rattle.scim_view.specs.Groups.{seen, memberships, visible_with, with_groups, views}
 use Rattle.scim_shelf.specs.Stores.{AreKeyed, is_at, below, above, keep, without}
-use Rattle.scim_service.proofs.RowLemmas.{filter_swap, restricted_put}
-use Rattle.scim_service.proofs.StoreViews.{made_map, made_views}
+use Rattle.scim_search.proofs.Facts.{filter_swap, none_at, made_map, made_views}
+use Rattle.scim_service.proofs.RowLemmas.{restricted_put}
 
 -- of a resource: its kind and id, the rows of what may be seen of it, and what the policy decides by
 pub record Traits : Type 0 where
@@ -81,17 +79,6 @@ map_filter f q (x ∷ xs) = grind (arith, map_filter f q xs)
 find_map : {X Y : Type 0} (f : X → Y) (q : Y → Bool) (xs : List X) → option_map f (find (λ x. q (f x)) xs) ≡ find q (map f xs)
 find_map f q [] = refl
 find_map f q (x ∷ xs) = grind (arith, find_map f q xs)
-
--- the id of the resource of a kind and an id
-id_at : (kind : Kind) (id : List ℕ) (c : Content) → is_at kind id c ≡ true → id ≡ c.id
-id_at kind id c at = (bytes_eq-Decides id c.id).0 (and_second (is_of kind c) (is_same_id id c.id) at)
-
--- of two resources that are apart one at most has an id
-pub none_at : (kind : Kind) (id : List ℕ) (c d : Content) → AreApart c d → is_at kind id c ≡ true → is_at kind id d ≡ false
-none_at kind id c d apart here = elim (cases_Bool (is_at kind id d)) [
-  | inr no' ↦ no'
-  | inl yes' ↦ absurd (apart.ids (sym (id_at kind id c here) ∙ id_at kind id d yes'))
-]
 
 -- where two lists are made to the same by f, so are they by what rests on f
 map_same : {X Y Z : Type 0} (f : X → Y) (g h : X → Z) → ((x y : X) → f x ≡ f y → g x ≡ h y) → (xs ys : List X) → map f xs ≡ map f ys → map g xs ≡ map h ys

@@ -1,10 +1,5 @@
-pub mod Lookups
 pub mod Replies
 pub mod Step
-pub mod ReadDecisions
-pub mod Sights
-pub mod Visits
-pub mod Walks
 pub mod Answers
 pub mod code
 pub mod laws

@@ -5,20 +5,14 @@
 mod changed;
 mod creations;
 pub mod laws;
-mod lookups;
 mod names;
 mod patches;
 mod plans;
 mod reached;
-mod read_decisions;
 mod replacements;
 mod replies;
 mod requests;
 mod service;
-mod sights;
-mod visitors;
-mod walks;
-mod whole_items;
 
 pub use replies::{Reply, status_of};
 pub use requests::{Ask, Request, Turn};

@@ -7,29 +7,28 @@ ghost use Rattle.scim_cell.specs.Kinds.{of_kind};
 ghost use Rattle.scim_policy.specs.Table.{decision};
 ghost use Rattle.scim_view.specs.View as view;
 ghost use Rattle.scim_view.specs.View.{viewer_of};
-ghost use Rattle.scim_view.specs.Groups.{with_groups, views};
+ghost use Rattle.scim_view.specs.Listings.{AreListing};
 ghost use Rattle.scim_query.specs.Pages.{IsPage};
 ghost use Rattle.scim_shelf.specs.Shelves.{Answers, OnlyReads};
 ghost use Rattle.scim_shelf.specs.Stores.{IsStore, AreOf};
 ghost use Rattle.scim_service.specs.Step as spec;
 
 use crate::creations::plan_create;
-use crate::lookups::{needed_id, needed_name, page_named, page_with_id};
 use crate::patches::plan_patch;
 use crate::replacements::plan_replace;
 use crate::replies::Reply;
 use crate::requests::{Ask, Turn};
-use crate::walks::page_of_all;
 use scim_audit::{AuditRow, Decided, Refusal};
 use scim_cell::{Id, Text};
 use scim_json::{to_json, to_list_json};
 use scim_policy::{Decision, Decisions};
 use scim_query::{Page, Query, shown_page};
-use scim_schema::{Attribute, Kind, Leaf, Op};
+use scim_schema::{Attribute, Leaf, Op};
+use scim_search::{groups_beside, page_of_query};
 use scim_shelf::{Change, Shelf, ShelfFault};
 use scim_text::{Failed, NoMemory};
 use scim_value::Resource;
-use scim_view::{Viewer, Wanted, project};
+use scim_view::{ListingGroups, Viewer, Wanted, project};
 use std::alloc::Global;
 
 /// What is to be answered, changed and noted.
@@ -190,37 +189,19 @@ pub(crate) fn found<S: Shelf>(
     }
 }
 
-/// The groups by which a resource's own `groups` are told: those that list it; of one that isn't a user none.
-pub(crate) fn groups_beside<S: Shelf>(
-    alloc: Global,
-    shelf: &mut S,
-    resource: &Resource,
-) -> Result<Vec<Resource>, Failed<ShelfFault>>
-    ensures answer { IfOk result (Answers S.stands S.is_honest shelf.old shelf.new (λ store groups. (v : view.Viewer) (base : List ℕ)
-        → IsStore base store → with_groups v groups.items resource.now ≡ with_groups v (of_kind Kind.Group store.resources) resource.now)) }
-    ensures read { OnlyReads S.stands S.is_honest S.failures shelf.old shelf.new result }
-{
-    match resource.kind() {
-        Kind::User => {
-            let mut buffer = [0; Id::TEXT_LENGTH];
-            shelf.groups_with(alloc, resource.id().write(&mut buffer))
-        }
-        Kind::Group => Ok(Vec::new(alloc)),
-    }
-}
-
 /// The JSON of a resource as it is shown, where these are the decisions on reading it.
 #[tactic(auto, unfolding(crate::specs::Step::resource_text))]
 pub(crate) fn resource_text(
     alloc: Global,
     viewer: &Viewer<'_>,
     decisions: &Decisions,
-    groups: &[Resource],
+    groups: &ListingGroups,
     resource: &Resource,
     wanted: &Wanted,
 ) -> Result<Text, NoMemory>
     requires { (l : Leaf) → decision decisions.now l ≡ view.read_decision (viewer_of viewer.now) resource.now l }
-    ensures { IfOk result (λ text. text ≡ spec.resource_text (viewer_of viewer.now) groups.now wanted.now resource.now) }
+    ensures { IfOk result (λ text. (gathered : List Content) → AreListing (viewer_of viewer.now) resource.now.id gathered groups.now
+        → text ≡ spec.resource_text (viewer_of viewer.now) gathered wanted.now resource.now) }
 {
     let visible = viewer.with_groups_by(alloc, decisions, groups, resource)?;
     let shown = project(alloc, visible, wanted)?;
@@ -241,15 +222,8 @@ fn seen_text<S: Shelf>(
         → text ≡ spec.resource_text (viewer_of viewer.now) (of_kind Kind.Group store.resources) wanted.now resource.now)) }
     ensures read { OnlyReads S.stands S.is_honest S.failures shelf.old shelf.new result }
 {
-    let groups = groups_beside(alloc, shelf, resource)?;
-    Ok(resource_text(
-        alloc,
-        viewer,
-        decisions,
-        groups.as_slice(),
-        resource,
-        wanted,
-    )?)
+    let groups = groups_beside(alloc, viewer, shelf, resource)?;
+    Ok(resource_text(alloc, viewer, decisions, &groups, resource, wanted)?)
 }
 
 /// What the client is shown of a resource that is kept, by these decisions on reading it: nothing, where it
@@ -384,28 +358,6 @@ fn plan_remove<S: Shelf>(
     Ok(removed_if_seen(alloc, viewer, turn, &resource)?)
 }
 
-/// The page that the client's query asks for of the resources of a kind: where the query asks for an id or a unique
-/// name, the one that has it is looked up, else all are looked at.
-fn page_sought<S: Shelf>(
-    alloc: Global,
-    viewer: &Viewer<'_>,
-    shelf: &mut S,
-    kind: Kind,
-    query: &Query,
-) -> Result<Page, Failed<ShelfFault>>
-    ensures page { IfOk result (Answers S.stands S.is_honest shelf.old shelf.new (λ store page. (base : List ℕ) → IsStore base store
-        → IsPage (views (viewer_of viewer.now) (of_kind Kind.Group store.resources) (of_kind kind store.resources)) query.now page)) }
-    ensures read { OnlyReads S.stands S.is_honest S.failures shelf.old shelf.new result }
-{
-    if let Some(id) = needed_id(query) {
-        return page_with_id(alloc, viewer, shelf, kind, id, query);
-    }
-    match needed_name(alloc, kind, query)? {
-        Some(name) => page_named(alloc, viewer, shelf, kind, &name, query),
-        None => page_of_all(alloc, viewer, shelf, kind, query),
-    }
-}
-
 /// The JSON of a page of a client's view, each item as the query wants it.
 fn list_text(alloc: Global, found: Page, query: &Query) -> Result<Text, NoMemory>
     ensures { IfOk result (λ text. (view : List Content) → IsPage view query.now found → text ≡ spec.list_text query.now view) }
@@ -428,7 +380,7 @@ fn plan_search<S: Shelf>(
         → plan ≡ spec.listed (viewer_of viewer.now) turn.now store.resources query.now)) }
     ensures read { OnlyReads S.stands S.is_honest S.failures shelf.old shelf.new result }
 {
-    let found = page_sought(alloc, viewer, shelf, turn.request.kind, query)?;
+    let found = page_of_query(alloc, viewer, shelf, turn.request.kind, query)?;
     let text = list_text(alloc, found, query)?;
     let finding = Finding {
         decided: Decided::Allow,

@@ -1,18 +1,17 @@
 -- Which ids are noted under a value after a change.
-use Rattle.std.proofs.Common.{◌≡◌, refl, sym, ◌∙◌, ap, subst, ℕ, Bool, true, false, ◌&&◌, ◌||◌, cond, List, [], ◌∷◌, length, arith}
+use Rattle.std.proofs.Common.{◌≡◌, refl, sym, ◌∙◌, ap, subst, ℕ, Bool, true, false, ◌&&◌, ◌||◌, cond, List, take, drop}
 use Rattle.std.specs.Prelude.{nat_eq, Option, None, Some, IsSome, String}
 use Rattle.std.specs.declared.alloc.Global.{Global}
-use Rattle.std.specs.Ordering.{nat_cmp}
 use Rattle.std.specs.Str.{bytes_eq}
 use Rattle.std.specs.String.{string_eq, string_bytes}
-use Rattle.std.specs.Cmp.Lexicographic.{slice_cmp, pointwise, bytes_decides, nat_list_eq_equiv}
+use Rattle.std.specs.Cmp.Lexicographic.{pointwise, bytes_decides, nat_list_eq_equiv}
 use Rattle.std.specs.List.{list_any}
-use Rattle.std.specs.BTreeMap.{is_at}
-use Rattle.std.specs.BTreeSet.{BTreeSet, contains}
 use Rattle.std.specs.HashMap.{HashMap, UpdatesBy, get_by_text}
+use Rattle.std.proofs.lemmas.List.{take-append-drop}
+use Rattle.std.proofs.lemmas.List.Folds.{list_any-append}
 use Rattle.std.proofs.lemmas.Map.Text.{hash_map_updates_text, is_eq-slice_cmp}
 use Rattle.scim_shelf.specs.declared.members.Holders.{Holders}
-use Rattle.scim_shelf.specs.code.Members.{is_same, has_in}
+use Rattle.scim_shelf.specs.code.Members.{is_same, has_in, is_one_of}
 use Rattle.scim_shelf.proofs.NameLemmas.{by_bool}
 
 -- the notes, by value
@@ -114,10 +113,15 @@ same_alone id i = by_bool (is_same id i) (λ t. rw t refl) (λ f. rw f refl)
 pub same_added : (id i : List ℕ) → is_same id i ≡ cond (is_same id i) true (is_same id i)
 same_added id i = by_bool (is_same id i) (λ t. rw t refl) (λ f. rw f refl)
 
-none_among : (test : List ℕ → Bool) (ids : List (List ℕ)) → length ids ≡ 0 → list_any test ids ≡ false
-none_among test [] h = refl
-none_among test (id ∷ ids) h = absurd (omega (arith, h))
-
--- a set of no ids has none
-pub no_ids : (s : BTreeSet (List ℕ)) → length s.keys ≡ 0 → (i : List ℕ) → contains (slice_cmp nat_cmp) s i ≡ false
-no_ids s h i = none_among (is_at (slice_cmp nat_cmp i)) s.keys h
+-- a note under none of some values is under none of the first of them, and stays where these are noted
+pub others_stay : (v : List ℕ) (values : List (List ℕ)) (k : ℕ) (same old : Bool) → (is_one_of v values && same) ≡ false
+    → cond (is_one_of v (take k values) && same) true old ≡ old
+others_stay v values k same old none =
+    go (is_one_of v (take k values)) (is_one_of v (drop k values)) (is_one_of v values) same
+    (sym (list_any-append (pointwise nat_eq v) (take k values) (drop k values)) ∙ ap (list_any (pointwise nat_eq v)) (take-append-drop k values)) none
+  where
+    go : (first rest all same : Bool) → (first || rest) ≡ all → (all && same) ≡ false → cond (first && same) true old ≡ old
+    go true rest true true is h = cc
+    go true rest false true is h = cc
+    go true rest all false is h = refl
+    go false rest all same is h = refl

@@ -1,68 +1,102 @@
 -- The notes of a collection, as resources come and go.
-use Rattle.std.proofs.Common.{◌≡◌, ◌≢◌, refl, sym, ◌∙◌, ap, ℕ, Bool, true, false, ◌&&◌, ◌||◌, not, cond, List, [], ◌∷◌}
-use Rattle.std.specs.Prelude.{All, find}
-use Rattle.std.specs.Ordering.{nat_cmp, is_eq, is_lt, is_gt}
-use Rattle.std.specs.declared.cmp.Ordering.{Ordering}
+use Rattle.std.proofs.Common.{◌≡◌, refl, sym, ◌∙◌, ap, subst, ℕ, Bool, true, false, ◌&&◌, not, cond, List, [], ◌∷◌}
+use Rattle.std.specs.Prelude.{find, Option, None, Some}
+use Rattle.std.specs.Ordering.{nat_cmp, is_eq}
 use Rattle.std.specs.declared.cmp.Ordering.TheVariants.{Less, Equal, Greater}
-use Rattle.std.specs.Cmp.Lexicographic.{slice_cmp}
+use Rattle.std.specs.Cmp.Lexicographic.{slice_cmp, nat_list_eq_equiv}
 use Rattle.std.proofs.lemmas.Cmp.{tied_itself, nat_list_cmp_total}
-use Rattle.std.proofs.lemmas.List.Elements.{All-head, All-tail, All-cons, All-append, All-filter, All-weaker, filter_passes}
 use Rattle.std.proofs.lemmas.Map.Lookups.{exact_bytes}
+use Rattle.std.proofs.lemmas.Map.Text.{is_eq-slice_cmp}
 use Rattle.scim_cell.specs.Content.{Content}
-use Rattle.scim_schema.specs.declared.Kind.TheVariants.{Group}
-use Rattle.scim_cell.specs.Kinds.{is_of}
-use Rattle.scim_value.specs.Members.{lists_value}
+use Rattle.scim_cell.specs.Order.{id_cmp}
 use Rattle.scim_shelf.specs.declared.members.Members.{Members as Kept}
-use Rattle.scim_shelf.specs.declared.collections.Collection.{Collection}
-use Rattle.scim_value.specs.declared.uniqueness.UniqueName.{UniqueName}
-use Rattle.scim_shelf.specs.Stores.{is_group_with, below, above, keep, without}
-use Rattle.scim_shelf.specs.code.Owners.{owner}
-use Rattle.scim_shelf.specs.code.Members.{is_same, is_noted, is_group_in}
-use Rattle.scim_shelf.specs.Collections.{IsCollection}
+use Rattle.scim_shelf.specs.Stores.{AreKeyed, is_group_with, keep, without}
+use Rattle.scim_shelf.specs.code.Members.{is_same, is_noted, is_one_of, is_group_in, IsUnnoted, HasSameNotes}
 use Rattle.scim_shelf.specs.code.Collections.{has_id}
-use Rattle.scim_shelf.proofs.PlaceLemmas.{reversed}
-use Rattle.scim_shelf.proofs.StoreLemmas.{All-both, ids_differ}
-use Rattle.scim_shelf.proofs.NameLemmas.{by_bool, is_eq-Equal, is_lt-Less}
+use Rattle.scim_shelf.proofs.PlaceLemmas.{AreAbove, by_order, above_lower, keep_less, keep_equal, keep_greater, without_less, without_equal, without_greater}
+use Rattle.scim_shelf.proofs.StoreLemmas.{keyed_above, keyed_tail}
+use Rattle.scim_shelf.proofs.NameLemmas.{by_bool, is_eq-Equal, none_above}
 
-is_gt-Greater : (o : Ordering) → is_gt o ≡ true → o ≡ Greater
-is_gt-Greater Less h = cc
-is_gt-Greater Equal h = cc
-is_gt-Greater Greater h = refl
+-- ids that are the same, and either way round
+pub same_id : (id i : List ℕ) → is_same id i ≡ true → id ≡ i
+same_id id i h = exact_bytes id i (is_eq-Equal (slice_cmp nat_cmp id i) h)
 
-below_differ : (id : List ℕ) (cs : List Content) → All (λ d. d.id ≢ id) (below id cs)
-below_differ id cs =
-    All-weaker (λ (d : Content). is_lt (slice_cmp nat_cmp d.id id) ≡ true) (λ d. d.id ≢ id) (λ d lower. ids_differ d.id id (is_lt-Less _ lower)) (below id cs)
-    (filter_passes _ cs)
+pub same_flips : (id i : List ℕ) → is_same id i ≡ is_same i id
+same_flips id i = is_eq-slice_cmp id i ∙ nat_list_eq_equiv.symm id i ∙ sym (is_eq-slice_cmp i id)
 
-above_differ : (id : List ℕ) (cs : List Content) → All (λ d. d.id ≢ id) (above id cs)
-above_differ id cs =
-    All-weaker (λ (d : Content). is_gt (slice_cmp nat_cmp d.id id) ≡ true) (λ d. d.id ≢ id)
-    (λ d higher same. ids_differ id d.id (reversed d.id id Greater (is_gt-Greater _ higher)) (sym same)) (above id cs)
-    (filter_passes _ cs)
+pub id_itself : (id : List ℕ) → is_same id id ≡ true
+id_itself id = ap is_eq (tied_itself nat_list_cmp_total id)
 
--- what holds of those of other ids
-others_below : (P : Content → Type 0) (id : List ℕ) (cs : List Content) → All (λ d. d.id ≢ id → P d) cs → All P (below id cs)
-others_below P id cs all =
-    All-both (λ d. d.id ≢ id) (λ d. d.id ≢ id → P d) P (λ d differs holds. holds differs) (below id cs) (below_differ id cs) (All-filter _ (λ d. d.id ≢ id → P d) cs all)
+either_way : (b : Bool) (o : Option Content) → o ≡ cond b o o
+either_way true o = refl
+either_way false o = refl
 
-others_above : (P : Content → Type 0) (id : List ℕ) (cs : List Content) → All (λ d. d.id ≢ id → P d) cs → All P (above id cs)
-others_above P id cs all =
-    All-both (λ d. d.id ≢ id) (λ d. d.id ≢ id → P d) P (λ d differs holds. holds differs) (above id cs) (above_differ id cs) (All-filter _ (λ d. d.id ≢ id → P d) cs all)
+-- the one with an id when a resource is kept
+found_keep : (i : List ℕ) (c : Content) (cs : List Content) → AreKeyed cs → find (has_id i) (keep c cs) ≡ cond (has_id i c) (Some c) (find (has_id i) cs)
+found_keep i c [] keyed = refl
+found_keep i c (d ∷ ds) keyed = go (found_keep i c ds (keyed_tail d ds keyed))
+  where
+    up : AreAbove d.id ds
+    up = keyed_above d ds keyed
 
--- holds of all when a resource is kept and has it, and when one goes
-others_keep : (P : Content → Type 0) (c : Content) (cs : List Content) → P c → All (λ d. d.id ≢ c.id → P d) cs → All P (keep c cs)
-others_keep P c cs here all =
-    All-append P (below c.id cs) (c ∷ above c.id cs) (others_below P c.id cs all) (All-cons P c (above c.id cs) here (others_above P c.id cs all))
+    Wanted : Type 0
+    Wanted = find (has_id i) (keep c (d ∷ ds)) ≡ cond (has_id i c) (Some c) (find (has_id i) (d ∷ ds))
 
-others_without : (P : Content → Type 0) (id : List ℕ) (cs : List Content) → All (λ d. d.id ≢ id → P d) cs → All P (without id cs)
-others_without P id cs all = All-append P (below id cs) (above id cs) (others_below P id cs all) (others_above P id cs all)
+    equal : id_cmp c d ≡ Equal → Wanted
+    equal h = ap (find (has_id i)) (keep_equal c d ds h up) ∙ by_bool (has_id i c)
+        (λ t. rw t refl)
+        (λ f. let other : has_id i d ≡ false = subst (λ (x : List ℕ). is_same i x ≡ false) (exact_bytes c.id d.id h) f in rw (f, other) refl)
 
--- a resource is noted under a value that it lists
-abbrev pub IsNoted : Kept → List ℕ → Content → Type 0
-IsNoted notes value c = is_group_with value c ≡ true → is_noted notes value c.id ≡ true
+    greater : find (has_id i) (keep c ds) ≡ cond (has_id i c) (Some c) (find (has_id i) ds) → id_cmp c d ≡ Greater → Wanted
+    greater rest h = ap (find (has_id i)) (keep_greater c d ds h) ∙ by_bool (has_id i c)
+        (λ t.
+        let here : i ≡ c.id = same_id i c.id t in
+        let other : has_id i d ≡ false = subst (λ (x : List ℕ). is_same x d.id ≡ false) (sym here) (ap is_eq h) in
+        let found : find (has_id i) (keep c ds) ≡ Some c = rw t at rest in
+        rw (t, other) found)
+        (λ f.
+        let found : find (has_id i) (keep c ds) ≡ find (has_id i) ds = rw f at rest in
+        rw f (ap (λ (o : Option Content). cond (has_id i d) (Some d) o) found))
 
-not_same : (id i : List ℕ) → i ≢ id → is_same id i ≡ false
-not_same id i differs = by_bool (is_same id i) (λ t. absurd (differs (sym (exact_bytes id i (is_eq-Equal (slice_cmp nat_cmp id i) t))))) (λ f. f)
+    go : find (has_id i) (keep c ds) ≡ cond (has_id i c) (Some c) (find (has_id i) ds) → Wanted
+    go rest = by_order (id_cmp c d) (λ h. ap (find (has_id i)) (keep_less c d ds h up)) equal (greater rest)
+
+-- the one with an id when one goes
+found_without : (i id : List ℕ) (cs : List Content) → AreKeyed cs → find (has_id i) (without id cs) ≡ cond (is_same i id) None (find (has_id i) cs)
+found_without i id [] keyed = either_way (is_same i id) None
+found_without i id (d ∷ ds) keyed = go (found_without i id ds (keyed_tail d ds keyed))
+  where
+    up : AreAbove d.id ds
+    up = keyed_above d ds keyed
+
+    Wanted : Type 0
+    Wanted = find (has_id i) (without id (d ∷ ds)) ≡ cond (is_same i id) None (find (has_id i) (d ∷ ds))
+
+    none : (xs : List Content) → is_same i id ≡ true → AreAbove id xs → find (has_id i) xs ≡ None
+    none xs t beyond = none_above i xs (subst (λ (x : List ℕ). AreAbove x xs) (sym (same_id i id t)) beyond)
+
+    less : slice_cmp nat_cmp id d.id ≡ Less → Wanted
+    less h = ap (find (has_id i)) (without_less id d ds h up) ∙ by_bool (is_same i id)
+        (λ t. let nothing : find (has_id i) (d ∷ ds) ≡ None = none (d ∷ ds) t (h, above_lower id d.id ds h up) in nothing ∙ rw t refl)
+        (λ f. rw f refl)
+
+    equal : slice_cmp nat_cmp id d.id ≡ Equal → Wanted
+    equal h = ap (find (has_id i)) (without_equal id d ds h up) ∙ by_bool (is_same i id)
+        (λ t. none ds t (subst (λ (x : List ℕ). AreAbove x ds) (sym (exact_bytes id d.id h)) up) ∙ rw t refl)
+        (λ f. let other : has_id i d ≡ false = subst (λ (x : List ℕ). is_same i x ≡ false) (exact_bytes id d.id h) f in rw (f, other) refl)
+
+    greater : find (has_id i) (without id ds) ≡ cond (is_same i id) None (find (has_id i) ds) → slice_cmp nat_cmp id d.id ≡ Greater → Wanted
+    greater rest h = ap (find (has_id i)) (without_greater id d ds h) ∙ by_bool (is_same i id)
+        (λ t.
+        let other : has_id i d ≡ false = subst (λ (x : List ℕ). is_same x d.id ≡ false) (sym (same_id i id t)) (ap is_eq h) in
+        let gone : find (has_id i) (without id ds) ≡ None = rw t at rest in
+        rw (t, other) gone)
+        (λ f.
+        let stays : find (has_id i) (without id ds) ≡ find (has_id i) ds = rw f at rest in
+        rw f (ap (λ (o : Option Content). cond (has_id i d) (Some d) o) stays))
+
+    go : find (has_id i) (without id ds) ≡ cond (is_same i id) None (find (has_id i) ds) → Wanted
+    go rest = by_order (slice_cmp nat_cmp id d.id) less equal (greater rest)
 
 and_false : (b : Bool) → (b && false) ≡ false
 and_false true = refl
@@ -72,66 +106,88 @@ and_right : (a b : Bool) → (a && b) ≡ true → b ≡ true
 and_right true b h = h
 and_right false b h = cc
 
--- a note of another id stays
-other_stays : (old new : Kept) (value id i : List ℕ) (gone : Bool) → is_noted new value i ≡ cond (gone && is_same id i) false (is_noted old value i)
-    → i ≢ id → is_noted old value i ≡ true → is_noted new value i ≡ true
-other_stays old new value id i gone left differs noted =
-    let same : (gone && is_same id i) ≡ false = ap (λ (b : Bool). gone && b) (not_same id i differs) ∙ and_false gone in
-    left ∙ rw same noted
-
--- more notes do no harm
-pub more_noted : (cs : List Content) (old new : Collection) → IsCollection cs old → new.by_id.entries ≡ old.by_id.entries
-    → ((q : UniqueName) → owner new.owners q ≡ owner old.owners q)
-    → ((v i : List ℕ) → is_noted old.members v i ≡ true → is_noted new.members v i ≡ true) → IsCollection cs new
-more_noted cs old new h resources owners kept = record {
-  resources = resources ∙ h.resources;
-  keyed_apart = h.keyed_apart;
-  owners = λ q. owners q ∙ h.owners q;
-  noted = λ v. All-weaker (IsNoted old.members v) (IsNoted new.members v) (λ c noted lists. kept v c.id (noted lists)) cs (h.noted v);
-}
-
--- the notes when a resource goes
-pub noted_without : (old new : Kept) (value id : List ℕ) (gone : Bool) (cs : List Content)
-    → ((i : List ℕ) → is_noted new value i ≡ cond (gone && is_same id i) false (is_noted old value i))
-    → All (IsNoted old value) cs → All (IsNoted new value) (without id cs)
-noted_without old new value id gone cs left all =
-    others_without (IsNoted new value) id cs
-    (All-weaker (IsNoted old value) (λ d. d.id ≢ id → IsNoted new value d) (λ d noted differs lists. other_stays old new value id d.id gone (left d.id) differs (noted lists)) cs all)
-
--- a group that was found with an id is noted under each value that it lists
-found_noted : (notes : Kept) (v id : List ℕ) (cs : List Content) → All (IsNoted notes v) cs → is_group_in v (find (has_id id) cs) ≡ true → is_noted notes v id ≡ true
-found_noted notes v id [] all h = cc
-found_noted notes v id (c ∷ cs) all h = by_bool (has_id id c)
+-- where notes are let go that weren't there, those that stay are as they were
+pub taken_back : (old mid new : Kept) (values : List (List ℕ)) (id : List ℕ) → IsUnnoted old values id
+    → ((v i : List ℕ) → (is_one_of v values && is_same id i) ≡ false → is_noted mid v i ≡ is_noted old v i)
+    → ((v i : List ℕ) → is_noted new v i ≡ cond (is_one_of v values && is_same id i) false (is_noted mid v i)) → HasSameNotes old new
+taken_back old mid new values id unnoted others left v i = left v i ∙ by_bool (is_one_of v values && is_same id i)
     (λ t.
-    let same : id ≡ c.id = exact_bytes id c.id (is_eq-Equal (slice_cmp nat_cmp id c.id) t) in
-    let lists : is_group_with v c ≡ true = rw t at h in
-    ap (is_noted notes v) same ∙ All-head (IsNoted notes v) c cs all lists)
-    (λ f. found_noted notes v id cs (All-tail (IsNoted notes v) c cs all) (rw f at h))
-
--- the notes when a resource is kept: the values that it lists are noted, where they weren't already, and of those that it had
--- the ones that it doesn't list are forgotten
-pub noted_keep : (old mid new : Kept) (value : List ℕ) (listed had : Bool) (c : Content) (cs : List Content)
-    → ((i : List ℕ) → is_noted mid value i ≡ cond (listed && is_same c.id i) true (is_noted old value i))
-    → (lists_value value c ≡ true → (listed || is_group_in value (find (has_id c.id) cs)) ≡ true)
-    → ((i : List ℕ) → is_noted old value i ≡ true → is_noted mid value i ≡ true)
-    → ((i : List ℕ) → is_noted new value i ≡ cond ((had && not (lists_value value c)) && is_same c.id i) false (is_noted mid value i))
-    → All (IsNoted old value) cs → All (IsNoted new value) (keep c cs)
-noted_keep old mid new value listed had c cs noted covered kept left all = others_keep (IsNoted new value) c cs here
-    (All-weaker (IsNoted old value) (λ d. d.id ≢ c.id → IsNoted new value d)
-    (λ d was differs lists. other_stays mid new value c.id d.id (had && not (lists_value value c)) (left d.id) differs (kept d.id (was lists))) cs all)
+    let same : id ≡ i = same_id id i (and_right (is_one_of v values) (is_same id i) t) in
+    rw t (sym (unnoted v (and_left (is_one_of v values) (is_same id i) t)) ∙ ap (is_noted old v) same))
+    (λ f. rw f (others v i f))
   where
-    same : is_same c.id c.id ≡ true
-    same = ap is_eq (tied_itself nat_list_cmp_total c.id)
+    and_left : (a b : Bool) → (a && b) ≡ true → a ≡ true
+    and_left true b h = refl
+    and_left false b h = cc
 
-    noted_there : lists_value value c ≡ true → is_noted mid value c.id ≡ true
-    noted_there lists = by_bool listed
-        (λ t. noted c.id ∙ (λ i. cond (t i && same i) true (is_noted old value c.id)))
-        (λ f. kept c.id (found_noted old value c.id cs all (rw f at (covered lists))))
+-- one id's note, where it was noted before or not, and is to be or not
+changed_note : (before now : Bool) → cond (before && not now) false (cond (now && not before) true before) ≡ now
+changed_note true true = refl
+changed_note true false = refl
+changed_note false true = refl
+changed_note false false = refl
 
-    here : is_group_with value c ≡ true → is_noted new value c.id ≡ true
-    here lists =
-        let listed' : lists_value value c ≡ true = and_right (is_of Group c) (lists_value value c) lists in
-        left c.id
-        ∙ (λ i. cond ((had && not (listed' i)) && is_same c.id c.id) false (is_noted mid value c.id))
-        ∙ (λ i. cond (and_false had i && is_same c.id c.id) false (is_noted mid value c.id))
-        ∙ noted_there listed'
+-- the notes when a resource is kept: those of it that come, and without those that go
+pub noted_keep : (old mid new : Kept) (v i : List ℕ) (c : Content) (cs : List Content) → AreKeyed cs
+    → ((j : List ℕ) → is_noted old v j ≡ is_group_in v (find (has_id j) cs))
+    → is_noted mid v i ≡ cond ((is_group_with v c && not (is_group_in v (find (has_id c.id) cs))) && is_same c.id i) true (is_noted old v i)
+    → is_noted new v i ≡ cond ((is_group_in v (find (has_id c.id) cs) && not (is_group_with v c)) && is_same c.id i) false (is_noted mid v i)
+    → is_noted new v i ≡ is_group_in v (find (has_id i) (keep c cs))
+noted_keep old mid new v i c cs keyed was come gone =
+    gone ∙ ap (cond (goes && is_same c.id i) false) (come ∙ ap (cond (comes && is_same c.id i) true) (was i))
+    ∙ by_bool (is_same c.id i) here elsewhere ∙ ap (is_group_in v) (sym (found_keep i c cs keyed))
+  where
+    goes : Bool
+    goes = is_group_in v (find (has_id c.id) cs) && not (is_group_with v c)
+
+    comes : Bool
+    comes = is_group_with v c && not (is_group_in v (find (has_id c.id) cs))
+
+    Wanted : Type 0
+    Wanted = cond (goes && is_same c.id i) false (cond (comes && is_same c.id i) true (is_group_in v (find (has_id i) cs)))
+        ≡ is_group_in v (cond (has_id i c) (Some c) (find (has_id i) cs))
+
+    and_true : (b : Bool) → (b && true) ≡ b
+    and_true true = refl
+    and_true false = refl
+
+    here : is_same c.id i ≡ true → Wanted
+    here t =
+        let own : has_id i c ≡ true = same_flips i c.id ∙ t in
+        let same : i ≡ c.id = same_id i c.id own in
+        rw (t, own)
+        ((λ k. cond (and_true goes k) false (cond (and_true comes k) true (is_group_in v (find (has_id (same k)) cs))))
+        ∙ changed_note (is_group_in v (find (has_id c.id) cs)) (is_group_with v c))
+
+    elsewhere : is_same c.id i ≡ false → Wanted
+    elsewhere f =
+        let other : has_id i c ≡ false = same_flips i c.id ∙ f in
+        rw (f, other) (λ k. cond (and_false goes k) false (cond (and_false comes k) true (is_group_in v (find (has_id i) cs))))
+
+-- the notes when a resource goes, of which all go that it had
+pub noted_without : (old new : Kept) (v i id : List ℕ) (cs : List Content) → AreKeyed cs
+    → is_noted old v i ≡ is_group_in v (find (has_id i) cs)
+    → is_noted new v i ≡ cond (is_group_in v (find (has_id id) cs) && is_same id i) false (is_noted old v i)
+    → is_noted new v i ≡ is_group_in v (find (has_id i) (without id cs))
+noted_without old new v i id cs keyed was gone =
+    gone ∙ ap (cond (is_group_in v (find (has_id id) cs) && is_same id i) false) was
+    ∙ by_bool (is_same id i) here elsewhere ∙ ap (is_group_in v) (sym (found_without i id cs keyed))
+  where
+    Wanted : Type 0
+    Wanted = cond (is_group_in v (find (has_id id) cs) && is_same id i) false (is_group_in v (find (has_id i) cs)) ≡ is_group_in v (cond (is_same i id) None (find (has_id i) cs))
+
+    nothing : (b : Bool) → cond (b && true) false b ≡ false
+    nothing true = refl
+    nothing false = refl
+
+    here : is_same id i ≡ true → Wanted
+    here t =
+        let own : is_same i id ≡ true = same_flips i id ∙ t in
+        rw (t, own)
+        ((λ k. cond (is_group_in v (find (has_id id) cs) && true) false (is_group_in v (find (has_id (same_id i id own k)) cs)))
+        ∙ nothing (is_group_in v (find (has_id id) cs)))
+
+    elsewhere : is_same id i ≡ false → Wanted
+    elsewhere f =
+        let other : is_same i id ≡ false = same_flips i id ∙ f in
+        rw (f, other) (λ k. cond (and_false (is_group_in v (find (has_id id) cs)) k) false (is_group_in v (find (has_id i) cs)))

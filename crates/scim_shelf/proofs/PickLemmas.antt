@@ -1,31 +1,41 @@
--- The resources that pass a test, found by their ids.
-use Rattle.std.proofs.Common.{◌≡◌, refl, sym, ◌∙◌, ap, subst, ℕ, Bool, true, false, List, [], ◌∷◌}
-use Rattle.std.specs.Prelude.{All, find, filter, Option, Some}
+-- The resources with some ids, found by the ids.
+use Rattle.std.proofs.Common.{◌≡◌, refl, sym, ◌∙◌, ap, subst, ℕ, Bool, false, List, [], ◌∷◌, ◌++◌}
+use Rattle.std.specs.Prelude.{All, find, filter, Option, None, Some}
 use Rattle.std.specs.Ordering.{nat_cmp}
 use Rattle.std.specs.declared.cmp.Ordering.TheVariants.{Less, Equal, Greater}
-use Rattle.std.specs.Cmp.Lexicographic.{slice_cmp, nat_list_eq_equiv}
-use Rattle.std.specs.List.{list_any, AllByRecursion}
+use Rattle.std.specs.Cmp.Lexicographic.{slice_cmp}
+use Rattle.std.specs.List.{list_any, AllByRecursion, FoldsTo}
 use Rattle.std.specs.List.Sorted.{IsStrictlySortedBy}
 use Rattle.std.specs.BTreeMap.{is_at}
+use Rattle.std.specs.BTreeSet.{BTreeSet, contains}
 use Rattle.std.proofs.lemmas.Cmp.{nat_list_cmp_total}
-use Rattle.std.proofs.lemmas.List.Elements.{All-head, All-tail, All-weaker, All-from_recursion}
+use Rattle.std.proofs.lemmas.List.Elements.{All-nil, All-cons, All-head, All-tail, All-weaker, All-from_recursion}
 use Rattle.std.proofs.lemmas.Map.Keys.{sorted_head, sorted_tail}
 use Rattle.std.proofs.lemmas.Map.Lookups.{exact_bytes}
-use Rattle.std.proofs.lemmas.Map.Text.{is_eq-slice_cmp}
 use Rattle.scim_cell.specs.Content.{Content}
-use Rattle.scim_shelf.specs.Stores.{AreKeyed}
-use Rattle.scim_shelf.specs.code.Members.{is_same}
-use Rattle.scim_shelf.specs.code.Collections.{has_id, if_passes, before, picked}
+use Rattle.scim_shelf.specs.Stores.{AreKeyed, is_group_with}
+use Rattle.scim_shelf.specs.declared.collections.Collection.{Collection}
+use Rattle.scim_shelf.specs.declared.members.Holders.{Holders}
+use Rattle.scim_shelf.specs.declared.members.Holders.TheVariants.{One, Several}
+use Rattle.scim_shelf.specs.Collections.{IsCollection}
+use Rattle.scim_shelf.specs.code.Members.{is_same, holders_at, has_in, is_group_in}
+use Rattle.scim_shelf.specs.code.Collections.{has_id, before, picked}
 use Rattle.scim_shelf.proofs.PlaceLemmas.{AreAbove, by_order, reversed, above_lower}
 use Rattle.scim_shelf.proofs.StoreLemmas.{All-both, keyed_above, keyed_tail}
 use Rattle.scim_shelf.proofs.NameLemmas.{by_bool, none_above}
+use Rattle.scim_shelf.proofs.NotedLemmas.{id_itself, same_flips}
+use Rattle.scim_shelf.proofs.ValueLemmas.{or_false}
 
 -- whether an id is among others
 abbrev pub is_listed : List ℕ → List (List ℕ) → Bool
 is_listed id ids = list_any (is_at (slice_cmp nat_cmp id)) ids
 
+-- the resources whose ids are among these
+abbrev pub listed : List (List ℕ) → List Content → List Content
+listed ids cs = filter (λ c. is_listed c.id ids) cs
+
 -- these ids are above an id
-abbrev pub IdsAbove : List ℕ → List (List ℕ) → Type 0
+abbrev IdsAbove : List ℕ → List (List ℕ) → Type 0
 IdsAbove id ids = AllByRecursion (λ other. slice_cmp nat_cmp id other ≡ Less) ids
 
 -- ids ascend
@@ -37,11 +47,13 @@ one_ascends : (id : List ℕ) → Ascend (id ∷ [])
 unfolding IsStrictlySortedBy
 one_ascends id = (tt, tt)
 
--- an id that is another is among this one alone
-among_one : (id other : List ℕ) → is_same id other ≡ true → is_listed other (id ∷ []) ≡ true
-among_one id other h =
-    let here : is_same other id ≡ true = is_eq-slice_cmp other id ∙ nat_list_eq_equiv.symm other id ∙ sym (is_eq-slice_cmp id other) ∙ h in
-    rw here refl
+-- tests that agree on some resources leave the same of them
+filter_same : (p q : Content → Bool) (cs : List Content) → All (λ c. p c ≡ q c) cs → filter p cs ≡ filter q cs
+filter_same p q [] all = refl
+filter_same p q (c ∷ cs) all =
+    let here : p c ≡ q c = All-head (λ d. p d ≡ q d) c cs all in
+    let rest : filter p cs ≡ filter q cs = filter_same p q cs (All-tail (λ d. p d ≡ q d) c cs all) in
+    by_bool (q c) (λ t. rw (here ∙ t, t) (ap (λ (xs : List Content). c ∷ xs) rest)) (λ f. rw (here ∙ f, f) rest)
 
 ids_lower : (x y : List ℕ) (ids : List (List ℕ)) → slice_cmp nat_cmp x y ≡ Less → IdsAbove y ids → IdsAbove x ids
 ids_lower x y [] h up = tt
@@ -51,85 +63,109 @@ not_listed : (id : List ℕ) (ids : List (List ℕ)) → IdsAbove id ids → is_
 not_listed id [] up = refl
 not_listed id (other ∷ ids) up = rw up.0 (not_listed id ids up.1)
 
-module _ (test : Content → Bool) where
-  -- a resource that passes has its id among these
-  abbrev pub IsListed : List (List ℕ) → Content → Type 0
-  IsListed ids c = test c ≡ true → is_listed c.id ids ≡ true
+none_listed : (cs : List Content) → [] ≡ listed [] cs
+none_listed [] = refl
+none_listed (c ∷ cs) = none_listed cs
 
-  none_passes : (cs : List Content) → All (IsListed []) cs → filter test cs ≡ []
-  none_passes [] all = refl
-  none_passes (c ∷ cs) all =
-      by_bool (test c)
-      (λ t. let nothing : false ≡ true = All-head (IsListed []) c cs all t in cc)
-      (λ f. rw f (none_passes cs (All-tail (IsListed []) c cs all)))
+none_picked : (ids : List (List ℕ)) → picked [] ids ≡ []
+none_picked [] = refl
+none_picked (id ∷ ids) = none_picked ids
 
-  none_picked : (ids : List (List ℕ)) → picked test [] ids ≡ []
-  none_picked [] = refl
-  none_picked (id ∷ ids) = none_picked ids
+-- a resource whose id is below these isn't picked by them
+picked_above : (c : Content) (cs : List Content) (ids : List (List ℕ)) → IdsAbove c.id ids → picked (c ∷ cs) ids ≡ picked cs ids
+picked_above c cs [] up = refl
+picked_above c cs (id ∷ ids) up = rw (reversed c.id id Less up.0) (ap (before (find (has_id id) cs)) (picked_above c cs ids up.1))
 
-  -- a resource whose id is below these isn't picked by them
-  picked_above : (c : Content) (cs : List Content) (ids : List (List ℕ)) → IdsAbove c.id ids → picked test (c ∷ cs) ids ≡ picked test cs ids
-  picked_above c cs [] up = refl
-  picked_above c cs (id ∷ ids) up =
-      rw (reversed c.id id Less up.0) (ap (before (if_passes test (find (has_id id) cs))) (picked_above c cs ids up.1))
+-- an id that is below those of resources lists none of them
+listed_later : (id : List ℕ) (ids : List (List ℕ)) (cs : List Content) → AreAbove id cs → listed ids cs ≡ listed (id ∷ ids) cs
+listed_later id ids cs up =
+    filter_same (λ c. is_listed c.id ids) (λ c. is_listed c.id (id ∷ ids)) cs
+    (All-weaker (λ (d : Content). slice_cmp nat_cmp id d.id ≡ Less) (λ d. is_listed d.id ids ≡ is_listed d.id (id ∷ ids)) (λ d less. rw (reversed id d.id Less less) refl) cs
+    (All-from_recursion (λ d. slice_cmp nat_cmp id d.id ≡ Less) cs up))
 
-  listed_later : (id : List ℕ) (ids : List (List ℕ)) (d : Content) → slice_cmp nat_cmp id d.id ≡ Less → IsListed (id ∷ ids) d → IsListed ids d
-  listed_later id ids d less listed passes = rw (reversed id d.id Less less) at (listed passes)
+-- one more resource, where the later ones are picked as they should be
+picked_more : (c : Content) (cs : List Content) → AreAbove c.id cs
+    → ((ids : List (List ℕ)) → Ascend ids → picked cs ids ≡ listed ids cs)
+    → (ids : List (List ℕ)) → Ascend ids → picked (c ∷ cs) ids ≡ listed ids (c ∷ cs)
+picked_more c cs up later [] ascend = none_listed cs
+picked_more c cs up later (id ∷ ids) ascend = by_order (slice_cmp nat_cmp id c.id) (less (picked_more c cs up later ids rest)) equal greater
+  where
+    rest : Ascend ids
+    rest = sorted_tail (slice_cmp nat_cmp) id ids ascend
 
-  all_later : (id : List ℕ) (ids : List (List ℕ)) (cs : List Content) → AreAbove id cs → All (IsListed (id ∷ ids)) cs → All (IsListed ids) cs
-  all_later id ids cs up all =
-      All-both (λ d. slice_cmp nat_cmp id d.id ≡ Less) (IsListed (id ∷ ids)) (IsListed ids) (listed_later id ids) cs
-      (All-from_recursion (λ d. slice_cmp nat_cmp id d.id ≡ Less) cs up) all
+    less : picked (c ∷ cs) ids ≡ listed ids (c ∷ cs) → slice_cmp nat_cmp id c.id ≡ Less → picked (c ∷ cs) (id ∷ ids) ≡ listed (id ∷ ids) (c ∷ cs)
+    less others h =
+        let beyond : AreAbove id (c ∷ cs) = (h, above_lower id c.id cs h up) in
+        ap (λ (o : Option Content). before o (picked (c ∷ cs) ids)) (none_above id (c ∷ cs) beyond) ∙ others ∙ listed_later id ids (c ∷ cs) beyond
 
-  -- one more resource, where the later ones are picked as they should be
-  picked_more : (c : Content) (cs : List Content) → AreAbove c.id cs
-      → ((ids : List (List ℕ)) → Ascend ids → All (IsListed ids) cs → picked test cs ids ≡ filter test cs)
-      → (ids : List (List ℕ)) → Ascend ids → All (IsListed ids) (c ∷ cs) → picked test (c ∷ cs) ids ≡ filter test (c ∷ cs)
-  picked_more c cs up later [] ascend all = sym (none_passes (c ∷ cs) all)
-  picked_more c cs up later (id ∷ ids) ascend all = by_order (slice_cmp nat_cmp id c.id) (less (picked_more c cs up later ids rest)) equal greater
-    where
-      rest : Ascend ids
-      rest = sorted_tail (slice_cmp nat_cmp) id ids ascend
+    equal : slice_cmp nat_cmp id c.id ≡ Equal → picked (c ∷ cs) (id ∷ ids) ≡ listed (id ∷ ids) (c ∷ cs)
+    equal h =
+        let same : id ≡ c.id = exact_bytes id c.id h in
+        let found : find (has_id id) (c ∷ cs) ≡ Some c = rw h refl in
+        let beyond : IdsAbove c.id ids = subst (λ (x : List ℕ). IdsAbove x ids) same (sorted_head (slice_cmp nat_cmp) id ids ascend) in
+        let behind : AreAbove id cs = subst (λ (x : List ℕ). AreAbove x cs) (sym same) up in
+        let others : picked (c ∷ cs) ids ≡ listed (id ∷ ids) cs = picked_above c cs ids beyond ∙ later ids rest ∙ listed_later id ids cs behind in
+        let here : slice_cmp nat_cmp c.id id ≡ Equal = reversed id c.id Equal h in
+        (λ i. before (found i) (others i)) ∙ rw here refl
 
-      less : (All (IsListed ids) (c ∷ cs) → picked test (c ∷ cs) ids ≡ filter test (c ∷ cs))
-          → slice_cmp nat_cmp id c.id ≡ Less → picked test (c ∷ cs) (id ∷ ids) ≡ filter test (c ∷ cs)
-      less others h =
-          let beyond : AreAbove id (c ∷ cs) = (h, above_lower id c.id cs h up) in
-          ap (λ (o : Option Content). before (if_passes test o) (picked test (c ∷ cs) ids)) (none_above id (c ∷ cs) beyond)
-          ∙ others (all_later id ids (c ∷ cs) beyond all)
+    greater : slice_cmp nat_cmp id c.id ≡ Greater → picked (c ∷ cs) (id ∷ ids) ≡ listed (id ∷ ids) (c ∷ cs)
+    greater h =
+        let under : slice_cmp nat_cmp c.id id ≡ Less = reversed id c.id Greater h in
+        let beyond : IdsAbove c.id (id ∷ ids) = (under, ids_lower c.id id ids under (sorted_head (slice_cmp nat_cmp) id ids ascend)) in
+        let absent : is_listed c.id (id ∷ ids) ≡ false = not_listed c.id (id ∷ ids) beyond in
+        picked_above c cs (id ∷ ids) beyond ∙ later (id ∷ ids) ascend ∙ rw absent refl
 
-      equal : slice_cmp nat_cmp id c.id ≡ Equal → picked test (c ∷ cs) (id ∷ ids) ≡ filter test (c ∷ cs)
-      equal h =
-          let same : id ≡ c.id = exact_bytes id c.id h in
-          let here : find (has_id id) (c ∷ cs) ≡ Some c = rw h refl in
-          let beyond : IdsAbove c.id ids = subst (λ (x : List ℕ). IdsAbove x ids) same (sorted_head (slice_cmp nat_cmp) id ids ascend) in
-          let behind : AreAbove id cs = subst (λ (x : List ℕ). AreAbove x cs) (sym same) up in
-          let others : picked test (c ∷ cs) ids ≡ filter test cs =
-          picked_above c cs ids beyond ∙ later ids rest (all_later id ids cs behind (All-tail (IsListed (id ∷ ids)) c cs all)) in
-          (λ i. before (if_passes test (here i)) (others i)) ∙ by_bool (test c) (λ t. rw t refl) (λ f. rw f refl)
+-- ids that ascend pick the resources whose ids are among them, in their order
+pub picked_all : (cs : List Content) → AreKeyed cs → (ids : List (List ℕ)) → Ascend ids → picked cs ids ≡ listed ids cs
+picked_all [] keyed ids ascend = none_picked ids
+picked_all (c ∷ cs) keyed ids ascend = picked_more c cs (keyed_above c cs keyed) (picked_all cs (keyed_tail c cs keyed)) ids ascend
 
-      greater : slice_cmp nat_cmp id c.id ≡ Greater → picked test (c ∷ cs) (id ∷ ids) ≡ filter test (c ∷ cs)
-      greater h =
-          let under : slice_cmp nat_cmp c.id id ≡ Less = reversed id c.id Greater h in
-          let beyond : IdsAbove c.id (id ∷ ids) = (under, ids_lower c.id id ids under (sorted_head (slice_cmp nat_cmp) id ids ascend)) in
-          let others : picked test (c ∷ cs) (id ∷ ids) ≡ filter test cs =
-          picked_above c cs (id ∷ ids) beyond ∙ later (id ∷ ids) ascend (All-tail (IsListed (id ∷ ids)) c cs all) in
-          by_bool (test c)
-          (λ t. let here : is_listed c.id (id ∷ ids) ≡ true = All-head (IsListed (id ∷ ids)) c cs all t in let not : is_listed c.id (id ∷ ids) ≡ false = not_listed c.id (id ∷ ids) beyond in cc)
-          (λ f. rw f others)
+-- each resource is the one that is found by its id
+found_own : (cs : List Content) → AreKeyed cs → All (λ c. find (has_id c.id) cs ≡ Some c) cs
+found_own [] keyed = All-nil _
+found_own (c ∷ cs) keyed =
+    All-cons (λ d. find (has_id d.id) (c ∷ cs) ≡ Some d) c cs (rw (id_itself c.id) refl)
+    (All-both (λ (d : Content). slice_cmp nat_cmp c.id d.id ≡ Less) (λ d. find (has_id d.id) cs ≡ Some d) (λ d. find (has_id d.id) (c ∷ cs) ≡ Some d)
+    (λ d less found. rw (reversed c.id d.id Less less) found) cs
+    (All-from_recursion (λ d. slice_cmp nat_cmp c.id d.id ≡ Less) cs (keyed_above c cs keyed)) (found_own cs (keyed_tail c cs keyed)))
 
-  -- ids that ascend, among which are those of all resources that pass, pick just these
-  pub picked_all : (cs : List Content) → AreKeyed cs → (ids : List (List ℕ)) → Ascend ids → All (IsListed ids) cs → picked test cs ids ≡ filter test cs
-  picked_all [] keyed ids ascend all = none_picked ids
-  picked_all (c ∷ cs) keyed ids ascend all = picked_more c cs (keyed_above c cs keyed) (picked_all cs (keyed_tail c cs keyed)) ids ascend all
+-- where just the ids of the groups that list a value pass a test, the resources whose ids pass it are those groups
+noted_groups : (value : List ℕ) (test : List ℕ → Bool) (cs : List Content) → AreKeyed cs → ((id : List ℕ) → test id ≡ is_group_in value (find (has_id id) cs))
+    → filter (λ c. test c.id) cs ≡ filter (is_group_with value) cs
+noted_groups value test cs keyed noted =
+    filter_same (λ c. test c.id) (is_group_with value) cs
+    (All-weaker (λ (c : Content). find (has_id c.id) cs ≡ Some c) (λ c. test c.id ≡ is_group_with value c) (λ c found. noted c.id ∙ ap (is_group_in value) found) cs (found_own cs keyed))
 
-  -- the same of one id
-  pub picked_one : (cs : List Content) → AreKeyed cs → (id : List ℕ) → All (λ c. test c ≡ true → is_same id c.id ≡ true) cs
-      → before (if_passes test (find (has_id id) cs)) [] ≡ filter test cs
-  picked_one cs keyed id all =
-      picked_all cs keyed (id ∷ []) (one_ascends id)
-      (All-weaker (λ c. test c ≡ true → is_same id c.id ≡ true) (IsListed (id ∷ [])) (λ c same passes. among_one id c.id (same passes)) cs all)
+module _ (value : List ℕ) (cs : List Content) (collection : Collection) (is : IsCollection cs collection) where
+  -- an id is noted where it is among those that were found
+  noted : (holders : Option Holders) → holders_at collection.members value ≡ holders → (id : List ℕ) → has_in id holders ≡ is_group_in value (find (has_id id) cs)
+  noted holders found id = ap (has_in id) (sym found) ∙ is.noted value id
 
-  -- where no ids are to be had, no resource passes
-  pub picked_none : (cs : List Content) → All (IsListed []) cs → [] ≡ filter test cs
-  picked_none cs all = sym (none_passes cs all)
+  -- the groups that list a value, where one id is noted under it, several are, or none is
+  pub groups_of_one : (id : List ℕ) → holders_at collection.members value ≡ Some (One id) → before (find (has_id id) cs) [] ≡ filter (is_group_with value) cs
+  groups_of_one id found =
+      picked_all cs is.keyed_apart (id ∷ []) (one_ascends id)
+      ∙ noted_groups value (λ i. is_listed i (id ∷ [])) cs is.keyed_apart (λ i. or_false (is_same i id) ∙ same_flips i id ∙ noted (Some (One id)) found i)
+
+  pub groups_of_several : (ids : BTreeSet (List ℕ)) → holders_at collection.members value ≡ Some (Several ids)
+      → filter (λ c. contains (slice_cmp nat_cmp) ids c.id) cs ≡ filter (is_group_with value) cs
+  groups_of_several ids found = noted_groups value (contains (slice_cmp nat_cmp) ids) cs is.keyed_apart (noted (Some (Several ids)) found)
+
+  pub groups_of_none : holders_at collection.members value ≡ None → [] ≡ filter (is_group_with value) cs
+  groups_of_none found = none_listed cs ∙ noted_groups value (λ i. false) cs is.keyed_apart (noted None found)
+
+-- one more id picks the resource with it, if there is one
+pub picked_push : (cs : List Content) (ids : List (List ℕ)) (id : List ℕ) → picked cs (ids ++ id ∷ []) ≡ picked cs ids ++ before (find (has_id id) cs) []
+picked_push cs [] id = refl
+picked_push cs (other ∷ ids) id = go (find (has_id other) cs) (picked_push cs ids id)
+  where
+    go : (o : Option Content) → picked cs (ids ++ id ∷ []) ≡ picked cs ids ++ before (find (has_id id) cs) []
+        → before o (picked cs (ids ++ id ∷ [])) ≡ before o (picked cs ids) ++ before (find (has_id id) cs) []
+    go None rest = rest
+    go (Some c) rest = ap (λ (xs : List Content). c ∷ xs) rest
+
+-- what has taken some and then others has taken all
+pub folds_both : {V : Type 0} (Takes : V → Content → V → Type 0) (first middle last : V) (cs ds : List Content)
+    → FoldsTo Takes first cs middle → FoldsTo Takes middle ds last → FoldsTo Takes first (cs ++ ds) last
+folds_both Takes first middle last [] ds before after = subst (λ v. FoldsTo Takes v ds last) (sym before) after
+folds_both Takes first middle last (c ∷ cs) ds before after = (before.0, before.1, folds_both Takes before.0 middle last cs ds before.2 after)

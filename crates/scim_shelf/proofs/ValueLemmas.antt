@@ -7,9 +7,8 @@ use Rattle.std.proofs.lemmas.List.{length-drop, take_all, take-append-drop}
 use Rattle.std.proofs.lemmas.List.Folds.{list_any-append, list_any_more}
 use Rattle.scim_cell.specs.declared.atoms.Atom.{Atom}
 use Rattle.scim_cell.specs.declared.atoms.Atom.TheVariants.{Text, Truth, Moment}
-use Rattle.scim_cell.specs.Content.{Content}
 use Rattle.scim_cell.specs.Rows.{Row}
-use Rattle.scim_value.specs.Members.{is_text, lists_value}
+use Rattle.scim_value.specs.Members.{is_text}
 use Rattle.scim_shelf.specs.code.Members.{is_found, is_one_of, value_in, is_value_of}
 
 -- the values of members with one more, of which the value was found, if it has one
@@ -30,9 +29,9 @@ pub or_false : (b : Bool) → (b || false) ≡ b
 or_false true = refl
 or_false false = refl
 
--- what one group lists holds of an equal value
-pub same_lists : (u v : List ℕ) (g : Content) (b : Bool) → lists_value u g ≡ b → pointwise nat_eq v u ≡ true → lists_value v g ≡ b
-same_lists u v g b h same = subst (λ (x : List ℕ). lists_value x g ≡ b) (sym ((bytes_decides v u).0 same)) h
+-- a test of one value holds of an equal one
+same_test : (test : List ℕ → Bool) (u v : List ℕ) (b : Bool) → test u ≡ b → pointwise nat_eq v u ≡ true → test v ≡ b
+same_test test u v b h same = subst (λ (x : List ℕ). test x ≡ b) (sym ((bytes_decides v u).0 same)) h
 
 pushed : (before now listed : Bool) → (now ≡ true → listed ≡ false) → ((before && not listed) || (now || false)) ≡ ((before || now) && not listed)
 pushed true true true h = let nothing : true ≡ false = h refl in cc
@@ -50,17 +49,17 @@ skipped false true true h = refl
 skipped false true false h = let nothing : false ≡ true = h refl in cc
 skipped false false listed h = refl
 
--- one more value is gone, since the new group doesn't list it
-pub gone_more : (v u : List ℕ) (gone : List (List ℕ)) (before : Bool) (new : Content) → is_one_of v gone ≡ (before && not (lists_value v new))
-    → lists_value u new ≡ false → is_one_of v (gone ++ u ∷ []) ≡ ((before || pointwise nat_eq v u) && not (lists_value v new))
-gone_more v u gone before new so_far absent =
-    list_any-append (pointwise nat_eq v) gone (u ∷ []) ∙ ap (λ (b : Bool). b || (pointwise nat_eq v u || false)) so_far
-    ∙ pushed before (pointwise nat_eq v u) (lists_value v new) (same_lists u v new false absent)
+-- one more value is taken, since it fails a test
+pub taken_more : (v u : List ℕ) (taken : List (List ℕ)) (before : Bool) (test : List ℕ → Bool) → is_one_of v taken ≡ (before && not (test v))
+    → test u ≡ false → is_one_of v (taken ++ u ∷ []) ≡ ((before || pointwise nat_eq v u) && not (test v))
+taken_more v u taken before test so_far fails =
+    list_any-append (pointwise nat_eq v) taken (u ∷ []) ∙ ap (λ (b : Bool). b || (pointwise nat_eq v u || false)) so_far
+    ∙ pushed before (pointwise nat_eq v u) (test v) (same_test test u v false fails)
 
--- or isn't, since the new group lists it
-pub gone_same : (v u : List ℕ) (gone : List (List ℕ)) (before : Bool) (new : Content) → is_one_of v gone ≡ (before && not (lists_value v new))
-    → lists_value u new ≡ true → is_one_of v gone ≡ ((before || pointwise nat_eq v u) && not (lists_value v new))
-gone_same v u gone before new so_far present = so_far ∙ skipped before (pointwise nat_eq v u) (lists_value v new) (same_lists u v new true present)
+-- or isn't, since it passes
+pub taken_same : (v u : List ℕ) (taken : List (List ℕ)) (before : Bool) (test : List ℕ → Bool) → is_one_of v taken ≡ (before && not (test v))
+    → test u ≡ true → is_one_of v taken ≡ ((before || pointwise nat_eq v u) && not (test v))
+taken_same v u taken before test so_far passes = so_far ∙ skipped before (pointwise nat_eq v u) (test v) (same_test test u v true passes)
 
 -- two members have the same value, where one was found to have it and the other to be it
 pub same_value : (u : List ℕ) (one other : Option Atom) → ((v : List ℕ) → is_text v one ≡ pointwise nat_eq v u) → is_text u other ≡ true

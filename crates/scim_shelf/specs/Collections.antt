@@ -1,19 +1,19 @@
 -- What a collection of the resources of a store has.
-use Rattle.std.specs.Prelude.{◌≡◌, ℕ, true, List, map, find, All}
+use Rattle.std.specs.Prelude.{◌≡◌, ℕ, List, map, find}
 use Rattle.std.specs.Option.{option_map}
 use Rattle.scim_cell.specs.Content.{Content}
 use Rattle.scim_value.specs.declared.uniqueness.UniqueName.{UniqueName}
 use Rattle.scim_value.specs.Uniqueness.{name_of}
 use Rattle.scim_shelf.specs.declared.collections.Collection.{Collection}
-use Rattle.scim_shelf.specs.Stores.{AreKeyed, has_name, is_group_with}
-use Rattle.scim_shelf.specs.code.Collections.{keyed}
+use Rattle.scim_shelf.specs.Stores.{AreKeyed, has_name}
+use Rattle.scim_shelf.specs.code.Collections.{has_id, keyed}
 use Rattle.scim_shelf.specs.code.Owners.{owner}
-use Rattle.scim_shelf.specs.code.Members.{is_noted}
+use Rattle.scim_shelf.specs.code.Members.{is_noted, is_group_in}
 
--- the collection has just these resources, by id, knows which of them has each unique name, and has a note of each group under
--- each value that it lists
+-- the collection has just these resources, by id, knows which of them has each unique name, and has a note of a group under each
+-- value that it lists, and no others
 pub record IsCollection (cs : List Content) (collection : Collection) : Type 0 where
   pub resources : collection.by_id.entries ≡ map keyed cs
   pub keyed_apart : AreKeyed cs
   pub owners : (q : UniqueName) → owner collection.owners q ≡ option_map (λ c. c.id) (find (has_name (name_of q)) cs)
-  pub noted : (value : List ℕ) → All (λ c. is_group_with value c ≡ true → is_noted collection.members value c.id ≡ true) cs
+  pub noted : (value id : List ℕ) → is_noted collection.members value id ≡ is_group_in value (find (has_id id) cs)

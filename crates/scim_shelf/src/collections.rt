@@ -1,28 +1,28 @@
 //! The resources of a store, to be found by id, by unique name and by member.
-ghost use Rattle.std.specs.Prelude.{◌≡◌, ◌&&◌, ◌||◌, not, ℕ, List, [], ◌++◌, true, IfOk, OnOk, OnErr, map, find, filter, All, AllPairs};
+ghost use Rattle.std.specs.Prelude.{◌≡◌, ◌&&◌, ◌||◌, not, ℕ, List, [], true, cond, IfOk, OnOk, OnErr, map, find, filter, AllPairs};
 ghost use Rattle.std.specs.Ordering.{nat_cmp};
 ghost use Rattle.std.specs.Cmp.Lexicographic.{slice_cmp};
+ghost use Rattle.std.specs.BTreeMap.{insert_entry};
 ghost use Rattle.std.specs.BTreeSet.{contains};
 ghost use Rattle.std.specs.List.{FoldsTo};
 ghost use Rattle.std.specs.List.Sorted.{IsPermutation};
 ghost use Rattle.std.specs.Option.{option_copied};
 ghost use Rattle.scim_cell.specs.Content.{Content};
 ghost use Rattle.scim_cell.specs.Kinds.{of_kind};
-ghost use Rattle.scim_value.specs.Members.{lists_value};
 ghost use Rattle.scim_value.specs.Uniqueness.{name_of, AreApart};
 ghost use Rattle.scim_shelf.specs.Stores.{Store, HasPlace, CanKeep, is_at, has_name, is_group_with, changed, keep, without};
 ghost use Rattle.scim_shelf.specs.Collections.{IsCollection};
-ghost use Rattle.scim_shelf.specs.code.Collections.{has_id, only_of, names_of, if_passes, before};
-ghost use Rattle.scim_shelf.specs.code.Members.{is_same, is_one_of, is_value_of, is_group_in, lists_in};
+ghost use Rattle.scim_shelf.specs.code.Collections.{has_id, only_of, names_of, before};
+ghost use Rattle.scim_shelf.specs.code.Members.{is_same, is_noted, is_one_of, is_value_of, is_group_in, IsUnnoted, HasSameNotes};
 
 use crate::changes::Change;
-use crate::groups::{is_group_with, members_beyond, members_of, values_beyond};
+use crate::groups::{members_beyond, noted_members, values_beyond};
 use crate::members::{Holders, Members};
 use crate::owners::Owners;
 use crate::shelf::Visitor;
 use scim_cell::{Id, Row, Text};
 use scim_schema::Kind;
-use scim_text::{NoMemory, push};
+use scim_text::NoMemory;
 use scim_value::{Resource, UniqueName, unique_names};
 use std::alloc::Global;
 use std::collections::{BTreeMap, BTreeSet};
@@ -30,7 +30,8 @@ use std::collections::{BTreeMap, BTreeSet};
 /// The resources of a store in memory, to be found by id, by unique name and by member.
 ///
 /// A resource is found by its id by halves, and by a unique name at once, as are the ids of the groups that list a
-/// value. A change looks at the resource with its id alone.
+/// value: just those, so that nobody looks at the members of a group to tell. A change looks at the resource with its
+/// id alone.
 #[derive(Drop)]
 pub struct Collection {
     by_id: BTreeMap<Id, Resource>,
@@ -133,11 +134,11 @@ impl Collection {
         }
     }
 
-    /// The values that the resource with the id of this one lists and this one doesn't; none where there is no such
-    /// resource. NoMemory where none was to be had.
+    /// The values under which the resource with the id of this one is noted and this one isn't to be; none where there
+    /// is no such resource. NoMemory where none was to be had.
     fn values_gone(&self, alloc: Global, new: &Resource) -> Result<Vec<Text>, NoMemory>
         ensures { IfOk result (λ gone. (cs : List Content) → IsCollection cs self.now
-            → (v : List ℕ) → is_one_of v gone.items ≡ (lists_in v (find (has_id new.now.id) cs) && not (lists_value v new.now))) }
+            → (v : List ℕ) → is_one_of v gone.items ≡ (is_group_in v (find (has_id new.now.id) cs) && not (is_group_with v new.now))) }
     {
         match self.with_id(new.id()) {
             Some(old) => values_beyond(alloc, old, new),
@@ -145,15 +146,25 @@ impl Collection {
         }
     }
 
+    /// The values under which this resource is to be noted and the one with its id isn't. NoMemory where none was to be
+    /// had.
+    fn values_come(&self, alloc: Global, new: &Resource) -> Result<Vec<Text>, NoMemory>
+        ensures { IfOk result (λ come. (cs : List Content) → IsCollection cs self.now
+            → (v : List ℕ) → is_one_of v come.items ≡ (is_group_with v new.now && not (is_group_in v (find (has_id new.now.id) cs)))) }
+    {
+        let members = self.members_to_note(new);
+        self.members.values_unnoted(alloc, members, new.id())
+    }
+
     /// The members of a group after those that it begins with as the group with its id does, which is noted under
     /// their values already; all of them where there is no such group.
     fn members_to_note<'a>(&self, new: &'a Resource) -> &'a [Row]
-        ensures { (cs : List Content) → IsCollection cs self.now → (v : List ℕ) → lists_value v new.now ≡ true
-            → (is_value_of v result.now || is_group_in v (find (has_id new.now.id) cs)) ≡ true }
+        ensures { (cs : List Content) → IsCollection cs self.now → (v : List ℕ)
+            → (is_value_of v result.now || is_group_in v (find (has_id new.now.id) cs)) ≡ (is_group_with v new.now || is_group_in v (find (has_id new.now.id) cs)) }
     {
         match self.with_id(new.id()) {
-            Some(old) if old.kind() == Kind::Group => members_beyond(old, new),
-            _ => members_of(new),
+            Some(old) => members_beyond(old, new),
+            None => noted_members(new),
         }
     }
 
@@ -184,14 +195,34 @@ impl Collection {
         let names = unique_names(alloc, &resource)?;
         let old_names = self.names_at(alloc, id)?;
         let gone = self.values_gone(alloc, &resource)?;
-        let members = self.members_to_note(&resource);
+        let come = self.values_come(alloc, &resource)?;
         self.owners.reserve(names.len())?;
-        self.members.note_members(alloc, members, id)?;
-        self.by_id.insert(id, resource)?;
+        self.insert(alloc, resource, come.as_slice())?;
         self.owners.forget(old_names.as_slice());
         self.owners.note(names, id);
         self.members.forget_values(gone.as_slice(), id);
         Ok(())
+    }
+
+    /// Puts the resource in the place of the one with its id, and notes it under these values, under none of which
+    /// that one is noted. NoMemory where none was to be had: nothing is changed then.
+    fn insert(&mut self, alloc: Global, resource: Resource, come: &[Text]) -> Result<(), NoMemory>
+        ensures owners { self.new.owners ≡ self.old.owners }
+        ensures resources { OnOk result (self.new.by_id.entries ≡ insert_entry (slice_cmp nat_cmp) self.old.by_id.entries resource.id resource) }
+        ensures noted { OnOk result ((v i : List ℕ)
+            → is_noted self.new.members v i ≡ cond (is_one_of v come.now && is_same resource.id i) true (is_noted self.old.members v i)) }
+        ensures err_resources { OnErr result (self.new.by_id.entries ≡ self.old.by_id.entries) }
+        ensures err_noted { OnErr result (IsUnnoted self.old.members come.now resource.id → HasSameNotes self.old.members self.new.members) }
+    {
+        let id = resource.id();
+        self.members.note_values(alloc, come, id)?;
+        match self.by_id.insert(id, resource) {
+            Ok(_) => Ok(()),
+            Err(_) => {
+                self.members.forget_values(come, id);
+                Err(NoMemory)
+            }
+        }
     }
 
     /// Lets the resource with the id go. NoMemory where none was to be had: nothing is changed then.
@@ -227,75 +258,49 @@ impl Collection {
         Ok(())
     }
 
-    /// Copies of the groups that list the value among their members, in order of id (RFC 7643 section 4.2).
+    /// Shows the visitor the groups that list the value among their members, in order of id (RFC 7643 section 4.2). It
+    /// copies none, and looks at the members of none.
     ///
-    /// The only error is [`NoMemory`].
-    pub fn groups_with(&self, alloc: Global, value: &str) -> Result<Vec<Resource>, NoMemory>
-        ensures { IfOk result (λ groups. (cs : List Content) → IsCollection cs self.now → groups.items ≡ filter (is_group_with value.now) cs) }
+    /// The only error is [`NoMemory`], where the visitor found none; the visitor is of no use then.
+    pub fn show_groups_with<V: Visitor>(
+        &self,
+        alloc: Global,
+        value: &str,
+        visitor: &mut V,
+    ) -> Result<(), NoMemory>
+        ensures { OnOk result ((cs : List Content) → IsCollection cs self.now → FoldsTo V.takes visitor.old (filter (is_group_with value.now) cs) visitor.new) }
     {
         match self.members.of(value) {
-            Some(Holders::One(id)) => self.group_alone(alloc, *id, value),
-            Some(Holders::Several(ids)) => self.groups_among(alloc, ids, value),
-            None => Ok(Vec::new(alloc)),
+            Some(Holders::One(id)) => self.show_one(alloc, *id, visitor),
+            Some(Holders::Several(ids)) => self.show_several(alloc, ids, visitor),
+            None => Ok(()),
         }
     }
 
-    /// The group that lists the value, whose id is this one, if it is any; none else. NoMemory where none was to be
-    /// had.
-    fn group_alone(&self, alloc: Global, id: Id, value: &str) -> Result<Vec<Resource>, NoMemory>
-        ensures { IfOk result (λ groups. (cs : List Content) → IsCollection cs self.now
-            → All (λ c. is_group_with value.now c ≡ true → is_same id c.id ≡ true) cs
-            → groups.items ≡ filter (is_group_with value.now) cs) }
+    /// Shows the visitor the resource with the id, if there is one. NoMemory where the visitor found none.
+    fn show_one<V: Visitor>(&self, alloc: Global, id: Id, visitor: &mut V) -> Result<(), NoMemory>
+        ensures { OnOk result ((cs : List Content) → IsCollection cs self.now
+            → FoldsTo V.takes visitor.old (before (find (has_id id) cs) []) visitor.new) }
     {
-        let mut groups = Vec::new(alloc);
-        self.push_group(alloc, &mut groups, id, value)?;
-        Ok(groups)
+        match self.with_id(id) {
+            Some(resource) => visitor.take(alloc, resource),
+            None => Ok(()),
+        }
     }
 
-    /// The groups that list the value, in order of id, whose ids are all among these. NoMemory where none was to be
-    /// had.
-    fn groups_among(
+    /// Shows the visitor the resources with these ids, in order of id. NoMemory where the visitor found none.
+    fn show_several<V: Visitor>(
         &self,
         alloc: Global,
         ids: &BTreeSet<Id>,
-        value: &str,
-    ) -> Result<Vec<Resource>, NoMemory>
-        ensures { IfOk result (λ groups. (cs : List Content) → IsCollection cs self.now
-            → All (λ c. is_group_with value.now c ≡ true → contains (slice_cmp nat_cmp) ids.now c.id ≡ true) cs
-            → groups.items ≡ filter (is_group_with value.now) cs) }
-    {
-        let mut groups = Vec::new(alloc);
-        for id in ids {
-            self.push_group(alloc, &mut groups, *id, value)?;
-        }
-        Ok(groups)
-    }
-
-    /// Puts a copy of the group with the id, if it is one that lists the value, at the end of these. NoMemory where
-    /// none was to be had.
-    fn push_group(
-        &self,
-        alloc: Global,
-        groups: &mut Vec<Resource>,
-        id: Id,
-        value: &str,
+        visitor: &mut V,
     ) -> Result<(), NoMemory>
         ensures { OnOk result ((cs : List Content) → IsCollection cs self.now
-            → groups.new.items ≡ groups.old.items ++ before (if_passes (is_group_with value.now) (find (has_id id) cs)) []) }
+            → FoldsTo V.takes visitor.old (filter (λ c. contains (slice_cmp nat_cmp) ids.now c.id) cs) visitor.new) }
     {
-        if let Some(group) = self.group_with(id, value) {
-            push(groups, group.try_copy(alloc)?)?;
+        for id in ids {
+            self.show_one(alloc, *id, visitor)?;
         }
         Ok(())
-    }
-
-    /// The resource with the id, if it is a group that lists the value.
-    fn group_with(&self, id: Id, value: &str) -> Option<&Resource>
-        ensures { (cs : List Content) → IsCollection cs self.now → option_copied result ≡ if_passes (is_group_with value.now) (find (has_id id) cs) }
-    {
-        match self.with_id(id) {
-            Some(group) if is_group_with(value, group) => Some(group),
-            _ => None,
-        }
     }
 }

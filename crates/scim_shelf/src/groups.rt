@@ -1,8 +1,8 @@
 //! Which values a group lists among its members (RFC 7643 section 4.2).
 ghost use Rattle.std.specs.Prelude.{◌≡◌, ◌&&◌, ◌||◌, not, ℕ, ◌≤◌, List, true, length, take, IfOk};
 ghost use Rattle.std.specs.Option.{option_copied};
-ghost use Rattle.scim_value.specs.Members.{is_text, lists_value};
-ghost use Rattle.scim_shelf.specs.Stores as spec;
+ghost use Rattle.scim_value.specs.Members.{is_text};
+ghost use Rattle.scim_shelf.specs.Stores.{is_group_with};
 ghost use Rattle.scim_shelf.specs.code.Members.{is_found, is_one_of, is_in, is_value_of, value_in};
 
 use scim_cell::{Atom, Row, Text};
@@ -11,25 +11,6 @@ use scim_text::{NoMemory, push};
 use scim_value::Resource;
 use std::alloc::Global;
 use std::collections::BTreeSet;
-
-/// Whether the resource is a group that lists the value.
-pub(crate) fn is_group_with(value: &str, resource: &Resource) -> bool
-    ensures { result ≡ spec.is_group_with value.now resource.now }
-{
-    resource.kind() == Kind::Group && lists_value(value, resource)
-}
-
-/// Whether some member has this `value`.
-fn lists_value(value: &str, group: &Resource) -> bool
-    ensures { result ≡ lists_value value.now group.now }
-{
-    for member in members_of(group) {
-        if has_value(value, member) {
-            return true;
-        }
-    }
-    false
-}
 
 /// Whether a member has this `value`.
 fn has_value(value: &str, member: &Row) -> bool
@@ -51,11 +32,15 @@ pub(crate) fn value_of(member: &Row) -> Option<&str>
     }
 }
 
-/// The members of a group.
-pub(crate) fn members_of(group: &Resource) -> &[Row]
-    ensures { (v : List ℕ) → is_value_of v result.now ≡ lists_value v group.now }
+/// The members under whose `value`s a resource is noted: those of a group, and none of a user.
+pub(crate) fn noted_members(resource: &Resource) -> &[Row]
+    ensures { (v : List ℕ) → is_value_of v result.now ≡ is_group_with v resource.now }
 {
-    group.part().values(Unit::whole(Attribute::Members))
+    if resource.kind() == Kind::Group {
+        resource.part().values(Unit::whole(Attribute::Members))
+    } else {
+        &[]
+    }
 }
 
 /// Whether two members have the same `value`.
@@ -84,22 +69,23 @@ fn shared_members(some: &[Row], others: &[Row]) -> usize
 }
 
 /// The members of a group after those that it begins with as another does: all that it may list beyond the other.
-/// Few, where a group grew or shrank at its end, however many it has.
+/// Few, where a group grew or shrank at its end, however many it has. A user counts as a group of no members.
 pub(crate) fn members_beyond<'a>(other: &Resource, group: &'a Resource) -> &'a [Row]
-    ensures { (v : List ℕ) → (is_value_of v result.now || lists_value v other.now) ≡ (lists_value v group.now || lists_value v other.now) }
+    ensures { (v : List ℕ) → (is_value_of v result.now || is_group_with v other.now) ≡ (is_group_with v group.now || is_group_with v other.now) }
 {
-    let members = members_of(group);
-    let shared = shared_members(members_of(other), members);
+    let members = noted_members(group);
+    let shared = shared_members(noted_members(other), members);
     &members[shared..]
 }
 
-/// The values that the old group lists and the new one doesn't. NoMemory where none was to be had.
+/// The values that the old group lists and the new one doesn't, where a user lists none. NoMemory where none was to
+/// be had.
 pub(crate) fn values_beyond(
     alloc: Global,
     old: &Resource,
     new: &Resource,
 ) -> Result<Vec<Text>, NoMemory>
-    ensures { IfOk result (λ gone. (v : List ℕ) → is_one_of v gone.items ≡ (lists_value v old.now && not (lists_value v new.now))) }
+    ensures { IfOk result (λ gone. (v : List ℕ) → is_one_of v gone.items ≡ (is_group_with v old.now && not (is_group_with v new.now))) }
 {
     let members = members_beyond(new, old);
     if members.is_empty() {
@@ -110,7 +96,7 @@ pub(crate) fn values_beyond(
 
 /// The values of these members that the group doesn't list. NoMemory where none was to be had.
 fn values_missing(alloc: Global, members: &[Row], group: &Resource) -> Result<Vec<Text>, NoMemory>
-    ensures { IfOk result (λ gone. (v : List ℕ) → is_one_of v gone.items ≡ (is_value_of v members.now && not (lists_value v group.now))) }
+    ensures { IfOk result (λ gone. (v : List ℕ) → is_one_of v gone.items ≡ (is_value_of v members.now && not (is_group_with v group.now))) }
 {
     let listed = values_of(alloc, group)?;
     let mut gone = Vec::new(alloc);
@@ -126,10 +112,10 @@ fn values_missing(alloc: Global, members: &[Row], group: &Resource) -> Result<Ve
 
 /// The values that a group lists. NoMemory where none was to be had.
 fn values_of(alloc: Global, group: &Resource) -> Result<BTreeSet<&str>, NoMemory>
-    ensures { IfOk result (λ listed. (v : List ℕ) → is_in v listed ≡ lists_value v group.now) }
+    ensures { IfOk result (λ listed. (v : List ℕ) → is_in v listed ≡ is_group_with v group.now) }
 {
     let mut listed = BTreeSet::new(alloc);
-    for member in members_of(group) {
+    for member in noted_members(group) {
         if let Some(value) = value_of(member) {
             listed.insert(value)?;
         }

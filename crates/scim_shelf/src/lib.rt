@@ -16,4 +16,4 @@ pub use collections::Collection;
 pub use copies::{all_of, collection_of};
 pub use faults::ShelfFault;
 pub use memory::MemoryShelf;
-pub use shelf::{Shelf, Visitor};
+pub use shelf::{Shelf, Visitor, show_all};

@@ -1,16 +1,16 @@
-//! Which groups may list a value among their members (RFC 7643 section 4.2).
-ghost use Rattle.std.specs.Prelude.{◌≡◌, ◌&&◌, ℕ, List, true, false, cond, map, nat_eq, IfOk, OnOk, OnErr};
+//! Which groups list a value among their members (RFC 7643 section 4.2).
+ghost use Rattle.std.specs.Prelude.{◌≡◌, ◌&&◌, not, ℕ, List, true, false, cond, map, nat_eq, IfOk, OnOk, OnErr};
 ghost use Rattle.std.specs.Ordering.{nat_cmp};
 ghost use Rattle.std.specs.BTreeSet.{contains};
 ghost use Rattle.std.specs.Cmp.Lexicographic.{slice_cmp, pointwise};
 ghost use Rattle.std.specs.Option.{option_copied};
-ghost use Rattle.scim_value.specs.Members.{is_text, lists_value};
-ghost use Rattle.scim_shelf.specs.code.Members.{is_same, is_holder, holders_at, is_noted, is_one_of, is_value_of, value_in};
+ghost use Rattle.scim_value.specs.Members.{is_text};
+ghost use Rattle.scim_shelf.specs.Stores.{is_group_with};
+ghost use Rattle.scim_shelf.specs.code.Members.{is_same, is_holder, holders_at, is_noted, is_one_of, is_value_of, value_in, IsUnnoted, HasSameNotes};
 
-use crate::groups::value_of;
+use crate::groups::{noted_members, value_of};
 use scim_cell::{Id, Row, Text};
-use scim_schema::{Attribute, Unit};
-use scim_text::NoMemory;
+use scim_text::{NoMemory, push};
 use scim_value::Resource;
 use std::alloc::Global;
 use std::collections::{BTreeSet, HashMap};
@@ -35,6 +35,16 @@ fn both(alloc: Global, one: Id, other: Id) -> Result<BTreeSet<Id>, NoMemory>
 }
 
 impl Holders {
+    /// Whether the id is among them.
+    fn has(&self, id: Id) -> bool
+        ensures { result ≡ is_holder id self.now }
+    {
+        match self {
+            Holders::One(other) => *other == id,
+            Holders::Several(ids) => ids.contains(&id),
+        }
+    }
+
     /// Adds the id. NoMemory where none was to be had: nothing is changed then.
     fn add(&mut self, alloc: Global, id: Id) -> Result<(), NoMemory>
         ensures ok { OnOk result ((i : List ℕ) → is_holder i self.new ≡ cond (is_same id i) true (is_holder i self.old)) }
@@ -70,8 +80,8 @@ impl Holders {
 
 /// Notes of the groups that list a value, by value: their ids.
 ///
-/// A group that lists a value is noted under it. The group of a note may have ceased to list the value, so who reads
-/// a note looks at the group. A value is found at once, and an id among those of a value by halves.
+/// In a collection a group is noted under each value that it lists, and under no other, and a user under none. So who
+/// reads a note needn't look at the group. A value is found at once, and an id among those of a value by halves.
 #[derive(Drop)]
 pub(crate) struct Members {
     by_value: HashMap<String, Holders>,
@@ -119,17 +129,6 @@ impl Members {
         }
     }
 
-    /// Notes the id under the `value` of a member. NoMemory where none was to be had: nothing is noted then.
-    fn note_member(&mut self, alloc: Global, member: &Row, id: Id) -> Result<(), NoMemory>
-        ensures ok { OnOk result ((v i : List ℕ) → is_noted self.new v i ≡ cond (is_text v (value_in member.now) && is_same id i) true (is_noted self.old v i)) }
-        ensures err { OnErr result ((v i : List ℕ) → is_noted self.new v i ≡ is_noted self.old v i) }
-    {
-        match value_of(member) {
-            Some(value) => self.note(alloc, value, id),
-            None => Ok(()),
-        }
-    }
-
     /// Lets the id be noted under the `value` of a member no more.
     fn forget_member(&mut self, member: &Row, id: Id)
         ensures { (v i : List ℕ) → is_noted self.new v i ≡ cond (is_text v (value_in member.now) && is_same id i) false (is_noted self.old v i) }
@@ -140,28 +139,71 @@ impl Members {
         }
     }
 
-    /// Notes the id under the `value` of each of these members. NoMemory where none was to be had: it may be noted
-    /// under some of them then.
-    pub(crate) fn note_members(
-        &mut self,
+    /// Whether the id is noted under the value.
+    fn has(&self, value: &str, id: Id) -> bool
+        ensures { result ≡ is_noted self.now value.now id }
+    {
+        match self.of(value) {
+            Some(holders) => holders.has(id),
+            None => false,
+        }
+    }
+
+    /// The values of these members under which the id isn't noted. NoMemory where none was to be had.
+    pub(crate) fn values_unnoted(
+        &self,
         alloc: Global,
         members: &[Row],
         id: Id,
-    ) -> Result<(), NoMemory>
-        ensures ok { OnOk result ((v i : List ℕ) → is_noted self.new v i ≡ cond (is_value_of v members.now && is_same id i) true (is_noted self.old v i)) }
-        ensures kept { (v i : List ℕ) → is_noted self.old v i ≡ true → is_noted self.new v i ≡ true }
+    ) -> Result<Vec<Text>, NoMemory>
+        ensures { IfOk result (λ come. (v : List ℕ) → is_one_of v come.items ≡ (is_value_of v members.now && not (is_noted self.now v id))) }
     {
+        let mut come = Vec::new(alloc);
         for member in members {
-            self.note_member(alloc, member, id)?;
+            if let Some(value) = value_of(member) {
+                if !self.has(value, id) {
+                    push(&mut come, Text::copy_of(alloc, value)?)?;
+                }
+            }
+        }
+        Ok(come)
+    }
+
+    /// Notes the id under each of these values. NoMemory where none was to be had: the notes are as they were then,
+    /// where it was noted under none of these values.
+    pub(crate) fn note_values(
+        &mut self,
+        alloc: Global,
+        values: &[Text],
+        id: Id,
+    ) -> Result<(), NoMemory>
+        ensures ok { OnOk result ((v i : List ℕ) → is_noted self.new v i ≡ cond (is_one_of v values.now && is_same id i) true (is_noted self.old v i)) }
+        ensures err { OnErr result (IsUnnoted self.old values.now id → HasSameNotes self.old self.new) }
+    {
+        let noted = self.note_each(alloc, values, id);
+        if noted.is_err() {
+            self.forget_values(values, id);
+        }
+        noted
+    }
+
+    /// Notes the id under each of these values. NoMemory where none was to be had: it may be noted under some of them
+    /// then.
+    fn note_each(&mut self, alloc: Global, values: &[Text], id: Id) -> Result<(), NoMemory>
+        ensures ok { OnOk result ((v i : List ℕ) → is_noted self.new v i ≡ cond (is_one_of v values.now && is_same id i) true (is_noted self.old v i)) }
+        ensures others { (v i : List ℕ) → (is_one_of v values.now && is_same id i) ≡ false → is_noted self.new v i ≡ is_noted self.old v i }
+    {
+        for value in values {
+            self.note(alloc, value.as_str(), id)?;
         }
         Ok(())
     }
 
     /// Lets the id be noted under no value that the group lists.
     pub(crate) fn forget_group(&mut self, group: &Resource, id: Id)
-        ensures { (v i : List ℕ) → is_noted self.new v i ≡ cond (lists_value v group.now && is_same id i) false (is_noted self.old v i) }
+        ensures { (v i : List ℕ) → is_noted self.new v i ≡ cond (is_group_with v group.now && is_same id i) false (is_noted self.old v i) }
     {
-        for member in group.part().values(Unit::whole(Attribute::Members)) {
+        for member in noted_members(group) {
             self.forget_member(member, id);
         }
     }

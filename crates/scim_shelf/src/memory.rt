@@ -75,12 +75,13 @@ impl Shelf for MemoryShelf {
         Ok(self.collection.name_owner(alloc, name)?)
     }
 
-    fn groups_with(
+    fn groups_with<V: Visitor>(
         &mut self,
         alloc: Global,
         value: &str,
-    ) -> Result<Vec<Resource>, Failed<ShelfFault>> {
-        Ok(self.collection.groups_with(alloc, value)?)
+        visitor: &mut V,
+    ) -> Result<(), Failed<ShelfFault>> {
+        Ok(self.collection.show_groups_with(alloc, value, visitor)?)
     }
 
     fn each<V: Visitor>(

@@ -68,15 +68,17 @@ pub trait Shelf {
         ensures answer { IfOk result (Answers stands is_honest self.old self.new (λ store found. found ≡ find (has_name (name_of name.now)) store.resources)) }
         ensures read { OnlyReads stands is_honest failures self.old self.new result };
 
-    /// The groups that list the value among their members, in order of id (RFC 7643 section 4.2).
+    /// Shows the visitor the groups that list the value among their members, in order of id (RFC 7643 section 4.2).
     ///
-    /// Fails as `by_id` does.
-    fn groups_with(
+    /// Fails as `by_id` does, and where the visitor wants memory; the visitor is of no use then.
+    fn groups_with<V: Visitor>(
         &mut self,
         alloc: Global,
         value: &str,
-    ) -> Result<Vec<Resource>, Failed<ShelfFault>>
-        ensures answer { IfOk result (Answers stands is_honest self.old self.new (λ store found. found.items ≡ filter (is_group_with value.now) store.resources)) }
+        visitor: &mut V,
+    ) -> Result<(), Failed<ShelfFault>>
+        ensures answer { OnOk result ((store : Store) → stands self.old store → is_honest self.new
+            → FoldsTo V.takes visitor.old (filter (is_group_with value.now) store.resources) visitor.new) }
         ensures read { OnlyReads stands is_honest failures self.old self.new result };
 
     /// Shows the visitor the resources of the kind, in order of id.
@@ -115,4 +117,20 @@ pub trait Shelf {
     /// How often the device failed, 2^64 - 1 at most.
     fn failures(&self) -> u64
         ensures { result ≡ failures self.now };
+}
+
+/// Shows the visitor these resources, in their order.
+///
+/// The only error is [`NoMemory`], where the visitor found none; the visitor is of no use then.
+pub fn show_all<V: Visitor>(
+    alloc: Global,
+    resources: &[Resource],
+    visitor: &mut V,
+) -> Result<(), NoMemory>
+    ensures { OnOk result (FoldsTo V.takes visitor.old resources.now visitor.new) }
+{
+    for resource in resources {
+        visitor.take(alloc, resource)?;
+    }
+    Ok(())
 }

@@ -26,7 +26,7 @@ use crate::walking::walk;
 use scim_audit::AuditRow;
 use scim_cell::{Id, Text};
 use scim_schema::Kind;
-use scim_shelf::{Change, Shelf, ShelfFault, Visitor};
+use scim_shelf::{Change, Shelf, ShelfFault, Visitor, show_all};
 use scim_text::Failed;
 use scim_value::{Resource, UniqueName};
 use sqlite::{Alter, Connection, Error, ErrorCode};
@@ -250,13 +250,15 @@ impl<S: Alter> Shelf for SqlShelf<S> {
         told(&mut self.failures, found)
     }
 
-    fn groups_with(
+    fn groups_with<V: Visitor>(
         &mut self,
         alloc: Global,
         value: &str,
-    ) -> Result<Vec<Resource>, Failed<ShelfFault>> {
+        visitor: &mut V,
+    ) -> Result<(), Failed<ShelfFault>> {
         let found = find_groups_with(&mut self.connection, alloc, self.base.as_str(), value);
-        told(&mut self.failures, found)
+        let groups = told(&mut self.failures, found)?;
+        Ok(show_all(alloc, groups.as_slice(), visitor)?)
     }
 
     fn each<V: Visitor>(

@@ -7,8 +7,6 @@ use Rattle.std.proofs.lemmas.List.{map-append}
 use Rattle.std.proofs.lemmas.List.Elements.{All-head, All-tail, All-map, All-filter, All-weaker, filter-append, filter_passes}
 use Rattle.std.proofs.lemmas.List.Kept.{AllPairs-filter}
 use Rattle.std.specs.Ordering.{is_lt, is_eq, is_gt}
-use Rattle.std.proofs.Math.Bool.{and-false}
-use Rattle.std.proofs.Math.Path.{fun_ext}
 use denote.Enum.Bare.{sameb, true_same}
 use denote.Ref.{Bor}
 use Rattle.scim_schema.specs.contracts.Kind.{the_type as the_kind}
@@ -16,7 +14,7 @@ use Rattle.scim_schema.specs.declared.Kind.{Kind}
 use Rattle.scim_schema.specs.declared.Kind.TheVariants.{User}
 use Rattle.scim_schema.specs.declared.Leaf.{Leaf}
 use Rattle.scim_schema.specs.declared.Unit.{Unit as AttributeUnit}
-use Rattle.scim_schema.specs.declared.Attribute.TheVariants.{Id, DisplayName, Groups, Members}
+use Rattle.scim_schema.specs.declared.Attribute.TheVariants.{DisplayName, Groups, Members}
 use Rattle.scim_schema.specs.declared.SubAttribute.TheVariants.{Value}
 use Rattle.scim_schema.specs.Characteristics.{is_multi_valued}
 use Rattle.scim_schema.specs.Units.{simple, leaf_at, whole, unit_of, is_same_leaf}
@@ -31,12 +29,12 @@ use Rattle.scim_cell.proofs.Facts.{sound-AreRising, PartsRise}
 use Rattle.scim_value.proofs.Facts.{sound_part, unit_same, restricted_sound, rows_content}
 use Rattle.scim_policy.specs.declared.rules.Decision.{Decision}
 use Rattle.scim_view.specs.declared.groups.SeenGroup.{SeenGroup}
-use Rattle.scim_view.specs.View.{Viewer, read_decision, may_be_seen, visible_by, view_by}
+use Rattle.scim_view.specs.View.{may_be_seen, visible_by}
 use Rattle.scim_view.specs.Groups as spec
 use Rattle.scim_cell.specs.Order.{id_cmp}
 use Rattle.scim_value.specs.Members.{is_text, lists}
 use Rattle.scim_view.specs.Groups.{seen, text_in, display_of, membership_of, membership, membership_at, memberships}
-use Rattle.scim_view.specs.code.Memberships.{kept_of, kept_where_shown, kept_where_listed, kept_groups, kept_cmp}
+use Rattle.scim_view.specs.code.Memberships.{kept_of, kept_cmp}
 use Rattle.scim_view.specs.Sorted.{sorted_by}
 use Rattle.scim_view.proofs.SortLemmas.{sorted_by-map}
 
@@ -201,30 +199,6 @@ shown_name d g valid h =
 pub hidden_name : (d : Leaf → Decision) (g : Content) → IsPart g → shows d g.kind (simple DisplayName) ≡ false → display_of (visible_by d g) ≡ None
 hidden_name d g valid h = visible_name d g valid ∙ ap text_in (dropped_cell (shows d g.kind) (simple DisplayName) (values (unit_of (simple DisplayName)) (rows g)) h)
 
--- what is kept of a group that lists an id is what is kept of it as it may be seen
-pub kept_listed : (d : Leaf → Decision) (id : List ℕ) (g : Content) → IsPart g → lists id g ≡ true → kept_where_shown d g ≡ kept_where_listed id (view_by d g)
-unfolding view_by
-kept_listed d id g valid h =
-    let members = leaf_at Members Value in
-    elim (cases_Bool (d (simple Id)).allow) [
-      | inl seen ↦ elim (cases_Bool (shows d g.kind members)) [
-        | inl shown ↦
-            let listed : lists id (visible_by d g) ≡ true = lists_visible d id g valid ∙ (λ i. shown i && h i) in
-            rw (seen, shown, listed) refl
-        | inr hidden ↦
-            let unlisted : lists id (visible_by d g) ≡ false = lists_visible d id g valid ∙ (λ i. hidden i && h i) in
-            rw (seen, hidden, unlisted) refl
-      ]
-      | inr unseen ↦ rw unseen refl
-    ]
-
--- and of one that doesn't list it nothing
-pub kept_unlisted : (d : Leaf → Decision) (id : List ℕ) (g : Content) → IsPart g → lists id g ≡ false → kept_where_listed id (view_by d g) ≡ None
-unfolding view_by
-kept_unlisted d id g valid h =
-    let unlisted : lists id (visible_by d g) ≡ false = lists_visible d id g valid ∙ ap (λ (b : Bool). shows d g.kind (leaf_at Members Value) && b) h ∙ and-false _ in
-    elim (cases_Bool (d (simple Id)).allow) [ inl seen ↦ rw (seen, unlisted) refl | inr unseen ↦ rw unseen refl ]
-
 -- a value of `groups` is sound, and so is what is left of it
 membership_sound : (base id : List ℕ) (name : Option (List ℕ)) → IsSoundRow User (membership_of base id name)
 membership_sound base id None =
@@ -288,18 +262,3 @@ map_lent base (g ∷ gs) = ap (λ xs. membership_at base g ∷ xs) (map_lent bas
 -- what is kept of groups, in order, makes their memberships in order
 pub map_kept_sorted : (base : List ℕ) (gs : List Content) → map (λ (g : SeenGroup). membership_of base g.id g.display) (sorted_by kept_cmp (map kept_of gs)) ≡ map (membership base) (sorted_by id_cmp gs)
 map_kept_sorted base gs = ap (map (λ (g : SeenGroup). membership_of base g.id g.display)) (sorted_by-map kept_cmp kept_of gs) ∙ map_kept base (sorted_by id_cmp gs)
-
--- what is kept of groups makes what is visible with them
-pub kept_visible : (d : Leaf → Decision) (v : Viewer) (gs : List Content) (c : Content)
-    → spec.visible_with d (map (λ (g : SeenGroup). membership_of v.base g.id g.display) (sorted_by kept_cmp (kept_groups v gs c))) c ≡ spec.visible_with d (memberships v.base (seen v gs) c.id) c
-kept_visible d v gs c = elim (cases_Bool (sameb the_kind c.kind User)) [
-  | inl t ↦ ap (λ (ms : List Row). spec.visible_with d ms c) (rw t (map_kept_sorted v.base (filter (lists c.id) (seen v gs))))
-  | inr n ↦ other_visible d _ c n ∙ sym (other_visible d _ c n)
-]
-
--- decisions that are those of the policy show the same
-pub same_with_groups : (d : Leaf → Decision) (v : Viewer) (gs : List Content) (c : Content) → ((l : Leaf) → d l ≡ read_decision v c l)
-    → spec.visible_with d (map (λ (g : SeenGroup). membership_of v.base g.id g.display) (sorted_by kept_cmp (kept_groups v gs c))) c ≡ spec.with_groups v gs c
-unfolding spec.with_groups
-same_with_groups d v gs c same =
-    kept_visible d v gs c ∙ ap (λ (f : Leaf → Decision). spec.visible_with f (memberships v.base (seen v gs) c.id) c) (fun_ext same)

@@ -16,7 +16,7 @@ use Rattle.scim_view.specs.declared.index.GroupIndex.{GroupIndex}
 use Rattle.scim_view.specs.View.{Viewer, view}
 use Rattle.scim_value.specs.Members.{lists}
 use Rattle.scim_view.specs.Groups.{and_those, seen}
-use Rattle.scim_view.specs.code.Index.{ends_in, noted, at_positions, positions_of, is_among, answers_for, Indexes, positions_from, IsMadeOf}
+use Rattle.scim_view.specs.code.Index.{ends_in, noted, at_positions, positions_of, Indexes, positions_from, IsMadeOf}
 use Rattle.scim_view.specs.code.Memberships.{kept_of}
 
 -- an element that was added at the end stands there
@@ -95,20 +95,19 @@ given id xs (g ∷ gs) =
 
 -- an index that holds groups gives those that list an id
 pub held : (gs : List Content) (index : GroupIndex) → IsMadeOf gs index → Indexes gs index
-held gs index h id valid own = rw (h.groups, h.positions id valid own) (given id [] gs)
+held gs index h id valid = rw (h.groups, h.positions id valid) (given id [] gs)
 
 -- an index with a group more
-pub added : (gs : List Content) (g : Content) (old new : GroupIndex) → IsMadeOf gs old → new.groups.items ≡ old.groups.items ++ kept_of g ∷ [] → new.only ≡ old.only
-    → ((id : List ℕ) → IsId id → answers_for old id ≡ true → positions_of new id ≡ (if lists id g then noted (length old.groups.items) (positions_of old id) else positions_of old id))
+pub added : (gs : List Content) (g : Content) (old new : GroupIndex) → IsMadeOf gs old → new.groups.items ≡ old.groups.items ++ kept_of g ∷ []
+    → ((id : List ℕ) → IsId id → positions_of new id ≡ (if lists id g then noted (length old.groups.items) (positions_of old id) else positions_of old id))
     → IsMadeOf (gs ++ g ∷ []) new
-added gs g old new h groups only positions = record {
+added gs g old new h groups positions = record {
   groups = groups ∙ ap (λ xs. xs ++ kept_of g ∷ []) h.groups ∙ sym (map_push kept_of gs g);
-  positions = λ id valid answered.
-      let own : answers_for old id ≡ true = sym (ap (λ o. is_among o id) only) ∙ answered in
+  positions = λ id valid.
       let n : length old.groups.items ≡ length gs = ap (λ xs. length xs) h.groups ∙ length-map gs kept_of in
       let none : 0 + length gs ≡ length gs = omega arith in
       let new_at : noted (length gs) (positions_from 0 id gs) ≡ positions_from 0 id gs ++ length gs ∷ [] = noted_new (length gs) (positions_from 0 id gs) (subst (λ (m : ℕ). All (λ p. p < m) (positions_from 0 id gs)) none (positions_within 0 id gs)) in
-      positions id valid own ∙ rw (n, h.positions id valid own, new_at) (sym (subst (λ (m : ℕ). positions_from 0 id (gs ++ g ∷ []) ≡ (if lists id g then positions_from 0 id gs ++ m ∷ [] else positions_from 0 id gs)) none (positions_more 0 id gs g)));
+      positions id valid ∙ rw (n, h.positions id valid, new_at) (sym (subst (λ (m : ℕ). positions_from 0 id (gs ++ g ∷ []) ≡ (if lists id g then positions_from 0 id gs ++ m ∷ [] else positions_from 0 id gs)) none (positions_more 0 id gs g)));
 }
 
 -- the groups that a client sees, with a group more

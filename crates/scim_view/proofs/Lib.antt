@@ -10,6 +10,7 @@ pub mod NarrowedLemmas
 pub mod MemberLemmas
 pub mod IndexLemmas
 pub mod ListLemmas
+pub mod ListingLemmas
 pub mod WritableLemmas
 pub mod LawLemmas
 pub mod Facts

@@ -17,7 +17,7 @@ use Rattle.scim_view.specs.declared.index.GroupIndex.{GroupIndex}
 use Rattle.scim_view.specs.View.{Viewer, read_decision, sees, view, view_by, visible_by}
 use Rattle.scim_value.specs.Members.{lists}
 use Rattle.scim_view.specs.Groups.{and_those, seen, membership_of, membership_at, memberships, rows_with, visible_with, with_groups, view_with_groups, views}
-use Rattle.scim_view.specs.code.Index.{groups_of, answers_for, Indexes}
+use Rattle.scim_view.specs.code.Index.{groups_of, Indexes}
 use Rattle.scim_view.specs.code.Memberships.{kept_cmp}
 use Rattle.scim_view.specs.Sorted.{sorted_by}
 use Rattle.scim_view.proofs.GroupLemmas.{map_kept_sorted}
@@ -29,11 +29,11 @@ abbrev pub shown_of : List ℕ → SeenGroup → Row
 shown_of base s = membership_of base s.id s.display
 
 -- the groups that an index gives for an id, in order, as values of `groups`
-pub memberships_given : (gs : List Content) (index : GroupIndex) (id : List ℕ) (base : List ℕ) (items : List (Bor SeenGroup)) → Indexes gs index → IsId id → answers_for index id ≡ true
+pub memberships_given : (gs : List Content) (index : GroupIndex) (id : List ℕ) (base : List ℕ) (items : List (Bor SeenGroup)) → Indexes gs index → IsId id
     → map (λ g. g.now) items ≡ sorted_by kept_cmp (groups_of index id) → map (membership_at base) items ≡ memberships base gs id
-memberships_given gs index id base items indexes valid answered given =
+memberships_given gs index id base items indexes valid given =
     sym (map-map (shown_of base) (λ (g : Bor SeenGroup). g.now) items)
-    ∙ ap (map (shown_of base)) (given ∙ ap (sorted_by kept_cmp) (indexes id valid answered))
+    ∙ ap (map (shown_of base)) (given ∙ ap (sorted_by kept_cmp) (indexes id valid))
     ∙ map_kept_sorted base (filter (lists id) gs)
 
 -- the groups that a client sees, with one more that it sees, and one that it doesn't

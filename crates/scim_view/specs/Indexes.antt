@@ -6,6 +6,6 @@ use Rattle.scim_view.specs.View.{Viewer}
 use Rattle.scim_view.specs.Groups.{seen}
 use Rattle.scim_view.specs.code.Index.{IsMadeOf}
 
--- the index has been given these groups: it knows those of them that the viewer sees, and whom each shows as a member, of those that it answers for
+-- the index has been given these groups: it knows those of them that the viewer sees, and whom each shows as a member
 abbrev pub IsIndexOf : Viewer → List Content → GroupIndex → Type 0
 IsIndexOf v groups index = IsMadeOf (seen v groups) index

@@ -4,5 +4,6 @@ pub mod Shown
 pub mod Sorted
 pub mod Groups
 pub mod Indexes
+pub mod Listings
 pub mod Laws
 pub mod code

@@ -1,10 +1,10 @@
 //! The groups of users (RFC 7643 section 4.1.2).
-ghost use Rattle.std.specs.Prelude.{◌≡◌, true, ℕ, List, IfOk, OnOk, map, filter};
+ghost use Rattle.std.specs.Prelude.{◌≡◌, List, IfOk, OnOk, map};
 ghost use Rattle.std.specs.Option.{option_copied};
 ghost use Rattle.std.specs.List.{list_any};
 ghost use Rattle.scim_schema.specs.declared.Leaf.{Leaf};
 ghost use Rattle.scim_schema.specs.Units.{whole, leaf_at};
-ghost use Rattle.scim_cell.specs.Ids.{id_text};
+ghost use Rattle.scim_cell.specs.Content.{Content, IsPart};
 ghost use Rattle.scim_cell.specs.Rows.{rows, values, atom_in, restricted};
 ghost use Rattle.scim_policy.specs.Table.{decision};
 ghost use Rattle.scim_view.specs.View as seeing;
@@ -13,7 +13,9 @@ ghost use Rattle.scim_view.specs.code.Memberships as kept;
 ghost use Rattle.scim_view.specs.Sorted.{sorted_by};
 ghost use Rattle.scim_value.specs.Members as members;
 ghost use Rattle.scim_view.specs.Groups as spec;
+ghost use Rattle.scim_view.specs.Listings.{AreListing};
 
+use crate::listing_groups::ListingGroups;
 use crate::memberships::membership;
 use crate::viewers::Viewer;
 use crate::views::{MayBeSeen, visible_by};
@@ -139,23 +141,25 @@ impl Viewer<'_> {
         ensures { IfOk result (λ p. p ≡ spec.with_groups (viewer_of self.now) groups.now resource.now) }
     {
         let decisions = self.decisions(alloc, resource)?;
-        self.with_groups_by(alloc, &decisions, groups, resource)
+        let listing = ListingGroups::of(alloc, self, groups, resource)?;
+        self.with_groups_by(alloc, &decisions, &listing, resource)
     }
 
-    /// The same as [`Viewer::with_groups`], by decisions that [`Viewer::decisions`] gave for the resource, so
-    /// that the policy isn't asked about it again. NoMemory where none was to be had.
+    /// The same as [`Viewer::with_groups`], of groups that were gathered for the resource, and by decisions that
+    /// [`Viewer::decisions`] gave for it, so that the policy isn't asked about it again. NoMemory where none was to
+    /// be had.
     pub fn with_groups_by(
         &self,
         alloc: Global,
         decisions: &Decisions,
-        groups: &[Resource],
+        groups: &ListingGroups,
         resource: &Resource,
     ) -> Result<Part, NoMemory>
         requires { (l : Leaf) → decision decisions.now l ≡ seeing.read_decision (viewer_of self.now) resource.now l }
-        ensures { IfOk result (λ p. p ≡ spec.with_groups (viewer_of self.now) groups.now resource.now) }
+        ensures { IfOk result (λ p. (gs : List Content) → AreListing (viewer_of self.now) resource.now.id gs groups.now
+            → p ≡ spec.with_groups (viewer_of self.now) gs resource.now) }
     {
-        let seen = groups_of(alloc, self, groups, resource)?;
-        visible_among(alloc, decisions, resource, seen.as_slice(), self.base)
+        visible_among(alloc, decisions, resource, groups.as_slice(), self.base)
     }
 
     /// The same as [`Viewer::with_groups`]; None where the client doesn't see that the resource is there.
@@ -173,8 +177,8 @@ impl Viewer<'_> {
         if !decisions.of(Leaf::simple(Attribute::Id)).allow {
             return Ok(None);
         }
-        let seen = groups_of(alloc, self, groups, resource)?;
-        let part = visible_among(alloc, &decisions, resource, seen.as_slice(), self.base)?;
+        let listing = ListingGroups::of(alloc, self, groups, resource)?;
+        let part = self.with_groups_by(alloc, &decisions, &listing, resource)?;
         Ok(Some(part))
     }
 }
@@ -215,81 +219,13 @@ pub(crate) fn put_in_order(groups: &mut Vec<&SeenGroup>) -> Result<(), NoMemory>
     Ok(())
 }
 
-/// What is kept of the groups that list the resource, of those that the client sees; of a resource other
-/// than a user none, and none is looked at.
-fn groups_of(
-    alloc: Global,
-    viewer: &Viewer<'_>,
-    groups: &[Resource],
-    resource: &Resource,
-) -> Result<Vec<SeenGroup>, NoMemory>
-    ensures { IfOk result (λ v. v.items ≡ kept.kept_groups (viewer_of viewer.now) groups.now resource.now) }
-{
-    match resource.kind() {
-        Kind::User => seen_groups(alloc, viewer, groups, resource.id()),
-        Kind::Group => Ok(Vec::new(alloc)),
-    }
-}
-
-/// What is kept of the groups that list the resource of an id, of those that the client sees.
-fn seen_groups(
-    alloc: Global,
-    viewer: &Viewer<'_>,
-    groups: &[Resource],
-    id: Id,
-) -> Result<Vec<SeenGroup>, NoMemory>
-    ensures { IfOk result (λ v. v.items ≡ map kept.kept_of (filter (members.lists id) (spec.seen (viewer_of viewer.now) groups.now))) }
-{
-    let mut buffer = [0; Id::TEXT_LENGTH];
-    let member = id.write(&mut buffer);
-    let mut seen = Vec::new(alloc);
-    for group in groups {
-        if let Some(listing) = seen_where_listed(alloc, viewer, group, member)? {
-            push(&mut seen, listing)?;
-        }
-    }
-    Ok(seen)
-}
-
-/// What is kept of a group that the client sees, where it sees the text among its members. The policy
-/// isn't asked where the text isn't there.
-fn seen_where_listed(
-    alloc: Global,
-    viewer: &Viewer<'_>,
-    group: &Resource,
-    member: &str,
-) -> Result<Option<SeenGroup>, NoMemory>
-    ensures { IfOk result (λ o. (id : List ℕ) → member.now ≡ id_text id → o ≡ kept.kept_where_listed id (seeing.view (viewer_of viewer.now) group.now)) }
-{
-    if !lists(group.part(), member) {
-        return Ok(None);
-    }
-    let decisions = viewer.decisions(alloc, group)?;
-    seen_by(alloc, &decisions, group)
-}
-
-/// What is kept of a group at the resources that it lists, where it is seen by these decisions on
-/// reading it, and the ids of its members are.
-fn seen_by(
-    alloc: Global,
-    decisions: &Decisions,
-    group: &Resource,
-) -> Result<Option<SeenGroup>, NoMemory>
-    ensures { IfOk result (λ o. o ≡ kept.kept_where_shown (decision decisions.now) group.now) }
-{
-    if shows_members(decisions, group) {
-        Ok(Some(seen_group(alloc, decisions, group)?))
-    } else {
-        Ok(None)
-    }
-}
-
 /// Whether a group is seen by these decisions on reading it, and the ids of its members.
 pub(crate) fn shows_members(decisions: &Decisions, group: &Resource) -> bool
-    ensures { result ≡ kept.shows_members (decision decisions.now) group.now.kind }
+    ensures value { result ≡ kept.shows_members (decision decisions.now) group.now.kind }
+    ensures valid { IsPart group.now }
 {
     let shown = MayBeSeen {
-        kind: group.kind(),
+        kind: group.part().kind(),
         decisions,
     };
     decisions.of(Leaf::simple(Attribute::Id)).allow

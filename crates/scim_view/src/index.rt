@@ -1,6 +1,5 @@
 //! An index of groups by the ids of their members.
-ghost use Rattle.std.specs.Prelude.{◌≡◌, ◌++◌, ◌∷◌, [], ℕ, List, cond, map, vec_len, true, IfOk, IfSome, OnOk, if◌then◌else◌};
-ghost use Rattle.std.specs.HashSet.{contains};
+ghost use Rattle.std.specs.Prelude.{◌≡◌, ◌++◌, ◌∷◌, [], ℕ, List, cond, map, vec_len, IfOk, IfSome, OnOk, if◌then◌else◌};
 ghost use Rattle.std.specs.List.{list_any};
 ghost use Rattle.scim_schema.specs.declared.Leaf.{Leaf};
 ghost use Rattle.scim_cell.specs.Content.{Content};
@@ -20,60 +19,42 @@ use scim_schema::{Attribute, Leaf, SubAttribute, Unit};
 use scim_text::{NoMemory, push};
 use scim_value::Resource;
 use std::alloc::Global;
-use std::collections::{HashMap, HashSet};
+use std::collections::HashMap;
 
 /// The groups that a client sees, and which of them show whom as a member.
 ///
 /// It is made group by group, and answers for one resource at a time ([`Viewer::view_by_index`]), so that a
-/// store's groups and users needn't be held as lists. One that answers for some resources alone notes no
-/// members but these.
+/// store's groups and users needn't be held as lists.
 #[derive(Drop)]
 pub struct GroupIndex {
     groups: Vec<SeenGroup>,
     /// The positions in `groups` of those that show a member's id, ascending, none twice.
     by_member: HashMap<Id, Vec<usize>>,
-    /// The ids of the resources that it answers for; None where it answers for all.
-    only: Option<HashSet<Id>>,
 }
 
 impl GroupIndex {
-    /// The index of no groups, which answers for all resources. It takes no memory.
+    /// The index of no groups. It takes no memory.
     pub fn new(alloc: Global) -> GroupIndex
-        ensures index { (v : SpecViewer) → IsIndexOf v [] result }
-        ensures answers { (id : List ℕ) → spec.answers_for result id ≡ true }
+        ensures { (v : SpecViewer) → IsIndexOf v [] result }
     {
         GroupIndex {
             groups: Vec::new(alloc),
             by_member: HashMap::new(alloc),
-            only: None,
-        }
-    }
-
-    /// The index of no groups, which answers for the resources of these ids alone. It takes no memory.
-    pub fn for_ids(alloc: Global, ids: HashSet<Id>) -> GroupIndex
-        ensures index { (v : SpecViewer) → IsIndexOf v [] result }
-        ensures answers { (id : List ℕ) → spec.answers_for result id ≡ contains is_same_id ids id }
-    {
-        GroupIndex {
-            groups: Vec::new(alloc),
-            by_member: HashMap::new(alloc),
-            only: Some(ids),
         }
     }
 
     /// Adds a group, if the viewer sees it. The decisions are those that [`Viewer::decisions`] gave for the
-    /// group, or [`Viewer::decisions_on_all`] for all groups. The index answers for the same resources as before.
-    /// NoMemory where none was to be had; then the index is of no use.
+    /// group, or [`Viewer::decisions_on_all`] for all groups. NoMemory where none was to be had; then the index
+    /// is of no use.
     pub fn push(
         &mut self,
         alloc: Global,
         decisions: &Decisions,
         group: &Resource,
     ) -> Result<(), NoMemory>
-        ensures index { OnOk result ((v : SpecViewer) (groups : List Content)
+        ensures { OnOk result ((v : SpecViewer) (groups : List Content)
             → ((l : Leaf) → decision decisions.now l ≡ read_decision v group.now l)
             → IsIndexOf v groups self.old → IsIndexOf v (groups ++ group.now ∷ []) self.new) }
-        ensures answers { OnOk result ((id : List ℕ) → spec.answers_for self.new id ≡ spec.answers_for self.old id) }
     {
         if !decisions.of(Leaf::simple(Attribute::Id)).allow {
             return Ok(());
@@ -82,15 +63,13 @@ impl GroupIndex {
         Ok(())
     }
 
-    /// The index of those of the groups that the viewer sees, which answers for all resources. NoMemory where
-    /// none was to be had.
+    /// The index of those of the groups that the viewer sees. NoMemory where none was to be had.
     pub(crate) fn of(
         alloc: Global,
         viewer: &Viewer<'_>,
         groups: &[Resource],
     ) -> Result<GroupIndex, NoMemory>
-        ensures index { IfOk result (λ index. IsIndexOf (viewer_of viewer.now) groups.now index) }
-        ensures answers { IfOk result (λ index. (id : List ℕ) → spec.answers_for index id ≡ true) }
+        ensures { IfOk result (λ index. IsIndexOf (viewer_of viewer.now) groups.now index) }
     {
         let mut index = GroupIndex::new(alloc);
         for group in groups {
@@ -122,16 +101,6 @@ impl GroupIndex {
         }
     }
 
-    /// Whether the index answers for the resource of the id.
-    fn answers_for(&self, id: Id) -> bool
-        ensures { result ≡ spec.answers_for self.now id }
-    {
-        match &self.only {
-            Some(ids) => ids.contains(&id),
-            None => true,
-        }
-    }
-
     /// Adds a group that is seen, with what these decisions on reading it let be seen of it.
     fn add(
         &mut self,
@@ -139,8 +108,7 @@ impl GroupIndex {
         decisions: &Decisions,
         group: &Resource,
     ) -> Result<(), NoMemory>
-        ensures only { self.new.only ≡ self.old.only }
-        ensures made { (gs : List Content) → IsMadeOf gs self.old
+        ensures { (gs : List Content) → IsMadeOf gs self.old
             → OnOk result (IsMadeOf (gs ++ visible_by (decision decisions.now) group.now ∷ []) self.new) }
     {
         let seen = seen_group(alloc, decisions, group)?;
@@ -155,11 +123,10 @@ impl GroupIndex {
         Ok(())
     }
 
-    /// Notes the next group for each of its members that the index answers for.
+    /// Notes the next group for each of its members.
     fn add_members(&mut self, alloc: Global, members: &[Row]) -> Result<(), NoMemory>
         ensures groups { self.new.groups ≡ self.old.groups }
-        ensures only { self.new.only ≡ self.old.only }
-        ensures positions { OnOk result ((id : List ℕ) → IsId id → spec.answers_for self.old id ≡ true → spec.positions_of self.new id
+        ensures positions { OnOk result ((id : List ℕ) → IsId id → spec.positions_of self.new id
             ≡ (if list_any (spec.names_member id) members.now
             then spec.noted (vec_len self.old.groups) (spec.positions_of self.old id) else spec.positions_of self.old id)) }
     {
@@ -171,16 +138,12 @@ impl GroupIndex {
         Ok(())
     }
 
-    /// Notes the next group for one member, where the index answers for it.
+    /// Notes the next group for one member.
     fn add_member(&mut self, alloc: Global, id: Id) -> Result<(), NoMemory>
         ensures groups { self.new.groups ≡ self.old.groups }
-        ensures only { self.new.only ≡ self.old.only }
-        ensures positions { OnOk result ((other : List ℕ) → spec.answers_for self.old other ≡ true → spec.positions_of self.new other
+        ensures positions { OnOk result ((other : List ℕ) → spec.positions_of self.new other
             ≡ cond (is_same_id id other) (spec.noted (vec_len self.old.groups) (spec.positions_of self.old other)) (spec.positions_of self.old other)) }
     {
-        if !self.answers_for(id) {
-            return Ok(());
-        }
         let position = self.groups.len();
         let positions = self.by_member.entry(id)?.or_insert(Vec::new(alloc));
         note(positions, position)

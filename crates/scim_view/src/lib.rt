@@ -4,6 +4,7 @@
 mod groups;
 mod index;
 mod laws;
+mod listing_groups;
 mod lists;
 mod memberships;
 mod names;
@@ -13,6 +14,7 @@ mod views;
 
 pub use index::GroupIndex;
 pub use laws::nothing_comes_into_view;
+pub use listing_groups::ListingGroups;
 pub use names::Names;
 pub use projection::{Wanted, project};
 pub use viewers::Viewer;

@@ -1,12 +1,12 @@
 //! A client's view of resources.
-ghost use Rattle.std.specs.Prelude.{◌≡◌, ℕ, true, IfOk, List, map};
+ghost use Rattle.std.specs.Prelude.{◌≡◌, ℕ, IfOk, List, map};
 ghost use Rattle.scim_schema.specs.declared.Leaf.{Leaf};
 ghost use Rattle.scim_cell.specs.Content.{Content};
 ghost use Rattle.scim_policy.specs.Table.{decision};
 ghost use Rattle.scim_view.specs.View.{read_decision, viewer_of};
 ghost use Rattle.scim_view.specs.Groups as spec;
 ghost use Rattle.scim_view.specs.Indexes.{IsIndexOf};
-ghost use Rattle.scim_view.specs.code.Index.{Indexes, answers_for};
+ghost use Rattle.scim_view.specs.code.Index.{Indexes};
 
 use crate::groups::{SeenGroup, put_in_order, visible_with};
 use crate::index::GroupIndex;
@@ -42,9 +42,9 @@ impl Viewer<'_> {
     }
 
     /// What the client may see of one resource, as [`Viewer::view_with_groups`], where these are the groups
-    /// of the index and it answers for the resource; None where the client doesn't see that it is there. By
-    /// decisions that [`Viewer::decisions`] gave for the resource, or [`Viewer::decisions_on_all`] for its
-    /// kind, so that the policy isn't asked about it again. NoMemory where none was to be had.
+    /// of the index; None where the client doesn't see that it is there. By decisions that
+    /// [`Viewer::decisions`] gave for the resource, or [`Viewer::decisions_on_all`] for its kind, so that the
+    /// policy isn't asked about it again. NoMemory where none was to be had.
     pub fn view_by_index(
         &self,
         alloc: Global,
@@ -54,8 +54,7 @@ impl Viewer<'_> {
     ) -> Result<Option<Part>, NoMemory>
         ensures { IfOk result (λ o. (groups : List Content)
             → ((l : Leaf) → decision decisions.now l ≡ read_decision (viewer_of self.now) resource.now l)
-            → IsIndexOf (viewer_of self.now) groups index.now → answers_for index.now resource.now.id ≡ true
-            → o ≡ spec.view_with_groups (viewer_of self.now) groups resource.now) }
+            → IsIndexOf (viewer_of self.now) groups index.now → o ≡ spec.view_with_groups (viewer_of self.now) groups resource.now) }
     {
         if !decisions.of(Leaf::simple(Attribute::Id)).allow {
             return Ok(None);
@@ -73,7 +72,7 @@ fn groups_beside<'i>(
     index: &'i GroupIndex,
     resource: &Resource,
 ) -> Result<Vec<&'i SeenGroup>, NoMemory>
-    ensures { (gs : List Content) → Indexes gs index.now → answers_for index.now resource.now.id ≡ true → IfOk result (λ v. (base : List ℕ)
+    ensures { (gs : List Content) → Indexes gs index.now → IfOk result (λ v. (base : List ℕ)
         → spec.rows_with (map (spec.membership_at base) v.items) resource.now
         ≡ spec.rows_with (spec.memberships base gs resource.now.id) resource.now) }
 {

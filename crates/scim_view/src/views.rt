@@ -58,6 +58,10 @@ impl RowTest for MayBeSeenOf<'_> {
     fn is_kept(&self, row: &Row, leaf: Leaf) -> bool {
         self.attributes.contains(&row.unit().attribute) && self.seen.shows(leaf)
     }
+
+    fn may_keep(&self, row: &Row) -> bool {
+        self.attributes.contains(&row.unit().attribute)
+    }
 }
 
 impl Viewer<'_> {

@@ -32,20 +32,15 @@ abbrev pub only_of : Kind → Option Content → Option Content
 only_of kind None = None
 only_of kind (Some c) = cond (is_of kind c) (Some c) None
 
--- what was found, if it passes a test
-abbrev pub if_passes : (Content → Bool) → Option Content → Option Content
-if_passes test None = None
-if_passes test (Some c) = cond (test c) (Some c) None
-
 -- what was found, if anything was, before others
 abbrev pub before : Option Content → List Content → List Content
 before None cs = cs
 before (Some c) cs = c ∷ cs
 
--- the resources with these ids that pass a test, in order of the ids
-abbrev pub picked : (Content → Bool) → List Content → List (List ℕ) → List Content
-picked test cs [] = []
-picked test cs (id ∷ ids) = before (if_passes test (find (has_id id) cs)) (picked test cs ids)
+-- the resources with these ids, in order of the ids
+abbrev pub picked : List Content → List (List ℕ) → List Content
+picked cs [] = []
+picked cs (id ∷ ids) = before (find (has_id id) cs) (picked cs ids)
 
 -- of all resources, which are apart, these are left when those have been kept
 pub record AreLeft (all left cs : List Content) : Type 0 where

@@ -1,5 +1,5 @@
--- Which groups may list a value, as the code keeps it.
-use Rattle.std.specs.Prelude.{ℕ, Bool, false, List, nat_eq, Option, None, Some}
+-- Which groups list a value, as the code keeps it.
+use Rattle.std.specs.Prelude.{◌≡◌, ℕ, Bool, true, false, List, nat_eq, Option, None, Some}
 use Rattle.std.specs.List.{list_any}
 use Rattle.std.specs.Ordering.{nat_cmp, is_eq}
 use Rattle.std.specs.Cmp.Lexicographic.{slice_cmp, pointwise}
@@ -12,7 +12,7 @@ use Rattle.scim_schema.specs.Units.{leaf_at}
 use Rattle.scim_cell.specs.declared.atoms.Atom.{Atom}
 use Rattle.scim_cell.specs.Content.{Content}
 use Rattle.scim_cell.specs.Rows.{Row, atom_in}
-use Rattle.scim_value.specs.Members.{is_text, lists_value}
+use Rattle.scim_value.specs.Members.{is_text}
 use Rattle.scim_shelf.specs.Stores.{is_group_with}
 use Rattle.scim_shelf.specs.declared.members.Members.{Members as Notes}
 use Rattle.scim_shelf.specs.declared.members.Holders.{Holders}
@@ -61,12 +61,15 @@ value_in member = atom_in (leaf_at Members Value) member.fields
 abbrev pub is_value_of : List ℕ → List Row → Bool
 is_value_of value members = list_any (λ (m : Row). is_text value (value_in m)) members
 
--- whether a group that was found, if one was, lists a value
-abbrev pub lists_in : List ℕ → Option Content → Bool
-lists_in value None = false
-lists_in value (Some c) = lists_value value c
-
 -- whether what was found, if anything was, is a group that lists a value
 abbrev pub is_group_in : List ℕ → Option Content → Bool
 is_group_in value None = false
 is_group_in value (Some c) = is_group_with value c
+
+-- an id is noted under none of these values
+abbrev pub IsUnnoted : Notes → List (List ℕ) → List ℕ → Type 0
+IsUnnoted notes values id = (v : List ℕ) → is_one_of v values ≡ true → is_noted notes v id ≡ false
+
+-- the same ids are noted under each value
+abbrev pub HasSameNotes : Notes → Notes → Type 0
+HasSameNotes old new = (v i : List ℕ) → is_noted new v i ≡ is_noted old v i

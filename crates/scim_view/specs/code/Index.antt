@@ -1,10 +1,9 @@
 -- An index of the groups that a client sees, by the ids of their members.
-use Rattle.std.specs.Prelude.{◌≡◌, ℕ, ◌+◌, ◌-◌, Bool, true, false, List, [], ◌∷◌, ◌++◌, length, map, filter, nat_eq, Option, None, Some, if◌then◌else◌}
+use Rattle.std.specs.Prelude.{◌≡◌, ℕ, ◌+◌, ◌-◌, Bool, false, List, [], ◌∷◌, ◌++◌, length, map, filter, nat_eq, Option, None, Some, if◌then◌else◌}
 use Rattle.std.specs.Global.{Vec}
 use Rattle.std.specs.List.{slice_get}
 use Rattle.std.specs.Option.{option_eq}
 use Rattle.std.specs.HashMap.{get}
-use Rattle.std.specs.HashSet.{HashSet, contains}
 use Rattle.scim_schema.specs.declared.Attribute.TheVariants.{Members}
 use Rattle.scim_schema.specs.declared.SubAttribute.TheVariants.{Value}
 use Rattle.scim_schema.specs.Units.{leaf_at}
@@ -48,29 +47,20 @@ positions_in (Some ps) = ps.items
 abbrev pub positions_of : GroupIndex → List ℕ → List ℕ
 positions_of index id = positions_in (get is_same_id index.by_member id)
 
--- whether an id is in the set; where there is none, each passes
-abbrev pub is_among : {S : Type 0} → Option (HashSet (List ℕ) S) → List ℕ → Bool
-is_among None id = true
-is_among (Some ids) id = contains is_same_id ids id
-
--- whether the index answers for the resource of an id
-abbrev pub answers_for : GroupIndex → List ℕ → Bool
-answers_for index id = is_among index.only id
-
 -- the groups that the index has for an id
 abbrev pub groups_of : GroupIndex → List ℕ → List SeenGroup
 groups_of index id = at_positions index.groups.items (positions_of index id)
 
--- for each id that it answers for, the index has those of these groups that list it, in their order
+-- for each id, the index has those of these groups that list it, in their order
 abbrev pub Indexes : List Content → GroupIndex → Type 0
-Indexes gs index = (id : List ℕ) → IsId id → answers_for index id ≡ true → groups_of index id ≡ map kept_of (filter (lists id) gs)
+Indexes gs index = (id : List ℕ) → IsId id → groups_of index id ≡ map kept_of (filter (lists id) gs)
 
 -- the positions of the groups that list an id, where the first stands at n
 abbrev pub positions_from : ℕ → List ℕ → List Content → List ℕ
 positions_from n id [] = []
 positions_from n id (g ∷ gs) = if lists id g then n ∷ positions_from (n + 1) id gs else positions_from (n + 1) id gs
 
--- the index is made of these groups: of what is kept of each, and of where those stand that list an id which it answers for
+-- the index is made of these groups: of what is kept of each, and of where those stand that list an id
 pub record IsMadeOf (gs : List Content) (index : GroupIndex) : Type 0 where
   pub groups : index.groups.items ≡ map kept_of gs
-  pub positions : (id : List ℕ) → IsId id → answers_for index id ≡ true → positions_of index id ≡ positions_from 0 id gs
+  pub positions : (id : List ℕ) → IsId id → positions_of index id ≡ positions_from 0 id gs

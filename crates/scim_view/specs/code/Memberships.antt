@@ -1,5 +1,5 @@
 -- What the code keeps of groups, and the fields that it makes of them.
-use Rattle.std.specs.Prelude.{ℕ, Bool, not, ◌&&◌, List, [], map, filter, Option, None, Some, if◌then◌else◌}
+use Rattle.std.specs.Prelude.{Bool, not, ◌&&◌, List, [], filter, if◌then◌else◌}
 use Rattle.std.specs.declared.cmp.Ordering.{Ordering}
 use Rattle.std.specs.Ordering.{nat_cmp}
 use Rattle.std.specs.Cmp.Lexicographic.{slice_cmp}
@@ -16,9 +16,7 @@ use Rattle.scim_cell.specs.declared.rows.Field.{Field}
 use Rattle.scim_cell.specs.Content.{Content}
 use Rattle.scim_policy.specs.declared.rules.Decision.{Decision}
 use Rattle.scim_view.specs.declared.groups.SeenGroup.{SeenGroup}
-use Rattle.scim_view.specs.View.{Viewer, visible_by}
-use Rattle.scim_value.specs.Members.{lists}
-use Rattle.scim_view.specs.Groups.{seen, display_of}
+use Rattle.scim_view.specs.Groups.{display_of}
 
 -- those of some fields that may be seen, by these decisions on reading a resource of the kind
 abbrev pub shown_fields : (Leaf → Decision) → Kind → List Field → List Field
@@ -33,18 +31,9 @@ abbrev pub shows_members : (Leaf → Decision) → Kind → Bool
 shows_members decision kind =
     (decision (simple Id)).allow && (not (is_write_only kind (leaf_at Members Value)) && (decision (leaf_at Members Value)).allow)
 
--- what is kept of a group as it may be seen by these decisions, where it is seen, and the ids of its members
-abbrev pub kept_where_shown : (Leaf → Decision) → Content → Option SeenGroup
-kept_where_shown decision g = if shows_members decision g.kind then Some (kept_of (visible_by decision g)) else None
-
--- what is kept of a group that is seen, where it lists the resource of an id
-abbrev pub kept_where_listed : List ℕ → Option Content → Option SeenGroup
-kept_where_listed id None = None
-kept_where_listed id (Some g) = if lists id g then Some (kept_of g) else None
-
--- the same of the groups that list the resource, of those that the client sees among these; of a resource other than a user none
-abbrev pub kept_groups : Viewer → List Content → Content → List SeenGroup
-kept_groups v groups c = if sameb the_kind c.kind User then map kept_of (filter (lists c.id) (seen v groups)) else []
+-- the groups by which a resource is told, of these: a user by all, another by none
+abbrev pub telling : Content → List Content → List Content
+telling c groups = if sameb the_kind c.kind User then groups else []
 
 -- how what is kept of two groups compares: by id
 abbrev pub kept_cmp : SeenGroup → SeenGroup → Ordering

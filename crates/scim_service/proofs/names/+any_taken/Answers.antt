@@ -5,7 +5,8 @@ use Rattle.scim_value.specs.declared.uniqueness.UniqueName.{UniqueName}
 use Rattle.scim_value.specs.Uniqueness.{Name, name_of}
 use Rattle.scim_shelf.specs.Stores.{has_name}
 use Rattle.scim_service.specs.code.Others.{beside}
-use Rattle.scim_service.proofs.CreationLemmas.{first_and_rest, rest_whole, owner_other, taken_first, taken_later}
+use Rattle.scim_search.proofs.Facts.{first_and_rest, rest_whole}
+use Rattle.scim_service.proofs.CreationLemmas.{owner_other, taken_first, taken_later}
 use Rattle.scim_service.proofs.names.+any_taken.Goals as goal
 
 pub returns-then-is_another-clause-answer : goal.returns-then-is_another-clause-answer

@@ -8,7 +8,7 @@ use Rattle.scim_patch.specs.Kept.{patch_of}
 use Rattle.scim_policy.specs.Access.{Access}
 use Rattle.scim_view.specs.View.{viewer_of}
 use Rattle.scim_service.specs.Step.{access_to, first_forbidden}
-use Rattle.scim_service.proofs.CreationLemmas.{not_false}
+use Rattle.scim_search.proofs.Facts.{not_false}
 use Rattle.scim_service.proofs.PatchLemmas.{patching_is}
 use Rattle.scim_service.proofs.patches.plan_seen.Goals as goal
 

@@ -5,7 +5,8 @@ use Rattle.scim_schema.specs.Units.{simple}
 use Rattle.scim_cell.specs.Kinds.{of_kind}
 use Rattle.scim_policy.specs.Table.{decision}
 use Rattle.scim_view.specs.View.{viewer_of}
-use Rattle.scim_service.proofs.CreationLemmas.{not_false, kept_groups, text_seen}
+use Rattle.scim_search.proofs.Facts.{not_false}
+use Rattle.scim_service.proofs.CreationLemmas.{kept_groups, text_seen}
 use Rattle.scim_service.proofs.plans.kept_text.Goals as goal
 
 pub returns-clause-text : goal.returns-clause-text

@@ -6,7 +6,7 @@ use Rattle.scim_schema.specs.contracts.Kind.{the_type as the_kind}
 use Rattle.scim_schema.specs.Units.{units}
 use Rattle.scim_view.specs.View.{viewer_of, visible}
 use Rattle.scim_service.specs.Step.{access_to, first_unit_denied}
-use Rattle.scim_service.proofs.CreationLemmas.{not_false}
+use Rattle.scim_search.proofs.Facts.{not_false}
 use Rattle.scim_service.proofs.ReplaceLemmas.{replacing_is}
 use Rattle.scim_service.proofs.replacements.plan_seen.Goals as goal
 

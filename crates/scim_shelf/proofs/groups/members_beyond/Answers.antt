@@ -5,9 +5,9 @@ use Rattle.scim_shelf.proofs.groups.members_beyond.Goals as goal
 
 pub returns : goal.returns
 returns c = λ v.
-    let members = c.members_of-members.result.now in
-    let others = c.members_of.result.now in
+    let members = c.noted_members-members.result.now in
+    let others = c.noted_members.result.now in
     let k = c.shared_members-shared.result in
-    (λ i. is_value_of v (take (length members - k) (drop k members)) || sym (c.members_of.ensures v) i)
+    (λ i. is_value_of v (take (length members - k) (drop k members)) || sym (c.noted_members.ensures v) i)
     ∙ beyond_shared v members others k (c.shared_members-shared.ensures.same v)
-    ∙ (λ i. c.members_of-members.ensures v i || c.members_of.ensures v i)
+    ∙ (λ i. c.noted_members-members.ensures v i || c.noted_members.ensures v i)

@@ -9,7 +9,7 @@ use Rattle.scim_shelf.proofs.groups.values_of.Goals.{in-Some+in_ok-insert, in_de
 
 pub loop-member-preserved : goal.loop-member-preserved
 loop-member-preserved c =
-    let members = c.members_of-member-items.result.now in
+    let members = c.noted_members-member-items.result.now in
     let k = c.loop-member.member-index in
     let member = c.member-item.result in
     let inside : k < length members = omega arith in

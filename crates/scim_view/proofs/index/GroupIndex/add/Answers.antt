@@ -17,9 +17,9 @@ use Rattle.scim_view.proofs.MemberLemmas.{shown_member}
 use Rattle.scim_view.proofs.index.GroupIndex.add.Goals as goal
 use Rattle.scim_view.proofs.index.GroupIndex.add.Goals.{then-of+in_ok-add_members, else-of}
 
-pub returns-clause-made : goal.returns-clause-made
+pub returns : goal.returns
 unfolding visible_by
-returns-clause-made c gs h =
+returns c gs h =
     let d = decision c.args.decisions.now in
     let g = c.args.group.now in
     let v = visible_by d g in
@@ -38,17 +38,15 @@ returns-clause-made c gs h =
           let same : c.if-of.self.groups ≡ old.groups = ap (λ (x : GroupIndex). x.groups) w.self-is ∙ w.add_members.ensures.groups in
           added gs v old _ h
           (c.in_ok-push.ensures.items ∙ (λ i. (same i).items ++ seen i ∷ []))
-          (ap (λ (x : GroupIndex). x.only) w.self-is ∙ w.add_members.ensures.only)
-          (λ id valid answered.
-          ap (λ (x : GroupIndex). spec.positions_of x id) w.self-is ∙ w.in_ok-add_members.ensures.positions id valid answered
+          (λ id valid.
+          ap (λ (x : GroupIndex). spec.positions_of x id) w.self-is ∙ w.in_ok-add_members.ensures.positions id valid
           ∙ ap (λ (k : ℕ). if list_any (spec.names_member id) members then spec.noted k (spec.positions_of old id) else spec.positions_of old id) place
           ∙ ap (λ (b : Bool). if b then spec.noted (length old.groups.items) (spec.positions_of old id) else spec.positions_of old id) (listed id ∙ sym (shown id ∙ ap (λ (b : Bool). b && lists id g) yes)))
       | else-of w ↦
           let no_one : (d (leaf_at Members Value)).allow ≡ false = sym of ∙ w.if-of.false in
           added gs v old _ h
           (c.in_ok-push.ensures.items ∙ (λ i. (w.self-is i).groups.items ++ seen i ∷ []))
-          (ap (λ (x : GroupIndex). x.only) w.self-is)
-          (λ id valid answered.
+          (λ id valid.
           ap (λ (x : GroupIndex). spec.positions_of x id) w.self-is
           ∙ ap (λ (b : Bool). if b then spec.noted (length old.groups.items) (spec.positions_of old id) else spec.positions_of old id) (sym (shown id ∙ ap (λ (b : Bool). b && lists id g) no_one)))
     ]

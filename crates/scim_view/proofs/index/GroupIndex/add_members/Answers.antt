@@ -1,4 +1,4 @@
-use Rattle.std.proofs.Common.{◌≡◌, true, sym, ◌∙◌, ap, List, ℕ, Bool, take, ◌++◌, ◌∷◌, [], ◌+◌, ◌||◌, cond}
+use Rattle.std.proofs.Common.{◌≡◌, sym, ◌∙◌, ap, List, ℕ, Bool, take, ◌++◌, ◌∷◌, [], ◌+◌, ◌||◌, cond}
 use Rattle.std.specs.Prelude.{if◌then◌else◌, Option, None, Some, vec_len}
 use Rattle.std.specs.List.{list_any}
 use Rattle.std.proofs.lemmas.List.{take_more, take_all}
@@ -25,23 +25,20 @@ loop-member-preserved c =
     elim c.match-member_id.branch [
       | in-Some+in_ok-add_member w ↦ record {
         groups = ap (λ (s : GroupIndex). s.groups) w.self-is ∙ w.add_member.ensures.groups ∙ h.groups;
-        only = ap (λ (s : GroupIndex). s.only) w.self-is ∙ w.add_member.ensures.only ∙ h.only;
-        positions = λ id valid answered.
-            let own : spec.answers_for c.loop-member.self id ≡ true = ap (λ o. spec.is_among o id) h.only ∙ answered in
+        positions = λ id valid.
             let found = Some w.in-Some.id in
             let e : spec.names_member id m ≡ spec.is_found id found = c.member_id.ensures.id id valid ∙ ap (spec.is_found id) w.in-Some.is in
-            ap (λ (s : GroupIndex). spec.positions_of s id) w.self-is ∙ w.in_ok-add_member.ensures.positions id own
+            ap (λ (s : GroupIndex). spec.positions_of s id) w.self-is ∙ w.in_ok-add_member.ensures.positions id
             ∙ ap (λ (k : ℕ). cond (spec.is_found id found) (spec.noted k (spec.positions_of c.loop-member.self id)) (spec.positions_of c.loop-member.self id)) (ap (λ v. vec_len v) h.groups)
-            ∙ noted_more (before id) (spec.is_found id found) n (old id) (spec.positions_of c.loop-member.self id) (h.positions id valid answered)
+            ∙ noted_more (before id) (spec.is_found id found) n (old id) (spec.positions_of c.loop-member.self id) (h.positions id valid)
             ∙ sym (noted id found e);
       }
       | in_default w ↦ record {
         groups = ap (λ (s : GroupIndex). s.groups) w.self-is ∙ h.groups;
-        only = ap (λ (s : GroupIndex). s.only) w.self-is ∙ h.only;
-        positions = λ id valid answered.
+        positions = λ id valid.
             let e : spec.names_member id m ≡ spec.is_found id None = c.member_id.ensures.id id valid ∙ ap (spec.is_found id) w.in_default.is in
             ap (λ (s : GroupIndex). spec.positions_of s id) w.self-is
-            ∙ noted_more (before id) (spec.is_found id None) n (old id) (spec.positions_of c.loop-member.self id) (h.positions id valid answered)
+            ∙ noted_more (before id) (spec.is_found id None) n (old id) (spec.positions_of c.loop-member.self id) (h.positions id valid)
             ∙ sym (noted id None e);
       }
     ]

@@ -11,15 +11,12 @@ loop-group-preserved c =
     let i = c.loop-group.group-index in
     let g = c.group-item.result in
     let more : take (i + 1) gs ≡ take i gs ++ g ∷ [] = take_more gs i g c.loop-group-test.true ∙ ap (λ (x : Content). take i gs ++ x ∷ []) (sym c.group-item.is) in
-    record {
-      index = subst (λ (xs : List Content). IsIndexOf (viewer_of c.args.viewer.now) xs c.push.new.self) (sym more) (c.in_ok-push.ensures.index (viewer_of c.args.viewer.now) (take i gs) c.in_ok-decisions.ensures c.loop-group.invariant.index);
-      answers = λ id. c.in_ok-push.ensures.answers id ∙ c.loop-group.invariant.answers id;
-    }
+    subst (λ (xs : List Content). IsIndexOf (viewer_of c.args.viewer.now) xs c.push.new.self) (sym more) (c.in_ok-push.ensures (viewer_of c.args.viewer.now) (take i gs) c.in_ok-decisions.ensures c.loop-group.invariant)
 
-pub returns-clause-index : goal.returns-clause-index
-returns-clause-index c =
+pub returns : goal.returns
+returns c =
     let all : take c.loop-group.group-index c.args.groups.now ≡ c.args.groups.now = take_all c.loop-group.group-index c.args.groups.now c.loop-group-test.false in
-    rw all at c.loop-group.invariant.index
+    rw all at c.loop-group.invariant
 
 pub loop-group-init : goal.loop-group-init
-loop-group-init c = record { index = c.new-index.ensures.index (viewer_of c.args.viewer.now); answers = c.new-index.ensures.answers }
+loop-group-init c = c.new-index.ensures (viewer_of c.args.viewer.now)

@@ -1,11 +1,7 @@
-use Rattle.std.proofs.Common.{◌≡◌, take, true, ℕ, List}
+use Rattle.std.proofs.Common.{take}
 use Rattle.scim_view.specs.View.{viewer_of}
 use Rattle.scim_view.specs.Indexes.{IsIndexOf}
-use Rattle.scim_view.specs.code.Index.{answers_for}
 use Rattle.scim_view.proofs.index.GroupIndex.of.Given as goal
 
 abbrev pub invariant-loop-group : goal.invariant-loop-group
-invariant-loop-group l = record {
-  index : IsIndexOf (viewer_of l.viewer) (take l.group-index l.groups) l.index;
-  answers : (id : List ℕ) → answers_for l.index id ≡ true;
-}
+invariant-loop-group l = IsIndexOf (viewer_of l.viewer) (take l.group-index l.groups) l.index

@@ -1,4 +1,4 @@
-use Rattle.std.proofs.Common.{◌≡◌, ◌∙◌, ap, map, List}
+use Rattle.std.proofs.Common.{◌≡◌, ◌∙◌, map, List}
 use Rattle.std.proofs.lemmas.Result.{IfOk-weaker}
 use Rattle.scim_cell.specs.Content.{Content}
 use Rattle.scim_cell.specs.Rows.{Row}
@@ -6,9 +6,10 @@ use Rattle.scim_policy.specs.Table.{decision}
 use Rattle.scim_view.specs.declared.groups.SeenGroup.{SeenGroup}
 use Rattle.scim_view.specs.View.{viewer_of}
 use Rattle.scim_view.specs.Groups as spec
+use Rattle.scim_view.specs.Listings.{AreListing}
 use Rattle.scim_view.specs.code.Memberships.{kept_cmp}
 use Rattle.scim_view.specs.Sorted.{sorted_by}
-use Rattle.scim_view.proofs.GroupLemmas.{same_with_groups}
+use Rattle.scim_view.proofs.ListingLemmas.{told}
 use Rattle.scim_view.proofs.viewers.Viewer.with_groups_by.Goals as goal
 
 pub returns : goal.returns
@@ -19,8 +20,6 @@ returns c =
     let made : SeenGroup → Row = λ g. spec.membership_of viewer.base g.id g.display in
     IfOk-weaker c.visible_among.result
     (λ (p : Content). p ≡ spec.visible_with d (map made (sorted_by kept_cmp c.as_slice.result.now)) own)
-    (λ (p : Content). p ≡ spec.with_groups viewer c.args.groups.now own)
-    (λ p e.
-    e ∙ ap (λ (gs : List SeenGroup). spec.visible_with d (map made (sorted_by kept_cmp gs)) own) (c.as_slice.ensures.value ∙ c.in_ok-seen.ensures)
-    ∙ same_with_groups d viewer c.args.groups.now own c.requires)
+    (λ (p : Content). (gs : List Content) → AreListing viewer own.id gs c.args.groups.now → p ≡ spec.with_groups viewer gs own)
+    (λ p e gs listing. e ∙ told d viewer gs own c.as_slice.result.now c.requires (c.as_slice.ensures ∙ listing))
     c.visible_among.ensures

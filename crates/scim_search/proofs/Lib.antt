@@ -1,0 +1,7 @@
+pub mod ApartLemmas
+pub mod Facts
+pub mod ListLemmas
+pub mod LookupLemmas
+pub mod StoreViews
+pub mod VisitLemmas
+pub mod WalkLemmas

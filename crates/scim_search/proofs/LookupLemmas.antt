@@ -1,0 +1,196 @@
+-- A search over the resources that can match finds what a search over all finds.
+use Rattle.std.proofs.Common.{◌≡◌, refl, sym, ◌∙◌, ap, subst, ℕ, zero, suc, Bool, true, false, List, [], ◌∷◌, ◌++◌, filter, length, ◌≤◌, inl, inr, arith}
+use Rattle.std.specs.Prelude.{All, AllPairs, Option, None, Some, IfSome, find}
+use Rattle.std.specs.List.Sorted.{IsSorted}
+use Rattle.std.specs.Ordering.{nat_cmp, is_eq}
+use Rattle.std.specs.declared.cmp.Ordering.{Ordering}
+use Rattle.std.specs.declared.cmp.Ordering.TheVariants.{Less, Equal, Greater}
+use Rattle.std.specs.Cmp.Lexicographic.{slice_cmp, bytes_decides}
+use Rattle.std.proofs.lemmas.Map.Lookups.{exact_bytes}
+use Rattle.std.proofs.lemmas.Bool.{cases_Bool, false_from_ne_true}
+use Rattle.std.proofs.lemmas.Slice.Eq.{bytes_eq-Decides}
+use Rattle.std.proofs.lemmas.List.Elements.{All-head, All-tail, All-cons, All-weaker, All-filter, filter-append, filter_passes}
+use denote.Enum.Bare.{same_true, true_same}
+use Rattle.scim_schema.specs.declared.Kind.{Kind}
+use Rattle.scim_schema.specs.contracts.Kind.{the_type as the_kind}
+use Rattle.scim_schema.specs.declared.Kind.TheVariants.{User, Group}
+use Rattle.scim_schema.specs.declared.Attribute.TheVariants.{Id, UserName}
+use Rattle.scim_schema.specs.declared.Leaf.{Leaf}
+use Rattle.scim_schema.specs.Units.{simple}
+use Rattle.scim_schema.specs.Characteristics.{is_case_exact}
+use Rattle.scim_schema.specs.UniqueLeaves.{unique_leaves}
+use Rattle.scim_text.specs.Names.{folded}
+use Rattle.scim_cell.specs.declared.atoms.Atom.{Atom}
+use Rattle.scim_cell.specs.declared.atoms.Atom.TheVariants.{Text, Truth, Moment}
+use Rattle.scim_cell.specs.Content.{Content}
+use Rattle.scim_cell.specs.Equality.{is_same_id}
+use Rattle.scim_cell.specs.Ids.{IsId, id_text}
+use Rattle.scim_cell.proofs.Facts.{id_text-injective}
+use Rattle.scim_cell.specs.Kinds.{is_of, of_kind}
+use Rattle.scim_cell.specs.Order.{id_cmp}
+use Rattle.scim_value.specs.Resource.{IsResource, HasBase, IsFilled, IsNamed, IsNamedAs, first_at}
+use Rattle.scim_value.specs.Uniqueness.{Name, AreApart, unique_names}
+use Rattle.scim_filter.specs.declared.tree.Filter.{Filter}
+use Rattle.scim_view.specs.View.{Viewer, sees}
+use Rattle.scim_view.specs.Groups.{and_those, with_groups, view_with_groups, views}
+use Rattle.scim_filter.specs.declared.tree.Literal.TheVariants as literal
+use Rattle.scim_filter.specs.declared.tree.Operator.TheVariants.{Eq}
+use Rattle.scim_filter.specs.Relation.{cased, stands}
+use Rattle.scim_query.specs.Needed.{NeedsText}
+use Rattle.scim_view.proofs.Facts.{and_those_append, seen_stands}
+use Rattle.scim_query.specs.declared.queries.Query.{Query}
+use Rattle.scim_query.specs.declared.queries.Page.{Page}
+use Rattle.scim_query.specs.Pages.{is_match, matching, IsPage}
+use Rattle.scim_shelf.specs.Stores.{Store, IsStore, has_name, is_at}
+use Rattle.scim_search.specs.Lookups.{OnlyThose}
+use Rattle.scim_search.proofs.ApartLemmas.{not_both}
+use Rattle.scim_search.proofs.ListLemmas.{filter_swap}
+
+-- of what is seen of a list, what is seen of its first resource comes first
+first_apart : (f : Option Filter) (o : Option Content) (xs : List Content) → matching f (and_those o xs) ≡ matching f (and_those o []) ++ matching f xs
+first_apart f o xs = ap (matching f) (and_those_append o [] xs) ∙ filter-append (is_match f) (and_those o []) xs
+
+-- what is seen of a resource that doesn't match so doesn't match
+none_matching : (f : Option Filter) (v : Viewer) (gs : List Content) (c : Content) → is_match f (with_groups v gs c) ≡ false → matching f (and_those (view_with_groups v gs c) []) ≡ []
+none_matching f v gs c not' = elim (cases_Bool (sees v c)) [ inl t ↦ rw t (rw not' refl) | inr u ↦ rw u refl ]
+
+-- the resources that can match are seen to match as all are
+pub narrowed : (f : Option Filter) (v : Viewer) (gs : List Content) (passes : Content → Bool) (cs : List Content)
+    → All (λ c. is_match f (with_groups v gs c) ≡ true → passes c ≡ true) cs → matching f (views v gs (filter passes cs)) ≡ matching f (views v gs cs)
+narrowed f v gs passes [] only = refl
+narrowed f v gs passes (c ∷ cs) only =
+    let Only : Content → Type 0 = λ d. is_match f (with_groups v gs d) ≡ true → passes d ≡ true in
+    let rest = narrowed f v gs passes cs (All-tail Only c cs only) in
+    let all = first_apart f (view_with_groups v gs c) (views v gs cs) in
+    elim (cases_Bool (passes c)) [
+      | inl t ↦ rw t (first_apart f (view_with_groups v gs c) (views v gs (filter passes cs)) ∙ ap (λ (xs : List Content). matching f (and_those (view_with_groups v gs c) []) ++ xs) rest ∙ sym all)
+      | inr u ↦
+          let differs : is_match f (with_groups v gs c) ≡ false = false_from_ne_true _ (λ is. (let both : passes c ≡ true = All-head Only c cs only is in let contra : true ≡ false = sym both ∙ u in cc)) in
+          rw u (rest ∙ sym (all ∙ ap (λ (xs : List Content). xs ++ matching f (views v gs cs)) (none_matching f v gs c differs)))
+    ]
+
+-- so the page is that of the resources that can match
+pub page_narrowed : (kind : Kind) (f : Option Filter) (passes : Content → Bool) (v : Viewer) (gs : List Content) (base : List ℕ) (store : Store)
+    → IsStore base store → OnlyThose kind f passes
+    → matching f (views v gs (filter passes (of_kind kind store.resources))) ≡ matching f (views v gs (of_kind kind store.resources))
+page_narrowed kind f passes v gs base store is only =
+    let cs = of_kind kind store.resources in
+    let sound : All (λ c. IsResource c × HasBase base c) cs = All-filter (is_of kind) (λ c. IsResource c × HasBase base c) store.resources is.sound in
+    let own : All (λ c. is_of kind c ≡ true) cs = filter_passes (is_of kind) store.resources in
+    narrowed f v gs passes cs (λ k c lt matches. only v gs _ (same_true the_kind tt _ kind (own k c lt)) (sound k c lt).0 matches)
+
+-- a page of a list is one of any list of which the same matches
+pub page_of_matching : (xs ys : List Content) (query : Query) (page : Page) → matching query.filter xs ≡ matching query.filter ys → IsPage xs query page → IsPage ys query page
+page_of_matching xs ys query page same is = record {
+  total = rw (← same) is.total;
+  start = is.start;
+  sorted = is.sorted;
+  is_sorted = rw (← same) is.is_sorted;
+  items = is.items;
+}
+
+-- of resources that are apart one at most passes a test that no two do
+none_passing : (test : Content → Bool) (cs : List Content) → All (λ c. test c ≡ false) cs → filter test cs ≡ []
+none_passing test [] none = refl
+none_passing test (c ∷ cs) none = rw (All-head (λ d. test d ≡ false) c cs none) (none_passing test cs (All-tail (λ d. test d ≡ false) c cs none))
+
+-- whether of two resources that are apart one at most passes a test
+abbrev pub PassesOne : (Content → Bool) → Type 0
+PassesOne test = (c d : Content) → AreApart c d → test c ≡ true → test d ≡ false
+
+only_one : (test : Content → Bool) (cs : List Content) → PassesOne test → AllPairs AreApart cs → filter test cs ≡ and_those (find test cs) []
+only_one test [] one apart = refl
+only_one test (c ∷ cs) one apart =
+    let first : All (AreApart c) cs = λ k e h. apart zero (suc k) e (omega arith) (omega arith) in
+    let rest : AllPairs AreApart cs = λ i j e h k. apart (suc i) (suc j) e (omega arith) (omega arith) in
+    elim (cases_Bool (test c)) [
+      | inl t ↦ rw t (ap (λ (xs : List Content). c ∷ xs) (none_passing test cs (All-weaker (AreApart c) (λ d. test d ≡ false) (λ d a. one c d a t) cs first)))
+      | inr u ↦ rw u (only_one test cs one rest)
+    ]
+
+pub one_has_name : (name : Name) → PassesOne (has_name name)
+one_has_name name c d apart has = false_from_ne_true (has_name name d) (not_both name c d apart has)
+
+-- of the resources of a kind only the one that is found passes
+pub found_of_kind : (kind : Kind) (test : Content → Bool) (cs : List Content) → PassesOne test → AllPairs AreApart cs
+    → filter test (of_kind kind cs) ≡ of_kind kind (and_those (find test cs) [])
+found_of_kind kind test cs one apart = filter_swap (is_of kind) test cs ∙ ap (of_kind kind) (only_one test cs one apart)
+
+-- the page of what was found is that of all, where only that can match
+pub page_found_of_all : (kind : Kind) (test : Content → Bool) (v : Viewer) (gs : List Content) (base : List ℕ) (store : Store) (query : Query) (found : Option Content) (page : Page)
+    → IsStore base store → PassesOne test → OnlyThose kind query.filter test → found ≡ find test store.resources
+    → IsPage (views v gs (of_kind kind (and_those found []))) query page → IsPage (views v gs (of_kind kind store.resources)) query page
+page_found_of_all kind test v gs base store query found page is one only same paged =
+    let all = of_kind kind store.resources in
+    let those : of_kind kind (and_those found []) ≡ filter test all
+    = ap (λ (o : Option Content). of_kind kind (and_those o [])) same ∙ sym (found_of_kind kind test store.resources one is.keyed.apart) in
+    page_of_matching (views v gs (filter test all)) (views v gs all) query page (page_narrowed kind query.filter test v gs base store is only)
+    (subst (λ (cs : List Content). IsPage (views v gs cs) query page) those paged)
+
+-- one that is of another kind shows nothing
+pub of_another_kind : (kind : Kind) (v : Viewer) (gs : List Content) (c : Content) → is_of kind c ≡ false → [] ≡ views v gs (of_kind kind (c ∷ []))
+of_another_kind kind v gs c other = rw other refl
+
+-- one of the kind is viewed as it is seen with its groups
+pub of_own_kind : (kind : Kind) (v : Viewer) (gs : List Content) (c : Content) (part : Option Content) → is_of kind c ≡ true → part ≡ view_with_groups v gs c
+    → and_those part [] ≡ views v gs (of_kind kind (c ∷ []))
+of_own_kind kind v gs c part own same = rw own (ap (λ (o : Option Content). and_those o []) same)
+
+-- a list of one is in order
+pub one_in_order : (cs : List Content) → length cs ≤ 1 → IsSorted id_cmp cs
+one_in_order cs few k d low high = absurd (omega arith)
+
+-- where no part matches in which a text doesn't stand at a unique leaf, only a resource with that name can match
+abbrev pub NamesByText : Kind → Leaf → Type 0
+NamesByText kind leaf = (f : Option Filter) (text : List ℕ) → NeedsText f leaf text → OnlyThose kind f (has_name (record { leaf = leaf; text = cased (is_case_exact leaf) text }))
+
+-- the unique name of a user
+name_of_user : (c : Content) (s : List ℕ) → c.kind ≡ User → first_at (simple UserName) c ≡ Some (Text s) → unique_names c ≡ record { leaf = simple UserName; text = folded s } ∷ []
+unfolding unique_leaves
+name_of_user c s is found = rw is (rw found refl)
+
+is_equal : (o : Ordering) → is_eq o ≡ true → o ≡ Equal
+is_equal Less e = cc
+is_equal Equal e = refl
+is_equal Greater e = cc
+
+-- texts that `eq` holds of at `userName` fold alike, and no moment or truth stands there
+folds_alike : (o : Option Atom) (a : Atom) (text : List ℕ) → IsFilled o → o ≡ Some a → stands (is_case_exact (simple UserName)) Eq a (literal.Text text) ≡ true
+    → (s : List ℕ) × (o ≡ Some (Text s)) × (folded s ≡ folded text)
+folds_alike None a text filled is e = absurd filled
+folds_alike (Some (Truth b)) a text filled is e = absurd filled
+folds_alike (Some (Moment m)) a text filled is e = absurd filled
+folds_alike (Some (Text s)) a text filled is e =
+    let one : Text s ≡ a = cc in
+    let equal : is_eq (slice_cmp nat_cmp (folded s) (folded text)) ≡ true = ap (λ (b : Atom). stands (is_case_exact (simple UserName)) Eq b (literal.Text text)) one ∙ e in
+    (s, refl, exact_bytes (folded s) (folded text) (is_equal _ equal))
+
+named_as_user : (c : Content) → c.kind ≡ User → IsNamed c → IsFilled (first_at (simple UserName) c)
+named_as_user c is named = subst (λ (k : Kind). IsNamedAs k c) is named
+
+user_named : NamesByText User (simple UserName)
+user_named f text needs v gs c is sound matches =
+    let found = seen_stands (λ (a : Atom). stands (is_case_exact (simple UserName)) Eq a (literal.Text text)) (simple UserName) v gs c refl refl sound.part (needs (with_groups v gs c) matches) in
+    let known = folds_alike (first_at (simple UserName) c) found.0 text (named_as_user c is sound.named) found.1 found.2 in
+    rw (name_of_user c known.0 is known.1) (rw known.2 (rw ((bytes_decides (folded text) (folded text)).1 refl) refl))
+
+pub names_by_text : (kind : Kind) → All (NamesByText kind) (unique_leaves kind)
+unfolding unique_leaves
+names_by_text User = All-cons (NamesByText User) (simple UserName) [] user_named (λ k d lt. absurd (omega (arith, lt)))
+names_by_text Group = λ k d lt. absurd (omega (arith, lt))
+
+-- where no part matches in which the text of an id doesn't stand at `id`, only the resource with that id can match
+pub id_by_text : (kind : Kind) (f : Option Filter) (text id : List ℕ) → NeedsText f (simple Id) text → text ≡ id_text id → IsId id → OnlyThose kind f (is_at kind id)
+id_by_text kind f text id needs is valid v gs c own sound matches =
+    let found = seen_stands (λ (a : Atom). stands (is_case_exact (simple Id)) Eq a (literal.Text text)) (simple Id) v gs c refl refl sound.part (needs (with_groups v gs c) matches) in
+    let atom : Text (id_text c.id) ≡ found.0 = (let both : Some (Text (id_text c.id)) ≡ Some found.0 = sym sound.identified.1 ∙ found.1 in cc) in
+    let equal : is_eq (slice_cmp nat_cmp (id_text c.id) text) ≡ true = ap (λ (b : Atom). stands (is_case_exact (simple Id)) Eq b (literal.Text text)) atom ∙ found.2 in
+    let texts : id_text c.id ≡ id_text id = exact_bytes (id_text c.id) text (is_equal _ equal) ∙ is in
+    let ids : c.id ≡ id = id_text-injective c.id id sound.identified.0 valid texts in
+    let same : is_same_id id c.id ≡ true = (bytes_eq-Decides id c.id).1 (sym ids) in
+    rw (true_same the_kind c.kind kind own) same
+
+pub only_with_id : (f : Option Filter) (text : List ℕ) (o : Option (List ℕ)) → NeedsText f (simple Id) text → IfSome o (λ id. text ≡ id_text id) → IfSome o IsId
+    → IfSome o (λ id. (kind : Kind) → OnlyThose kind f (is_at kind id))
+only_with_id f text None needs is valid = tt
+only_with_id f text (Some id) needs is valid = λ kind. id_by_text kind f text id needs is valid

@@ -1,0 +1,99 @@
+-- What becomes of a visitor that is shown a list.
+use Rattle.std.proofs.Common.{◌≡◌, ℕ, true, List, [], ◌∷◌, ◌++◌, refl, sym, ap, ◌∙◌, append_assoc, subst}
+use Rattle.std.specs.Prelude.{All, Result, Ok, Err, OnOk}
+use Rattle.std.specs.List.{FoldsTo}
+use Rattle.std.proofs.lemmas.List.{append-nil}
+use Rattle.std.proofs.lemmas.List.Elements.{All-head, All-tail}
+use denote.Ref.{Bor}
+use Rattle.scim_cell.specs.Content.{Content}
+use Rattle.scim_view.specs.declared.viewers.Viewer.{Viewer as ViewerInCode}
+use Rattle.scim_value.specs.Members.{lists}
+use Rattle.scim_view.specs.View.{Viewer, viewer_of}
+use Rattle.scim_view.specs.Groups.{and_those}
+use Rattle.scim_view.specs.Indexes.{IsIndexOf}
+use Rattle.scim_view.specs.Listings.{AreListing}
+use Rattle.scim_view.proofs.Facts.{and_those_append}
+use Rattle.scim_query.specs.Pagers.{HasTaken}
+use Rattle.scim_search.specs.declared.sights.Sight.{Sight}
+use Rattle.scim_search.specs.declared.visitors.GroupVisitor.{GroupVisitor}
+use Rattle.scim_search.specs.declared.visitors.ListingVisitor.{ListingVisitor}
+use Rattle.scim_search.specs.declared.visitors.SearchVisitor.{SearchVisitor}
+use Rattle.scim_search.specs.declared.read_decisions.ReadDecisions.{ReadDecisions}
+use Rattle.scim_search.specs.ReadDecisions.{AreDecisions}
+use Rattle.scim_search.specs.Sights.{made, made_of_all, part_of, IsSight}
+use Rattle.scim_search.specs.Visits.{TakesGroup, TakesListing, TakesResource}
+
+-- what holds at Ok by what does
+pub ok_by : {T E : Type 0} (r : Result T E) (P Q : Type 0) → (P → Q) → OnOk r P → OnOk r Q
+ok_by (Ok t) P Q make p = make p
+ok_by (Err e) P Q make p = tt
+
+-- whether a group joins the index that a visitor has, or a list of them
+abbrev Joins : GroupVisitor → List Content → GroupVisitor → Type 0
+Joins v cs w = (groups : List Content) → AreDecisions (viewer_of v.viewer.now) v.decisions → IsIndexOf (viewer_of v.viewer.now) groups v.index
+    → IsIndexOf (viewer_of v.viewer.now) (groups ++ cs) w.index
+
+-- what joins by the next visitor joins by one with the same viewer and decisions
+joins_as : (v j w : GroupVisitor) (cs : List Content) → j.viewer ≡ v.viewer → j.decisions ≡ v.decisions → Joins j cs w
+    → (groups : List Content) → AreDecisions (viewer_of v.viewer.now) v.decisions → IsIndexOf (viewer_of v.viewer.now) groups j.index
+    → IsIndexOf (viewer_of v.viewer.now) (groups ++ cs) w.index
+joins_as v j w cs viewer decisions joins groups are is =
+    let are' : AreDecisions (viewer_of j.viewer.now) j.decisions
+    = subst (λ (u : Bor ViewerInCode). AreDecisions (viewer_of u.now) j.decisions) (sym viewer) (subst (AreDecisions (viewer_of v.viewer.now)) (sym decisions) are) in
+    let is' : IsIndexOf (viewer_of j.viewer.now) groups j.index = subst (λ (u : Bor ViewerInCode). IsIndexOf (viewer_of u.now) groups j.index) (sym viewer) is in
+    subst (λ (u : Bor ViewerInCode). IsIndexOf (viewer_of u.now) (groups ++ cs) w.index) viewer (joins groups are' is')
+
+pub took_groups : (v : GroupVisitor) (cs : List Content) (w : GroupVisitor) → FoldsTo TakesGroup v cs w → Joins v cs w
+took_groups v [] w same = rw (← same) (λ groups are is. rw (append-nil groups) is)
+took_groups v (c ∷ cs) w steps =
+    let j = steps.0 in
+    let one = steps.1 in
+    let rest = took_groups j cs w steps.2 in
+    λ groups are is.
+    subst (λ (gs : List Content). IsIndexOf (viewer_of v.viewer.now) gs w.index) (append_assoc groups (c ∷ []) cs)
+    (joins_as v j w cs one.viewer one.decisions rest (groups ++ c ∷ []) are (one.index groups are is))
+
+-- what a visitor has been shown that lists a resource has been gathered
+pub took_listing : (v : Viewer) (decisions : Bor ReadDecisions) (id : List ℕ) (first : ListingVisitor) (cs : List Content) (last : ListingVisitor)
+    → viewer_of first.viewer.now ≡ v → first.decisions ≡ decisions → AreDecisions v decisions.now → All (λ c. lists id c ≡ true) cs
+    → FoldsTo TakesListing first cs last → (gathered : List Content) → AreListing v id gathered first.groups → AreListing v id (gathered ++ cs) last.groups
+took_listing v decisions id first [] last viewer same are all folds gathered is =
+    rw (append-nil gathered) (subst (λ (x : ListingVisitor). AreListing v id gathered x.groups) folds is)
+took_listing v decisions id first (c ∷ cs) last viewer same are all folds gathered is =
+    let next = folds.0 in
+    let one = folds.1 in
+    let own : AreDecisions (viewer_of first.viewer.now) first.decisions.now
+    = subst (λ (u : Viewer). AreDecisions u first.decisions.now) (sym viewer) (subst (λ (d : Bor ReadDecisions). AreDecisions v d.now) (sym same) are) in
+    let more : AreListing v id (gathered ++ c ∷ []) next.groups
+    = subst (λ (u : Viewer). AreListing u id (gathered ++ c ∷ []) next.groups) viewer
+    (one.groups id gathered own (All-head (λ d. lists id d ≡ true) c cs all) (subst (λ (u : Viewer). AreListing u id gathered first.groups) (sym viewer) is)) in
+    subst (λ (gs : List Content). AreListing v id gs last.groups) (append_assoc gathered (c ∷ []) cs)
+    (took_listing v decisions id next cs last (ap (λ (u : Bor ViewerInCode). viewer_of u.now) one.viewer ∙ viewer) (one.decisions ∙ same) are
+    (All-tail (λ d. lists id d ≡ true) c cs all) folds.2 (gathered ++ c ∷ []) more)
+
+-- what is made of what a visitor has been shown has been handed to its pager
+abbrev made_by : List Content → Sight → List Content → List Content
+made_by groups sight cs = made_of_all (made (viewer_of sight.viewer.now) groups sight.shows) (viewer_of sight.viewer.now) cs
+
+pub record TookResources (v : SearchVisitor) (cs : List Content) (w : SearchVisitor) : Type 0 where
+  pub query : w.pager.query ≡ v.pager.query
+  pub taken : (groups parts : List Content) → IsSight groups v.sight → HasTaken parts v.pager
+      → HasTaken (parts ++ made_by groups v.sight cs) w.pager
+
+pub took_resources : (v : SearchVisitor) (cs : List Content) (w : SearchVisitor) → FoldsTo TakesResource v cs w → TookResources v cs w
+took_resources v [] w same = rw (← same) (record { query = refl; taken = λ groups parts is was. rw (append-nil parts) was })
+took_resources v (c ∷ cs) w steps =
+    let j = steps.0 in
+    let one = steps.1 in
+    let rest = took_resources j cs w steps.2 in
+    record {
+      query = rest.query ∙ one.query;
+      taken = λ groups parts is was.
+          let first = and_those (part_of groups v.sight c) [] in
+          let all : (parts ++ first) ++ made_by groups v.sight cs ≡ parts ++ made_by groups v.sight (c ∷ cs)
+          = append_assoc parts first (made_by groups v.sight cs)
+          ∙ ap (λ (t : List Content). parts ++ t) (sym (and_those_append (part_of groups v.sight c) [] (made_by groups v.sight cs))) in
+          let more : HasTaken ((parts ++ first) ++ made_by groups j.sight cs) w.pager
+          = rest.taken groups (parts ++ first) (subst (IsSight groups) (sym one.sight) is) (one.taken groups parts is was) in
+          subst (λ (t : List Content). HasTaken t w.pager) all (subst (λ (s : Sight). HasTaken ((parts ++ first) ++ made_by groups s cs) w.pager) one.sight more);
+    }

@@ -1,0 +1,231 @@
+-- A search that looks at some attributes alone, and makes the items of its page whole, finds what a search over whole resources finds.
+use Rattle.std.proofs.Common.{◌≡◌, refl, sym, ◌∙◌, ap, subst, ℕ, zero, suc, true, false, List, [], ◌∷◌, ◌++◌, map, filter, slice_index_or, length, append_assoc, inl, inr, arith, true≢false}
+use Rattle.std.specs.Prelude.{◌==◌, All, AllPairs, Option, Some, find}
+use Rattle.std.proofs.Math.Path.{fun_ext}
+use Rattle.std.proofs.lemmas.Bool.{cases_Bool, false_from_ne_true}
+use Rattle.std.proofs.lemmas.List.{append-nil}
+use Rattle.std.proofs.lemmas.Simd.{map-map}
+use Rattle.std.proofs.lemmas.Slice.Eq.{bytes_eq-Decides}
+use Rattle.std.proofs.lemmas.List.Elements.{All-head, All-tail, All-filter, filter_passes}
+use denote.Enum.Bare.{same_true}
+use denote.Ref.{Bor}
+use Rattle.scim_schema.specs.declared.Attribute.{Attribute}
+use Rattle.scim_schema.specs.declared.Attribute.TheVariants.{Id}
+use Rattle.scim_schema.specs.declared.Kind.{Kind}
+use Rattle.scim_schema.specs.declared.Leaf.{Leaf}
+use Rattle.scim_schema.specs.declared.Kind.TheVariants.{Group}
+use Rattle.scim_schema.specs.contracts.Kind.{the_type as the_kind}
+use Rattle.scim_schema.specs.Units.{simple}
+use Rattle.scim_cell.specs.Content.{Content, IsPart}
+use Rattle.scim_cell.specs.Kinds.{is_of, of_kind}
+use Rattle.scim_value.specs.Uniqueness.{AreApart}
+use Rattle.scim_filter.specs.declared.tree.Filter.{Filter}
+use Rattle.scim_policy.specs.declared.rules.Decision.{Decision}
+use Rattle.scim_view.specs.declared.viewers.Viewer.{Viewer as ViewerInCode}
+use Rattle.scim_view.specs.View.{Viewer, viewer_of, read_decision, sees, visible_attributes}
+use Rattle.scim_view.specs.Groups.{and_those, memberships, visible_with, with_groups, view_with_groups, views, seen}
+use Rattle.scim_query.specs.declared.queries.Query.{Query}
+use Rattle.scim_query.specs.declared.queries.Page.{Page}
+use Rattle.scim_query.specs.NamedAttributes.{attributes_of, names_groups, Alike}
+use Rattle.scim_query.specs.PossibleMatches.{NeverMatches}
+use Rattle.scim_query.specs.Pages.{is_match, matching, IsPage}
+use Rattle.scim_query.proofs.Facts.{alike_pages, seen_alike}
+use Rattle.scim_shelf.specs.Stores.{Store, IsStore, is_at}
+use Rattle.scim_search.specs.declared.read_decisions.ReadDecisions.{ReadDecisions}
+use Rattle.scim_search.specs.declared.sights.Shows.TheVariants.{Named}
+use Rattle.scim_search.specs.declared.sights.Sight.{Sight}
+use Rattle.scim_search.specs.ReadDecisions.{AreDecisions}
+use Rattle.scim_search.specs.Sights.{made_of_all, IsSight}
+use Rattle.scim_search.specs.Walks.{Seen, made_of_kind}
+use Rattle.scim_search.proofs.ApartLemmas.{none_at}
+use Rattle.scim_search.proofs.StoreViews.{parts_of, made_map, made_views}
+
+-- ---- each resource of a kind that is seen, with what is known of it
+
+own_id : (kind : Kind) (c : Content) → is_of kind c ≡ true → is_at kind c.id c ≡ true
+own_id kind c is = rw is ((bytes_eq-Decides c.id c.id).1 refl)
+
+-- each resource is the one that is found by its id
+found_each : (kind : Kind) (cs : List Content) → AllPairs AreApart cs → All (λ c. is_of kind c ≡ true → find (is_at kind c.id) cs ≡ Some c) cs
+found_each kind [] apart k d lt = absurd (omega (arith, lt))
+found_each kind (e ∷ es) apart zero d lt = λ is. rw (own_id kind e is) refl
+found_each kind (e ∷ es) apart (suc k) d lt = λ is.
+    let c : Content = slice_index_or es k d in
+    let two : AreApart e c = apart zero (suc k) d (omega arith) (omega (arith, lt)) in
+    let other : is_at kind c.id e ≡ false
+    = false_from_ne_true _ (λ same. true≢false (sym (own_id kind c is) ∙ none_at kind c.id e c two same)) in
+    rw other (found_each kind es (λ i j f h l. apart (suc i) (suc j) f (omega arith) (omega (arith, l))) k d (omega (arith, lt)) is)
+
+-- what is known of each resource of a kind that is seen
+record Known (v : Viewer) (kind : Kind) (cs : List Content) (c : Content) : Type 0 where
+  part : IsPart c
+  is_kind : c.kind ≡ kind
+  seen : sees v c ≡ true
+  found : find (is_at kind c.id) cs ≡ Some c
+
+known_each : (v : Viewer) (kind : Kind) (base : List ℕ) (store : Store) → IsStore base store
+    → All (Known v kind store.resources) (filter (sees v) (of_kind kind store.resources))
+known_each v kind base store is k d lt =
+    let cs = store.resources in
+    let own : All (λ c. is_of kind c ≡ true) (of_kind kind cs) = filter_passes (is_of kind) cs in
+    let parts : All IsPart (of_kind kind cs) = All-filter (is_of kind) IsPart cs (parts_of base store is) in
+    let founds : All (λ c. is_of kind c ≡ true → find (is_at kind c.id) cs ≡ Some c) (of_kind kind cs)
+    = All-filter (is_of kind) (λ c. is_of kind c ≡ true → find (is_at kind c.id) cs ≡ Some c) cs (found_each kind cs is.keyed.apart) in
+    let of_own = All-filter (sees v) (λ c. is_of kind c ≡ true) (of_kind kind cs) own k d lt in
+    record {
+      part = All-filter (sees v) IsPart (of_kind kind cs) parts k d lt;
+      is_kind = same_true the_kind tt _ kind of_own;
+      seen = filter_passes (sees v) (of_kind kind cs) k d lt;
+      found = All-filter (sees v) (λ c. is_of kind c ≡ true → find (is_at kind c.id) cs ≡ Some c) (of_kind kind cs) founds k d lt of_own;
+    }
+
+module _ (v : Viewer) (kind : Kind) (cs : List Content) where
+  -- a list of resources of which that is known
+  with_known : (ds : List Content) → All (Known v kind cs) ds → (xs : List (Seen v kind cs)) × (map (λ x. x.own) xs ≡ ds)
+  with_known [] known = ([], refl)
+  with_known (d ∷ ds) known =
+      let first = All-head (Known v kind cs) d ds known in
+      let rest = with_known ds (All-tail (Known v kind cs) d ds known) in (
+        record { own = d; part = first.part; is_kind = first.is_kind; seen = first.seen; found = first.found } ∷ rest.0,
+        ap (λ es. d ∷ es) rest.1,
+      )
+
+pub all_seen : (v : Viewer) (kind : Kind) (base : List ℕ) (store : Store) → IsStore base store
+    → (xs : List (Seen v kind store.resources)) × (map (λ x. x.own) xs ≡ filter (sees v) (of_kind kind store.resources))
+all_seen v kind base store is = with_known v kind store.resources _ (known_each v kind base store is)
+
+-- ---- pages
+
+-- what is seen of the attributes alone that a query names
+abbrev small : Viewer → Query → Content → Content
+small v query c = visible_attributes (attributes_of query) (read_decision v c) c
+
+alike_seen : (v : Viewer) (query : Query) (gs : List Content) (c : Content) → IsPart c → names_groups query ≡ false → Alike query (small v query c) (with_groups v gs c)
+unfolding with_groups
+alike_seen v query gs c part none = seen_alike query (read_decision v c) v.base (seen v gs) c part none
+
+module _ (v : Viewer) (kind : Kind) (gs : List Content) (query : Query) (base : List ℕ) (store : Store) (is : IsStore base store) (none : names_groups query ≡ false) where
+  abbrev cs : List Content
+  cs = of_kind kind store.resources
+
+  abbrev small_of : Seen v kind store.resources → Content
+  small_of x = small v query x.own
+
+  abbrev whole_of : Seen v kind store.resources → Content
+  whole_of x = with_groups v gs x.own
+
+  -- what is made of all that is seen, by the list of those
+  made_seen : (make : Content → Content) → made_of_all make v cs ≡ map (λ x. make x.own) (all_seen v kind base store is).0
+  made_seen make =
+      let xs = all_seen v kind base store is in
+      made_map make v cs ∙ ap (map make) (sym xs.1) ∙ map-map make (λ (x : Seen v kind store.resources). x.own) xs.0
+
+  -- the page by small parts shows some resources; the same with these whole is the page of the view
+  pub page_by_small : (found : Page) → IsPage (made_of_all (small v query) v cs) query found
+      → (shown : List (Seen v kind store.resources)) × (found.items.items ≡ map small_of shown)
+      × ((page : Page) → page.total ≡ found.total → page.start ≡ found.start → page.items.items ≡ map whole_of shown → IsPage (views v gs cs) query page)
+  page_by_small found paged =
+      let xs = (all_seen v kind base store is).0 in
+      let chosen = alike_pages query small_of whole_of (λ x. alike_seen v query gs x.own x.part none) xs found
+      (subst (λ (ps : List Content). IsPage ps query found) (made_seen (small v query)) paged) in (
+        chosen.0,
+        chosen.1,
+        λ page total start items.
+            subst (λ (ps : List Content). IsPage ps query page) (sym (made_seen (with_groups v gs)) ∙ made_views v gs cs) (chosen.2 page total start items),
+      )
+
+-- the page by what is made at a sight of the attributes that a query names
+pub named_page : (viewer : Bor ViewerInCode) (kind : Kind) (query : Query) (base : List ℕ) (store : Store) → IsStore base store → (attributes : Bor (List Attribute)) → attributes.now ≡ attributes_of query
+    → names_groups query ≡ false → (found : Page) (decisions : Bor ReadDecisions) (sight : Sight) → AreDecisions (viewer_of viewer.now) decisions.now
+    → sight ≡ record { viewer = viewer; decisions = decisions; shows = Named attributes }
+    → (IsSight [] sight → IsPage (made_of_kind [] sight kind store.resources) query found)
+    → (shown : List (Seen (viewer_of viewer.now) kind store.resources)) × (found.items.items ≡ map (λ x. small (viewer_of viewer.now) query x.own) shown)
+    × ((page : Page) → page.total ≡ found.total → page.start ≡ found.start → page.items.items ≡ map (λ x. with_groups (viewer_of viewer.now) (of_kind Group store.resources) x.own) shown
+    → IsPage (views (viewer_of viewer.now) (of_kind Group store.resources) (of_kind kind store.resources)) query page)
+named_page viewer kind query base store is attributes named none found decisions sight are same paged =
+    let v = viewer_of viewer.now in
+    let cs = of_kind kind store.resources in
+    let known : IsSight [] sight = subst (IsSight []) (sym same) (record { decisions = are; index = tt }) in
+    let made_here : IsPage (made_of_all (λ (c : Content). visible_attributes attributes.now (read_decision v c) c) v cs) query found
+    = subst (λ (s : Sight). IsPage (made_of_kind [] s kind store.resources) query found) same (paged known) in
+    page_by_small v kind (of_kind Group store.resources) query base store is none found
+    (subst (λ (those : List Attribute). IsPage (made_of_all (λ (c : Content). visible_attributes those (read_decision v c) c) v cs) query found) named made_here)
+
+-- the parts have the ids of the resources
+pub small_ids : (v : Viewer) (kind : Kind) (cs : List Content) (query : Query) (items : List Content) (shown : List (Seen v kind cs))
+    → items ≡ map (λ x. small v query x.own) shown → map (λ p. p.id) items ≡ map (λ x. x.own.id) shown
+unfolding visible_attributes
+small_ids v kind cs query items shown same =
+    ap (map (λ (p : Content). p.id)) same ∙ map-map (λ (p : Content). p.id) (λ (x : Seen v kind cs). small v query x.own) shown
+
+pub empty_list : {X : Type 0} (xs : List X) → (length xs == 0) ≡ true → xs ≡ []
+empty_list [] e = refl
+empty_list (x ∷ xs) e = grind (arith, e)
+
+-- nothing is shown where there is no part
+pub none_shown : {X Y : Type 0} (f g : X → Y) (xs : List X) → map f xs ≡ [] → map g xs ≡ []
+none_shown f g [] e = refl
+none_shown f g (x ∷ xs) e = cc
+
+-- ---- parts that are pushed one by one
+
+module _ (v : Viewer) (kind : Kind) (cs gs : List Content) where
+  abbrev own_ids : List (Seen v kind cs) → List (List ℕ)
+  own_ids shown = map (λ (x : Seen v kind cs). x.own.id) shown
+
+  abbrev whole : List (Seen v kind cs) → List Content
+  whole shown = map (λ (x : Seen v kind cs). with_groups v gs x.own) shown
+
+  pub pushed_none : (shown : List (Seen v kind cs)) (parts : List Content) → [] ≡ own_ids shown → parts ≡ parts ++ whole shown
+  pushed_none [] parts e = sym (append-nil parts)
+  pushed_none (x ∷ xs) parts e = cc
+
+  -- the part of the first resource, and then those of the others
+  pub pushed_more : (item : Content) (rest : List Content) (shown : List (Seen v kind cs)) (found : Option Content) (old mid new : List Content)
+      → map (λ (p : Content). p.id) (item ∷ rest) ≡ own_ids shown → found ≡ find (is_at kind item.id) cs
+      → ((c : Content) → found ≡ Some c → mid ≡ old ++ and_those (view_with_groups v gs c) [])
+      → ((xs : List (Seen v kind cs)) → map (λ (p : Content). p.id) rest ≡ own_ids xs → new ≡ mid ++ whole xs)
+      → new ≡ old ++ whole shown
+  pushed_more item rest [] found old mid new ids is first later = cc
+  pushed_more item rest (x ∷ xs) found old mid new ids is first later =
+      let own : item.id ≡ x.own.id = cc in
+      let others : map (λ (p : Content). p.id) rest ≡ own_ids xs = cc in
+      let sought : found ≡ Some x.own = is ∙ ap (λ (id : List ℕ). find (is_at kind id) cs) own ∙ x.found in
+      let one : mid ≡ old ++ with_groups v gs x.own ∷ [] = rw x.seen at (first x.own sought) in
+      later xs others ∙ ap (λ (ps : List Content). ps ++ whole xs) one ∙ append_assoc old (with_groups v gs x.own ∷ []) (whole xs)
+
+-- ---- whether the viewer sees a resource, by the decision on its `id`
+
+pub seen_by : (v : Viewer) (c : Content) (d : Decision) → d ≡ read_decision v c (simple Id) → d.allow ≡ sees v c
+unfolding sees
+seen_by v c d is = ap (λ (e : Decision). e.allow) is
+
+-- ---- resources that can't match
+
+-- what never matches by decisions isn't seen to match, where they are those on reading it
+pub never_seen : (f : Option Filter) (d : Leaf → Decision) (v : Viewer) (gs : List Content) (c : Content) → ((l : Leaf) → d l ≡ read_decision v c l) → NeverMatches f d c
+    → is_match f (with_groups v gs c) ≡ false
+unfolding with_groups
+never_seen f d v gs c same never =
+    subst (λ (e : Leaf → Decision). is_match f (visible_with e (memberships v.base (seen v gs) c.id) c) ≡ false) (fun_ext same) (never v.base (seen v gs))
+
+none_match : (f : Option Filter) (v : Viewer) (gs cs : List Content) → All (λ c. sees v c ≡ true → is_match f (with_groups v gs c) ≡ false) cs
+    → [] ≡ matching f (views v gs cs)
+none_match f v gs [] never = refl
+none_match f v gs (c ∷ cs) never =
+    let Never : Content → Type 0 = λ d. sees v d ≡ true → is_match f (with_groups v gs d) ≡ false in
+    let rest = none_match f v gs cs (All-tail Never c cs never) in
+    elim (cases_Bool (sees v c)) [
+      | inl t ↦ rw t (rw (All-head Never c cs never t) rest)
+      | inr u ↦ rw u rest
+    ]
+
+-- the page of none is that of the view, where no resource of the kind can match
+pub none_matches : (v : Viewer) (kind : Kind) (gs : List Content) (f : Option Filter) (base : List ℕ) (store : Store) → IsStore base store
+    → ((c : Content) → IsPart c → c.kind ≡ kind → sees v c ≡ true → is_match f (with_groups v gs c) ≡ false)
+    → [] ≡ matching f (views v gs (of_kind kind store.resources))
+none_matches v kind gs f base store is never =
+    let cs = of_kind kind store.resources in
+    let parts : All IsPart cs = All-filter (is_of kind) IsPart store.resources (parts_of base store is) in
+    let own : All (λ c. is_of kind c ≡ true) cs = filter_passes (is_of kind) store.resources in
+    none_match f v gs cs (λ k d lt. never _ (parts k d lt) (same_true the_kind tt _ kind (own k d lt)))

@@ -1,0 +1,25 @@
+-- Decisions on reading the resources of a kind.
+use Rattle.std.specs.Prelude.{◌≡◌}
+use Rattle.scim_schema.specs.declared.Kind.{Kind}
+use Rattle.scim_schema.specs.declared.Leaf.{Leaf}
+use Rattle.scim_cell.specs.Content.{Content}
+use Rattle.scim_policy.specs.declared.rules.Decision.{Decision}
+use Rattle.scim_policy.specs.Table.{decision}
+use Rattle.scim_policy.specs.Picked.{decided_by}
+use Rattle.scim_view.specs.View.{Viewer, read_decision}
+use Rattle.scim_search.specs.declared.read_decisions.Form.{Form}
+use Rattle.scim_search.specs.declared.read_decisions.Form.TheVariants.{Alike, ByTarget}
+use Rattle.scim_search.specs.declared.read_decisions.ReadDecisions.{ReadDecisions}
+
+-- what is decided on each resource of the kind is what the policy decides on the viewer's reading of it
+abbrev pub DecidesOn : Viewer → Kind → (Content → Leaf → Decision) → Type 0
+DecidesOn v kind decides = (c : Content) → c.kind ≡ kind → (l : Leaf) → decides c l ≡ read_decision v c l
+
+-- by one table for all of them, or by the rules that were picked
+abbrev pub DecidesBy : Viewer → Kind → Form → Type 0
+DecidesBy v kind (Alike table) = DecidesOn v kind (λ c. decision table)
+DecidesBy v kind (ByTarget rules) = DecidesOn v kind (decided_by rules)
+
+-- the decisions are those on the viewer's reading
+abbrev pub AreDecisions : Viewer → ReadDecisions → Type 0
+AreDecisions v decisions = DecidesBy v decisions.kind decisions.form

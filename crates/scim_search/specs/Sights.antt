@@ -1,0 +1,38 @@
+-- What is made of a resource that a client sees.
+use Rattle.std.specs.Prelude.{List, [], ◌∷◌, Option, None, Some, ⊤, if◌then◌else◌}
+use Rattle.scim_cell.specs.Content.{Content}
+use Rattle.scim_view.specs.View.{Viewer, viewer_of, read_decision, sees, visible_attributes}
+use Rattle.scim_view.specs.Groups.{and_those, with_groups}
+use Rattle.scim_view.specs.Indexes.{IsIndexOf}
+use Rattle.scim_search.specs.declared.sights.Shows.{Shows}
+use Rattle.scim_search.specs.declared.sights.Shows.TheVariants.{Named, Whole}
+use Rattle.scim_search.specs.declared.sights.Sight.{Sight}
+use Rattle.scim_search.specs.ReadDecisions.{AreDecisions}
+
+-- what is made of a resource that the viewer sees: what it may see of some attributes, or all that it may see, with its groups
+abbrev pub made : Viewer → List Content → Shows → Content → Content
+made v groups (Named attributes) c = visible_attributes attributes.now (read_decision v c) c
+made v groups (Whole index) c = with_groups v groups c
+
+-- what is made of a resource, where the viewer sees it
+abbrev pub made_if_seen : (Content → Content) → Viewer → Content → Option Content
+made_if_seen make v c = if sees v c then Some (make c) else None
+
+-- of resources, those that the viewer sees
+abbrev pub made_of_all : (Content → Content) → Viewer → List Content → List Content
+made_of_all make v [] = []
+made_of_all make v (c ∷ cs) = and_those (made_if_seen make v c) (made_of_all make v cs)
+
+-- the index, where groups are told by one, is of these groups
+abbrev pub IsIndexed : Viewer → List Content → Shows → Type 0
+IsIndexed v groups (Named attributes) = ⊤
+IsIndexed v groups (Whole index) = IsIndexOf v groups index.now
+
+-- the decisions are those on the viewer's reading, and the index, if there is one, is of these groups
+pub record IsSight (groups : List Content) (sight : Sight) : Type 0 where
+  pub decisions : AreDecisions (viewer_of sight.viewer.now) sight.decisions.now
+  pub index : IsIndexed (viewer_of sight.viewer.now) groups sight.shows
+
+-- what is made of a resource, where it is seen
+abbrev pub part_of : List Content → Sight → Content → Option Content
+part_of groups sight c = made_if_seen (made (viewer_of sight.viewer.now) groups sight.shows) (viewer_of sight.viewer.now) c

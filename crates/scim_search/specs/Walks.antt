@@ -1,0 +1,43 @@
+-- What a search over all resources of a kind makes of them.
+use Rattle.std.specs.Prelude.{◌≡◌, true, List, Some, map, find}
+use Rattle.scim_schema.specs.declared.Kind.{Kind}
+use Rattle.scim_schema.specs.declared.Kind.TheVariants.{Group}
+use Rattle.scim_cell.specs.Content.{Content, IsPart}
+use Rattle.scim_cell.specs.Kinds.{of_kind}
+use Rattle.scim_view.specs.declared.index.GroupIndex.{GroupIndex}
+use Rattle.scim_view.specs.View.{Viewer, viewer_of, sees}
+use Rattle.scim_view.specs.Groups.{with_groups}
+use Rattle.scim_view.specs.Indexes.{IsIndexOf}
+use Rattle.scim_shelf.specs.Stores.{is_at}
+use Rattle.scim_search.specs.declared.sights.Sight.{Sight}
+use Rattle.scim_search.specs.declared.whole_items.ItemSight.{ItemSight}
+use Rattle.scim_search.specs.ReadDecisions.{AreDecisions}
+use Rattle.scim_search.specs.Sights.{made, made_of_all}
+
+-- the index is of groups by which the viewer's view of the resources of a kind is the one by all groups of the store
+pub record IndexTells (v : Viewer) (kind : Kind) (cs : List Content) (index : GroupIndex) : Type 0 where
+  pub groups : List Content
+  pub is_index : IsIndexOf v groups index
+  pub same : (c : Content) → c.kind ≡ kind → with_groups v groups c ≡ with_groups v (of_kind Group cs) c
+
+-- what is made of the resources of a kind that are seen
+abbrev pub made_of_kind : List Content → Sight → Kind → List Content → List Content
+made_of_kind groups sight kind cs = made_of_all (made (viewer_of sight.viewer.now) groups sight.shows) (viewer_of sight.viewer.now) (of_kind kind cs)
+
+-- the decisions, on the kind of a page's items and on groups, are those on the viewer's reading
+pub record IsItemSight (sight : ItemSight) : Type 0 where
+  pub on_kind : AreDecisions (viewer_of sight.viewer.now) sight.on_kind.now
+  pub on_groups : AreDecisions (viewer_of sight.viewer.now) sight.on_groups.now
+
+-- a resource of the kind that the viewer sees, which is the one that is found by its id
+pub record Seen (v : Viewer) (kind : Kind) (cs : List Content) : Type 0 where
+  pub own : Content
+  pub part : IsPart own
+  pub is_kind : own.kind ≡ kind
+  pub seen : sees v own ≡ true
+  pub found : find (is_at kind own.id) cs ≡ Some own
+
+-- parts are those of resources, and these parts are the same resources whole with their groups
+abbrev pub AreWhole : Viewer → Kind → List Content → List Content → List Content → Type 0
+AreWhole v kind cs items whole = (found : List (Seen v kind cs)) → map (λ p. p.id) items ≡ map (λ x. x.own.id) found
+    → whole ≡ map (λ x. with_groups v (of_kind Group cs) x.own) found

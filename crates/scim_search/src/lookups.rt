@@ -1,0 +1,176 @@
+//! Searches whose filter asks for an id or a unique name: the one resource that can match is looked up by it.
+ghost use Rattle.std.specs.Prelude.{◌≡◌, ◌∷◌, ℕ, List, [], IfOk, IfSome};
+ghost use Rattle.scim_schema.specs.declared.Kind.{Kind};
+ghost use Rattle.scim_schema.specs.Characteristics.{is_case_exact};
+ghost use Rattle.scim_cell.specs.Kinds.{of_kind};
+ghost use Rattle.scim_value.specs.Uniqueness.{name_of};
+ghost use Rattle.scim_filter.specs.Relation.{cased};
+ghost use Rattle.scim_view.specs.View.{viewer_of};
+ghost use Rattle.scim_view.specs.Groups.{and_those, views};
+ghost use Rattle.scim_query.specs.Pages.{IsPage};
+ghost use Rattle.scim_shelf.specs.Shelves.{Answers, OnlyReads};
+ghost use Rattle.scim_shelf.specs.Stores.{IsStore, has_name, is_at};
+ghost use Rattle.scim_search.specs.Lookups as spec;
+
+use crate::beside::view_beside;
+use crate::read_decisions::ReadDecisions;
+use scim_cell::Id;
+use scim_filter::StringLiteral;
+use scim_query::{Page, Pager, Query};
+use scim_schema::{Attribute, Kind, Leaf, is_case_exact, unique_leaves};
+use scim_shelf::{Shelf, ShelfFault};
+use scim_text::{Failed, NoMemory};
+use scim_value::{Part, Resource, UniqueName};
+use scim_view::Viewer;
+use std::alloc::Global;
+
+/// The unique name by which a text is known at a leaf (RFC 7643 section 2.2).
+fn known_name(alloc: Global, leaf: Leaf, text: &StringLiteral) -> Result<UniqueName, NoMemory>
+    ensures leaf { IfOk result (λ name. name.leaf ≡ leaf) }
+    ensures text { IfOk result (λ name. (name_of name).text ≡ cased (is_case_exact leaf) text.now) }
+{
+    let known = if is_case_exact(leaf) {
+        text.as_str()
+    } else {
+        text.folded()
+    };
+    Ok(UniqueName {
+        leaf,
+        text: String::from_str(alloc, known)?,
+    })
+}
+
+/// The unique name without which no resource of the kind matches; None where the query asks for none.
+pub(crate) fn needed_name(
+    alloc: Global,
+    kind: Kind,
+    query: &Query,
+) -> Result<Option<UniqueName>, NoMemory>
+    ensures { IfOk result (λ o. IfSome o (λ name. spec.OnlyThose kind query.now.filter (has_name (name_of name)))) }
+{
+    for leaf in unique_leaves(kind) {
+        if let Some(text) = query.needed_text(*leaf) {
+            return Ok(Some(known_name(alloc, *leaf, text)?));
+        }
+    }
+    Ok(None)
+}
+
+/// The id without which no resource of the kind matches; None where the query asks for none.
+pub(crate) fn needed_id(query: &Query) -> Option<Id>
+    ensures { IfSome result (λ id. (kind : Kind) → spec.OnlyThose kind query.now.filter (is_at kind id)) }
+{
+    let text = query.needed_text(Leaf::simple(Attribute::Id))?;
+    Id::read(text.as_str())
+}
+
+/// What the client sees of the resource with its groups; None where it isn't of the kind, or the client doesn't see it.
+fn seen_part<S: Shelf>(
+    alloc: Global,
+    viewer: &Viewer<'_>,
+    shelf: &mut S,
+    kind: Kind,
+    resource: &Resource,
+) -> Result<Option<Part>, Failed<ShelfFault>>
+    ensures part { IfOk result (Answers S.stands S.is_honest shelf.old shelf.new (λ store part. (base : List ℕ) → IsStore base store
+        → and_those part [] ≡ views (viewer_of viewer.now) (of_kind Kind.Group store.resources) (of_kind kind (resource.now ∷ [])))) }
+    ensures read { OnlyReads S.stands S.is_honest S.failures shelf.old shelf.new result }
+{
+    if resource.kind() != kind {
+        return Ok(None);
+    }
+    let decisions = viewer.decisions(alloc, resource)?;
+    let on_groups = ReadDecisions::of(alloc, viewer, Kind::Group)?;
+    view_beside(alloc, viewer, &decisions, &on_groups, shelf, resource)
+}
+
+/// The same for what was found, if anything was.
+fn seen_if_found<S: Shelf>(
+    alloc: Global,
+    viewer: &Viewer<'_>,
+    shelf: &mut S,
+    kind: Kind,
+    found: Option<Resource>,
+) -> Result<Option<Part>, Failed<ShelfFault>>
+    ensures part { IfOk result (Answers S.stands S.is_honest shelf.old shelf.new (λ store part. (base : List ℕ) → IsStore base store
+        → and_those part [] ≡ views (viewer_of viewer.now) (of_kind Kind.Group store.resources) (of_kind kind (and_those found [])))) }
+    ensures read { OnlyReads S.stands S.is_honest S.failures shelf.old shelf.new result }
+{
+    match found {
+        Some(resource) => seen_part(alloc, viewer, shelf, kind, &resource),
+        None => Ok(None),
+    }
+}
+
+/// The page of this part alone.
+fn page_of_one(alloc: Global, part: Part, query: &Query) -> Result<Page, NoMemory>
+    ensures { IfOk result (λ page. IsPage (part ∷ []) query.now page) }
+{
+    let mut pager = Pager::new(alloc, query);
+    pager.push(part)?;
+    pager.end()
+}
+
+/// The page of this part, or of none.
+fn page_of(alloc: Global, part: Option<Part>, query: &Query) -> Result<Page, NoMemory>
+    ensures { IfOk result (λ page. IsPage (and_those part []) query.now page) }
+{
+    match part {
+        Some(part) => page_of_one(alloc, part, query),
+        None => Pager::new(alloc, query).end(),
+    }
+}
+
+/// The page that the client's query asks for of what was found, if it is of the kind.
+fn page_found<S: Shelf>(
+    alloc: Global,
+    viewer: &Viewer<'_>,
+    shelf: &mut S,
+    kind: Kind,
+    found: Option<Resource>,
+    query: &Query,
+) -> Result<Page, Failed<ShelfFault>>
+    ensures page { IfOk result (Answers S.stands S.is_honest shelf.old shelf.new (λ store page. (base : List ℕ) → IsStore base store
+        → IsPage (views (viewer_of viewer.now) (of_kind Kind.Group store.resources) (of_kind kind (and_those found []))) query.now page)) }
+    ensures read { OnlyReads S.stands S.is_honest S.failures shelf.old shelf.new result }
+{
+    let part = seen_if_found(alloc, viewer, shelf, kind, found)?;
+    Ok(page_of(alloc, part, query)?)
+}
+
+/// The page that the client's query asks for of the resources of a kind, where only one with the name can match:
+/// that one alone is read, and the groups that list it.
+pub(crate) fn page_named<S: Shelf>(
+    alloc: Global,
+    viewer: &Viewer<'_>,
+    shelf: &mut S,
+    kind: Kind,
+    name: &UniqueName,
+    query: &Query,
+) -> Result<Page, Failed<ShelfFault>>
+    requires { spec.OnlyThose kind query.now.filter (has_name (name_of name.now)) }
+    ensures page { IfOk result (Answers S.stands S.is_honest shelf.old shelf.new (λ store page. (base : List ℕ) → IsStore base store
+        → IsPage (views (viewer_of viewer.now) (of_kind Kind.Group store.resources) (of_kind kind store.resources)) query.now page)) }
+    ensures read { OnlyReads S.stands S.is_honest S.failures shelf.old shelf.new result }
+{
+    let owner = shelf.name_owner(alloc, name)?;
+    page_found(alloc, viewer, shelf, kind, owner, query)
+}
+
+/// The same where only the one with the id can match.
+pub(crate) fn page_with_id<S: Shelf>(
+    alloc: Global,
+    viewer: &Viewer<'_>,
+    shelf: &mut S,
+    kind: Kind,
+    id: Id,
+    query: &Query,
+) -> Result<Page, Failed<ShelfFault>>
+    requires { spec.OnlyThose kind query.now.filter (is_at kind id) }
+    ensures page { IfOk result (Answers S.stands S.is_honest shelf.old shelf.new (λ store page. (base : List ℕ) → IsStore base store
+        → IsPage (views (viewer_of viewer.now) (of_kind Kind.Group store.resources) (of_kind kind store.resources)) query.now page)) }
+    ensures read { OnlyReads S.stands S.is_honest S.failures shelf.old shelf.new result }
+{
+    let owner = shelf.by_id(alloc, kind, id)?;
+    page_found(alloc, viewer, shelf, kind, owner, query)
+}

@@ -1,0 +1,42 @@
+//! The page that a client's query asks for.
+ghost use Rattle.std.specs.Prelude.{ℕ, List, IfOk};
+ghost use Rattle.scim_schema.specs.declared.Kind.{Kind};
+ghost use Rattle.scim_cell.specs.Kinds.{of_kind};
+ghost use Rattle.scim_view.specs.View.{viewer_of};
+ghost use Rattle.scim_view.specs.Groups.{views};
+ghost use Rattle.scim_query.specs.Pages.{IsPage};
+ghost use Rattle.scim_shelf.specs.Shelves.{Answers, OnlyReads};
+ghost use Rattle.scim_shelf.specs.Stores.{IsStore};
+
+use crate::lookups::{needed_id, needed_name, page_named, page_with_id};
+use crate::walks::page_of_all;
+use scim_query::{Page, Query};
+use scim_schema::Kind;
+use scim_shelf::{Shelf, ShelfFault};
+use scim_text::Failed;
+use scim_view::Viewer;
+use std::alloc::Global;
+
+/// The page that the client's query asks for of what it sees of the resources of a kind (RFC 7644 section 3.4.2):
+/// where the query asks for an id or a unique name, the one that has it is looked up, else all are looked at.
+///
+/// Fails as the shelf does, and where memory was wanting.
+pub fn page_of_query<S: Shelf>(
+    alloc: Global,
+    viewer: &Viewer<'_>,
+    shelf: &mut S,
+    kind: Kind,
+    query: &Query,
+) -> Result<Page, Failed<ShelfFault>>
+    ensures page { IfOk result (Answers S.stands S.is_honest shelf.old shelf.new (λ store page. (base : List ℕ) → IsStore base store
+        → IsPage (views (viewer_of viewer.now) (of_kind Kind.Group store.resources) (of_kind kind store.resources)) query.now page)) }
+    ensures read { OnlyReads S.stands S.is_honest S.failures shelf.old shelf.new result }
+{
+    if let Some(id) = needed_id(query) {
+        return page_with_id(alloc, viewer, shelf, kind, id, query);
+    }
+    match needed_name(alloc, kind, query)? {
+        Some(name) => page_named(alloc, viewer, shelf, kind, &name, query),
+        None => page_of_all(alloc, viewer, shelf, kind, query),
+    }
+}

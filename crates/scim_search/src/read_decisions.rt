@@ -1,0 +1,101 @@
+//! What the policy decides on reading the resources of a kind.
+ghost use Rattle.std.specs.Prelude.{◌≡◌, false, true, IfOk, IfSome, List};
+ghost use Rattle.scim_schema.specs.declared.Leaf.{Leaf};
+ghost use Rattle.scim_cell.specs.Content.{Content, IsPart};
+ghost use Rattle.scim_policy.specs.Table.{decision};
+ghost use Rattle.scim_view.specs.View.{Viewer as SpecViewer, read_decision, sees, viewer_of};
+ghost use Rattle.scim_view.specs.Groups.{with_groups};
+ghost use Rattle.scim_query.specs.Pages.{is_match};
+ghost use Rattle.scim_search.specs.ReadDecisions.{AreDecisions};
+
+use scim_policy::{Decisions, RulesAbout};
+use scim_query::Query;
+use scim_schema::{Attribute, Kind, Leaf, Op};
+use scim_text::NoMemory;
+use scim_value::Resource;
+use scim_view::Viewer;
+use std::alloc::Global;
+
+/// How the policy decides on the resources of a kind.
+#[derive(Drop)]
+enum Form<'a> {
+    /// Alike on all of them.
+    Alike(Decisions),
+    /// By these rules, a target of which makes a difference.
+    ByTarget(RulesAbout<'a>),
+}
+
+/// What a client may read of the resources of a kind: decided once for all of them where the policy decides
+/// alike, else by the rules that may decide, which are picked once.
+#[derive(Drop)]
+pub(crate) struct ReadDecisions<'a> {
+    kind: Kind,
+    form: Form<'a>,
+}
+
+impl<'a> ReadDecisions<'a> {
+    /// The decisions for a client and a kind. NoMemory where none was to be had.
+    pub(crate) fn of(
+        alloc: Global,
+        viewer: &'a Viewer<'a>,
+        kind: Kind,
+    ) -> Result<ReadDecisions<'a>, NoMemory>
+        ensures decisions { IfOk result (λ decisions. AreDecisions (viewer_of viewer.entry.now) decisions) }
+        ensures kind { IfOk result (λ decisions. decisions.kind ≡ kind) }
+    {
+        let form = match viewer.decisions_on_all(alloc, kind)? {
+            Some(decisions) => Form::Alike(decisions),
+            None => {
+                let rules = viewer
+                    .policy
+                    .rules_about(alloc, viewer.client, Op::Read, kind)?;
+                Form::ByTarget(rules)
+            }
+        };
+        Ok(ReadDecisions { kind, form })
+    }
+
+    /// The decisions on reading the resource, where they are those on all of its kind.
+    pub(crate) fn on_all(&self, resource: &Resource) -> Option<&Decisions>
+        ensures { (v : SpecViewer) → AreDecisions v self.now
+            → IfSome result (λ decisions. (l : Leaf) → decision decisions.now l ≡ read_decision v resource.now l) }
+    {
+        match &self.form {
+            Form::Alike(decisions) if resource.kind() == self.kind => Some(decisions),
+            _ => None,
+        }
+    }
+
+    /// The decisions on reading the resource, told for it alone. NoMemory where none was to be had.
+    pub(crate) fn on(
+        &self,
+        alloc: Global,
+        viewer: &Viewer<'_>,
+        resource: &Resource,
+    ) -> Result<Decisions, NoMemory>
+        ensures { IfOk result (λ decisions. AreDecisions (viewer_of viewer.now) self.now
+            → (l : Leaf) → decision decisions l ≡ read_decision (viewer_of viewer.now) resource.now l) }
+    {
+        match &self.form {
+            Form::ByTarget(rules) if resource.kind() == self.kind => {
+                rules.decisions(alloc, resource)
+            }
+            _ => viewer.decisions(alloc, resource),
+        }
+    }
+
+    /// Whether the client may find a resource of the kind by the query at all: none where the policy denies it
+    /// what the query asks for, alike on all of them.
+    pub(crate) fn may_find(&self, query: &Query) -> bool
+        ensures { result ≡ false → (v : SpecViewer) (groups : List Content) (c : Content) → AreDecisions v self.now
+            → IsPart c → c.kind ≡ self.now.kind → sees v c ≡ true → is_match query.now.filter (with_groups v groups c) ≡ false }
+    {
+        match &self.form {
+            Form::Alike(decisions) => {
+                decisions.of(Leaf::simple(Attribute::Id)).allow
+                    && query.may_match(self.kind, decisions)
+            }
+            Form::ByTarget(_) => true,
+        }
+    }
+}

@@ -1,0 +1,172 @@
+//! Searches that go over all resources of a kind.
+ghost use Rattle.std.specs.Prelude.{◌≡◌, false, ℕ, List, [], IfOk};
+ghost use Rattle.scim_schema.specs.declared.Kind.{Kind};
+ghost use Rattle.scim_cell.specs.Content.{Content};
+ghost use Rattle.scim_cell.specs.Kinds.{of_kind};
+ghost use Rattle.scim_view.specs.View.{viewer_of};
+ghost use Rattle.scim_view.specs.Groups.{views};
+ghost use Rattle.scim_view.specs.Indexes.{IsIndexOf};
+ghost use Rattle.scim_query.specs.NamedAttributes.{attributes_of, names_groups};
+ghost use Rattle.scim_query.specs.Pages.{IsPage};
+ghost use Rattle.scim_shelf.specs.Shelves.{Answers, OnlyReads};
+ghost use Rattle.scim_shelf.specs.Stores.{IsStore};
+ghost use Rattle.scim_search.specs.ReadDecisions.{AreDecisions};
+ghost use Rattle.scim_search.specs.Sights as sights;
+ghost use Rattle.scim_search.specs.Walks as spec;
+
+use crate::read_decisions::ReadDecisions;
+use crate::sights::{Shows, Sight};
+use crate::visitors::{GroupVisitor, SearchVisitor};
+use crate::whole_items::{ItemSight, whole_items};
+use scim_query::{Page, Pager, Query};
+use scim_schema::{Attribute, Kind};
+use scim_shelf::{Shelf, ShelfFault};
+use scim_text::Failed;
+use scim_value::Part;
+use scim_view::{GroupIndex, Viewer};
+use std::alloc::Global;
+
+/// The index of the groups that the client sees, by their members.
+fn seen_groups<S: Shelf>(
+    alloc: Global,
+    viewer: &Viewer<'_>,
+    shelf: &mut S,
+) -> Result<GroupIndex, Failed<ShelfFault>>
+    ensures index { IfOk result (Answers S.stands S.is_honest shelf.old shelf.new (λ store index.
+        IsIndexOf (viewer_of viewer.now) (of_kind Kind.Group store.resources) index)) }
+    ensures read { OnlyReads S.stands S.is_honest S.failures shelf.old shelf.new result }
+{
+    let mut groups = GroupVisitor::new(alloc, viewer)?;
+    shelf.each(alloc, Kind::Group, &mut groups)?;
+    Ok(groups.end())
+}
+
+/// The groups by which what the client sees of the resources of a kind is told, by their members: of users those
+/// that it sees; of groups, which have no `groups`, none.
+fn groups_for<S: Shelf>(
+    alloc: Global,
+    viewer: &Viewer<'_>,
+    shelf: &mut S,
+    kind: Kind,
+) -> Result<GroupIndex, Failed<ShelfFault>>
+    ensures index { IfOk result (Answers S.stands S.is_honest shelf.old shelf.new (λ store index.
+        spec.IndexTells (viewer_of viewer.now) kind store.resources index)) }
+    ensures read { OnlyReads S.stands S.is_honest S.failures shelf.old shelf.new result }
+{
+    match kind {
+        Kind::User => seen_groups(alloc, viewer, shelf),
+        Kind::Group => Ok(GroupIndex::new(alloc)),
+    }
+}
+
+/// The page that the query asks for of what is made of the resources of a kind.
+fn page_made<S: Shelf>(
+    alloc: Global,
+    sight: Sight<'_>,
+    shelf: &mut S,
+    kind: Kind,
+    query: &Query,
+) -> Result<Page, Failed<ShelfFault>>
+    ensures page { IfOk result (Answers S.stands S.is_honest shelf.old shelf.new (λ store page. (groups : List Content) (base : List ℕ)
+        → sights.IsSight groups sight.entry → IsStore base store
+        → IsPage (spec.made_of_kind groups sight.entry kind store.resources) query.now page)) }
+    ensures read { OnlyReads S.stands S.is_honest S.failures shelf.old shelf.new result }
+{
+    let mut search = SearchVisitor::new(alloc, sight, query);
+    shelf.each(alloc, kind, &mut search)?;
+    Ok(search.end()?)
+}
+
+/// The page that the client's query asks for, where the query names `groups`: those of each resource are made.
+fn page_by_groups<S: Shelf>(
+    alloc: Global,
+    viewer: &Viewer<'_>,
+    decisions: &ReadDecisions<'_>,
+    shelf: &mut S,
+    kind: Kind,
+    query: &Query,
+) -> Result<Page, Failed<ShelfFault>>
+    requires { AreDecisions (viewer_of viewer.now) decisions.now }
+    ensures page { IfOk result (Answers S.stands S.is_honest shelf.old shelf.new (λ store page. (base : List ℕ) → IsStore base store
+        → IsPage (views (viewer_of viewer.now) (of_kind Kind.Group store.resources) (of_kind kind store.resources)) query.now page)) }
+    ensures read { OnlyReads S.stands S.is_honest S.failures shelf.old shelf.new result }
+{
+    let index = groups_for(alloc, viewer, shelf, kind)?;
+    let sight = Sight::new(viewer, decisions, Shows::Whole(&index));
+    page_made(alloc, sight, shelf, kind, query)
+}
+
+/// The parts of a page, each whole and with its groups, in place of what may be seen of some attributes of it.
+fn with_whole_items<S: Shelf>(
+    alloc: Global,
+    viewer: &Viewer<'_>,
+    decisions: &ReadDecisions<'_>,
+    shelf: &mut S,
+    kind: Kind,
+    items: &[Part],
+) -> Result<Vec<Part>, Failed<ShelfFault>>
+    requires { AreDecisions (viewer_of viewer.now) decisions.now }
+    ensures whole { IfOk result (Answers S.stands S.is_honest shelf.old shelf.new (λ store whole. (base : List ℕ) → IsStore base store
+        → spec.AreWhole (viewer_of viewer.now) kind store.resources items.now whole.items)) }
+    ensures read { OnlyReads S.stands S.is_honest S.failures shelf.old shelf.new result }
+{
+    let on_groups = ReadDecisions::of(alloc, viewer, Kind::Group)?;
+    let sight = ItemSight::new(viewer, decisions, &on_groups);
+    whole_items(alloc, sight, shelf, kind, items)
+}
+
+/// The page that the client's query asks for, where the query names these attributes and not `groups`: it is told
+/// by what may be seen of those alone, and only the items of the page are made whole.
+fn page_by_named<S: Shelf>(
+    alloc: Global,
+    viewer: &Viewer<'_>,
+    decisions: &ReadDecisions<'_>,
+    shelf: &mut S,
+    kind: Kind,
+    attributes: &[Attribute],
+    query: &Query,
+) -> Result<Page, Failed<ShelfFault>>
+    requires decisions { AreDecisions (viewer_of viewer.now) decisions.now }
+    requires named { attributes.now ≡ attributes_of query.now }
+    requires no_groups { names_groups query.now ≡ false }
+    ensures page { IfOk result (Answers S.stands S.is_honest shelf.old shelf.new (λ store page. (base : List ℕ) → IsStore base store
+        → IsPage (views (viewer_of viewer.now) (of_kind Kind.Group store.resources) (of_kind kind store.resources)) query.now page)) }
+    ensures read { OnlyReads S.stands S.is_honest S.failures shelf.old shelf.new result }
+{
+    let sight = Sight::new(viewer, decisions, Shows::Named(attributes));
+    let found = page_made(alloc, sight, shelf, kind, query)?;
+    if found.items.as_slice().is_empty() {
+        return Ok(found);
+    }
+    let parts = found.items.as_slice();
+    let items = with_whole_items(alloc, viewer, decisions, shelf, kind, parts)?;
+    Ok(Page {
+        total: found.total,
+        start: found.start,
+        items,
+    })
+}
+
+/// The page that the client's query asks for of all resources of a kind. Where none can match, none is looked at.
+pub(crate) fn page_of_all<S: Shelf>(
+    alloc: Global,
+    viewer: &Viewer<'_>,
+    shelf: &mut S,
+    kind: Kind,
+    query: &Query,
+) -> Result<Page, Failed<ShelfFault>>
+    ensures page { IfOk result (Answers S.stands S.is_honest shelf.old shelf.new (λ store page. (base : List ℕ) → IsStore base store
+        → IsPage (views (viewer_of viewer.now) (of_kind Kind.Group store.resources) (of_kind kind store.resources)) query.now page)) }
+    ensures read { OnlyReads S.stands S.is_honest S.failures shelf.old shelf.new result }
+{
+    let decisions = ReadDecisions::of(alloc, viewer, kind)?;
+    if !decisions.may_find(query) {
+        return Ok(Pager::new(alloc, query).end()?);
+    }
+    let attributes = query.attributes(alloc)?;
+    if attributes.contains(&Attribute::Groups) {
+        return page_by_groups(alloc, viewer, &decisions, shelf, kind, query);
+    }
+    let attributes = attributes.as_slice();
+    page_by_named(alloc, viewer, &decisions, shelf, kind, attributes, query)
+}

@@ -1,0 +1,101 @@
+//! The groups of one resource, gathered one by one.
+ghost use Rattle.std.specs.Prelude.{◌≡◌, ◌++◌, ◌∷◌, [], ℕ, List, true, IfOk, OnOk};
+ghost use Rattle.scim_schema.specs.declared.Leaf.{Leaf};
+ghost use Rattle.scim_cell.specs.Content.{Content};
+ghost use Rattle.scim_value.specs.Members.{lists};
+ghost use Rattle.scim_policy.specs.Table.{decision};
+ghost use Rattle.scim_view.specs.View.{Viewer as SpecViewer, read_decision, viewer_of};
+ghost use Rattle.scim_view.specs.Listings.{AreListing};
+ghost use Rattle.scim_view.specs.code.Memberships.{telling};
+
+use crate::groups::{SeenGroup, lists, seen_group, shows_members};
+use crate::viewers::Viewer;
+use scim_cell::Id;
+use scim_policy::Decisions;
+use scim_schema::Kind;
+use scim_text::{NoMemory, push};
+use scim_value::Resource;
+use std::alloc::Global;
+
+/// The groups by which a resource's `groups` are told: those that list it, of those that a client sees to list it.
+/// They are shown to it one by one, so that a store needs only to lend them.
+#[derive(Drop)]
+pub struct ListingGroups {
+    groups: Vec<SeenGroup>,
+}
+
+impl ListingGroups {
+    /// No groups. It takes no memory.
+    pub fn new(alloc: Global) -> ListingGroups
+        ensures { (v : SpecViewer) (id : List ℕ) → AreListing v id [] result }
+    {
+        ListingGroups {
+            groups: Vec::new(alloc),
+        }
+    }
+
+    /// Adds a group that lists the resource, if the viewer sees it and the ids of its members; the members aren't
+    /// looked at. The decisions are those that [`Viewer::decisions`] gave for the group, or
+    /// [`Viewer::decisions_on_all`] for all groups. NoMemory where none was to be had; then what was gathered
+    /// is of no use.
+    pub fn push(
+        &mut self,
+        alloc: Global,
+        decisions: &Decisions,
+        group: &Resource,
+    ) -> Result<(), NoMemory>
+        ensures { OnOk result ((v : SpecViewer) (id : List ℕ) (groups : List Content)
+            → ((l : Leaf) → decision decisions.now l ≡ read_decision v group.now l) → lists id group.now ≡ true
+            → AreListing v id groups self.old → AreListing v id (groups ++ group.now ∷ []) self.new) }
+    {
+        if shows_members(decisions, group) {
+            push(&mut self.groups, seen_group(alloc, decisions, group)?)?;
+        }
+        Ok(())
+    }
+
+    /// The groups that list the resource, of those that the viewer sees among these; of a resource other than a user
+    /// none, and none is looked at. The policy isn't asked about a group that doesn't list the resource. NoMemory
+    /// where none was to be had.
+    pub(crate) fn of(
+        alloc: Global,
+        viewer: &Viewer<'_>,
+        groups: &[Resource],
+        resource: &Resource,
+    ) -> Result<ListingGroups, NoMemory>
+        ensures { IfOk result (λ listing. AreListing (viewer_of viewer.now) resource.now.id (telling resource.now groups.now) listing) }
+    {
+        match resource.kind() {
+            Kind::User => ListingGroups::of_id(alloc, viewer, groups, resource.id()),
+            Kind::Group => Ok(ListingGroups::new(alloc)),
+        }
+    }
+
+    /// The groups that list the resource of an id, of those that the viewer sees among these.
+    fn of_id(
+        alloc: Global,
+        viewer: &Viewer<'_>,
+        groups: &[Resource],
+        id: Id,
+    ) -> Result<ListingGroups, NoMemory>
+        ensures { IfOk result (λ listing. AreListing (viewer_of viewer.now) id groups.now listing) }
+    {
+        let mut buffer = [0; Id::TEXT_LENGTH];
+        let member = id.write(&mut buffer);
+        let mut listing = ListingGroups::new(alloc);
+        for group in groups {
+            if lists(group.part(), member) {
+                let decisions = viewer.decisions(alloc, group)?;
+                listing.push(alloc, &decisions, group)?;
+            }
+        }
+        Ok(listing)
+    }
+
+    /// The groups, in the order in which they were added.
+    pub(crate) fn as_slice(&self) -> &[SeenGroup]
+        ensures { result.now ≡ self.now.groups.items }
+    {
+        self.groups.as_slice()
+    }
+}
