@@ -62,7 +62,7 @@ static SCENARIOS: [(&str, Scenario, &str); 13] = [
     (
         "pages",
         Scenario::Pages,
-        "a page of 100 out of 10,000 and out of 100,000 users with groups, and by policies of 10 and of 1,000 rules; and pages of a service in memory, by the beginning of a userName and by a piece of a title",
+        "a page of 100 out of 10,000 and out of 100,000 users with groups, and by policies of 10 and of 1,000 rules; and pages of a service in memory, by the beginning of a userName and by a piece of a title, also where a rule has a target",
     ),
     (
         "patch",
@@ -77,7 +77,7 @@ static SCENARIOS: [(&str, Scenario, &str); 13] = [
     (
         "serve",
         Scenario::Serve,
-        "requests over sockets of a server of 2,000 and of 100,000 users in memory and in a database, beside what their events take the hub",
+        "requests over sockets of a server of 2,000 and of 100,000 users in memory and in a database, and of 10,000 users in groups, beside what their events take the hub",
     ),
     (
         "service",

@@ -1,6 +1,7 @@
 //! Figures of a server over loopback: what a request takes over sockets, beside what its event takes the hub alone.
 #![tactic(auto)]
 
+mod directories;
 mod loopback;
 mod runs;
 mod stores;

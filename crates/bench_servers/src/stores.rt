@@ -1,10 +1,11 @@
 //! The stores that are served: in memory, and in a database, which is a file.
 ghost use Rattle.std.specs.Prelude.{◌≡◌, false};
 
+use crate::directories::read_directory;
 use crate::runs::print_all;
 use anyhow::{Result, bail};
 use bench_stores::{FileWork, over_file, remove_database, unusable};
-use bench_values::{TOKENS, print_heading, read_users, users_file};
+use bench_values::{TOKENS, print_heading, users_file};
 use scim_cache::CachedShelf;
 use scim_cell::Text;
 use scim_hub::Hub;
@@ -24,8 +25,13 @@ use std::time::Instant;
 /// How many users a store has.
 const USERS: [usize; 2] = [2_000, 100_000];
 
+/// How many users are in groups, and how many groups of 100 these are.
+const GROUPED: usize = 10_000;
+
+const GROUPS: usize = 1_000;
+
 const POLICY: &str =
-    "{\"version\":1,\"rules\":[{\"allow\":true,\"clients\":[\"hr\"],\"ops\":[\"read\",\"create\",\"modify\"],\"types\":[\"User\"],\"paths\":[\"*\"]}]}";
+    "{\"version\":1,\"rules\":[{\"allow\":true,\"clients\":[\"hr\"],\"ops\":[\"read\",\"create\",\"modify\"],\"types\":[\"User\",\"Group\"],\"paths\":[\"*\"]}]}";
 
 /// By what a hub answers.
 #[derive(Drop)]
@@ -76,11 +82,11 @@ fn over_memory(rt: &HostRuntime, shelf: MemoryShelf, what: &str) -> Result<()> {
     print_all(rt, &mut hub, what)
 }
 
-/// Serves users from an empty database, into which they are brought.
+/// Serves resources from an empty database, into which they are brought.
 #[derive(Drop)]
 struct Serving<'a> {
-    users: Vec<Resource>,
-    /// Whether the users are kept in memory too.
+    resources: Vec<Resource>,
+    /// Whether they are kept in memory too.
     has_cache: bool,
     what: &'a str,
 }
@@ -93,7 +99,7 @@ impl FileWork for Serving<'_> {
         _start: Instant,
     ) -> (Result<()>, Connection<S>) {
         let mut connection = connection;
-        if import(&mut connection, rt.alloc(), BASE, self.users.as_slice()).is_err() {
+        if import(&mut connection, rt.alloc(), BASE, self.resources.as_slice()).is_err() {
             return (unusable(), connection);
         }
         match SqlShelf::open(rt.alloc(), connection, BASE) {
@@ -135,10 +141,16 @@ fn over_shelf<S: Alter + Drop>(
 }
 
 /// Prints the figures over a database that is made for them, and removed whatever comes of them.
-fn in_file(rt: &HostRuntime, count: usize, has_cache: bool, what: &str) -> Result<()> {
-    let users = read_users(rt.alloc(), count)?;
+fn in_file(
+    rt: &HostRuntime,
+    users: usize,
+    groups: usize,
+    has_cache: bool,
+    what: &str,
+) -> Result<()> {
+    let resources = read_directory(rt.alloc(), users, groups)?;
     let mut serving = Serving {
-        users,
+        resources,
         has_cache,
         what,
     };
@@ -157,7 +169,27 @@ pub fn run(rt: &HostRuntime) -> Result<()> {
     let [few, many] = USERS;
     in_memory(rt, few, "2,000 users in memory")?;
     in_memory(rt, many, "100,000 users in memory")?;
-    in_file(rt, few, false, "2,000 users in a database")?;
-    in_file(rt, many, false, "100,000 users in a database")?;
-    in_file(rt, many, true, "100,000 users in a database and in memory")
+    in_file(rt, few, 0, false, "2,000 users in a database")?;
+    in_file(rt, many, 0, false, "100,000 users in a database")?;
+    in_file(
+        rt,
+        many,
+        0,
+        true,
+        "100,000 users in a database and in memory",
+    )?;
+    in_file(
+        rt,
+        GROUPED,
+        GROUPS,
+        false,
+        "10,000 users, each in 10 groups of 100, in a database",
+    )?;
+    in_file(
+        rt,
+        GROUPED,
+        GROUPS,
+        true,
+        "10,000 users, each in 10 groups of 100, in a database and in memory",
+    )
 }
