@@ -1,9 +1,12 @@
--- Parts of heads, one byte further.
-use Rattle.std.proofs.Common.{◌≡◌, ℕ, ◌<◌, ◌≤◌, ◌+◌, ◌⊎◌, Bool, true, false, cond, List, [], ◌∷◌, ◌++◌, length, refl, sym, ◌∙◌, arith, inl, inr, eqb}
+-- Parts of heads, one byte or a run further.
+use Rattle.std.proofs.Common.{◌≡◌, ℕ, ◌<◌, ◌≤◌, ◌+◌, ◌⊎◌, Bool, true, false, cond, List, [], ◌∷◌, ◌++◌, length, reverse, refl, sym, ap, ◌∙◌, arith, inl, inr, eqb, ◌==◌}
 use Rattle.std.specs.List.{ends_with}
+use Rattle.std.proofs.lemmas.List.{append-nil, append_assoc, reverse-append}
+use Rattle.std.proofs.lemmas.List.Sums.{sum_by-append}
 use Rattle.std.proofs.lemmas.Grind.{common_steps}
 use Rattle.std.proofs.lemmas.Slice.Eq.{ends_is}
 use Rattle.std.proofs.lemmas.Bool.Decides.{Decides-eqb}
+use Rattle.httparse.specs.Ascii.{line_feed}
 use Rattle.httparse.specs.Grammar.{LineEnd, crlf, lf, print_end}
 use Rattle.scim_wire.specs.Parts.{EndsHead, IsEmptyLine, IsHeadPart, feeds}
 
@@ -30,6 +33,53 @@ none_push P xs x fronts whole front back e p = by_case (front_push xs x front ba
     by_case : (front ≡ xs ++ x ∷ []) ⊎ ((mid : List ℕ) × (xs ≡ front ++ mid)) → ⊥
     by_case (inl same) = whole (rw same at p)
     by_case (inr (mid, split)) = fronts front mid split p
+
+-- the last elements of one list are the same
+same_last : (xs ys : List ℕ) (x y : ℕ) → xs ++ x ∷ [] ≡ ys ++ y ∷ [] → x ≡ y
+same_last xs ys x y e = let r = simp reverse-append at (ap reverse e) in cc
+
+-- the list ends in a line feed
+abbrev IsFed : List ℕ → Type 0
+IsFed bytes = (front : List ℕ) × (bytes ≡ front ++ line_feed ∷ [])
+
+line_fed : (bytes : List ℕ) → IsEmptyLine bytes → IsFed bytes
+line_fed bytes (lf, e) = ([], e)
+line_fed bytes (crlf, e) = (13 ∷ [], e)
+
+end_fed : (bytes : List ℕ) → EndsHead bytes → IsFed bytes
+end_fed bytes (front, lf, e) = (front ++ 10 ∷ [], e ∙ sym (append_assoc front (10 ∷ []) (10 ∷ [])))
+end_fed bytes (front, crlf, e) = (front ++ 10 ∷ 13 ∷ [], e ∙ sym (append_assoc front (10 ∷ 13 ∷ []) (10 ∷ [])))
+
+-- what ends in another byte doesn't
+not_fed : (old : List ℕ) (byte : ℕ) → feeds (byte ∷ []) ≡ 0 → ¬ (IsFed (old ++ byte ∷ []))
+not_fed old byte none fed =
+    let same : byte ≡ 10 = same_last old fed.0 byte 10 fed.1 in
+    let one : feeds (byte ∷ []) ≡ 1 = rw same refl in
+    omega (arith, none, one)
+
+-- what holds only of what ends in a line feed, and of no front of a list, holds of no front of it and a run without line feeds
+none_run : (P : List ℕ → Type 0) → ((bytes : List ℕ) → P bytes → IsFed bytes)
+    → (old run : List ℕ) → feeds run ≡ 0
+    → ((front back : List ℕ) → old ≡ front ++ back → P front → ⊥)
+    → (front back : List ℕ) → old ++ run ≡ front ++ back → P front → ⊥
+none_run P fed old [] none fronts front back e p = fronts front back (sym (append-nil old) ∙ e) p
+none_run P fed old (byte ∷ run) none fronts front back e p =
+    let each : feeds (byte ∷ run) ≡ feeds (byte ∷ []) + feeds run = sum_by-append (λ b. cond (b == 10) 1 0) (byte ∷ []) run in
+    let whole : P (old ++ byte ∷ []) → ⊥ = λ q. not_fed old byte (omega (arith, each, none)) (fed (old ++ byte ∷ []) q) in
+    none_run P fed (old ++ byte ∷ []) run (omega (arith, each, none)) (none_push P old byte fronts whole) front back (append_assoc old (byte ∷ []) run ∙ e) p
+
+-- a run without line feeds adds none
+pub feeds_run : (old run : List ℕ) → feeds run ≡ 0 → feeds (old ++ run) ≡ feeds old
+feeds_run old run none = omega (arith, sum_by-append (λ b. cond (b == 10) 1 0) old run)
+
+-- a run without line feeds that is short enough only lengthens a part
+pub part_run : (old run : List ℕ) → IsHeadPart old → feeds run ≡ 0 → length (old ++ run) < 16384 → IsHeadPart (old ++ run)
+part_run old run part none short = record {
+  begun = none_run IsEmptyLine line_fed old run none part.begun;
+  unended = none_run EndsHead end_fed old run none part.unended;
+  short = short;
+  few = omega (arith, feeds_run old run none, part.few);
+}
 
 pub part_push : (old : List ℕ) (byte : ℕ) → IsHeadPart old
     → ¬ (IsEmptyLine (old ++ byte ∷ [])) → ¬ (EndsHead (old ++ byte ∷ []))

@@ -1,4 +1,4 @@
--- What is kept of a stream, one byte further.
+-- What is kept of a stream, one byte or a run further.
 use Rattle.std.proofs.Common.{◌≡◌, ℕ, ◌<◌, ◌≤◌, ◌+◌, ◌⊎◌, List, [], ◌∷◌, ◌++◌, length, refl, sym, ap, ◌∙◌, Bool, true, false, cond, eqb}
 use mir.Val.{bool_byte}
 use Rattle.std.proofs.lemmas.List.{append-nil, append_assoc}
@@ -6,7 +6,7 @@ use Rattle.std.proofs.lemmas.List.Concat.{flat_map-append}
 use Rattle.httparse.specs.Grammar.{LineEnd, print_end, print_blank}
 use Rattle.scim_wire.specs.Parts.{EndsHead, IsHeadText, IsEmptyLine, IsOverlong, feeds}
 use Rattle.scim_wire.specs.Streams.{OpensThen, IsOpening}
-use Rattle.scim_wire.proofs.PartLemmas.{part_start, part_push, feeds_push}
+use Rattle.scim_wire.proofs.PartLemmas.{part_start, part_push, part_run, feeds_push, feeds_run}
 
 -- what opens bytes opens them whatever follows
 pub then_more : (IsText : List ℕ → Type 0) (bytes after more : List ℕ) → OpensThen IsText bytes after → OpensThen IsText (bytes ++ more) (after ++ more)
@@ -34,12 +34,23 @@ opening_start blank = record { blank = blank; split = sym (append-nil (print_bla
 blank_push : (blank : List LineEnd) (end : LineEnd) → print_blank (blank ++ end ∷ []) ≡ print_blank blank ++ print_end end
 blank_push blank end = flat_map-append print_end blank (end ∷ []) ∙ ap (λ x. print_blank blank ++ x) (append-nil (print_end end))
 
--- where the part stands, one byte more
-push_split : (bytes old new : List ℕ) (byte : ℕ) (opening : IsOpening bytes old) → new ≡ old ++ byte ∷ []
-    → bytes ++ byte ∷ [] ≡ print_blank opening.blank ++ new
-push_split bytes old new byte opening is =
-    ap (λ x. x ++ byte ∷ []) opening.split ∙ append_assoc (print_blank opening.blank) old (byte ∷ [])
+-- where the part stands, with some bytes more
+more_split : (bytes old new more : List ℕ) (opening : IsOpening bytes old) → new ≡ old ++ more → bytes ++ more ≡ print_blank opening.blank ++ new
+more_split bytes old new more opening is =
+    ap (λ x. x ++ more) opening.split ∙ append_assoc (print_blank opening.blank) old more
     ∙ ap (λ x. print_blank opening.blank ++ x) (sym is)
+
+-- a run without line feeds that leaves the part short enough: still no end
+pub opening_run : (bytes old new run : List ℕ) → IsOpening bytes old → new ≡ old ++ run → feeds run ≡ 0 → length new < 16384
+    → IsOpening (bytes ++ run) new × (feeds new ≡ feeds old)
+opening_run bytes old new run opening is none short = (
+  record {
+    blank = opening.blank;
+    split = more_split bytes old new run opening is;
+    is_part = rw is (part_run old run opening.is_part none (rw is at short));
+  },
+  ap feeds is ∙ feeds_run old run none,
+)
 
 -- one byte more: still no end
 pub opening_push : (bytes old new : List ℕ) (byte : ℕ) → IsOpening bytes old → new ≡ old ++ byte ∷ []
@@ -47,7 +58,7 @@ pub opening_push : (bytes old new : List ℕ) (byte : ℕ) → IsOpening bytes o
     → IsOpening (bytes ++ byte ∷ []) new
 opening_push bytes old new byte opening is empty ends short few = record {
   blank = opening.blank;
-  split = push_split bytes old new byte opening is;
+  split = more_split bytes old new (byte ∷ []) opening is;
   is_part = rw is (part_push old byte opening.is_part (rw is at empty) (rw is at ends) (rw is at short) (rw is at few));
 }
 
@@ -56,7 +67,7 @@ pub opening_empty : (bytes old new : List ℕ) (byte : ℕ) → IsOpening bytes 
     → IsEmptyLine new → (blank : List LineEnd) × (bytes ++ byte ∷ [] ≡ print_blank blank)
 opening_empty bytes old new byte opening is (end, line) = (
   opening.blank ++ end ∷ [],
-  push_split bytes old new byte opening is ∙ ap (λ x. print_blank opening.blank ++ x) line ∙ sym (blank_push opening.blank end),
+  more_split bytes old new (byte ∷ []) opening is ∙ ap (λ x. print_blank opening.blank ++ x) line ∙ sym (blank_push opening.blank end),
 )
 
 -- one byte more, and it is a text
@@ -65,7 +76,7 @@ opening_text : (bytes old new : List ℕ) (byte : ℕ) (IsText : List ℕ → Ty
 opening_text bytes old new byte IsText opening is is_text = record {
   blank = opening.blank;
   text = new;
-  split = push_split bytes old new byte opening is ∙ ap (λ x. print_blank opening.blank ++ x) (sym (append-nil new));
+  split = more_split bytes old new (byte ∷ []) opening is ∙ ap (λ x. print_blank opening.blank ++ x) (sym (append-nil new));
   is_text = is_text;
 }
 

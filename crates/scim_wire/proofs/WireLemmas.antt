@@ -1,9 +1,10 @@
--- Wires, one byte further.
-use Rattle.std.proofs.Common.{◌≡◌, ℕ, ◌≤◌, ◌+◌, arith, List, [], ◌∷◌, ◌++◌, length, refl, sym, ap, ◌∙◌, inl, inr, Option, Some, None, Result, Ok, Err, Bool, true, false, cond, subst}
+-- Wires, one byte or a run further.
+use Rattle.std.proofs.Common.{◌≡◌, ℕ, ◌≤◌, ◌+◌, ◌-◌, arith, List, [], ◌∷◌, ◌++◌, length, take, drop, refl, sym, ap, ◌∙◌, inl, inr, Option, Some, None, Result, Ok, Err, Bool, true, false, cond, subst}
 use Rattle.std.specs.Prelude.{option_to_list}
 use Rattle.std.proofs.lemmas.List.Elements.{All-append, All-cons, All-nil}
 use Rattle.std.specs.List.{flat_map}
-use Rattle.std.proofs.lemmas.List.{append-nil, append_assoc, length-append}
+use Rattle.std.proofs.lemmas.List.{append-nil, append_assoc, length-append, take_rest}
+use Rattle.std.proofs.Math.Seq.{take-add}
 use Rattle.std.proofs.lemmas.List.Concat.{flat_map-append}
 use Rattle.scim_audit.specs.declared.refusals.Refusal.{Refusal}
 use Rattle.scim_audit.specs.declared.refusals.Refusal.TheVariants.{BadHead}
@@ -115,23 +116,40 @@ chunks_refused part bytes items byte fault holds bad e =
       ),
     )
 
--- the stream, one byte further
-push_split : (stream rest : List ℕ) (turns : List Turn) (byte : ℕ) → stream ≡ flat_map (λ (t : Turn). t.bytes) turns ++ rest
-    → stream ++ byte ∷ [] ≡ flat_map (λ (t : Turn). t.bytes) turns ++ (rest ++ byte ∷ [])
-push_split stream rest turns byte split =
-    ap (λ x. x ++ byte ∷ []) split ∙ append_assoc (flat_map (λ (t : Turn). t.bytes) turns) rest (byte ∷ [])
+-- the stream, some bytes further
+more_split : (stream rest more : List ℕ) (turns : List Turn) → stream ≡ flat_map (λ (t : Turn). t.bytes) turns ++ rest
+    → stream ++ more ≡ flat_map (λ (t : Turn). t.bytes) turns ++ (rest ++ more)
+more_split stream rest more turns split =
+    ap (λ x. x ++ more) split ∙ append_assoc (flat_map (λ (t : Turn). t.bytes) turns) rest more
 
--- one item more that is no message
-push_last : (wire next : Wire) (stream : List ℕ) (byte : ℕ) (items : List Item) (s : StandsFor wire stream items) (new : List Item)
-    → StandsAt next.state (s.rest ++ byte ∷ []) (s.last ++ new) → StandsFor next (stream ++ byte ∷ []) (items ++ new)
-push_last wire next stream byte items s new stands = record {
+-- items more that are no messages
+more_last : (wire next : Wire) (stream more : List ℕ) (items : List Item) (s : StandsFor wire stream items) (new : List Item)
+    → StandsAt next.state (s.rest ++ more) (s.last ++ new) → StandsFor next (stream ++ more) (items ++ new)
+more_last wire next stream more items s new stands = record {
   turns = s.turns;
-  rest = s.rest ++ byte ∷ [];
+  rest = s.rest ++ more;
   last = s.last ++ new;
-  splits = record { each = s.splits.each; split = push_split stream s.rest s.turns byte s.splits.split };
+  splits = record { each = s.splits.each; split = more_split stream s.rest more s.turns s.splits.split };
   stands = stands;
   gave = ap (λ x. x ++ new) s.gave ∙ append_assoc (flat_map turn_items s.turns) s.last new;
 }
+
+-- a wire that stands for a stream, some bytes further that give nothing
+pub stands_run : (wire next : Wire) (stream run : List ℕ) (items : List Item) → StandsFor wire stream items
+    → ((bytes : List ℕ) (last : List Item) → StandsAt wire.state bytes last → StandsAt next.state (bytes ++ run) last)
+    → StandsFor next (stream ++ run) items
+stands_run wire next stream run items s step =
+    subst (StandsFor next (stream ++ run)) (append-nil items)
+    (more_last wire next stream run items s [] (subst (StandsAt next.state (s.rest ++ run)) (sym (append-nil s.last)) (step s.rest s.last s.stands)))
+
+-- the same, where the run is the next `count` bytes of a piece of which some were taken
+pub stands_taken : (wire next : Wire) (stream piece : List ℕ) (taken count : ℕ) (items : List Item) → StandsFor wire (stream ++ take taken piece) items
+    → ((bytes : List ℕ) (last : List Item) → StandsAt wire.state bytes last
+    → StandsAt next.state (bytes ++ take count (take (length piece - taken) (drop taken piece))) last)
+    → StandsFor next (stream ++ take (taken + count) piece) items
+stands_taken wire next stream piece taken count items s step =
+    rw (take-add taken count piece, ← append_assoc stream (take taken piece) (take count (drop taken piece)))
+    (stands_run wire next (stream ++ take taken piece) (take count (drop taken piece)) items s (rw take_rest at step))
 
 -- a wire that stands for a stream, one byte further
 pub stands_push : (wire next : Wire) (item : Option Item) (stream : List ℕ) (byte : ℕ) (items : List Item)
@@ -139,10 +157,10 @@ pub stands_push : (wire next : Wire) (item : Option Item) (stream : List ℕ) (b
     → ((bytes : List ℕ) (last : List Item) → StandsAt wire.state bytes last → Steps next.state item (bytes ++ byte ∷ []) last)
     → StandsFor next (stream ++ byte ∷ []) (items ++ option_to_list item)
 stands_push wire next None stream byte items s step =
-    push_last wire next stream byte items s [] (subst (StandsAt next.state (s.rest ++ byte ∷ [])) (sym (append-nil s.last)) (step s.rest s.last s.stands))
-stands_push wire next (Some Continue) stream byte items s step = push_last wire next stream byte items s (Continue ∷ []) (step s.rest s.last s.stands)
+    subst (StandsFor next (stream ++ byte ∷ [])) (sym (append-nil items)) (stands_run wire next stream (byte ∷ []) items s step)
+stands_push wire next (Some Continue) stream byte items s step = more_last wire next stream (byte ∷ []) items s (Continue ∷ []) (step s.rest s.last s.stands)
 stands_push wire next (Some (Refused refusal)) stream byte items s step =
-    push_last wire next stream byte items s (Refused refusal ∷ []) (step s.rest s.last s.stands)
+    more_last wire next stream (byte ∷ []) items s (Refused refusal ∷ []) (step s.rest s.last s.stands)
 stands_push wire next (Some (Whole message)) stream byte items s step =
     let done = step s.rest s.last s.stands in
     let turn : Turn = record { bytes = s.rest ++ byte ∷ []; head = done.0; message = message } in
@@ -152,7 +170,7 @@ stands_push wire next (Some (Whole message)) stream byte items s step =
       last = [];
       splits = record {
         each = All-append IsTurn s.turns (turn ∷ []) s.splits.each (All-cons IsTurn turn [] done.1 (All-nil IsTurn));
-        split = push_split stream s.rest s.turns byte s.splits.split
+        split = more_split stream s.rest (byte ∷ []) s.turns s.splits.split
             ∙ sym (append-nil _ ∙ flat_map-append (λ (t : Turn). t.bytes) s.turns (turn ∷ [])
             ∙ ap (λ x. flat_map (λ (t : Turn). t.bytes) s.turns ++ x) (append-nil (s.rest ++ byte ∷ [])));
       };

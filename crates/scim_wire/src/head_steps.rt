@@ -1,6 +1,7 @@
-//! A head as its bytes come, one at a time.
-ghost use Rattle.std.specs.Prelude.{ℕ, List, ◌∷◌, ◌++◌, [], IfOk};
+//! A head as its bytes come, alone or in runs.
+ghost use Rattle.std.specs.Prelude.{◌≡◌, ◌≤◌, ℕ, List, ◌∷◌, ◌++◌, [], IfOk, length, take};
 ghost use Rattle.httparse.specs.Grammar.{LineEnd, print_blank};
+ghost use Rattle.scim_wire.specs.Parts.{feeds};
 ghost use Rattle.scim_wire.specs.code.Steps.{HoldsHead, StepsTo};
 
 use crate::ends::{ends_head, is_empty_line};
@@ -13,6 +14,19 @@ const MAX_BYTES: usize = 16_384;
 
 /// The line feeds that a head may have.
 const MAX_FEEDS: u32 = 66;
+
+/// How many bytes stand before the first line feed, or in all where there is none.
+fn line_length(bytes: &[u8]) -> usize
+    ensures within { result ≤ length bytes.now }
+    ensures no_feeds { feeds (take result bytes.now) ≡ 0 }
+{
+    for (i, byte) in bytes.iter().enumerate() {
+        if *byte == b'\n' {
+            return i;
+        }
+    }
+    bytes.len()
+}
 
 impl HeadPart {
     /// Before the first byte of a head.
@@ -47,5 +61,20 @@ impl HeadPart {
             return Ok(HeadStep::Overlong);
         }
         Ok(HeadStep::More(HeadPart { bytes, feeds }))
+    }
+
+    /// Takes what stands in a piece before its first line feed, but no byte that would make the head too long, and gives
+    /// how many bytes these are. They only lengthen the part.
+    ///
+    /// The only error is [`NoMemory`], after which the part counts for nothing.
+    pub fn take_run(&mut self, piece: &[u8]) -> Result<usize, NoMemory>
+        ensures within { IfOk result (λ n. n ≤ length piece.now) }
+        ensures holds { (bytes : List ℕ) → HoldsHead self.old bytes
+            → IfOk result (λ n. HoldsHead self.new (bytes ++ take n piece.now)) }
+    {
+        let room = (MAX_BYTES - 1).saturating_sub(self.bytes.len());
+        let count = line_length(&piece[..room.min(piece.len())]);
+        self.bytes.extend_from_slice(&piece[..count])?;
+        Ok(count)
     }
 }

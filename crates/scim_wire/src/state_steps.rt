@@ -1,5 +1,5 @@
-//! A stream as its bytes come, one at a time.
-ghost use Rattle.std.specs.Prelude.{◌≡◌, ℕ, List, [], ◌∷◌, ◌++◌, Some, None, Ok, IfOk, option_to_list};
+//! A stream as its bytes come, alone or in runs.
+ghost use Rattle.std.specs.Prelude.{◌≡◌, ◌≤◌, ℕ, List, [], ◌∷◌, ◌++◌, Some, None, Ok, IfOk, length, take, option_to_list};
 ghost use Rattle.scim_wire.specs.Parts.{IsHeadText};
 ghost use Rattle.scim_wire.specs.Streams.{OpensThen};
 ghost use Rattle.scim_wire.specs.Bodies.{refusal_of};
@@ -103,7 +103,7 @@ fn open_message(alloc: Global, text: &[u8]) -> Result<StateStep, NoMemory>
 }
 
 /// What one more byte of a head leads to.
-fn take_in_head(part: HeadPart, alloc: Global, byte: u8) -> Result<StateStep, NoMemory>
+pub fn take_in_head(part: HeadPart, alloc: Global, byte: u8) -> Result<StateStep, NoMemory>
     ensures { (bytes : List ℕ) (items : List Item) → StandsAt (State.Opening part) bytes items
         → IfOk result (λ r. Steps r.state r.item (bytes ++ byte ∷ []) items) }
 {
@@ -119,7 +119,7 @@ fn take_in_head(part: HeadPart, alloc: Global, byte: u8) -> Result<StateStep, No
 
 impl BodyPart {
     /// What one more byte leads to.
-    fn take(mut self, alloc: Global, byte: u8) -> Result<StateStep, NoMemory>
+    pub fn take(mut self, alloc: Global, byte: u8) -> Result<StateStep, NoMemory>
         ensures { (bytes : List ℕ) (items : List Item) → StandsAt (State.InBody self) bytes items
             → IfOk result (λ r. Steps r.state r.item (bytes ++ byte ∷ []) items) }
     {
@@ -132,6 +132,20 @@ impl BodyPart {
             state: State::InBody(self),
             item: None,
         })
+    }
+
+    /// Takes what a piece has of the body, but for the body's last byte, and gives how many bytes these are.
+    ///
+    /// The only error is [`NoMemory`], after which the part counts for nothing.
+    pub fn take_run(&mut self, piece: &[u8]) -> Result<usize, NoMemory>
+        ensures within { IfOk result (λ n. n ≤ length piece.now) }
+        ensures stands { (bytes : List ℕ) (items : List Item) → StandsAt (State.InBody self.old) bytes items
+            → IfOk result (λ n. StandsAt (State.InBody self.new) (bytes ++ take n piece.now) items) }
+    {
+        let count = piece.len().min(self.left.saturating_sub(1) as usize);
+        self.body.extend_from_slice(&piece[..count])?;
+        self.left -= count as u64;
+        Ok(count)
     }
 }
 
@@ -147,7 +161,7 @@ fn refusal_of(fault: BadChunks) -> Refusal
 
 impl ChunksPart {
     /// What one more byte leads to.
-    fn take(self, alloc: Global, byte: u8) -> Result<StateStep, NoMemory>
+    pub fn take(self, alloc: Global, byte: u8) -> Result<StateStep, NoMemory>
         ensures { (bytes : List ℕ) (items : List Item) → StandsAt (State.InChunks self) bytes items
             → IfOk result (λ r. Steps r.state r.item (bytes ++ byte ∷ []) items) }
     {
@@ -160,34 +174,6 @@ impl ChunksPart {
             Ok(Step::Whole(body)) => Ok(whole(alloc, head, body)),
             Err(Failed::Because(fault)) => Ok(refused(refusal_of(fault))),
             Err(Failed::NoMemory) => Err(NoMemory),
-        }
-    }
-}
-
-impl State {
-    /// Before the first byte of a message.
-    pub fn new(alloc: Global) -> State
-        ensures { StandsAt result [] [] }
-    {
-        State::Opening(HeadPart::new(alloc))
-    }
-
-    /// What one more byte leads to.
-    ///
-    /// The only error is [`NoMemory`].
-    pub fn take(self, alloc: Global, byte: u8) -> Result<StateStep, NoMemory>
-        ensures steps { (bytes : List ℕ) (items : List Item) → StandsAt self bytes items
-            → IfOk result (λ r. Steps r.state r.item (bytes ++ byte ∷ []) items) }
-        ensures shut { self ≡ State.Shut → IfOk result (λ r. (r.state ≡ State.Shut) × (r.item ≡ None)) }
-    {
-        match self {
-            State::Opening(part) => take_in_head(part, alloc, byte),
-            State::InBody(part) => part.take(alloc, byte),
-            State::InChunks(part) => part.take(alloc, byte),
-            State::Shut => Ok(StateStep {
-                state: State::Shut,
-                item: None,
-            }),
         }
     }
 }

@@ -1,8 +1,14 @@
-//! What is kept of a stream.
+//! What is kept of a stream, and what its bytes make of it.
+ghost use Rattle.std.specs.Prelude.{◌≡◌, ◌≤◌, ℕ, List, [], ◌∷◌, ◌++◌, None, IfOk, length, take};
+ghost use Rattle.scim_wire.specs.code.Wires.{StandsAt, Steps};
+
 use crate::message_heads::MessageHead;
 use crate::messages::Item;
 use crate::parts::HeadPart;
+use crate::state_steps::take_in_head;
 use scim_chunks::ChunkedPart;
+use scim_text::NoMemory;
+use std::alloc::Global;
 
 /// A body of which some bytes are still to come.
 #[derive(Drop)]
@@ -21,7 +27,6 @@ pub struct ChunksPart {
 }
 
 /// Where a stream stands.
-#[derive(Drop)]
 pub enum State {
     /// In a head, or before it.
     Opening(HeadPart),
@@ -33,9 +38,67 @@ pub enum State {
     Shut,
 }
 
+/// One call, wherever a state is dropped, in place of a look at each form that it may have.
+impl Drop for State {
+    fn drop(self) {
+        match self {
+            State::Opening(_part) => (),
+            State::InBody(_part) => (),
+            State::InChunks(_part) => (),
+            State::Shut => (),
+        }
+    }
+}
+
 /// What one more byte leads to: where the stream stands then, and the item that has come.
 #[derive(Drop)]
 pub struct StateStep {
     pub state: State,
     pub item: Option<Item>,
+}
+
+impl State {
+    /// Before the first byte of a message.
+    pub fn new(alloc: Global) -> State
+        ensures { StandsAt result [] [] }
+    {
+        State::Opening(HeadPart::new(alloc))
+    }
+
+    /// What one more byte leads to.
+    ///
+    /// The only error is [`NoMemory`].
+    pub fn take(self, alloc: Global, byte: u8) -> Result<StateStep, NoMemory>
+        ensures steps { (bytes : List ℕ) (items : List Item) → StandsAt self bytes items
+            → IfOk result (λ r. Steps r.state r.item (bytes ++ byte ∷ []) items) }
+        ensures shut { self ≡ State.Shut → IfOk result (λ r. (r.state ≡ State.Shut) × (r.item ≡ None)) }
+    {
+        match self {
+            State::Opening(part) => take_in_head(part, alloc, byte),
+            State::InBody(part) => part.take(alloc, byte),
+            State::InChunks(part) => part.take(alloc, byte),
+            State::Shut => Ok(StateStep {
+                state: State::Shut,
+                item: None,
+            }),
+        }
+    }
+
+    /// Takes bytes at the front of a piece that complete nothing, and gives how many they are, perhaps none. After a
+    /// refusal these are all bytes.
+    ///
+    /// The only error is [`NoMemory`], after which the state counts for nothing.
+    pub fn take_run(&mut self, piece: &[u8]) -> Result<usize, NoMemory>
+        ensures within { IfOk result (λ n. n ≤ length piece.now) }
+        ensures stands { (bytes : List ℕ) (items : List Item) → StandsAt self.old bytes items
+            → IfOk result (λ n. StandsAt self.new (bytes ++ take n piece.now) items) }
+        ensures shut { self.old ≡ State.Shut → IfOk result (λ n. self.new ≡ State.Shut) }
+    {
+        match self {
+            State::Opening(part) => part.take_run(piece),
+            State::InBody(part) => part.take_run(piece),
+            State::InChunks(_) => Ok(0),
+            State::Shut => Ok(piece.len()),
+        }
+    }
 }

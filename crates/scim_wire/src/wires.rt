@@ -58,12 +58,19 @@ impl Wire {
         ensures no_memory { OnErr result (IsShut self.new) }
     {
         let mut items = Vec::new(alloc);
-        for byte in piece {
-            let state = mem::replace(&mut self.state, State::Shut);
+        let mut state = mem::replace(&mut self.state, State::Shut);
+        let mut taken = 0;
+        loop {
+            taken += state.take_run(&piece[taken..])?;
+            let Some(byte) = piece.get(taken) else {
+                break;
+            };
             let step = state.take(alloc, *byte)?;
+            state = step.state;
             add(&mut items, step.item)?;
-            self.state = step.state;
+            taken += 1;
         }
+        self.state = state;
         Ok(items)
     }
 }
