@@ -91,7 +91,7 @@ fn target_text(alloc: Global, others: usize) -> Result<String> {
         )?;
     }
     text.push_str(
-        "{\"allow\":false,\"clients\":[\"hr\"],\"ops\":[\"read\"],\"types\":[\"User\"],\"target\":\"userType eq \\\"Contractor\\\"\",\"paths\":[\"*\"]},",
+        "{\"allow\":false,\"clients\":[\"hr\"],\"ops\":[\"read\"],\"types\":[\"User\",\"Group\"],\"target\":\"userType eq \\\"Contractor\\\"\",\"paths\":[\"*\"]},",
     )?;
     text.push_str(LAST_RULE)?;
     Ok(text)
@@ -248,7 +248,7 @@ pub fn run(rt: &(impl Clock + Print), alloc: Global) -> Result<()> {
 fn compare_targets(rt: &(impl Clock + Print), alloc: Global) -> Result<()> {
     print_heading(
         rt,
-        "over 10,000 users, where a rule has a target, by 2 rules and by these behind 998 of another client",
+        "over 10,000 users, where a rule on users and groups has a target, by 2 rules and by these behind 998 of another client",
     )?;
     let alone = target_text(alloc, 0)?;
     let behind = target_text(alloc, OTHERS)?;

@@ -14,4 +14,5 @@ pub mod TokenLemmas
 pub mod BorderLemmas
 pub mod ContainsLemmas
 pub mod RowLemmas
+pub mod LookLemmas
 pub mod FunctionLemmas

@@ -1,14 +1,13 @@
 -- The rows of an attribute among others.
-use Rattle.std.proofs.Common.{rules, ◌≡◌, ℕ, zero, suc, Bool, true, false, eqb, arith, List, [], ◌∷◌, filter, length, take, drop, refl, sym, ap}
-use Rattle.std.specs.Prelude.{All, Some, not}
-use Rattle.std.specs.List.{list_any, slice_get}
+use Rattle.std.proofs.Common.{◌≡◌, ℕ, zero, suc, Bool, true, false, eqb, arith, List, [], ◌∷◌, filter, take, drop, refl, sym, ap}
+use Rattle.std.specs.Prelude.{All, Some}
+use Rattle.std.specs.List.{slice_get}
 use denote.Enum.Bare.{sameb}
 use Rattle.std.proofs.lemmas.Bool.{cond_both}
 use Rattle.std.proofs.lemmas.Bool.Decides.{nat_tests}
 use Rattle.std.proofs.lemmas.List.Elements.{filter_passes, All-head, All-tail, All-take, All-drop}
 use Rattle.scim_schema.specs.declared.Attribute.{Attribute}
 use Rattle.scim_schema.specs.contracts.Attribute.{the_type as the_attribute}
-use Rattle.scim_cell.specs.declared.rows.Field.{Field}
 use Rattle.scim_cell.specs.Rows.{Row, attribute_rows}
 
 all_kept : {X : Type 0} (p : X → Bool) (xs : List X) → All (λ x. p x ≡ true) xs → filter p xs ≡ xs
@@ -44,7 +43,3 @@ pub one_taken : (rs : List Row) (k : ℕ) (r : Row) → slice_get rs k ≡ Some 
 one_taken [] k r e = absurd cc
 one_taken (q ∷ rs) zero r e = let same : q ≡ r = cc in ap (λ x. x ∷ []) (sym same)
 one_taken (q ∷ rs) (suc k) r e = one_taken rs k r e
-
-pub any_field : (fs : List Field) → not (eqb (length fs) 0) ≡ list_any (λ f. true) fs
-any_field [] = refl
-any_field (f ∷ fs) = search rules

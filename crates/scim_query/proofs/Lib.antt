@@ -7,4 +7,5 @@ pub mod PossibleMatchLemmas
 pub mod AlikeLemmas
 pub mod ArrangedLemmas
 pub mod Facts
+pub mod KeyLemmas
 pub mod NeededLemmas

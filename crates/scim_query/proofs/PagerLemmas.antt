@@ -13,7 +13,7 @@ use Rattle.scim_query.specs.declared.queries.Query.{Query}
 use Rattle.scim_query.specs.declared.kept_parts.KeptPart.{KeptPart}
 use Rattle.scim_query.specs.Order.{part_cmp, rank_of, rank_cmp}
 use Rattle.scim_query.specs.Pages.{is_match, matching, IsInOrder, slice_of}
-use Rattle.scim_query.specs.Pagers.{keyed, Holds, HoldsFirst, ComeInOrder}
+use Rattle.scim_query.specs.Pagers.{keyed, Holds, HoldsFirst, most_held, ComeInOrder}
 use Rattle.scim_query.specs.Arranged.{placed, before}
 use Rattle.scim_query.specs.code.Kept.{kept_rank, kept_cmp, comes_before}
 use Rattle.scim_query.proofs.OrderLemmas.{rank_cmp_total}
@@ -43,10 +43,10 @@ module _ (query : Query) (found : List Content) (p : Content) where
   first_in_order held h = rw h.first (keyed_in_order query (take room h.sorted) (IsSortedBy-take (before query) room h.sorted h.is_sorted.in_order))
 
   -- those that may come on the page or before it, after one more
-  pub first_more : (k : KeptPart) (held after : List KeptPart) → k ≡ keyed query.sort_by p → HoldsFirst query found held
-      → (IsSorted (kept_cmp query.descending) held → after ≡ take room (placed (comes_before query.descending) k held))
+  pub first_more : (held after : List KeptPart) → HoldsFirst query found held
+      → (IsSorted (kept_cmp query.descending) held → after ≡ take room (placed (comes_before query.descending) (keyed query.sort_by p) held))
       → HoldsFirst query (found ++ p ∷ []) after
-  first_more k held after same h step =
+  first_more held after h step =
       let lt = before query in
       let by = keyed query.sort_by in
       let some = take room h.sorted in
@@ -54,7 +54,6 @@ module _ (query : Query) (found : List Content) (p : Content) where
         sorted = placed lt p h.sorted;
         is_sorted = in_order_more query found h.sorted p h.is_sorted;
         first = step (first_in_order held h)
-            ∙ ap (λ (j : KeptPart). take room (placed (comes_before query.descending) j held)) same
             ∙ ap (λ (ks : List KeptPart). take room (placed (comes_before query.descending) (by p) ks)) h.first
             ∙ ap (take room) (placed-map by (comes_before query.descending) p some)
             ∙ take-map by room (placed lt p some)
@@ -68,11 +67,11 @@ module _ (query : Query) (found : List Content) (p : Content) where
   slice_keyed ps = ap (take query.count) (drop-map (keyed query.sort_by) (query.start - 1) ps) ∙ take-map (keyed query.sort_by) query.count (drop (query.start - 1) ps)
 
   -- those of the page, after one more
-  pub page_more : (k : KeptPart) (held after : List KeptPart) → k ≡ keyed query.sort_by p → held ≡ map (keyed query.sort_by) (slice_of query.start query.count found)
-      → (held ≡ slice_kept (map (keyed query.sort_by) found) → after ≡ slice_kept (map (keyed query.sort_by) found ++ k ∷ []))
+  pub page_more : (held after : List KeptPart) → held ≡ map (keyed query.sort_by) (slice_of query.start query.count found)
+      → (held ≡ slice_kept (map (keyed query.sort_by) found) → after ≡ slice_kept (map (keyed query.sort_by) found ++ keyed query.sort_by p ∷ []))
       → after ≡ map (keyed query.sort_by) (slice_of query.start query.count (found ++ p ∷ []))
-  page_more k held after same is step =
-      step (is ∙ sym (slice_keyed found)) ∙ ap (λ (j : KeptPart). slice_kept (map (keyed query.sort_by) found ++ j ∷ [])) same ∙ ap slice_kept (sym (map-append (keyed query.sort_by) found (p ∷ []))) ∙ slice_keyed (found ++ p ∷ [])
+  page_more held after is step =
+      step (is ∙ sym (slice_keyed found)) ∙ ap slice_kept (sym (map-append (keyed query.sort_by) found (p ∷ []))) ∙ slice_keyed (found ++ p ∷ [])
 
 -- which of the two is held
 module _ (query : Query) (found : List Content) (held : List KeptPart) where
@@ -94,6 +93,14 @@ module _ (query : Query) (found : List Content) (held : List KeptPart) where
   pub first_holds : (by : Option Leaf) → is_some by ≡ true → HoldsFirst query found held → Holds by query found held
   first_holds None e h = absurd (true≢false (sym e))
   first_holds (Some l) e h = h
+
+-- so many are held at most
+module _ (query : Query) where
+  pub most_first : is_some query.sort_by ≡ true → most_held query ≡ query.start - 1 + query.count
+  most_first some = rw some refl
+
+  pub most_on_page : is_some query.sort_by ≡ false → most_held query ≡ query.count
+  most_on_page none = rw none refl
 
 pub none_of : (by : Option Leaf) → is_some by ≡ false → by ≡ None
 none_of None e = refl

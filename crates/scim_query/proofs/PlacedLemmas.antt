@@ -1,12 +1,11 @@
 -- A list in order with one more is in order, and its first elements are told by the first elements.
-use Rattle.std.proofs.Common.{◌≡◌, ℕ, zero, suc, ◌<◌, ◌≤◌, Bool, true, false, not, ◌&&◌, add-one, cond, List, [], ◌∷◌, ◌++◌, map, length, take, drop, get_or, insert, min, refl, sym, ap, ◌∙◌, arith, true≢false}
+use Rattle.std.proofs.Common.{◌≡◌, ℕ, zero, suc, ◌<◌, ◌≤◌, Bool, true, false, not, ◌&&◌, add-one, cond, List, [], ◌∷◌, ◌++◌, map, length, take, drop, get_or, insert, refl, sym, ap, ◌∙◌, arith, true≢false}
 use Rattle.std.specs.Cmp.{IsStrictWeakOrder}
 use Rattle.std.specs.List.{filter}
 use Rattle.std.specs.List.Sorted.{IsPermutation, IsSortedBy, IsStableBy, IsPartitionedBy, IsPartitionPoint, ties}
 use Rattle.std.proofs.lemmas.List.{append-nil, take-take, take-append-le, length-take}
 use Rattle.std.proofs.lemmas.List.Elements.{filter-append}
 use Rattle.std.proofs.lemmas.List.Sorted.{IsPermutation-refl, IsPermutation-cons, IsPermutation-to_front, IsPermutation-append_left, IsPermutation-trans, sorted_far}
-use Rattle.std.proofs.lemmas.Grind.{common_steps}
 use Rattle.scim_query.specs.Arranged.{placed}
 use Rattle.scim_query.proofs.OneOrderLemmas.{less_on}
 
@@ -150,13 +149,3 @@ module _ {X Y : Type 0} (f : X → Y) (lt : Y → Y → Bool) where
   pub placed-map : (x : X) (ys : List X) → placed lt (f x) (map f ys) ≡ map f (placed (λ a e. lt (f a) (f e)) x ys)
   placed-map x [] = refl
   placed-map x (y ∷ ys) = map_if (lt (f x) (f y)) x y ys _ (placed-map x ys)
-
-module _ {X : Type 0} where
-  take_min : (n : ℕ) (xs : List X) → take (min n (length xs)) xs ≡ take n xs
-  take_min n xs = grind (arith, common_steps)
-
-  -- a bound that no list of the length reaches takes nothing away
-  pub take_bounded : (most n room : ℕ) (xs : List X) → room ≡ min n most → length xs ≤ most → take room xs ≡ take n xs
-  take_bounded most n room xs is short =
-      let alike : min room (length xs) ≡ min n (length xs) = omega arith in
-      sym (take_min room xs) ∙ ap (λ k. take k xs) alike ∙ take_min n xs

@@ -1,14 +1,15 @@
 //! The parts that match, each with its sort key.
 ghost use Rattle.std.specs.Prelude.{◌≡◌, ◌-◌, ◌++◌, ◌∷◌, [], IfOk, OnOk, All, take, drop};
 ghost use Rattle.std.specs.List.Sorted.{IsPermutation, IsSorted, IsStable};
+ghost use Rattle.scim_value.specs.Changes.{restricted_part};
 ghost use Rattle.scim_query.specs.Order.{rank_cmp};
 ghost use Rattle.scim_query.specs.code.Entries as spec;
 ghost use Rattle.scim_query.specs.Pages.{is_match, matching};
 
 use crate::keys::{compare_ranks, key_by};
 use crate::queries::Query;
-use scim_cell::Atom;
-use scim_filter::holds;
+use scim_cell::{Atom, RowTest};
+use scim_filter::{holds, holds_where};
 use scim_text::{NoMemory, push};
 use scim_value::Part;
 use std::alloc::Global;
@@ -28,6 +29,24 @@ pub(crate) fn is_matching(alloc: Global, query: &Query, part: &Part) -> Result<b
     match &query.filter {
         None => Ok(true),
         Some(filter) => holds(alloc, filter, part),
+    }
+}
+
+/// Whether what is left of a part, where only the fields that the test admits are kept, is one of those that
+/// the query means. NoMemory where none was to be had.
+pub(crate) fn is_matching_where<T: RowTest>(
+    alloc: Global,
+    query: &Query,
+    part: &Part,
+    test: &T,
+) -> Result<bool, NoMemory>
+    ensures { IfOk result (λ b. b ≡ is_match query.now.filter (restricted_part (T.keeps test.now) part.now)) }
+{
+    // Tells that the part is valid, so that what is left of it has the rows that are left.
+    let _ = part.rows();
+    match &query.filter {
+        None => Ok(true),
+        Some(filter) => holds_where(alloc, filter, part, test),
     }
 }
 

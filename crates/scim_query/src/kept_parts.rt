@@ -1,87 +1,110 @@
 //! The parts that a pager holds, each with its sort key.
-ghost use Rattle.std.specs.Prelude.{◌≡◌, ◌+◌, ◌-◌, ◌++◌, ◌∷◌, [], List, IfOk, OnOk, OnErr, length, map, take, drop};
+ghost use Rattle.std.specs.Prelude.{◌≡◌, ◌+◌, ◌-◌, ◌^◌, ◌≤◌, ◌++◌, ◌∷◌, [], List, IfOk, IfSome, OnOk, OnErr, length, map, take, drop, insert, min};
 ghost use Rattle.std.specs.List.Sorted.{IsSorted};
+ghost use Rattle.std.specs.Ordering.{is_lt};
 ghost use Rattle.scim_query.specs.Pagers as spec;
+ghost use Rattle.scim_query.specs.Order.{rank_cmp};
 ghost use Rattle.scim_query.specs.Arranged.{placed};
 ghost use Rattle.scim_query.specs.code.Kept as code;
 
-use crate::keys::{compare_ranks, key_by};
+use crate::keys::compare_ranks;
 use crate::queries::Query;
-use scim_cell::Atom;
-use scim_text::{NoMemory, push};
+use scim_cell::{Atom, Id};
+use scim_text::NoMemory;
 use scim_value::Part;
 use std::alloc::Global;
 
 /// A part that is held and the key that it is sorted by, which is made once.
 #[derive(Drop)]
 pub(crate) struct KeptPart {
-    key: Option<Atom>,
-    part: Part,
+    pub(crate) key: Option<Atom>,
+    pub(crate) part: Part,
 }
 
-fn comes_before(descending: bool, a: &KeptPart, b: &KeptPart) -> bool
-    ensures { result ≡ code.comes_before descending a.now b.now }
+/// Whether a part of this key and id comes before one that is held.
+fn comes_before(descending: bool, key: &Option<Atom>, id: Id, other: &KeptPart) -> bool
+    ensures { result ≡ is_lt (rank_cmp descending (key.now, id) (code.kept_rank other.now)) }
 {
-    compare_ranks(descending, &a.key, a.part.id(), &b.key, b.part.id()).is_lt()
+    compare_ranks(descending, key, id, &other.key, other.part.id()).is_lt()
 }
 
-/// Puts a part in its place among those in order, of which those stay that come on the page or before it.
-/// NoMemory, and all as it was, where none was to be had.
-fn keep_in_order(held: &mut Vec<KeptPart>, query: &Query, part: KeptPart) -> Result<(), NoMemory>
-    ensures kept { OnOk result (IsSorted (code.kept_cmp query.now.descending) held.old.items
-        → held.new.items ≡ take (query.now.start - 1 + query.now.count)
-        (placed (code.comes_before query.now.descending) part held.old.items)) }
-    ensures refused { OnErr result (held.new.items ≡ held.old.items) }
+/// So many parts are held at most, of as many as can be counted.
+fn room_of(query: &Query) -> usize
+    ensures { result ≡ min (spec.most_held query.now) (2 ^ 64 - 1) }
 {
-    let room = query.start.saturating_sub(1).saturating_add(query.count);
-    let place = held.partition_point(|other| !comes_before(query.descending, &part, other));
-    if place < room {
-        held.insert(place, part)?;
+    let count = query.count;
+    if query.sort_by.is_some() {
+        query.start.saturating_sub(1).saturating_add(count)
+    } else {
+        count
     }
-    held.truncate(room);
-    Ok(())
 }
 
-/// Keeps a part, before which so many match, where it is on the page. NoMemory, and all as it was, where
-/// none was to be had.
-fn keep_on_page(
-    held: &mut Vec<KeptPart>,
-    query: &Query,
-    before: usize,
-    part: KeptPart,
-) -> Result<(), NoMemory>
-    ensures kept { OnOk result ((found : List KeptPart) → before ≡ length found
-        → held.old.items ≡ take query.now.count (drop (query.now.start - 1) found)
-        → held.new.items ≡ take query.now.count (drop (query.now.start - 1) (found ++ part ∷ []))) }
-    ensures refused { OnErr result (held.new.items ≡ held.old.items) }
+/// The place of a part of this key and id among those in order, of which those are held that come on the page
+/// or before it; None where it comes behind these.
+fn place_in_order(held: &[KeptPart], query: &Query, key: &Option<Atom>, id: Id) -> Option<usize>
+    ensures inside { IfSome result (λ place. place ≤ length held.now) }
+    ensures place { (part : _) → code.kept_rank part ≡ (key.now, id) → IsSorted (code.kept_cmp query.now.descending) held.now
+        → take (spec.most_held query.now) (code.held_with result part held.now)
+        ≡ take (spec.most_held query.now) (placed (code.comes_before query.now.descending) part held.now) }
+{
+    let place = held.partition_point(|other| !comes_before(query.descending, key, id, other));
+    if place < room_of(query) {
+        Some(place)
+    } else {
+        None
+    }
+}
+
+/// The place of a part, before which so many match, among those held, which are those on the page; None where
+/// it isn't on the page.
+fn place_on_page(held: &[KeptPart], query: &Query, before: usize) -> Option<usize>
+    ensures inside { IfSome result (λ place. place ≤ length held.now) }
+    ensures place { (found : List KeptPart) (part : _) → before ≡ length found
+        → held.now ≡ take query.now.count (drop (query.now.start - 1) found)
+        → take query.now.count (code.held_with result part held.now)
+        ≡ take query.now.count (drop (query.now.start - 1) (found ++ part ∷ [])) }
 {
     if query.start.saturating_sub(1) <= before && held.len() < query.count {
-        push(held, part)?;
+        Some(held.len())
+    } else {
+        None
     }
-    Ok(())
 }
 
-/// Keeps a part that matches, before which so many do, while it may be on the page or before it. NoMemory,
-/// and all as it was, where none was to be had.
-pub(crate) fn keep(
-    alloc: Global,
-    held: &mut Vec<KeptPart>,
+/// The place of a part that matches, of this key and id, before which so many do, among those held; None
+/// where it comes neither on the page nor before it.
+pub(crate) fn place_of(
+    held: &[KeptPart],
     query: &Query,
     before: usize,
-    part: Part,
+    key: &Option<Atom>,
+    id: Id,
+) -> Option<usize>
+    ensures inside { IfSome result (λ place. place ≤ length held.now) }
+    ensures place { code.IsPlace query.now before held.now (key.now, id) result }
+{
+    if query.sort_by.is_some() {
+        place_in_order(held, query, key, id)
+    } else {
+        place_on_page(held, query, before)
+    }
+}
+
+/// Puts a part in its place among those held, of which as many stay as are held at most. NoMemory, and all as
+/// it was, where none was to be had.
+pub(crate) fn put_in_place(
+    held: &mut Vec<KeptPart>,
+    query: &Query,
+    place: usize,
+    part: KeptPart,
 ) -> Result<(), NoMemory>
-    ensures kept { OnOk result ((found : List _) → before ≡ length found
-        → spec.Holds query.now.sort_by query.now found held.old.items
-        → spec.Holds query.now.sort_by query.now (found ++ part ∷ []) held.new.items) }
+    requires { place ≤ length held.old.items }
+    ensures held { OnOk result (held.new.items ≡ take (spec.most_held query.now) (insert held.old.items place part)) }
     ensures refused { OnErr result (held.new.items ≡ held.old.items) }
 {
-    let key = key_by(alloc, query.sort_by, &part)?;
-    let part = KeptPart { key, part };
-    if query.sort_by.is_some() {
-        keep_in_order(held, query, part)?;
-    } else {
-        keep_on_page(held, query, before, part)?;
-    }
+    held.insert(place, part)?;
+    held.truncate(room_of(query));
     Ok(())
 }
 

@@ -1,28 +1,78 @@
 //! What parts are sorted by (RFC 7644 section 3.4.2.3).
-ghost use Rattle.std.specs.Prelude.{◌≡◌, IfOk};
-ghost use Rattle.std.specs.Option.{option_copied};
-ghost use Rattle.scim_schema.specs.Units.{unit_of};
-ghost use Rattle.scim_cell.specs.Rows.{rows, values};
+ghost use Rattle.std.specs.Prelude.{◌≡◌, ◌&&◌, true, IfOk, find};
+ghost use Rattle.std.specs.List.{list_any};
+ghost use Rattle.std.specs.Option.{option_copied, option_map};
+ghost use Rattle.scim_schema.specs.declared.SubAttribute.TheVariants as SubAttribute;
+ghost use Rattle.scim_schema.specs.Units.{unit_of, leaf_at};
+ghost use Rattle.scim_cell.specs.Content.{IsPart};
+ghost use Rattle.scim_cell.specs.Rows as cells;
+ghost use Rattle.scim_cell.specs.Rows.{rows, values, restricted, restricted_row};
+ghost use Rattle.scim_value.specs.Changes.{restricted_part};
 ghost use Rattle.scim_query.specs.Keys as spec;
 ghost use Rattle.scim_query.specs.Order as order;
 
-use scim_cell::{Atom, Id, Row, Text};
-use scim_schema::{Leaf, is_case_exact, unit_of};
+use scim_cell::{Atom, Id, Row, RowTest, Text};
+use scim_schema::{Leaf, SubAttribute, is_case_exact, unit_of};
 use scim_text::{NoMemory, fold};
 use scim_value::Part;
 use std::alloc::Global;
 use std::cmp::Ordering;
 
-/// The value that a part is sorted by: the first that is marked as primary, else the first.
-fn sorting_value(values: &[Row]) -> Option<&Row>
-    ensures { option_copied result ≡ spec.sorting_value values.now }
-{
-    for value in values {
-        if value.is_primary() {
-            return Some(value);
-        }
+/// A test that admits all, by which a part is sorted as it is.
+struct Everything;
+
+impl RowTest for Everything {
+    ghost keeps = { λ test row leaf. true };
+
+    fn is_kept(&self, _row: &Row, _leaf: Leaf) -> bool {
+        true
     }
-    values.first()
+}
+
+/// Whether the value is marked as the primary one by a field that the test admits.
+fn is_primary<T: RowTest>(value: &Row, test: &T) -> bool
+    ensures { result ≡ (cells.is_primary value.now
+        && T.keeps test.now value.now (leaf_at value.now.unit.attribute SubAttribute.Primary)) }
+{
+    let mark = Leaf::of(value.unit().attribute, SubAttribute::Primary);
+    value.is_primary() && test.is_kept(value, mark)
+}
+
+/// Whether the test admits a field of the value.
+fn is_left<T: RowTest>(value: &Row, test: &T) -> bool
+    ensures { result ≡ list_any (λ f. T.keeps test.now value.now f.leaf) value.now.fields }
+{
+    test.may_keep(value)
+        && value
+            .fields()
+            .iter()
+            .any(|field| test.is_kept(value, field.leaf))
+}
+
+/// The first value that is marked as primary by a field that the test admits.
+fn first_primary<'r, T: RowTest>(values: &'r [Row], test: &T) -> Option<&'r Row>
+    ensures { option_copied result ≡ find (λ r. cells.is_primary r && T.keeps test.now r (leaf_at r.unit.attribute SubAttribute.Primary)) values.now }
+{
+    values.iter().find(|value| is_primary(value, test))
+}
+
+/// The first value of which the test admits a field.
+fn first_left<'r, T: RowTest>(values: &'r [Row], test: &T) -> Option<&'r Row>
+    ensures { option_copied result ≡ find (λ r. list_any (λ f. T.keeps test.now r f.leaf) r.fields) values.now }
+{
+    values.iter().find(|value| is_left(value, test))
+}
+
+/// The value that what the test admits is sorted by: of those of which it admits a field the first that is
+/// marked as primary by one, else the first.
+fn sorting_value<'r, T: RowTest>(values: &'r [Row], test: &T) -> Option<&'r Row>
+    ensures { option_map (restricted_row (T.keeps test.now)) (option_copied result)
+        ≡ spec.sorting_value (restricted (T.keeps test.now) values.now) }
+{
+    match first_primary(values, test) {
+        Some(value) => Some(value),
+        None => first_left(values, test),
+    }
 }
 
 /// The atom as it is compared: a text is folded where case doesn't count.
@@ -38,12 +88,35 @@ fn compared(alloc: Global, leaf: Leaf, atom: &Atom) -> Result<Atom, NoMemory>
     }
 }
 
-/// The atom that a part is sorted by.
-fn sorting_atom(leaf: Leaf, part: &Part) -> Option<&Atom>
-    ensures { option_copied result
-        ≡ spec.atom_of leaf (spec.sorting_value (values (unit_of leaf) (rows part.now))) }
+/// The atom that what the test admits of a part is sorted by.
+fn sorting_atom<'p, T: RowTest>(leaf: Leaf, part: &'p Part, test: &T) -> Option<&'p Atom>
+    ensures atom { option_copied result ≡ spec.atom_of leaf
+        (spec.sorting_value (values (unit_of leaf) (restricted (T.keeps test.now) (rows part.now)))) }
+    ensures valid { IsPart part.now }
 {
-    sorting_value(part.values(unit_of(leaf)))?.get(leaf)
+    let value = sorting_value(part.values(unit_of(leaf)), test)?;
+    if test.is_kept(value, leaf) {
+        value.get(leaf)
+    } else {
+        None
+    }
+}
+
+/// The key by the leaf of what the test admits of a part; None where that has no such atom. NoMemory where
+/// none was to be had.
+fn key_at<T: RowTest>(
+    alloc: Global,
+    leaf: Leaf,
+    part: &Part,
+    test: &T,
+) -> Result<Option<Atom>, NoMemory>
+    ensures key { IfOk result (λ key. key ≡ spec.sort_key leaf (restricted (T.keeps test.now) (rows part.now))) }
+    ensures valid { IsPart part.now }
+{
+    let Some(atom) = sorting_atom(leaf, part, test) else {
+        return Ok(None);
+    };
+    Ok(Some(compared(alloc, leaf, atom)?))
 }
 
 /// The key of a part by the leaf; None where it has no such atom, or there is no leaf. NoMemory where
@@ -55,13 +128,26 @@ pub(crate) fn key_by(
 ) -> Result<Option<Atom>, NoMemory>
     ensures { IfOk result (λ key. key ≡ spec.key_by sort_by (rows part.now)) }
 {
-    let Some(leaf) = sort_by else {
-        return Ok(None);
-    };
-    let Some(atom) = sorting_atom(leaf, part) else {
-        return Ok(None);
-    };
-    Ok(Some(compared(alloc, leaf, atom)?))
+    match sort_by {
+        Some(leaf) => key_at(alloc, leaf, part, &Everything),
+        None => Ok(None),
+    }
+}
+
+/// The key of what is left of a part where only the fields that the test admits are kept. Nothing is copied
+/// but the key. NoMemory where none was to be had.
+pub(crate) fn key_where<T: RowTest>(
+    alloc: Global,
+    sort_by: Option<Leaf>,
+    part: &Part,
+    test: &T,
+) -> Result<Option<Atom>, NoMemory>
+    ensures { IfOk result (λ key. key ≡ spec.key_by sort_by (rows (restricted_part (T.keeps test.now) part.now))) }
+{
+    match sort_by {
+        Some(leaf) => key_at(alloc, leaf, part, test),
+        None => Ok(None),
+    }
 }
 
 fn compare_atoms(a: &Atom, b: &Atom) -> Ordering

@@ -1,10 +1,12 @@
 -- What becomes of a visitor that is shown a list.
 use Rattle.std.proofs.Common.{◌≡◌, ℕ, true, List, [], ◌∷◌, ◌++◌, refl, sym, ap, ◌∙◌, append_assoc, subst}
-use Rattle.std.specs.Prelude.{All, Result, Ok, Err, OnOk}
+use Rattle.std.specs.Prelude.{All, Result, Ok, Err, OnOk, Some, find}
 use Rattle.std.specs.List.{FoldsTo}
 use Rattle.std.proofs.lemmas.List.{append-nil}
 use Rattle.std.proofs.lemmas.List.Elements.{All-head, All-tail}
 use denote.Ref.{Bor}
+use Rattle.scim_schema.specs.declared.Kind.{Kind}
+use Rattle.scim_schema.specs.declared.Kind.TheVariants.{Group}
 use Rattle.scim_cell.specs.Content.{Content}
 use Rattle.scim_view.specs.declared.viewers.Viewer.{Viewer as ViewerInCode}
 use Rattle.scim_value.specs.Members.{lists}
@@ -14,14 +16,15 @@ use Rattle.scim_view.specs.Indexes.{IsIndexOf}
 use Rattle.scim_view.specs.Listings.{AreListing}
 use Rattle.scim_view.proofs.Facts.{and_those_append}
 use Rattle.scim_query.specs.Pagers.{HasTaken}
+use Rattle.scim_shelf.specs.Stores.{is_at}
 use Rattle.scim_search.specs.declared.sights.Sight.{Sight}
 use Rattle.scim_search.specs.declared.visitors.GroupVisitor.{GroupVisitor}
 use Rattle.scim_search.specs.declared.visitors.ListingVisitor.{ListingVisitor}
 use Rattle.scim_search.specs.declared.visitors.SearchVisitor.{SearchVisitor}
-use Rattle.scim_search.specs.declared.read_decisions.ReadDecisions.{ReadDecisions}
+use Rattle.scim_search.specs.Decided.{Recalls}
 use Rattle.scim_search.specs.ReadDecisions.{AreDecisions}
 use Rattle.scim_search.specs.Sights.{made, made_of_all, part_of, IsSight}
-use Rattle.scim_search.specs.Visits.{TakesGroup, TakesListing, TakesResource}
+use Rattle.scim_search.specs.Visits.{TakesGroup, TakesListing, TakesResource, Tells}
 
 -- what holds at Ok by what does
 pub ok_by : {T E : Type 0} (r : Result T E) (P Q : Type 0) → (P → Q) → OnOk r P → OnOk r Q
@@ -54,46 +57,49 @@ took_groups v (c ∷ cs) w steps =
     (joins_as v j w cs one.viewer one.decisions rest (groups ++ c ∷ []) are (one.index groups are is))
 
 -- what a visitor has been shown that lists a resource has been gathered
-pub took_listing : (v : Viewer) (decisions : Bor ReadDecisions) (id : List ℕ) (first : ListingVisitor) (cs : List Content) (last : ListingVisitor)
-    → viewer_of first.viewer.now ≡ v → first.decisions ≡ decisions → AreDecisions v decisions.now → All (λ c. lists id c ≡ true) cs
-    → FoldsTo TakesListing first cs last → (gathered : List Content) → AreListing v id gathered first.groups → AreListing v id (gathered ++ cs) last.groups
-took_listing v decisions id first [] last viewer same are all folds gathered is =
-    rw (append-nil gathered) (subst (λ (x : ListingVisitor). AreListing v id gathered x.groups) folds is)
-took_listing v decisions id first (c ∷ cs) last viewer same are all folds gathered is =
-    let next = folds.0 in
-    let one = folds.1 in
-    let own : AreDecisions (viewer_of first.viewer.now) first.decisions.now
-    = subst (λ (u : Viewer). AreDecisions u first.decisions.now) (sym viewer) (subst (λ (d : Bor ReadDecisions). AreDecisions v d.now) (sym same) are) in
-    let more : AreListing v id (gathered ++ c ∷ []) next.groups
-    = subst (λ (u : Viewer). AreListing u id (gathered ++ c ∷ []) next.groups) viewer
-    (one.groups id gathered own (All-head (λ d. lists id d ≡ true) c cs all) (subst (λ (u : Viewer). AreListing u id gathered first.groups) (sym viewer) is)) in
-    subst (λ (gs : List Content). AreListing v id gs last.groups) (append_assoc gathered (c ∷ []) cs)
-    (took_listing v decisions id next cs last (ap (λ (u : Bor ViewerInCode). viewer_of u.now) one.viewer ∙ viewer) (one.decisions ∙ same) are
-    (All-tail (λ d. lists id d ≡ true) c cs all) folds.2 (gathered ++ c ∷ []) more)
+pub took_listing : (v : Viewer) (cs : List Content) (id : List ℕ) (first : ListingVisitor) (ds : List Content) (last : ListingVisitor)
+    → All (λ d. find (is_at Group d.id) cs ≡ Some d) ds → All (λ d. lists id d ≡ true) ds → FoldsTo TakesListing first ds last → Tells v cs first
+    → (gathered : List Content) → AreListing v id gathered first.groups → Tells v cs last × AreListing v id (gathered ++ ds) last.groups
+took_listing v cs id first [] last founds all folds tells gathered is =
+    (subst (Tells v cs) folds tells, rw (append-nil gathered) (subst (λ (x : ListingVisitor). AreListing v id gathered x.groups) folds is))
+took_listing v cs id first (d ∷ ds) last founds all folds tells gathered is =
+    let Found : Content → Type 0 = λ e. find (is_at Group e.id) cs ≡ Some e in
+    let Lists : Content → Type 0 = λ e. lists id e ≡ true in
+    let one = folds.1 v cs (All-head Found d ds founds) tells in
+    let rest = took_listing v cs id folds.0 ds last (All-tail Found d ds founds) (All-tail Lists d ds all) folds.2 one.0 (gathered ++ d ∷ []) (one.1 id gathered (All-head Lists d ds all) is) in
+    (rest.0, subst (λ (gs : List Content). AreListing v id gs last.groups) (append_assoc gathered (d ∷ []) ds) rest.1)
 
 -- what is made of what a visitor has been shown has been handed to its pager
 abbrev made_by : List Content → Sight → List Content → List Content
 made_by groups sight cs = made_of_all (made (viewer_of sight.viewer.now) groups sight.shows) (viewer_of sight.viewer.now) cs
 
-pub record TookResources (v : SearchVisitor) (cs : List Content) (w : SearchVisitor) : Type 0 where
+pub record TookResources (v : SearchVisitor) (ds : List Content) (w : SearchVisitor) : Type 0 where
   pub query : w.pager.query ≡ v.pager.query
   pub taken : (groups parts : List Content) → IsSight groups v.sight → HasTaken parts v.pager
-      → HasTaken (parts ++ made_by groups v.sight cs) w.pager
+      → HasTaken (parts ++ made_by groups v.sight ds) w.pager
+  pub decided : (groups cs : List Content) (kind : Kind) → IsSight groups v.sight → All (λ d. find (is_at kind d.id) cs ≡ Some d) ds
+      → Recalls (viewer_of v.sight.viewer.now) kind cs v.decided → Recalls (viewer_of v.sight.viewer.now) kind cs w.decided
 
-pub took_resources : (v : SearchVisitor) (cs : List Content) (w : SearchVisitor) → FoldsTo TakesResource v cs w → TookResources v cs w
-took_resources v [] w same = rw (← same) (record { query = refl; taken = λ groups parts is was. rw (append-nil parts) was })
-took_resources v (c ∷ cs) w steps =
+pub took_resources : (v : SearchVisitor) (ds : List Content) (w : SearchVisitor) → FoldsTo TakesResource v ds w → TookResources v ds w
+took_resources v [] w same = rw (← same) (record { query = refl; taken = λ groups parts is was. rw (append-nil parts) was; decided = λ groups cs kind is founds was. was })
+took_resources v (d ∷ ds) w steps =
     let j = steps.0 in
     let one = steps.1 in
-    let rest = took_resources j cs w steps.2 in
+    let rest = took_resources j ds w steps.2 in
     record {
       query = rest.query ∙ one.query;
       taken = λ groups parts is was.
-          let first = and_those (part_of groups v.sight c) [] in
-          let all : (parts ++ first) ++ made_by groups v.sight cs ≡ parts ++ made_by groups v.sight (c ∷ cs)
-          = append_assoc parts first (made_by groups v.sight cs)
-          ∙ ap (λ (t : List Content). parts ++ t) (sym (and_those_append (part_of groups v.sight c) [] (made_by groups v.sight cs))) in
-          let more : HasTaken ((parts ++ first) ++ made_by groups j.sight cs) w.pager
+          let first = and_those (part_of groups v.sight d) [] in
+          let all : (parts ++ first) ++ made_by groups v.sight ds ≡ parts ++ made_by groups v.sight (d ∷ ds)
+          = append_assoc parts first (made_by groups v.sight ds)
+          ∙ ap (λ (t : List Content). parts ++ t) (sym (and_those_append (part_of groups v.sight d) [] (made_by groups v.sight ds))) in
+          let more : HasTaken ((parts ++ first) ++ made_by groups j.sight ds) w.pager
           = rest.taken groups (parts ++ first) (subst (IsSight groups) (sym one.sight) is) (one.taken groups parts is was) in
-          subst (λ (t : List Content). HasTaken t w.pager) all (subst (λ (s : Sight). HasTaken ((parts ++ first) ++ made_by groups s cs) w.pager) one.sight more);
+          subst (λ (t : List Content). HasTaken t w.pager) all (subst (λ (s : Sight). HasTaken ((parts ++ first) ++ made_by groups s ds) w.pager) one.sight more);
+      decided = λ groups cs kind is founds was.
+          let Found : Content → Type 0 = λ e. find (is_at kind e.id) cs ≡ Some e in
+          let kept = one.decided groups cs kind is (All-head Found d ds founds) was in
+          subst (λ (s : Sight). Recalls (viewer_of s.viewer.now) kind cs w.decided) one.sight
+          (rest.decided groups cs kind (subst (IsSight groups) (sym one.sight) is) (All-tail Found d ds founds)
+          (subst (λ (s : Sight). Recalls (viewer_of s.viewer.now) kind cs j.decided) (sym one.sight) kept));
     }

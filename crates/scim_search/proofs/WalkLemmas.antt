@@ -3,7 +3,6 @@ use Rattle.std.proofs.Common.{◌≡◌, refl, sym, ◌∙◌, ap, subst, ℕ, z
 use Rattle.std.specs.Prelude.{◌==◌, All, AllPairs, Option, Some, find}
 use Rattle.std.proofs.Math.Path.{fun_ext}
 use Rattle.std.proofs.lemmas.Bool.{cases_Bool, false_from_ne_true}
-use Rattle.std.proofs.lemmas.List.{append-nil}
 use Rattle.std.proofs.lemmas.Simd.{map-map}
 use Rattle.std.proofs.lemmas.Slice.Eq.{bytes_eq-Decides}
 use Rattle.std.proofs.lemmas.List.Elements.{All-head, All-tail, All-filter, filter_passes}
@@ -21,8 +20,13 @@ use Rattle.scim_cell.specs.Kinds.{is_of, of_kind}
 use Rattle.scim_value.specs.Uniqueness.{AreApart}
 use Rattle.scim_filter.specs.declared.tree.Filter.{Filter}
 use Rattle.scim_policy.specs.declared.rules.Decision.{Decision}
+use Rattle.scim_value.specs.Changes.{restricted_part}
+use Rattle.scim_cell.specs.Rows.{rows, restricted, content}
+use Rattle.scim_policy.specs.declared.decisions.Decisions.{Decisions}
+use Rattle.scim_policy.specs.Table.{decision}
+use Rattle.scim_view.specs.declared.views.MayBeSeenOf.{MayBeSeenOf}
 use Rattle.scim_view.specs.declared.viewers.Viewer.{Viewer as ViewerInCode}
-use Rattle.scim_view.specs.View.{Viewer, viewer_of, read_decision, sees, visible_attributes}
+use Rattle.scim_view.specs.View.{Viewer, viewer_of, read_decision, sees, may_be_seen_of, visible_attributes}
 use Rattle.scim_view.specs.Groups.{and_those, memberships, visible_with, with_groups, view_with_groups, views, seen}
 use Rattle.scim_query.specs.declared.queries.Query.{Query}
 use Rattle.scim_query.specs.declared.queries.Page.{Page}
@@ -30,11 +34,16 @@ use Rattle.scim_query.specs.NamedAttributes.{attributes_of, names_groups, Alike}
 use Rattle.scim_query.specs.PossibleMatches.{NeverMatches}
 use Rattle.scim_query.specs.Pages.{is_match, matching, IsPage}
 use Rattle.scim_query.proofs.Facts.{alike_pages, seen_alike}
-use Rattle.scim_shelf.specs.Stores.{Store, IsStore, is_at}
+use Rattle.scim_shelf.specs.Stores.{Store, IsStore, is_at, is_group_with}
+use Rattle.scim_cell.specs.Ids.{id_text}
+use Rattle.scim_value.specs.Members.{lists}
+use Rattle.scim_schema.proofs.Facts.{and_first, and_second}
 use Rattle.scim_search.specs.declared.read_decisions.ReadDecisions.{ReadDecisions}
 use Rattle.scim_search.specs.declared.sights.Shows.TheVariants.{Named}
 use Rattle.scim_search.specs.declared.sights.Sight.{Sight}
-use Rattle.scim_search.specs.ReadDecisions.{AreDecisions}
+use Rattle.scim_search.specs.Decided.{AreOn}
+use Rattle.scim_search.specs.ReadDecisions.{AreDecisions, AreFor}
+use Rattle.std.proofs.lemmas.Option.{same_Some}
 use Rattle.scim_search.specs.Sights.{made_of_all, IsSight}
 use Rattle.scim_search.specs.Walks.{Seen, made_of_kind}
 use Rattle.scim_search.proofs.ApartLemmas.{none_at}
@@ -46,7 +55,7 @@ own_id : (kind : Kind) (c : Content) → is_of kind c ≡ true → is_at kind c.
 own_id kind c is = rw is ((bytes_eq-Decides c.id c.id).1 refl)
 
 -- each resource is the one that is found by its id
-found_each : (kind : Kind) (cs : List Content) → AllPairs AreApart cs → All (λ c. is_of kind c ≡ true → find (is_at kind c.id) cs ≡ Some c) cs
+pub found_each : (kind : Kind) (cs : List Content) → AllPairs AreApart cs → All (λ c. is_of kind c ≡ true → find (is_at kind c.id) cs ≡ Some c) cs
 found_each kind [] apart k d lt = absurd (omega (arith, lt))
 found_each kind (e ∷ es) apart zero d lt = λ is. rw (own_id kind e is) refl
 found_each kind (e ∷ es) apart (suc k) d lt = λ is.
@@ -55,6 +64,29 @@ found_each kind (e ∷ es) apart (suc k) d lt = λ is.
     let other : is_at kind c.id e ≡ false
     = false_from_ne_true _ (λ same. true≢false (sym (own_id kind c is) ∙ none_at kind c.id e c two same)) in
     rw other (found_each kind es (λ i j f h l. apart (suc i) (suc j) f (omega arith) (omega (arith, l))) k d (omega (arith, lt)) is)
+
+-- the groups that list a resource: each is the one that is found by its id, and lists it
+pub groups_found : (base : List ℕ) (store : Store) → IsStore base store → (id : List ℕ)
+    → All (λ c. find (is_at Group c.id) store.resources ≡ Some c) (filter (is_group_with (id_text id)) store.resources)
+groups_found base store is id k d lt =
+    let cs = store.resources in
+    let Found : Content → Type 0 = λ c. find (is_at Group c.id) cs ≡ Some c in
+    let founds : All (λ c. is_of Group c ≡ true → Found c) (filter (is_group_with (id_text id)) cs)
+    = All-filter (is_group_with (id_text id)) (λ c. is_of Group c ≡ true → Found c) cs (found_each Group cs is.keyed.apart) in
+    let c : Content = slice_index_or (filter (is_group_with (id_text id)) cs) k d in
+    founds k d lt (and_first (is_of Group c) (lists id c) (filter_passes (is_group_with (id_text id)) cs k d lt))
+
+pub groups_list : (id : List ℕ) (cs : List Content) → All (λ c. lists id c ≡ true) (filter (is_group_with (id_text id)) cs)
+groups_list id cs k d lt =
+    let c : Content = slice_index_or (filter (is_group_with (id_text id)) cs) k d in
+    and_second (is_of Group c) (lists id c) (filter_passes (is_group_with (id_text id)) cs k d lt)
+
+-- each resource of a kind is the one that is found by its id
+pub kind_found : (base : List ℕ) (store : Store) → IsStore base store → (kind : Kind)
+    → All (λ c. find (is_at kind c.id) store.resources ≡ Some c) (of_kind kind store.resources)
+kind_found base store is kind k d lt =
+    let cs = store.resources in
+    All-filter (is_of kind) (λ c. is_of kind c ≡ true → find (is_at kind c.id) cs ≡ Some c) cs (found_each kind cs is.keyed.apart) k d lt (filter_passes (is_of kind) cs k d lt)
 
 -- what is known of each resource of a kind that is seen
 record Known (v : Viewer) (kind : Kind) (cs : List Content) (c : Content) : Type 0 where
@@ -69,14 +101,12 @@ known_each v kind base store is k d lt =
     let cs = store.resources in
     let own : All (λ c. is_of kind c ≡ true) (of_kind kind cs) = filter_passes (is_of kind) cs in
     let parts : All IsPart (of_kind kind cs) = All-filter (is_of kind) IsPart cs (parts_of base store is) in
-    let founds : All (λ c. is_of kind c ≡ true → find (is_at kind c.id) cs ≡ Some c) (of_kind kind cs)
-    = All-filter (is_of kind) (λ c. is_of kind c ≡ true → find (is_at kind c.id) cs ≡ Some c) cs (found_each kind cs is.keyed.apart) in
     let of_own = All-filter (sees v) (λ c. is_of kind c ≡ true) (of_kind kind cs) own k d lt in
     record {
       part = All-filter (sees v) IsPart (of_kind kind cs) parts k d lt;
       is_kind = same_true the_kind tt _ kind of_own;
       seen = filter_passes (sees v) (of_kind kind cs) k d lt;
-      found = All-filter (sees v) (λ c. is_of kind c ≡ true → find (is_at kind c.id) cs ≡ Some c) (of_kind kind cs) founds k d lt of_own;
+      found = All-filter (sees v) (λ c. find (is_at kind c.id) cs ≡ Some c) (of_kind kind cs) (kind_found base store is kind) k d lt;
     }
 
 module _ (v : Viewer) (kind : Kind) (cs : List Content) where
@@ -134,6 +164,11 @@ module _ (v : Viewer) (kind : Kind) (gs : List Content) (query : Query) (base : 
             subst (λ (ps : List Content). IsPage ps query page) (sym (made_seen (with_groups v gs)) ∙ made_views v gs cs) (chosen.2 page total start items),
       )
 
+-- a sight of some attributes is one of any groups
+pub named_sight : (viewer : Bor ViewerInCode) (attributes : Bor (List Attribute)) (decisions : Bor ReadDecisions) (sight : Sight) → AreDecisions (viewer_of viewer.now) decisions.now
+    → sight ≡ record { viewer = viewer; decisions = decisions; shows = Named attributes } → IsSight [] sight
+named_sight viewer attributes decisions sight are same = subst (IsSight []) (sym same) (record { decisions = are; index = tt })
+
 -- the page by what is made at a sight of the attributes that a query names
 pub named_page : (viewer : Bor ViewerInCode) (kind : Kind) (query : Query) (base : List ℕ) (store : Store) → IsStore base store → (attributes : Bor (List Attribute)) → attributes.now ≡ attributes_of query
     → names_groups query ≡ false → (found : Page) (decisions : Bor ReadDecisions) (sight : Sight) → AreDecisions (viewer_of viewer.now) decisions.now
@@ -145,7 +180,7 @@ pub named_page : (viewer : Bor ViewerInCode) (kind : Kind) (query : Query) (base
 named_page viewer kind query base store is attributes named none found decisions sight are same paged =
     let v = viewer_of viewer.now in
     let cs = of_kind kind store.resources in
-    let known : IsSight [] sight = subst (IsSight []) (sym same) (record { decisions = are; index = tt }) in
+    let known = named_sight viewer attributes decisions sight are same in
     let made_here : IsPage (made_of_all (λ (c : Content). visible_attributes attributes.now (read_decision v c) c) v cs) query found
     = subst (λ (s : Sight). IsPage (made_of_kind [] s kind store.resources) query found) same (paged known) in
     page_by_small v kind (of_kind Group store.resources) query base store is none found
@@ -176,23 +211,20 @@ module _ (v : Viewer) (kind : Kind) (cs gs : List Content) where
   abbrev whole : List (Seen v kind cs) → List Content
   whole shown = map (λ (x : Seen v kind cs). with_groups v gs x.own) shown
 
-  pub pushed_none : (shown : List (Seen v kind cs)) (parts : List Content) → [] ≡ own_ids shown → parts ≡ parts ++ whole shown
-  pushed_none [] parts e = sym (append-nil parts)
-  pushed_none (x ∷ xs) parts e = cc
-
-  -- the part of the first resource, and then those of the others
-  pub pushed_more : (item : Content) (rest : List Content) (shown : List (Seen v kind cs)) (found : Option Content) (old mid new : List Content)
+  -- the part of the first resource, and then those of the others, by what is told of groups after the first
+  pub pushed_more : (Told : Type 0) (item : Content) (rest : List Content) (shown : List (Seen v kind cs)) (found : Option Content) (old mid new : List Content)
       → map (λ (p : Content). p.id) (item ∷ rest) ≡ own_ids shown → found ≡ find (is_at kind item.id) cs
-      → ((c : Content) → found ≡ Some c → mid ≡ old ++ and_those (view_with_groups v gs c) [])
-      → ((xs : List (Seen v kind cs)) → map (λ (p : Content). p.id) rest ≡ own_ids xs → new ≡ mid ++ whole xs)
+      → ((c : Content) → found ≡ Some c → find (is_at kind c.id) cs ≡ Some c → Told × (mid ≡ old ++ and_those (view_with_groups v gs c) []))
+      → (Told → (xs : List (Seen v kind cs)) → map (λ (p : Content). p.id) rest ≡ own_ids xs → new ≡ mid ++ whole xs)
       → new ≡ old ++ whole shown
-  pushed_more item rest [] found old mid new ids is first later = cc
-  pushed_more item rest (x ∷ xs) found old mid new ids is first later =
+  pushed_more Told item rest [] found old mid new ids is first later = cc
+  pushed_more Told item rest (x ∷ xs) found old mid new ids is first later =
       let own : item.id ≡ x.own.id = cc in
       let others : map (λ (p : Content). p.id) rest ≡ own_ids xs = cc in
       let sought : found ≡ Some x.own = is ∙ ap (λ (id : List ℕ). find (is_at kind id) cs) own ∙ x.found in
-      let one : mid ≡ old ++ with_groups v gs x.own ∷ [] = rw x.seen at (first x.own sought) in
-      later xs others ∙ ap (λ (ps : List Content). ps ++ whole xs) one ∙ append_assoc old (with_groups v gs x.own ∷ []) (whole xs)
+      let told = first x.own sought x.found in
+      let one : mid ≡ old ++ with_groups v gs x.own ∷ [] = rw x.seen at told.1 in
+      later told.0 xs others ∙ ap (λ (ps : List Content). ps ++ whole xs) one ∙ append_assoc old (with_groups v gs x.own ∷ []) (whole xs)
 
 -- ---- whether the viewer sees a resource, by the decision on its `id`
 
@@ -229,3 +261,20 @@ none_matches v kind gs f base store is never =
     let parts : All IsPart cs = All-filter (is_of kind) IsPart store.resources (parts_of base store is) in
     let own : All (λ c. is_of kind c ≡ true) cs = filter_passes (is_of kind) store.resources in
     none_match f v gs cs (λ k d lt. never _ (parts k d lt) (same_true the_kind tt _ kind (own k d lt)))
+
+-- ---- decisions that are kept
+
+-- what is decided on a resource that is found by its id is decided on the one of that id
+pub on_found : (v : Viewer) (kind : Kind) (cs : List Content) (id : List ℕ) (c : Content) (ds : Decisions) → id ≡ c.id
+    → find (is_at kind c.id) cs ≡ Some c → AreFor v c ds → AreOn v kind cs id ds
+on_found v kind cs id c ds same found are e at =
+    let one : Some c ≡ Some e = sym found ∙ ap (λ (i : List ℕ). find (is_at kind i) cs) (sym same) ∙ at in
+    subst (λ (x : Content). AreFor v x ds) (same_Some c e one) are
+
+-- what the test of some attributes keeps of a resource is what may be seen of them
+pub named_part : (test : MayBeSeenOf) (attributes : Bor (List Attribute)) (kind : Kind) (decisions : Bor Decisions) (v : Viewer) (part c : Content)
+    → test ≡ record { attributes = attributes; seen = record { kind = kind; decisions = decisions } } → kind ≡ c.kind → part ≡ c → AreFor v c decisions.now
+    → restricted_part (may_be_seen_of test.attributes.now (decision test.seen.decisions.now) test.seen.kind) part ≡ visible_attributes attributes.now (read_decision v c) c
+unfolding visible_attributes
+named_part test attributes kind decisions v part c is own same are =
+    rw (is, own, same) (ap (λ (d : Leaf → Decision). content c.kind c.id (restricted (may_be_seen_of attributes.now d c.kind) (rows c))) (fun_ext are))

@@ -1,3 +1,4 @@
+pub mod Decided
 pub mod GroupsBeside
 pub mod Lookups
 pub mod ReadDecisions

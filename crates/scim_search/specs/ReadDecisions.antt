@@ -3,6 +3,7 @@ use Rattle.std.specs.Prelude.{◌≡◌}
 use Rattle.scim_schema.specs.declared.Kind.{Kind}
 use Rattle.scim_schema.specs.declared.Leaf.{Leaf}
 use Rattle.scim_cell.specs.Content.{Content}
+use Rattle.scim_policy.specs.declared.decisions.Decisions.{Decisions}
 use Rattle.scim_policy.specs.declared.rules.Decision.{Decision}
 use Rattle.scim_policy.specs.Table.{decision}
 use Rattle.scim_policy.specs.Picked.{decided_by}
@@ -10,6 +11,10 @@ use Rattle.scim_view.specs.View.{Viewer, read_decision}
 use Rattle.scim_search.specs.declared.read_decisions.Form.{Form}
 use Rattle.scim_search.specs.declared.read_decisions.Form.TheVariants.{Alike, ByTarget}
 use Rattle.scim_search.specs.declared.read_decisions.ReadDecisions.{ReadDecisions}
+
+-- these are the decisions on the viewer's reading of the resource
+abbrev pub AreFor : Viewer → Content → Decisions → Type 0
+AreFor v c decisions = (l : Leaf) → decision decisions l ≡ read_decision v c l
 
 -- what is decided on each resource of the kind is what the policy decides on the viewer's reading of it
 abbrev pub DecidesOn : Viewer → Kind → (Content → Leaf → Decision) → Type 0

@@ -1,8 +1,10 @@
 -- What becomes of a visitor that is shown a resource.
-use Rattle.std.specs.Prelude.{◌≡◌, ℕ, true, List, [], ◌∷◌, ◌++◌}
+use Rattle.std.specs.Prelude.{◌≡◌, ℕ, true, List, [], ◌∷◌, ◌++◌, Some, find}
+use Rattle.scim_schema.specs.declared.Kind.{Kind}
+use Rattle.scim_schema.specs.declared.Kind.TheVariants.{Group}
 use Rattle.scim_cell.specs.Content.{Content}
 use Rattle.scim_value.specs.Members.{lists}
-use Rattle.scim_view.specs.View.{viewer_of}
+use Rattle.scim_view.specs.View.{Viewer, viewer_of}
 use Rattle.scim_view.specs.Groups.{and_those}
 use Rattle.scim_view.specs.Indexes.{IsIndexOf}
 use Rattle.scim_view.specs.Listings.{AreListing}
@@ -10,6 +12,8 @@ use Rattle.scim_query.specs.Pagers.{HasTaken}
 use Rattle.scim_search.specs.declared.visitors.GroupVisitor.{GroupVisitor}
 use Rattle.scim_search.specs.declared.visitors.ListingVisitor.{ListingVisitor}
 use Rattle.scim_search.specs.declared.visitors.SearchVisitor.{SearchVisitor}
+use Rattle.scim_shelf.specs.Stores.{is_at}
+use Rattle.scim_search.specs.Decided.{Recalls}
 use Rattle.scim_search.specs.ReadDecisions.{AreDecisions}
 use Rattle.scim_search.specs.Sights.{IsSight, part_of}
 
@@ -20,16 +24,22 @@ pub record TakesGroup (old : GroupVisitor) (c : Content) (new : GroupVisitor) : 
   pub index : (groups : List Content) → AreDecisions (viewer_of old.viewer.now) old.decisions → IsIndexOf (viewer_of old.viewer.now) groups old.index
       → IsIndexOf (viewer_of old.viewer.now) (groups ++ c ∷ []) new.index
 
--- a group that lists a resource joins those that are gathered
-pub record TakesListing (old : ListingVisitor) (c : Content) (new : ListingVisitor) : Type 0 where
-  pub viewer : new.viewer ≡ old.viewer
-  pub decisions : new.decisions ≡ old.decisions
-  pub groups : (id : List ℕ) (gathered : List Content) → AreDecisions (viewer_of old.viewer.now) old.decisions.now → lists id c ≡ true
-      → AreListing (viewer_of old.viewer.now) id gathered old.groups → AreListing (viewer_of old.viewer.now) id (gathered ++ c ∷ []) new.groups
+-- the visitor tells groups as the viewer sees them: it decides as the policy does on the groups of these resources, and so it did
+pub record Tells (v : Viewer) (cs : List Content) (listing : ListingVisitor) : Type 0 where
+  pub viewer : viewer_of listing.viewer.now ≡ v
+  pub decisions : AreDecisions v listing.decisions
+  pub decided : Recalls v Group cs listing.decided
 
--- what is made of a resource is handed to the pager, where it is seen
+-- a group that lists a resource joins those that are gathered
+abbrev pub TakesListing : ListingVisitor → Content → ListingVisitor → Type 0
+TakesListing old c new = (v : Viewer) (cs : List Content) → find (is_at Group c.id) cs ≡ Some c → Tells v cs old
+    → Tells v cs new × ((id : List ℕ) (gathered : List Content) → lists id c ≡ true → AreListing v id gathered old.groups → AreListing v id (gathered ++ c ∷ []) new.groups)
+
+-- what is made of a resource is handed to the pager, where it is seen, and what was decided on it may be kept
 pub record TakesResource (old : SearchVisitor) (c : Content) (new : SearchVisitor) : Type 0 where
   pub sight : new.sight ≡ old.sight
   pub query : new.pager.query ≡ old.pager.query
   pub taken : (groups parts : List Content) → IsSight groups old.sight → HasTaken parts old.pager
       → HasTaken (parts ++ and_those (part_of groups old.sight c) []) new.pager
+  pub decided : (groups cs : List Content) (kind : Kind) → IsSight groups old.sight → find (is_at kind c.id) cs ≡ Some c
+      → Recalls (viewer_of old.sight.viewer.now) kind cs old.decided → Recalls (viewer_of old.sight.viewer.now) kind cs new.decided

@@ -11,6 +11,7 @@ use Rattle.scim_view.specs.Indexes.{IsIndexOf}
 use Rattle.scim_shelf.specs.Stores.{is_at}
 use Rattle.scim_search.specs.declared.sights.Sight.{Sight}
 use Rattle.scim_search.specs.declared.whole_items.ItemSight.{ItemSight}
+use Rattle.scim_search.specs.Decided.{Recalls}
 use Rattle.scim_search.specs.ReadDecisions.{AreDecisions}
 use Rattle.scim_search.specs.Sights.{made, made_of_all}
 
@@ -24,10 +25,10 @@ pub record IndexTells (v : Viewer) (kind : Kind) (cs : List Content) (index : Gr
 abbrev pub made_of_kind : List Content → Sight → Kind → List Content → List Content
 made_of_kind groups sight kind cs = made_of_all (made (viewer_of sight.viewer.now) groups sight.shows) (viewer_of sight.viewer.now) (of_kind kind cs)
 
--- the decisions, on the kind of a page's items and on groups, are those on the viewer's reading
-pub record IsItemSight (sight : ItemSight) : Type 0 where
-  pub on_kind : AreDecisions (viewer_of sight.viewer.now) sight.on_kind.now
-  pub on_groups : AreDecisions (viewer_of sight.viewer.now) sight.on_groups.now
+-- the decisions on the kind of a page's items are those on the viewer's reading, and so are those that are kept
+pub record IsItemSight (cs : List Content) (sight : ItemSight) : Type 0 where
+  pub decisions : AreDecisions (viewer_of sight.viewer.now) sight.decisions.now
+  pub decided : Recalls (viewer_of sight.viewer.now) sight.kind cs sight.decided.now
 
 -- a resource of the kind that the viewer sees, which is the one that is found by its id
 pub record Seen (v : Viewer) (kind : Kind) (cs : List Content) : Type 0 where

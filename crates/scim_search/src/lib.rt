@@ -3,6 +3,7 @@
 #![tactic(auto)]
 
 mod beside;
+mod decided;
 mod lookups;
 mod pages;
 mod read_decisions;

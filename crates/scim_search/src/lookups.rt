@@ -13,7 +13,7 @@ ghost use Rattle.scim_shelf.specs.Stores.{IsStore, has_name, is_at};
 ghost use Rattle.scim_search.specs.Lookups as spec;
 
 use crate::beside::view_beside;
-use crate::read_decisions::ReadDecisions;
+use crate::visitors::ListingVisitor;
 use scim_cell::Id;
 use scim_filter::StringLiteral;
 use scim_query::{Page, Pager, Query};
@@ -80,8 +80,8 @@ fn seen_part<S: Shelf>(
         return Ok(None);
     }
     let decisions = viewer.decisions(alloc, resource)?;
-    let on_groups = ReadDecisions::of(alloc, viewer, Kind::Group)?;
-    view_beside(alloc, viewer, &decisions, &on_groups, shelf, resource)
+    let mut listing = ListingVisitor::new(alloc, viewer)?;
+    view_beside(alloc, viewer, &decisions, &mut listing, shelf, resource)
 }
 
 /// The same for what was found, if anything was.

@@ -1,13 +1,17 @@
 //! What the policy decides on reading the resources of a kind.
-ghost use Rattle.std.specs.Prelude.{◌≡◌, false, true, IfOk, IfSome, List};
+ghost use Rattle.std.specs.Prelude.{◌≡◌, false, true, Some, IfOk, IfSome, List, find};
+ghost use Rattle.scim_schema.specs.declared.Kind.{Kind as SpecKind};
 ghost use Rattle.scim_schema.specs.declared.Leaf.{Leaf};
 ghost use Rattle.scim_cell.specs.Content.{Content, IsPart};
 ghost use Rattle.scim_policy.specs.Table.{decision};
 ghost use Rattle.scim_view.specs.View.{Viewer as SpecViewer, read_decision, sees, viewer_of};
 ghost use Rattle.scim_view.specs.Groups.{with_groups};
 ghost use Rattle.scim_query.specs.Pages.{is_match};
+ghost use Rattle.scim_shelf.specs.Stores.{is_at};
+ghost use Rattle.scim_search.specs.Decided.{Recalls};
 ghost use Rattle.scim_search.specs.ReadDecisions.{AreDecisions};
 
+use crate::decided::Decided;
 use scim_policy::{Decisions, RulesAbout};
 use scim_query::Query;
 use scim_schema::{Attribute, Kind, Leaf, Op};
@@ -63,6 +67,23 @@ impl<'a> ReadDecisions<'a> {
         match &self.form {
             Form::Alike(decisions) if resource.kind() == self.kind => Some(decisions),
             _ => None,
+        }
+    }
+
+    /// The decisions on reading the resource, where they needn't be made: those on all of its kind, or those that
+    /// are kept.
+    pub(crate) fn known<'d>(
+        &'d self,
+        decided: &'d Decided,
+        resource: &Resource,
+    ) -> Option<&'d Decisions>
+        ensures { (v : SpecViewer) (kind : SpecKind) (cs : List Content) → AreDecisions v self.now → Recalls v kind cs decided.now
+            → find (is_at kind resource.now.id) cs ≡ Some resource.now
+            → IfSome result (λ decisions. (l : Leaf) → decision decisions.now l ≡ read_decision v resource.now l) }
+    {
+        match self.on_all(resource) {
+            Some(decisions) => Some(decisions),
+            None => decided.of(resource.id()),
         }
     }
 

@@ -1,17 +1,19 @@
 //! What is made of a resource that a client sees.
-ghost use Rattle.std.specs.Prelude.{◌≡◌, if◌then◌else◌, None, Some, List, IfOk};
-ghost use Rattle.scim_schema.specs.declared.Leaf.{Leaf};
+ghost use Rattle.std.specs.Prelude.{◌≡◌, ◌++◌, [], List, IfOk, IfSome, OnOk};
 ghost use Rattle.scim_cell.specs.Content.{Content};
-ghost use Rattle.scim_policy.specs.Table.{decision};
-ghost use Rattle.scim_view.specs.View.{Viewer as SpecViewer, read_decision, sees, visible_attributes as seen_attributes, viewer_of};
+ghost use Rattle.scim_view.specs.View.{Viewer as SpecViewer, read_decision, visible_attributes as seen_attributes, viewer_of};
+ghost use Rattle.scim_view.specs.Groups.{and_those};
+ghost use Rattle.scim_query.specs.Pagers.{HasTaken};
+ghost use Rattle.scim_search.specs.ReadDecisions.{AreFor};
 ghost use Rattle.scim_search.specs.Sights as spec;
 
 use crate::read_decisions::ReadDecisions;
 use scim_policy::Decisions;
+use scim_query::Pager;
 use scim_schema::{Attribute, Leaf};
 use scim_text::NoMemory;
 use scim_value::{Part, Resource};
-use scim_view::{GroupIndex, Viewer, visible_attributes};
+use scim_view::{GroupIndex, MayBeSeenOf, Viewer};
 use std::alloc::Global;
 
 /// How much is made of a resource.
@@ -47,55 +49,75 @@ impl<'a> Sight<'a> {
         }
     }
 
-    /// What is made of the resource; None where the client doesn't see it. NoMemory where none was to be had.
-    pub(crate) fn part_of(
-        &self,
-        alloc: Global,
-        resource: &Resource,
-    ) -> Result<Option<Part>, NoMemory>
-        ensures { IfOk result (λ o. (groups : List Content) → spec.IsSight groups self.now
-            → o ≡ spec.part_of groups self.now resource.now) }
+    /// The decisions on reading the resource, where they are those on all of its kind.
+    pub(crate) fn on_all(&self, resource: &Resource) -> Option<&Decisions>
+        ensures { (groups : List Content) → spec.IsSight groups self.now
+            → IfSome result (λ decisions. AreFor (viewer_of self.now.viewer.now) resource.now decisions.now) }
     {
-        match self.decisions.on_all(resource) {
-            Some(decisions) => self.part_by(alloc, decisions, resource),
-            None => {
-                let decisions = self.decisions.on(alloc, self.viewer, resource)?;
-                self.part_by(alloc, &decisions, resource)
-            }
-        }
+        self.decisions.on_all(resource)
     }
 
-    /// The same by these decisions on reading the resource.
-    fn part_by(
+    /// The decisions on reading the resource, told for it alone. NoMemory where none was to be had.
+    pub(crate) fn decide(&self, alloc: Global, resource: &Resource) -> Result<Decisions, NoMemory>
+        ensures { IfOk result (λ decisions. (groups : List Content) → spec.IsSight groups self.now
+            → AreFor (viewer_of self.now.viewer.now) resource.now decisions) }
+    {
+        self.decisions.on(alloc, self.viewer, resource)
+    }
+
+    /// Hands a pager what is made of the resource by these decisions on reading it, where the client sees it. Tells
+    /// whether the pager holds a part that isn't whole, so that the decisions will be asked for again. NoMemory where
+    /// none was to be had.
+    pub(crate) fn show(
         &self,
         alloc: Global,
         decisions: &Decisions,
         resource: &Resource,
-    ) -> Result<Option<Part>, NoMemory>
-        ensures { IfOk result (λ o. (groups : List Content) → spec.IsSight groups self.now
-            → ((l : Leaf) → decision decisions.now l ≡ read_decision (viewer_of self.now.viewer.now) resource.now l)
-            → o ≡ spec.part_of groups self.now resource.now) }
+        pager: &mut Pager<'_>,
+    ) -> Result<bool, NoMemory>
+        ensures query { pager.new.query ≡ pager.old.query }
+        ensures taken { OnOk result ((groups parts : List Content) → spec.IsSight groups self.now
+            → AreFor (viewer_of self.now.viewer.now) resource.now decisions.now → HasTaken parts pager.old
+            → HasTaken (parts ++ and_those (spec.part_of groups self.now resource.now) []) pager.new) }
     {
         match self.shows {
-            Shows::Named(attributes) => named_part(alloc, decisions, attributes, resource),
-            Shows::Whole(index) => self.viewer.view_by_index(alloc, decisions, index, resource),
+            Shows::Named(attributes) => show_named(decisions, attributes, resource, pager),
+            Shows::Whole(index) => {
+                let part = self
+                    .viewer
+                    .view_by_index(alloc, decisions, index, resource)?;
+                show_if_seen(part, pager)
+            }
         }
     }
 }
 
-/// What may be seen of these attributes of the resource by these decisions; None where its `id` may not be read.
-fn named_part(
-    alloc: Global,
+/// Hands a pager what may be seen of these attributes of the resource by these decisions, if its `id` may be read; and
+/// tells whether the pager holds it. It is a copy only where it is held.
+fn show_named(
     decisions: &Decisions,
     attributes: &[Attribute],
     resource: &Resource,
-) -> Result<Option<Part>, NoMemory>
-    ensures { IfOk result (λ o. (v : SpecViewer) → ((l : Leaf) → decision decisions.now l ≡ read_decision v resource.now l)
-        → o ≡ (if sees v resource.now then Some (seen_attributes attributes.now (read_decision v resource.now) resource.now) else None)) }
+    pager: &mut Pager<'_>,
+) -> Result<bool, NoMemory>
+    ensures query { pager.new.query ≡ pager.old.query }
+    ensures taken { OnOk result ((v : SpecViewer) (parts : List Content) → AreFor v resource.now decisions.now → HasTaken parts pager.old
+        → HasTaken (parts ++ and_those (spec.made_if_seen (λ c. seen_attributes attributes.now (read_decision v c) c) v resource.now) []) pager.new) }
 {
     if !decisions.of(Leaf::simple(Attribute::Id)).allow {
-        return Ok(None);
+        return Ok(false);
     }
-    let part = visible_attributes(alloc, decisions, resource, attributes)?;
-    Ok(Some(part))
+    let test = MayBeSeenOf::new(attributes, resource.kind(), decisions);
+    pager.push_where(resource.part(), &test)
+}
+
+/// Hands a pager a whole part, if there is one.
+fn show_if_seen(part: Option<Part>, pager: &mut Pager<'_>) -> Result<bool, NoMemory>
+    ensures query { pager.new.query ≡ pager.old.query }
+    ensures taken { OnOk result ((parts : List Content) → HasTaken parts pager.old → HasTaken (parts ++ and_those part []) pager.new) }
+{
+    if let Some(part) = part {
+        pager.push(part)?;
+    }
+    Ok(false)
 }

@@ -1,5 +1,6 @@
 //! What is done with resources as the store is walked.
 ghost use Rattle.std.specs.Prelude.{◌≡◌, ℕ, List, [], IfOk};
+ghost use Rattle.scim_schema.specs.declared.Kind.{Kind as SpecKind};
 ghost use Rattle.scim_cell.specs.Content.{Content};
 ghost use Rattle.scim_view.specs.Indexes.{IsIndexOf};
 ghost use Rattle.scim_view.specs.View.{Viewer as SpecViewer, viewer_of};
@@ -7,8 +8,10 @@ ghost use Rattle.scim_query.specs.Pages.{IsPage};
 ghost use Rattle.scim_query.specs.Pagers.{HasTaken, ComeInOrder};
 ghost use Rattle.scim_search.specs.ReadDecisions.{AreDecisions};
 ghost use Rattle.scim_view.specs.Listings.{AreListing};
-ghost use Rattle.scim_search.specs.Visits.{TakesGroup, TakesListing, TakesResource};
+ghost use Rattle.scim_search.specs.Decided.{Recalls};
+ghost use Rattle.scim_search.specs.Visits.{TakesGroup, TakesListing, TakesResource, Tells};
 
+use crate::decided::Decided;
 use crate::read_decisions::ReadDecisions;
 use crate::sights::Sight;
 use scim_query::{Page, Pager, Query};
@@ -63,30 +66,43 @@ impl<'a> Visitor for GroupVisitor<'a> {
     }
 }
 
-/// Gathers groups that list a resource, of those that a client sees to list it.
+/// Gathers groups that list a resource, of those that a client sees to list it. For several resources of one request it is
+/// the same visitor, so that none of these groups is decided on twice.
 #[derive(Drop)]
 pub(crate) struct ListingVisitor<'a> {
     viewer: &'a Viewer<'a>,
-    decisions: &'a ReadDecisions<'a>,
+    decisions: ReadDecisions<'a>,
+    decided: Decided,
     groups: ListingGroups,
 }
 
 impl<'a> ListingVisitor<'a> {
-    /// One that has none yet, by these decisions on reading groups. It takes no memory.
-    pub(crate) fn new(
-        alloc: Global,
-        viewer: &'a Viewer<'a>,
-        decisions: &'a ReadDecisions<'a>,
-    ) -> ListingVisitor<'a>
-        ensures viewer { result.viewer ≡ viewer.entry }
-        ensures decisions { result.decisions ≡ decisions.entry }
-        ensures groups { (v : SpecViewer) (id : List ℕ) → AreListing v id [] result.groups }
+    /// One that has none yet. NoMemory where none was to be had.
+    pub(crate) fn new(alloc: Global, viewer: &'a Viewer<'a>) -> Result<ListingVisitor<'a>, NoMemory>
+        ensures { IfOk result (λ listing. (cs : List Content) → Tells (viewer_of viewer.entry.now) cs listing) }
     {
-        ListingVisitor {
+        let decisions = ReadDecisions::of(alloc, viewer, Kind::Group)?;
+        Ok(ListingVisitor {
             viewer,
             decisions,
+            decided: Decided::new(alloc),
             groups: ListingGroups::new(alloc),
-        }
+        })
+    }
+
+    /// Lets what was gathered go, before the groups of another resource are gathered. It takes no memory.
+    pub(crate) fn clear(&mut self, alloc: Global)
+        ensures tells { (v : SpecViewer) (cs : List Content) → Tells v cs self.old → Tells v cs self.new }
+        ensures groups { (v : SpecViewer) (id : List ℕ) → AreListing v id [] self.new.groups }
+    {
+        self.groups = ListingGroups::new(alloc);
+    }
+
+    /// What was gathered.
+    pub(crate) fn groups(&self) -> &ListingGroups
+        ensures { result.now ≡ self.now.groups }
+    {
+        &self.groups
     }
 
     pub(crate) fn end(self) -> ListingGroups
@@ -100,13 +116,12 @@ impl<'a> Visitor for ListingVisitor<'a> {
     ghost takes = { TakesListing };
 
     fn take(&mut self, alloc: Global, resource: &Resource) -> Result<(), NoMemory> {
-        match self.decisions.on_all(resource) {
-            Some(decisions) => self.groups.push(alloc, decisions, resource),
-            None => {
-                let decisions = self.decisions.on(alloc, self.viewer, resource)?;
-                self.groups.push(alloc, &decisions, resource)
-            }
+        if let Some(decisions) = self.decisions.known(&self.decided, resource) {
+            return self.groups.push(alloc, decisions, resource);
         }
+        let decisions = self.decisions.on(alloc, self.viewer, resource)?;
+        self.groups.push(alloc, &decisions, resource)?;
+        self.decided.keep(resource.id(), decisions)
     }
 }
 
@@ -115,6 +130,16 @@ impl<'a> Visitor for ListingVisitor<'a> {
 pub(crate) struct SearchVisitor<'a> {
     sight: Sight<'a>,
     pager: Pager<'a>,
+    /// What was decided on resources that the pager holds.
+    decided: Decided,
+}
+
+/// What a walk has found.
+#[derive(Drop)]
+pub(crate) struct Found {
+    pub(crate) page: Page,
+    /// What was decided on resources that may be on the page.
+    pub(crate) decided: Decided,
 }
 
 impl<'a> SearchVisitor<'a> {
@@ -123,18 +148,25 @@ impl<'a> SearchVisitor<'a> {
         ensures sight { result.sight ≡ sight.entry }
         ensures query { result.pager.query ≡ query.entry }
         ensures taken { HasTaken [] result.pager }
+        ensures decided { (v : SpecViewer) (kind : SpecKind) (cs : List Content) → Recalls v kind cs result.decided }
     {
         SearchVisitor {
             sight,
             pager: Pager::new(alloc, query),
+            decided: Decided::new(alloc),
         }
     }
 
-    pub(crate) fn end(self) -> Result<Page, NoMemory>
-        ensures { IfOk result (λ page. (parts : List Content) → HasTaken parts self.entry.pager
-            → ComeInOrder self.entry.pager.query.now parts → IsPage parts self.entry.pager.query.now page) }
+    pub(crate) fn end(self) -> Result<Found, NoMemory>
+        ensures page { IfOk result (λ found. (parts : List Content) → HasTaken parts self.entry.pager
+            → ComeInOrder self.entry.pager.query.now parts → IsPage parts self.entry.pager.query.now found.page) }
+        ensures decided { IfOk result (λ found. found.decided ≡ self.entry.decided) }
     {
-        self.pager.end()
+        let page = self.pager.end()?;
+        Ok(Found {
+            page,
+            decided: self.decided,
+        })
     }
 }
 
@@ -142,9 +174,18 @@ impl<'a> Visitor for SearchVisitor<'a> {
     ghost takes = { TakesResource };
 
     fn take(&mut self, alloc: Global, resource: &Resource) -> Result<(), NoMemory> {
-        match self.sight.part_of(alloc, resource)? {
-            Some(part) => self.pager.push(part),
-            None => Ok(()),
+        if let Some(decisions) = self.sight.on_all(resource) {
+            self.sight
+                .show(alloc, decisions, resource, &mut self.pager)?;
+            return Ok(());
         }
+        let decisions = self.sight.decide(alloc, resource)?;
+        if self
+            .sight
+            .show(alloc, &decisions, resource, &mut self.pager)?
+        {
+            self.decided.keep(resource.id(), decisions)?;
+        }
+        Ok(())
     }
 }

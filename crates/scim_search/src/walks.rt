@@ -10,19 +10,19 @@ ghost use Rattle.scim_query.specs.NamedAttributes.{attributes_of, names_groups};
 ghost use Rattle.scim_query.specs.Pages.{IsPage};
 ghost use Rattle.scim_shelf.specs.Shelves.{Answers, OnlyReads};
 ghost use Rattle.scim_shelf.specs.Stores.{IsStore};
+ghost use Rattle.scim_search.specs.Decided.{Recalls};
 ghost use Rattle.scim_search.specs.ReadDecisions.{AreDecisions};
 ghost use Rattle.scim_search.specs.Sights as sights;
 ghost use Rattle.scim_search.specs.Walks as spec;
 
 use crate::read_decisions::ReadDecisions;
 use crate::sights::{Shows, Sight};
-use crate::visitors::{GroupVisitor, SearchVisitor};
+use crate::visitors::{Found, GroupVisitor, SearchVisitor};
 use crate::whole_items::{ItemSight, whole_items};
 use scim_query::{Page, Pager, Query};
 use scim_schema::{Attribute, Kind};
 use scim_shelf::{Shelf, ShelfFault};
 use scim_text::Failed;
-use scim_value::Part;
 use scim_view::{GroupIndex, Viewer};
 use std::alloc::Global;
 
@@ -59,17 +59,18 @@ fn groups_for<S: Shelf>(
     }
 }
 
-/// The page that the query asks for of what is made of the resources of a kind.
+/// The page that the query asks for of what is made of the resources of a kind, and what was decided on them.
 fn page_made<S: Shelf>(
     alloc: Global,
     sight: Sight<'_>,
     shelf: &mut S,
     kind: Kind,
     query: &Query,
-) -> Result<Page, Failed<ShelfFault>>
-    ensures page { IfOk result (Answers S.stands S.is_honest shelf.old shelf.new (λ store page. (groups : List Content) (base : List ℕ)
+) -> Result<Found, Failed<ShelfFault>>
+    ensures page { IfOk result (Answers S.stands S.is_honest shelf.old shelf.new (λ store found. (groups : List Content) (base : List ℕ)
         → sights.IsSight groups sight.entry → IsStore base store
-        → IsPage (spec.made_of_kind groups sight.entry kind store.resources) query.now page)) }
+        → IsPage (spec.made_of_kind groups sight.entry kind store.resources) query.now found.page
+        × Recalls (viewer_of sight.entry.viewer.now) kind store.resources found.decided)) }
     ensures read { OnlyReads S.stands S.is_honest S.failures shelf.old shelf.new result }
 {
     let mut search = SearchVisitor::new(alloc, sight, query);
@@ -93,26 +94,7 @@ fn page_by_groups<S: Shelf>(
 {
     let index = groups_for(alloc, viewer, shelf, kind)?;
     let sight = Sight::new(viewer, decisions, Shows::Whole(&index));
-    page_made(alloc, sight, shelf, kind, query)
-}
-
-/// The parts of a page, each whole and with its groups, in place of what may be seen of some attributes of it.
-fn with_whole_items<S: Shelf>(
-    alloc: Global,
-    viewer: &Viewer<'_>,
-    decisions: &ReadDecisions<'_>,
-    shelf: &mut S,
-    kind: Kind,
-    items: &[Part],
-) -> Result<Vec<Part>, Failed<ShelfFault>>
-    requires { AreDecisions (viewer_of viewer.now) decisions.now }
-    ensures whole { IfOk result (Answers S.stands S.is_honest shelf.old shelf.new (λ store whole. (base : List ℕ) → IsStore base store
-        → spec.AreWhole (viewer_of viewer.now) kind store.resources items.now whole.items)) }
-    ensures read { OnlyReads S.stands S.is_honest S.failures shelf.old shelf.new result }
-{
-    let on_groups = ReadDecisions::of(alloc, viewer, Kind::Group)?;
-    let sight = ItemSight::new(viewer, decisions, &on_groups);
-    whole_items(alloc, sight, shelf, kind, items)
+    Ok(page_made(alloc, sight, shelf, kind, query)?.page)
 }
 
 /// The page that the client's query asks for, where the query names these attributes and not `groups`: it is told
@@ -135,14 +117,14 @@ fn page_by_named<S: Shelf>(
 {
     let sight = Sight::new(viewer, decisions, Shows::Named(attributes));
     let found = page_made(alloc, sight, shelf, kind, query)?;
-    if found.items.as_slice().is_empty() {
-        return Ok(found);
+    if found.page.items.as_slice().is_empty() {
+        return Ok(found.page);
     }
-    let parts = found.items.as_slice();
-    let items = with_whole_items(alloc, viewer, decisions, shelf, kind, parts)?;
+    let sight = ItemSight::new(viewer, kind, decisions, &found.decided);
+    let items = whole_items(alloc, sight, shelf, found.page.items.as_slice())?;
     Ok(Page {
-        total: found.total,
-        start: found.start,
+        total: found.page.total,
+        start: found.page.start,
         items,
     })
 }

@@ -1,16 +1,19 @@
 //! The items of a page, made whole.
-ghost use Rattle.std.specs.Prelude.{◌≡◌, ◌++◌, [], ℕ, Some, List, map, IfOk, OnOk};
+ghost use Rattle.std.specs.Prelude.{◌≡◌, ◌++◌, [], ℕ, Some, List, map, find, IfOk, OnOk};
 ghost use Rattle.scim_schema.specs.declared.Kind.{Kind};
 ghost use Rattle.scim_cell.specs.Content.{Content};
 ghost use Rattle.scim_cell.specs.Kinds.{of_kind};
 ghost use Rattle.scim_view.specs.Groups.{and_those, view_with_groups, with_groups};
 ghost use Rattle.scim_view.specs.View.{viewer_of};
 ghost use Rattle.scim_shelf.specs.Shelves.{Answers, OnlyReads};
-ghost use Rattle.scim_shelf.specs.Stores.{IsStore};
+ghost use Rattle.scim_shelf.specs.Stores.{IsStore, is_at};
+ghost use Rattle.scim_search.specs.Visits.{Tells};
 ghost use Rattle.scim_search.specs.Walks as spec;
 
 use crate::beside::view_beside;
+use crate::decided::Decided;
 use crate::read_decisions::ReadDecisions;
+use crate::visitors::ListingVisitor;
 use scim_schema::Kind;
 use scim_shelf::{Shelf, ShelfFault};
 use scim_text::{Failed, NoMemory, push};
@@ -18,26 +21,29 @@ use scim_value::{Part, Resource};
 use scim_view::Viewer;
 use std::alloc::Global;
 
-/// Who looks at the items of a page, and by which decisions on their kind and on groups.
+/// Who looks at the items of a page, which are of this kind, by which decisions, and what was decided on them already.
 #[derive(Clone, Copy)]
 pub(crate) struct ItemSight<'a> {
     viewer: &'a Viewer<'a>,
-    on_kind: &'a ReadDecisions<'a>,
-    on_groups: &'a ReadDecisions<'a>,
+    kind: Kind,
+    decisions: &'a ReadDecisions<'a>,
+    decided: &'a Decided,
 }
 
 impl<'a> ItemSight<'a> {
     pub(crate) fn new(
         viewer: &'a Viewer<'a>,
-        on_kind: &'a ReadDecisions<'a>,
-        on_groups: &'a ReadDecisions<'a>,
+        kind: Kind,
+        decisions: &'a ReadDecisions<'a>,
+        decided: &'a Decided,
     ) -> ItemSight<'a>
-        ensures { result ≡ record { viewer = viewer.entry; on_kind = on_kind.entry; on_groups = on_groups.entry } }
+        ensures { result ≡ record { viewer = viewer.entry; kind = kind; decisions = decisions.entry; decided = decided.entry } }
     {
         ItemSight {
             viewer,
-            on_kind,
-            on_groups,
+            kind,
+            decisions,
+            decided,
         }
     }
 
@@ -45,33 +51,21 @@ impl<'a> ItemSight<'a> {
     fn part_of<S: Shelf>(
         &self,
         alloc: Global,
+        listing: &mut ListingVisitor<'_>,
         shelf: &mut S,
         resource: &Resource,
     ) -> Result<Option<Part>, Failed<ShelfFault>>
-        requires { spec.IsItemSight self.now }
         ensures part { IfOk result (Answers S.stands S.is_honest shelf.old shelf.new (λ store part. (base : List ℕ) → IsStore base store
-            → part ≡ view_with_groups (viewer_of self.now.viewer.now) (of_kind Kind.Group store.resources) resource.now)) }
+            → spec.IsItemSight store.resources self.now → find (is_at self.now.kind resource.now.id) store.resources ≡ Some resource.now
+            → Tells (viewer_of self.now.viewer.now) store.resources listing.old → Tells (viewer_of self.now.viewer.now) store.resources listing.new
+            × (part ≡ view_with_groups (viewer_of self.now.viewer.now) (of_kind Kind.Group store.resources) resource.now))) }
         ensures read { OnlyReads S.stands S.is_honest S.failures shelf.old shelf.new result }
     {
-        match self.on_kind.on_all(resource) {
-            Some(decisions) => view_beside(
-                alloc,
-                self.viewer,
-                decisions,
-                self.on_groups,
-                shelf,
-                resource,
-            ),
+        match self.decisions.known(self.decided, resource) {
+            Some(decisions) => view_beside(alloc, self.viewer, decisions, listing, shelf, resource),
             None => {
-                let decisions = self.on_kind.on(alloc, self.viewer, resource)?;
-                view_beside(
-                    alloc,
-                    self.viewer,
-                    &decisions,
-                    self.on_groups,
-                    shelf,
-                    resource,
-                )
+                let decisions = self.decisions.on(alloc, self.viewer, resource)?;
+                view_beside(alloc, self.viewer, &decisions, listing, shelf, resource)
             }
         }
     }
@@ -91,19 +85,21 @@ fn push_if_seen(part: Option<Part>, parts: &mut Vec<Part>) -> Result<(), NoMemor
 fn push_part<S: Shelf>(
     alloc: Global,
     sight: ItemSight<'_>,
+    listing: &mut ListingVisitor<'_>,
     shelf: &mut S,
     resource: Option<Resource>,
     parts: &mut Vec<Part>,
 ) -> Result<(), Failed<ShelfFault>>
-    requires { spec.IsItemSight sight }
-    ensures parts { IfOk result (Answers S.stands S.is_honest shelf.old shelf.new (λ store _. (base : List ℕ) (c : Content) → IsStore base store → resource ≡ Some c
-        → parts.new.items ≡ parts.old.items ++ and_those (view_with_groups (viewer_of sight.entry.viewer.now) (of_kind Kind.Group store.resources) c) [])) }
+    ensures parts { IfOk result (Answers S.stands S.is_honest shelf.old shelf.new (λ store _. (base : List ℕ) (c : Content) → IsStore base store
+        → spec.IsItemSight store.resources sight.entry → resource ≡ Some c → find (is_at sight.entry.kind c.id) store.resources ≡ Some c
+        → Tells (viewer_of sight.entry.viewer.now) store.resources listing.old → Tells (viewer_of sight.entry.viewer.now) store.resources listing.new
+        × (parts.new.items ≡ parts.old.items ++ and_those (view_with_groups (viewer_of sight.entry.viewer.now) (of_kind Kind.Group store.resources) c) []))) }
     ensures read { OnlyReads S.stands S.is_honest S.failures shelf.old shelf.new result }
 {
     let Some(resource) = resource else {
         return Ok(());
     };
-    let part = sight.part_of(alloc, shelf, &resource)?;
+    let part = sight.part_of(alloc, listing, shelf, &resource)?;
     Ok(push_if_seen(part, parts)?)
 }
 
@@ -112,41 +108,42 @@ fn push_part<S: Shelf>(
 fn push_parts<S: Shelf>(
     alloc: Global,
     sight: ItemSight<'_>,
+    listing: &mut ListingVisitor<'_>,
     shelf: &mut S,
-    kind: Kind,
     items: &[Part],
     parts: &mut Vec<Part>,
 ) -> Result<(), Failed<ShelfFault>>
-    requires { spec.IsItemSight sight }
-    ensures parts { IfOk result (Answers S.stands S.is_honest shelf.old shelf.new (λ store _. (base : List ℕ) (found : List (spec.Seen (viewer_of sight.entry.viewer.now) kind store.resources))
-        → IsStore base store → map (λ p. p.id) items.now ≡ map (λ x. x.own.id) found
+    ensures parts { IfOk result (Answers S.stands S.is_honest shelf.old shelf.new (λ store _. (base : List ℕ)
+        (found : List (spec.Seen (viewer_of sight.entry.viewer.now) sight.entry.kind store.resources))
+        → IsStore base store → spec.IsItemSight store.resources sight.entry → Tells (viewer_of sight.entry.viewer.now) store.resources listing.old
+        → map (λ p. p.id) items.now ≡ map (λ x. x.own.id) found
         → parts.new.items ≡ parts.old.items ++ map (λ x. with_groups (viewer_of sight.entry.viewer.now) (of_kind Kind.Group store.resources) x.own) found)) }
     ensures read { OnlyReads S.stands S.is_honest S.failures shelf.old shelf.new result }
 {
     match items {
         [] => Ok(()),
         [item, rest @ ..] => {
-            let resource = shelf.by_id(alloc, kind, item.id())?;
-            push_part(alloc, sight, shelf, resource, parts)?;
-            push_parts(alloc, sight, shelf, kind, rest, parts)
+            let resource = shelf.by_id(alloc, sight.kind, item.id())?;
+            push_part(alloc, sight, listing, shelf, resource, parts)?;
+            push_parts(alloc, sight, listing, shelf, rest, parts)
         }
     }
 }
 
-/// What the client sees of the resources of these ids with their groups, in their order.
+/// What the client sees of the resources of these ids with their groups, in their order. On none of the resources and
+/// on none of the groups the policy decides twice, nor on one that it has decided on already.
 pub(crate) fn whole_items<S: Shelf>(
     alloc: Global,
     sight: ItemSight<'_>,
     shelf: &mut S,
-    kind: Kind,
     items: &[Part],
 ) -> Result<Vec<Part>, Failed<ShelfFault>>
-    requires { spec.IsItemSight sight }
     ensures whole { IfOk result (Answers S.stands S.is_honest shelf.old shelf.new (λ store whole. (base : List ℕ) → IsStore base store
-        → spec.AreWhole (viewer_of sight.entry.viewer.now) kind store.resources items.now whole.items)) }
+        → spec.IsItemSight store.resources sight.entry → spec.AreWhole (viewer_of sight.entry.viewer.now) sight.entry.kind store.resources items.now whole.items)) }
     ensures read { OnlyReads S.stands S.is_honest S.failures shelf.old shelf.new result }
 {
+    let mut listing = ListingVisitor::new(alloc, sight.viewer)?;
     let mut parts = Vec::with_capacity(alloc, items.len())?;
-    push_parts(alloc, sight, shelf, kind, items, &mut parts)?;
+    push_parts(alloc, sight, &mut listing, shelf, items, &mut parts)?;
     Ok(parts)
 }

@@ -155,9 +155,9 @@ impl Viewer<'_> {
         groups: &ListingGroups,
         resource: &Resource,
     ) -> Result<Part, NoMemory>
-        requires { (l : Leaf) → decision decisions.now l ≡ seeing.read_decision (viewer_of self.now) resource.now l }
-        ensures { IfOk result (λ p. (gs : List Content) → AreListing (viewer_of self.now) resource.now.id gs groups.now
-            → p ≡ spec.with_groups (viewer_of self.now) gs resource.now) }
+        ensures { IfOk result (λ p. (gs : List Content)
+            → ((l : Leaf) → decision decisions.now l ≡ seeing.read_decision (viewer_of self.now) resource.now l)
+            → AreListing (viewer_of self.now) resource.now.id gs groups.now → p ≡ spec.with_groups (viewer_of self.now) gs resource.now) }
     {
         visible_among(alloc, decisions, resource, groups.as_slice(), self.base)
     }

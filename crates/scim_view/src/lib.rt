@@ -18,4 +18,4 @@ pub use listing_groups::ListingGroups;
 pub use names::Names;
 pub use projection::{Wanted, project};
 pub use viewers::Viewer;
-pub use views::{shows_some, visible_attributes};
+pub use views::{MayBeSeenOf, shows_some};

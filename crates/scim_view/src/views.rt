@@ -42,11 +42,24 @@ impl RowTest for MayBeSeen<'_> {
     }
 }
 
-/// Of the leaves that may be seen, those of these attributes.
+/// Of the leaves that may be seen of a resource, those of some attributes.
 #[derive(Clone, Copy)]
-struct MayBeSeenOf<'a> {
+pub struct MayBeSeenOf<'a> {
     attributes: &'a [Attribute],
     seen: MayBeSeen<'a>,
+}
+
+impl<'a> MayBeSeenOf<'a> {
+    /// Of what may be seen of a resource of the kind, by these decisions on reading it, what is of these attributes: as
+    /// [`Viewer::visible`], but that of others nothing is kept, and nothing is looked at.
+    pub fn new(attributes: &'a [Attribute], kind: Kind, decisions: &'a Decisions) -> MayBeSeenOf<'a>
+        ensures { result ≡ record { attributes = attributes.entry; seen = record { kind = kind; decisions = decisions.entry } } }
+    {
+        MayBeSeenOf {
+            attributes,
+            seen: MayBeSeen { kind, decisions },
+        }
+    }
 }
 
 impl RowTest for MayBeSeenOf<'_> {
@@ -147,29 +160,8 @@ pub(crate) fn visible_by(
     resource.part().restrict(alloc, &test)
 }
 
-/// What may be seen, by these decisions on reading it, of these attributes of the resource alone; as
-/// [`Viewer::visible`], but that nothing is copied of others. NoMemory where none was to be had.
-pub fn visible_attributes(
-    alloc: Global,
-    decisions: &Decisions,
-    resource: &Resource,
-    attributes: &[Attribute],
-) -> Result<Part, NoMemory>
-    ensures value { IfOk result (λ p. p ≡ spec.visible_attributes attributes.now (decision decisions.now) resource.now) }
-    ensures valid { IsPart resource.now }
-{
-    let test = MayBeSeenOf {
-        attributes,
-        seen: MayBeSeen {
-            kind: resource.kind(),
-            decisions,
-        },
-    };
-    resource.part().restrict(alloc, &test)
-}
-
 /// Whether some leaf of the attribute may be seen of resources of the kind, by these decisions on reading them.
-/// Where none may, [`visible_attributes`] has no cell of the attribute to give.
+/// Where none may, [`MayBeSeenOf`] keeps no cell of the attribute.
 pub fn shows_some(decisions: &Decisions, kind: Kind, attribute: Attribute) -> bool
     ensures { result ≡ spec.shows_some (decision decisions.now) kind attribute }
 {

@@ -1,6 +1,5 @@
 use Rattle.std.proofs.Common.{◌≡◌, ◌∙◌, sym, subst, true, List}
 use Rattle.std.specs.Prelude.{All}
-use Rattle.std.proofs.lemmas.Result.{IfOk-weaker}
 use Rattle.std.proofs.lemmas.List.Elements.{filter_passes}
 use denote.Enum.Bare.{same_true}
 use Rattle.scim_schema.specs.declared.Kind.TheVariants.{Group}
@@ -16,17 +15,15 @@ use Rattle.scim_search.proofs.StoreViews.{made_views, views_alike}
 use Rattle.scim_search.proofs.walks.page_by_groups.Goals as goal
 
 pub returns-clause-page : goal.returns-clause-page
-returns-clause-page g c =
-    IfOk-weaker c.page_made.result _ _
-    (λ page answer store stands honest base is.
+returns-clause-page g c store stands honest base is =
     let viewer = viewer_of c.args.viewer.now in
     let cs = of_kind c.args.kind store.resources in
-    let told = c.in_ok-index.ensures.index store stands (c.page_made.ensures.read.honest honest) in
+    let page = c.in_ok-page_made.field-0.page in
+    let told = c.in_ok-index.ensures.index store stands (c.in_ok-page_made.ensures.read.honest honest) in
     let sight = c.new-sight.ensures in
     let known : IsSight told.groups c.new-sight.result = subst (IsSight told.groups) (sym sight) (record { decisions = c.requires; index = told.is_index }) in
     let whole = subst (λ (s : Sight). IsPage (made_of_kind told.groups s c.args.kind store.resources) c.args.query.now page) sight
-    (answer store (c.in_ok-index.ensures.read.store store stands) honest told.groups base known is) in
+    (c.in_ok-page_made.ensures.page store (c.in_ok-index.ensures.read.store store stands) honest told.groups base known is).0 in
     let own : All (λ d. is_of c.args.kind d ≡ true) cs = filter_passes (is_of c.args.kind) store.resources in
     subst (λ (view : List Content). IsPage view c.args.query.now page)
-    (made_views viewer told.groups cs ∙ views_alike viewer told.groups (of_kind Group store.resources) cs (λ k d lt. told.same _ (same_true the_kind tt _ c.args.kind (own k d lt)))) whole)
-    c.page_made.ensures.page
+    (made_views viewer told.groups cs ∙ views_alike viewer told.groups (of_kind Group store.resources) cs (λ k d lt. told.same _ (same_true the_kind tt _ c.args.kind (own k d lt)))) whole

@@ -11,7 +11,9 @@ use Rattle.scim_search.specs.declared.sights.Sight.{Sight}
 use Rattle.scim_search.specs.Sights.{made, IsSight}
 use Rattle.scim_search.specs.Walks.{made_of_kind}
 use Rattle.scim_search.proofs.StoreViews.{made_id, made_ascends, strict_sorted}
+use Rattle.scim_search.specs.Decided.{Recalls}
 use Rattle.scim_search.proofs.VisitLemmas.{took_resources}
+use Rattle.scim_search.proofs.WalkLemmas.{kind_found}
 use Rattle.scim_search.proofs.walks.page_made.Goals as goal
 
 pub returns-clause-page : goal.returns-clause-page
@@ -30,4 +32,7 @@ returns-clause-page g c store stands honest groups base is valid =
     (walk.taken groups [] (subst (IsSight groups) (sym fresh.sight) is) fresh.taken) in
     let ascend = strict_sorted parts (made_ascends make viewer (made_id viewer groups sight.shows) (of_kind kind store.resources)
     (IsStrictlySortedBy-filter id_cmp (is_of kind) store.resources valid.keyed.ascending)) in
-    subst (λ (q : Bor Query). IsPage parts q.now c.in_ok-end.field-0) (walk.query ∙ fresh.query) (c.in_ok-end.ensures parts taken (λ e. ascend))
+    let kept = walk.decided groups store.resources kind (subst (IsSight groups) (sym fresh.sight) is) (kind_found base store valid kind) (fresh.decided (viewer_of first.sight.viewer.now) kind store.resources) in (
+      subst (λ (q : Bor Query). IsPage parts q.now c.in_ok-end.field-0.page) (walk.query ∙ fresh.query) (c.in_ok-end.ensures.page parts taken (λ e. ascend)),
+      subst (Recalls viewer kind store.resources) (sym c.in_ok-end.ensures.decided) (subst (λ (s : Sight). Recalls (viewer_of s.viewer.now) kind store.resources last.decided) fresh.sight kept),
+    )

@@ -6,6 +6,7 @@ use Rattle.scim_cell.specs.Content.{Content}
 use Rattle.scim_cell.specs.Kinds.{of_kind}
 use Rattle.scim_view.specs.View.{viewer_of}
 use Rattle.scim_shelf.specs.Stores.{is_at}
+use Rattle.scim_search.specs.Visits.{Tells}
 use Rattle.scim_search.proofs.ListLemmas.{first_and_rest, rest_whole}
 use Rattle.scim_search.proofs.WalkLemmas.{pushed_more}
 use Rattle.scim_search.proofs.whole_items.+push_parts.Goals as goal
@@ -13,7 +14,7 @@ use Rattle.scim_search.proofs.whole_items.+push_parts.Goals as goal
 pub returns-in_ok-push_part-in-len1-up-clause-parts : goal.returns-in_ok-push_part-in-len1-up-clause-parts
 returns-in_ok-push_part-in-len1-up-clause-parts g t c =
     IfOk-weaker c.push_parts.result _ _
-    (λ u answer store stands honest base found is ids.
+    (λ u answer store stands honest base found is item_sight tells ids.
     let items = c.args.items.now in
     let item : Content = c.item-item.result in
     let groups = of_kind Group store.resources in
@@ -22,9 +23,9 @@ returns-in_ok-push_part-in-len1-up-clause-parts g t c =
     let looked = c.in_ok-push_part-in-len1-up.ensures.read.honest pushed in
     let stands_looked = c.in_ok-resource-in-len1-up.ensures.read.store store stands in
     let stands_pushed = c.in_ok-push_part-in-len1-up.ensures.read.store store stands_looked in
-    pushed_more (viewer_of c.args.sight.viewer.now) c.args.kind store.resources groups item (drop 1 items) found c.in_ok-resource-in-len1-up.resource c.args.parts.now.items c.push_part.new.parts.items c.push_parts.new.parts.items
+    pushed_more (viewer_of c.args.sight.viewer.now) c.args.sight.kind store.resources groups (Tells (viewer_of c.args.sight.viewer.now) store.resources c.push_part.new.listing) item (drop 1 items) found c.in_ok-resource-in-len1-up.resource c.args.parts.now.items c.push_part.new.parts.items c.push_parts.new.parts.items
     (sym (ap (map (λ (p : Content). p.id)) split) ∙ ids)
-    (c.in_ok-resource-in-len1-up.ensures.answer store stands looked ∙ ap (λ (id : List ℕ). find (is_at c.args.kind id) store.resources) c.id.ensures)
-    (λ own at. c.in_ok-push_part-in-len1-up.ensures.parts store stands_looked pushed base own is at)
-    (λ xs more. answer store stands_pushed honest base xs is (ap (map (λ (p : Content). p.id)) (rest_whole items) ∙ more)))
+    (c.in_ok-resource-in-len1-up.ensures.answer store stands looked ∙ ap (λ (id : List ℕ). find (is_at c.args.sight.kind id) store.resources) c.id.ensures)
+    (λ own at found. c.in_ok-push_part-in-len1-up.ensures.parts store stands_looked pushed base own is item_sight at found tells)
+    (λ told xs more. answer store stands_pushed honest base xs is item_sight told (ap (map (λ (p : Content). p.id)) (rest_whole items) ∙ more)))
     c.push_parts.ensures.parts

@@ -28,4 +28,4 @@ returns c =
     let own = c.args.resource.now in
     let seen : (read_decision viewer own (simple Id)).allow ≡ true
     = ap (λ (e : Decision). e.allow) (sym (c.of.ensures ∙ ap d c.simple.ensures ∙ c.in_ok-decisions.ensures (simple Id))) ∙ not-false c.of.result.allow c.if-not-of.false in
-    rw seen (ap (λ (p : Content). Some p) (c.in_ok-part.ensures (telling own groups) c.in_ok-listing.ensures ∙ told_alike viewer groups own))
+    rw seen (ap (λ (p : Content). Some p) (c.in_ok-part.ensures (telling own groups) c.in_ok-decisions.ensures c.in_ok-listing.ensures ∙ told_alike viewer groups own))

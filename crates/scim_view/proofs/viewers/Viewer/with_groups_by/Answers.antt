@@ -1,10 +1,11 @@
 use Rattle.std.proofs.Common.{◌≡◌, ◌∙◌, map, List}
+use Rattle.scim_schema.specs.declared.Leaf.{Leaf}
 use Rattle.std.proofs.lemmas.Result.{IfOk-weaker}
 use Rattle.scim_cell.specs.Content.{Content}
 use Rattle.scim_cell.specs.Rows.{Row}
 use Rattle.scim_policy.specs.Table.{decision}
 use Rattle.scim_view.specs.declared.groups.SeenGroup.{SeenGroup}
-use Rattle.scim_view.specs.View.{viewer_of}
+use Rattle.scim_view.specs.View.{read_decision, viewer_of}
 use Rattle.scim_view.specs.Groups as spec
 use Rattle.scim_view.specs.Listings.{AreListing}
 use Rattle.scim_view.specs.code.Memberships.{kept_cmp}
@@ -20,6 +21,6 @@ returns c =
     let made : SeenGroup → Row = λ g. spec.membership_of viewer.base g.id g.display in
     IfOk-weaker c.visible_among.result
     (λ (p : Content). p ≡ spec.visible_with d (map made (sorted_by kept_cmp c.as_slice.result.now)) own)
-    (λ (p : Content). (gs : List Content) → AreListing viewer own.id gs c.args.groups.now → p ≡ spec.with_groups viewer gs own)
-    (λ p e gs listing. e ∙ told d viewer gs own c.as_slice.result.now c.requires (c.as_slice.ensures ∙ listing))
+    (λ (p : Content). (gs : List Content) → ((l : Leaf) → d l ≡ read_decision viewer own l) → AreListing viewer own.id gs c.args.groups.now → p ≡ spec.with_groups viewer gs own)
+    (λ p e gs same listing. e ∙ told d viewer gs own c.as_slice.result.now same (c.as_slice.ensures ∙ listing))
     c.visible_among.ensures

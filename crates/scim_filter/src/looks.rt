@@ -1,0 +1,77 @@
+//! What of the rows a filter looks at.
+ghost use Rattle.std.specs.Prelude.{◌≡◌, ◌&&◌, Bool, true};
+ghost use Rattle.std.specs.List.{list_any};
+ghost use Rattle.scim_cell.specs.declared.rows.Field.{Field};
+ghost use Rattle.scim_filter.specs.code.Looks.{admitted, stays};
+
+use scim_cell::{Field, Row, RowTest};
+use scim_schema::Leaf;
+
+/// What of the rows is looked at.
+#[derive(Drop)]
+pub(crate) enum Look<'a, T> {
+    /// All of them.
+    Everything,
+    /// The fields that the test admits. A row without such a field is passed over.
+    Admitted(&'a T),
+}
+
+/// Stands where a test does in the type of a look at everything, and is never asked.
+pub(crate) struct NoTest;
+
+impl RowTest for NoTest {
+    ghost use Rattle.std.specs.Prelude.{true};
+
+    ghost keeps = { λ self row leaf. true };
+
+    fn is_kept(&self, _row: &Row, _leaf: Leaf) -> bool {
+        true
+    }
+}
+
+impl<T: RowTest> Look<'_, T> {
+    /// Whether the row's field of the leaf is looked at.
+    #[tactic(auto, unfolding(crate::specs::code::Looks::admitted))]
+    pub(crate) fn admits(&self, row: &Row, leaf: Leaf) -> bool
+        ensures { result ≡ admitted T.keeps self.now row.now leaf }
+    {
+        match self {
+            Look::Everything => true,
+            Look::Admitted(test) => test.is_kept(row, leaf),
+        }
+    }
+
+    /// The fields of a row with those that are looked at among them: none where the test may keep none, which spares
+    /// a look into memory that nobody else wants.
+    pub(crate) fn fields<'r>(&self, row: &'r Row) -> &'r [Field]
+        ensures { (passes : Field → Bool) → list_any (λ f. admitted T.keeps self.now row.now f.leaf && passes f) result.now ≡ list_any (λ f. admitted T.keeps self.now row.now f.leaf && passes f) row.now.fields }
+    {
+        match self {
+            Look::Admitted(test) if !test.may_keep(row) => &[],
+            Look::Everything | Look::Admitted(_) => row.fields(),
+        }
+    }
+
+    /// Whether a field of the row is looked at.
+    pub(crate) fn has_field(&self, row: &Row) -> bool
+        ensures { result ≡ list_any (λ f. admitted T.keeps self.now row.now f.leaf && true) row.now.fields }
+    {
+        for field in self.fields(row) {
+            if self.admits(row, field.leaf) {
+                return true;
+            }
+        }
+        false
+    }
+
+    /// Whether the row is among those that are looked at.
+    #[tactic(auto, unfolding(crate::specs::code::Looks::stays))]
+    pub(crate) fn stays(&self, row: &Row) -> bool
+        ensures { result ≡ stays T.keeps self.now row.now }
+    {
+        match self {
+            Look::Everything => true,
+            Look::Admitted(_) => self.has_field(row),
+        }
+    }
+}

@@ -1,0 +1,19 @@
+-- Decisions that are kept by the ids of the resources.
+use Rattle.std.specs.Prelude.{◌≡◌, ℕ, List, Some, IfSome, find}
+use Rattle.std.specs.HashMap.{get}
+use Rattle.scim_schema.specs.declared.Kind.{Kind}
+use Rattle.scim_cell.specs.Content.{Content}
+use Rattle.scim_cell.specs.Equality.{is_same_id}
+use Rattle.scim_policy.specs.declared.decisions.Decisions.{Decisions}
+use Rattle.scim_view.specs.View.{Viewer}
+use Rattle.scim_shelf.specs.Stores.{is_at}
+use Rattle.scim_search.specs.declared.decided.Decided.{Decided}
+use Rattle.scim_search.specs.ReadDecisions.{AreFor}
+
+-- these are the decisions on the viewer's reading of the resource of a kind and an id, if there is one among these resources
+abbrev pub AreOn : Viewer → Kind → List Content → List ℕ → Decisions → Type 0
+AreOn v kind cs id decisions = (c : Content) → find (is_at kind id) cs ≡ Some c → AreFor v c decisions
+
+-- what is kept for an id are the decisions on the resource of that id
+abbrev pub Recalls : Viewer → Kind → List Content → Decided → Type 0
+Recalls v kind cs decided = (id : List ℕ) → IfSome (get is_same_id decided.by_id id) (AreOn v kind cs id)
