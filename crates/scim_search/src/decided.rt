@@ -11,6 +11,10 @@ use scim_text::NoMemory;
 use std::alloc::Global;
 use std::collections::HashMap;
 
+/// As many decisions are kept at most for one request, so that a walk over many resources, each of which comes before
+/// all that came earlier, takes no more memory than a page needs.
+const MOST_KEPT: usize = 4_096;
+
 /// Decisions on reading resources of one kind, by their ids: they are kept so that no rule's target is tried twice on one
 /// resource for one request.
 #[derive(Drop)]
@@ -36,11 +40,15 @@ impl Decided {
         self.by_id.get(&id)
     }
 
-    /// Keeps the decisions on the resource of an id. NoMemory where none was to be had.
+    /// Keeps the decisions on the resource of an id. Where 4,096 are kept, these are let go first: they are made again if
+    /// they are asked for. NoMemory where none was to be had.
     pub(crate) fn keep(&mut self, id: Id, decisions: Decisions) -> Result<(), NoMemory>
         ensures { OnOk result ((v : SpecViewer) (kind : SpecKind) (cs : List Content) → spec.AreOn v kind cs id decisions
             → spec.Recalls v kind cs self.old → spec.Recalls v kind cs self.new) }
     {
+        if self.by_id.len() >= MOST_KEPT {
+            self.by_id.clear();
+        }
         self.by_id.insert(id, decisions)?;
         Ok(())
     }
