@@ -1,7 +1,10 @@
 //! Decisions that were made for a request, by the ids of the resources.
-ghost use Rattle.std.specs.Prelude.{List, IfSome, OnOk};
+ghost use Rattle.std.specs.Prelude.{◌≡◌, List, Some, IfSome, OnOk};
+ghost use Rattle.std.specs.HashMap.{get};
+ghost use Rattle.std.specs.Option.{option_copied};
 ghost use Rattle.scim_schema.specs.declared.Kind.{Kind as SpecKind};
 ghost use Rattle.scim_cell.specs.Content.{Content};
+ghost use Rattle.scim_cell.specs.Equality.{is_same_id};
 ghost use Rattle.scim_view.specs.View.{Viewer as SpecViewer};
 ghost use Rattle.scim_search.specs.Decided as spec;
 
@@ -34,7 +37,8 @@ impl Decided {
 
     /// The decisions on the resource of an id, where they are kept.
     pub(crate) fn of(&self, id: Id) -> Option<&Decisions>
-        ensures { (v : SpecViewer) (kind : SpecKind) (cs : List Content) → spec.Recalls v kind cs self.now
+        ensures value { option_copied result ≡ get is_same_id self.now.by_id id }
+        ensures recalls { (v : SpecViewer) (kind : SpecKind) (cs : List Content) → spec.Recalls v kind cs self.now
             → IfSome result (λ decisions. spec.AreOn v kind cs id decisions.now) }
     {
         self.by_id.get(&id)
@@ -43,7 +47,8 @@ impl Decided {
     /// Keeps the decisions on the resource of an id. Where 4,096 are kept, these are let go first: they are made again if
     /// they are asked for. NoMemory where none was to be had.
     pub(crate) fn keep(&mut self, id: Id, decisions: Decisions) -> Result<(), NoMemory>
-        ensures { OnOk result ((v : SpecViewer) (kind : SpecKind) (cs : List Content) → spec.AreOn v kind cs id decisions
+        ensures kept { OnOk result (get is_same_id self.new.by_id id ≡ Some decisions) }
+        ensures recalls { OnOk result ((v : SpecViewer) (kind : SpecKind) (cs : List Content) → spec.AreOn v kind cs id decisions
             → spec.Recalls v kind cs self.old → spec.Recalls v kind cs self.new) }
     {
         if self.by_id.len() >= MOST_KEPT {

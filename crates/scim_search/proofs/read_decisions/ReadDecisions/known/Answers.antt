@@ -6,5 +6,5 @@ use Rattle.scim_search.proofs.read_decisions.ReadDecisions.known.Goals as goal
 
 pub returns-in-None : goal.returns-in-None
 returns-in-None c v kind cs are recalls found =
-    IfSome_then c.of.result (c.of.ensures v kind cs recalls)
+    IfSome_then c.of.result (c.of.ensures.recalls v kind cs recalls)
     (λ ds on. on c.args.resource.now (subst (λ (id : List ℕ). find (is_at kind id) cs ≡ Some c.args.resource.now) (sym c.id.ensures) found))

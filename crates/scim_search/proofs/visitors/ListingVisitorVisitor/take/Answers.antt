@@ -26,4 +26,4 @@ returns c =
       record { viewer = tells.viewer; decisions = tells.decisions; decided = kept v Group cs (on_found v Group cs c.id.result group decisions c.id.ensures found own) tells.decided },
       λ id gathered lists is. c.in_ok-push.ensures v id gathered own lists is,
     ))
-    c.keep.ensures
+    c.keep.ensures.recalls

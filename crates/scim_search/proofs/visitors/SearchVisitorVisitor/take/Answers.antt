@@ -18,7 +18,7 @@ returns-in_ok-keep c = record {
   taken = λ groups parts is was. c.in_ok-show-2.ensures.taken groups parts is (c.in_ok-decisions.ensures groups is) was;
   decided = λ groups cs kind is found recalls.
       let viewer = viewer_of c.args.self.now.sight.viewer.now in
-      c.in_ok-keep.ensures viewer kind cs
+      c.in_ok-keep.ensures.recalls viewer kind cs
       (on_found viewer kind cs c.id.result c.args.resource.now c.in_ok-decisions.decisions c.id.ensures found (c.in_ok-decisions.ensures groups is)) recalls;
 }
 
