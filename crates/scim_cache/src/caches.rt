@@ -152,11 +152,12 @@ impl<S: Shelf> Shelf for CachedShelf<S> {
         change: Change,
         row: AuditRow,
     ) -> Result<(), Failed<ShelfFault>> {
-        if !self.is_filled() {
+        let Some(resources) = &self.resources else {
             return self.lower.commit(alloc, change, row);
-        }
+        };
         let copy = change.try_copy(alloc)?;
-        self.lower.commit(alloc, change, row)?;
+        let old = resources.old_of(&change);
+        self.lower.commit_over(alloc, old, change, row)?;
         self.resources = follow(alloc, self.resources.take(), copy);
         Ok(())
     }

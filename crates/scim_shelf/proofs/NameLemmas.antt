@@ -19,7 +19,7 @@ use Rattle.scim_cell.specs.Kinds.{is_of}
 use Rattle.scim_schema.specs.declared.Kind.{Kind}
 use Rattle.std.proofs.lemmas.Map.Text.{is_eq-slice_cmp}
 use Rattle.scim_value.specs.Uniqueness.{Name, unique_names, AreApart}
-use Rattle.scim_shelf.specs.Stores.{AreKeyed, is_at, is_same_name, has_name, below, above, keep, without}
+use Rattle.scim_shelf.specs.Stores.{AreKeyed, is_at, is_same_name, has_name, of_id, below, above, keep, without}
 use Rattle.scim_shelf.specs.code.Collections.{has_id, has_in, only_of}
 use Rattle.scim_shelf.proofs.PlaceLemmas.{AreAbove, by_order, above_lower, without_less, without_equal, without_greater}
 use Rattle.scim_shelf.proofs.StoreLemmas.{All-both, ids_differ, keyed_above, keyed_apart, keyed_tail}
@@ -156,6 +156,10 @@ found_by_id test id (d ∷ ds) keyed h = by_bool (test d) here (later (found_by_
 -- the one of a kind with an id is the one with the id, if it is of the kind
 at_id : (kind : Kind) (id : List ℕ) (c : Content) → is_at kind id c ≡ (is_of kind c && has_id id c)
 at_id kind id c = ap (λ (b : Bool). is_of kind c && b) (sym (is_eq-slice_cmp id c.id))
+
+-- by the order of ids the resource of an id is found
+pub found_of_id : (id : List ℕ) (cs : List Content) → find (has_id id) cs ≡ of_id id cs
+found_of_id id cs = λ i. find (λ (c : Content). is_eq-slice_cmp id c.id i) cs
 
 pub not_at : (kind : Kind) (id : List ℕ) (c : Content) → has_id id c ≡ false → is_at kind id c ≡ false
 not_at kind id c h = at_id kind id c ∙ rw h (by_bool (is_of kind c) (λ t. rw t refl) (λ f. rw f refl))

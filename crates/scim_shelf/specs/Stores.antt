@@ -1,5 +1,5 @@
 -- What a shelf stands for, and what a change makes of it.
-use Rattle.std.specs.Prelude.{◌≡◌, ◌≢◌, ℕ, Bool, ◌&&◌, List, [], ◌∷◌, ◌++◌, filter, nat_eq, All, AllPairs, ⊤}
+use Rattle.std.specs.Prelude.{◌≡◌, ◌≢◌, ℕ, Bool, ◌&&◌, List, [], ◌∷◌, ◌++◌, find, filter, nat_eq, All, AllPairs, Option, ⊤}
 use Rattle.std.specs.List.{list_any}
 use Rattle.std.specs.List.Sorted.{IsStrictlySortedBy, IsPermutation}
 use Rattle.std.specs.Ordering.{nat_cmp, is_lt, is_gt}
@@ -59,6 +59,10 @@ is_taken cs c = list_any (λ n. list_any (has_name n) cs) (unique_names c)
 abbrev pub is_used : List Content → List ℕ → Bool
 is_used cs id = list_any (λ d. is_same_id id d.id) cs
 
+-- the resource of an id, whatever its kind, if there is one (RFC 7643 section 3.1)
+abbrev pub of_id : List ℕ → List Content → Option Content
+of_id id cs = find (λ c. is_same_id id c.id) cs
+
 -- whether it is a group that lists the value (RFC 7643 section 4.2)
 abbrev pub is_group_with : List ℕ → Content → Bool
 is_group_with value c = is_of Group c && lists_value value c
@@ -83,6 +87,12 @@ abbrev pub changed : Change → List Content → List Content
 changed Nothing cs = cs
 changed (Keep c) cs = keep c cs
 changed (Remove kind id) cs = without id cs
+
+-- this is what there is of the id of a change, whatever its kind
+abbrev pub IsOld : List Content → Change → Option Content → Type 0
+IsOld cs Nothing old = ⊤
+IsOld cs (Keep c) old = of_id c.id cs ≡ old
+IsOld cs (Remove kind id) old = of_id id cs ≡ old
 
 -- the store after a change, with the row of the audit that tells of it
 abbrev pub after : Change → AuditRow → Store → Store

@@ -10,7 +10,7 @@ ghost use Rattle.std.specs.Option.{option_copied};
 ghost use Rattle.scim_cell.specs.Content.{Content};
 ghost use Rattle.scim_cell.specs.Kinds.{of_kind};
 ghost use Rattle.scim_value.specs.Uniqueness.{name_of, AreApart};
-ghost use Rattle.scim_shelf.specs.Stores.{Store, HasPlace, CanKeep, is_at, has_name, is_group_with, changed, keep, without};
+ghost use Rattle.scim_shelf.specs.Stores.{Store, HasPlace, CanKeep, IsOld, is_at, has_name, is_group_with, changed, keep, without};
 ghost use Rattle.scim_shelf.specs.Collections.{IsCollection};
 ghost use Rattle.scim_shelf.specs.code.Collections.{has_id, only_of, names_of, before};
 ghost use Rattle.scim_shelf.specs.code.Members.{is_same, is_noted, is_one_of, is_value_of, is_group_in, IsUnnoted, HasSameNotes};
@@ -112,6 +112,17 @@ impl Collection {
         ensures { (cs : List Content) → IsCollection cs self.now → option_copied result ≡ find (has_id id) cs }
     {
         self.by_id.get(&id)
+    }
+
+    /// What there is of the id of a change, whatever its kind; None where there is none, and for a change of nothing.
+    pub fn old_of(&self, change: &Change) -> Option<&Resource>
+        ensures { (cs : List Content) → IsCollection cs self.now → IsOld cs change.now (option_copied result) }
+    {
+        match change {
+            Change::Nothing => None,
+            Change::Keep(resource) => self.with_id(resource.id()),
+            Change::Remove(_, id) => self.with_id(*id),
+        }
     }
 
     /// The resource that has the name; None where none has it.

@@ -26,14 +26,13 @@ use Rattle.scim_cell.specs.Kinds.{is_of}
 use Rattle.serde_json.specs.Data.{Data}
 use Rattle.scim_json.specs.PartData.{stored_data}
 use Rattle.scim_json.proofs.Back.{documents_are_apart}
-use Rattle.scim_shelf.specs.Stores.{Store, AreKeyed, is_at}
+use Rattle.scim_shelf.specs.Stores.{Store, AreKeyed, is_at, of_id}
 use Rattle.scim_shelf.proofs.NameLemmas.{by_bool}
 use Rattle.scim_tables.specs.Lists.{Lists, has_text}
 use Rattle.scim_tables.specs.Reading.{Rests, Holds, Finds, IsTextOfFirst, is_resource}
 use Rattle.scim_tables.specs.Lists.{no_rows}
 use Rattle.scim_store.specs.Audit.{kind_number}
 use Rattle.scim_store.specs.Stands.{StandsFor, Entry, IsEntry, lists_of, resource_row}
-use Rattle.scim_store.specs.Edits.{of_id}
 use Rattle.scim_store.specs.Finding.{StandsIn, Reads, FindsById, FindsOld}
 use Rattle.scim_store.proofs.PlaceLemmas.{own, found, own_same}
 use Rattle.scim_store.proofs.EntryLemmas.{tied, ids_apart}

@@ -6,7 +6,6 @@ pub mod ValueLemmas
 pub mod StandLemmas
 pub mod FindLemmas
 pub mod LookLemmas
-pub mod NumberLemmas
 pub mod CommitLemmas
 pub mod BeginLemmas
 pub mod OwnerLemmas

@@ -1,10 +1,8 @@
 -- What the looks ahead of a change tell.
-use Rattle.std.proofs.Common.{ℕ, pos, List, [], ◌∷◌, codes, filter, true, Option, IsTrue, refl}
-use Rattle.sqlite.specs.declared.types.Value.TheVariants.{Int, Text}
-use Rattle.sqlite.specs.Collation.TheVariants.{Binary}
-use Rattle.sqlite_value.specs.declared.keys.Key.{Key}
+use Rattle.std.proofs.Common.{ℕ, List, [], ◌∷◌, codes, filter, Option, IsTrue, refl}
+use Rattle.sqlite.specs.declared.types.Value.TheVariants.{Text}
 use Rattle.sqlite.specs.Order.{Row}
-use Rattle.sqlite.specs.Term.{col, lit}
+use Rattle.sqlite.specs.Term.{col}
 use Rattle.sqlite.specs.Query.{Query}
 use Rattle.sqlite.specs.Listing.{understood}
 use Rattle.sqlite.specs.State.{State}
@@ -28,26 +26,6 @@ old_query = one_table 2 (is_column 1 0 ∷ []) (col 1 3 ∷ []) []
 pub asks_old : IsAsk old_text old_query
 unfolding understood everything
 asks_old = record { names = codes "document" ∷ []; command = refl; plain = (refl, refl); unlisted = refl }
-
--- ---- the last number
-
--- a falling order, by bytes
-abbrev pub down : Key
-down = record { collation = Binary; descending = true }
-
-abbrev pub last_text : List ℕ
-last_text = codes "SELECT number FROM audit ORDER BY number DESC LIMIT 1"
-
--- all numbers of the audit, the last first
-abbrev pub numbers_query : Query
-numbers_query = one_table 8 [] (col 1 0 ∷ []) ((col 1 0, down) ∷ [])
-
-abbrev pub last_query : Query
-last_query = record numbers_query { limit = lit (Int (pos 1)) }
-
-pub asks_last : IsAsk last_text last_query
-unfolding understood everything
-asks_last = record { names = codes "number" ∷ []; command = refl; plain = (refl, refl); unlisted = refl }
 
 module _ (old new : State) (rows : List Row) (opened : IsTrue old.is_open) where
   pub old_rests : (id : List ℕ) → Answered old_text (Text id ∷ []) old new rows → (lists : Lists) → Holds old lists → Rests old new

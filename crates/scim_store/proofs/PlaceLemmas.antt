@@ -14,12 +14,11 @@ use Rattle.std.proofs.lemmas.Slice.Eq.{bytes_eq-Decides}
 use Rattle.scim_cell.specs.Content.{Content}
 use Rattle.scim_cell.specs.Equality.{is_same_id}
 use Rattle.scim_value.specs.Uniqueness.{AreApart}
-use Rattle.scim_shelf.specs.Stores.{AreKeyed}
+use Rattle.scim_shelf.specs.Stores.{AreKeyed, of_id}
 use Rattle.scim_shelf.proofs.PlaceLemmas.{by_order}
 use Rattle.scim_shelf.proofs.StoreLemmas.{keyed_apart, keyed_tail, apart_back}
 use Rattle.scim_shelf.proofs.NameLemmas.{by_bool}
 use Rattle.scim_store.specs.Stands.{Entry}
-use Rattle.scim_store.specs.Edits.{of_id}
 
 -- how the id of a resource compares to an id
 abbrev place : List ℕ → Entry → Ordering

@@ -1,5 +1,5 @@
 -- How a change of a store edits the rows of the tables.
-use Rattle.std.specs.Prelude.{◌≡◌, ◌≢◌, ℕ, ◌+◌, Bool, false, ◌&&◌, not, List, [], ◌∷◌, ◌++◌, length, map, find, filter, AllPairs, Option, None, Some, string_bytes, ⊤}
+use Rattle.std.specs.Prelude.{◌≡◌, ◌≢◌, ℕ, ◌+◌, Bool, false, ◌&&◌, not, List, [], ◌∷◌, ◌++◌, length, map, filter, AllPairs, Option, None, Some, string_bytes, ⊤}
 use Rattle.std.specs.Option.{option_map, option_to_list}
 use Rattle.std.specs.List.{list_any}
 use Rattle.sqlite.specs.Order.{Row}
@@ -7,7 +7,6 @@ use Rattle.sqlite.specs.Effect.{Database}
 use Rattle.scim_schema.specs.Names.{attribute_name}
 use Rattle.scim_cell.specs.Content.{Content}
 use Rattle.scim_cell.specs.Ids.{IsId, id_text}
-use Rattle.scim_cell.specs.Equality.{is_same_id}
 use Rattle.scim_value.specs.declared.uniqueness.UniqueName.{UniqueName}
 use Rattle.scim_value.specs.Members.{lists_value}
 use Rattle.scim_value.specs.Resource.{HasBase}
@@ -16,7 +15,7 @@ use Rattle.scim_json.specs.Stored.{IsDocumentText}
 use Rattle.scim_audit.specs.declared.rows.AuditRow.{AuditRow}
 use Rattle.scim_shelf.specs.declared.changes.Change.{Change}
 use Rattle.scim_shelf.specs.declared.changes.Change.TheVariants.{Nothing, Keep, Remove}
-use Rattle.scim_shelf.specs.Stores.{Store, CanKeep, after, is_same_name}
+use Rattle.scim_shelf.specs.Stores.{Store, CanKeep, after, is_same_name, of_id}
 use Rattle.scim_tables.specs.Lists.{Lists, without, has_text, has_texts, resource_values, name_values, member_values}
 use Rattle.scim_tables.specs.Audit.{audit_values}
 use Rattle.scim_tables.specs.declared.audit.AuditColumns.{AuditColumns}
@@ -61,10 +60,6 @@ edited_by (Some e) lists = edited e lists
 abbrev pub with_row : Row → Lists → Lists
 with_row row lists = record lists { audit = row ∷ lists.audit }
 
--- the resource of an id, if there is one
-abbrev pub of_id : List ℕ → List Content → Option Content
-of_id id cs = find (λ c. is_same_id id c.id) cs
-
 -- the unique names of a resource, if there is one
 abbrev pub names_in : Option Content → List Name
 names_in None = []
@@ -103,12 +98,6 @@ AreEdits base cs (Keep c) None = ⊥
 AreEdits base cs (Keep c) (Some e) = Replaces base c.id (of_id c.id cs) (Some c) e
 AreEdits base cs (Remove kind id) None = ⊥
 AreEdits base cs (Remove kind id) (Some e) = Replaces base id (of_id id cs) None e
-
--- this is what there is of the id of a change, whatever its kind
-abbrev pub IsOld : List Content → Change → Option Content → Type 0
-IsOld cs Nothing old = ⊤
-IsOld cs (Keep c) old = of_id c.id cs ≡ old
-IsOld cs (Remove kind id) old = of_id id cs ≡ old
 
 -- a resource that is kept stands below the base
 abbrev pub KeepsBelow : List ℕ → Change → Type 0

@@ -1,5 +1,5 @@
 -- What a look into the tables finds.
-use Rattle.std.specs.Prelude.{◌≡◌, ℕ, List, Option, None, Some, IsTrue, find, filter, length}
+use Rattle.std.specs.Prelude.{◌≡◌, ℕ, List, Option, None, Some, IsTrue, find, filter}
 use Rattle.std.specs.List.{FoldsTo}
 use Rattle.sqlite.specs.State.{State, IsUnchanged}
 use Rattle.scim_schema.specs.declared.Kind.{Kind}
@@ -7,10 +7,8 @@ use Rattle.scim_cell.specs.Content.{Content}
 use Rattle.scim_cell.specs.Kinds.{of_kind}
 use Rattle.scim_json.specs.Stored.{IsDocumentText}
 use Rattle.scim_value.specs.Uniqueness.{Name}
-use Rattle.scim_shelf.specs.Stores.{Store, is_at, has_name, is_group_with}
-use Rattle.scim_store.specs.Edits.{of_id}
+use Rattle.scim_shelf.specs.Stores.{Store, is_at, has_name, is_group_with, of_id}
 use Rattle.scim_store.specs.Stands.{StandsFor}
-use Rattle.scim_store.specs.code.Numbers.{IsNextOf}
 
 -- where the connection is open, its tables stand for the store
 abbrev pub StandsIn : List ℕ → State → Store → Type 0
@@ -47,8 +45,3 @@ pub record Shows {V : Type 0} (Takes : V → Content → V → Type 0) (kind : K
 -- it is the resource of the id, whatever its kind, if there is one, and nothing is changed
 abbrev pub FindsOld : List ℕ → Store → State → State → Option Content → Type 0
 FindsOld id store = IsFound (of_id id store.resources)
-
--- it is the number of the next row of the audit, unless the last number is in use, and nothing is changed
-pub record TellsNext (store : Store) (old new : State) (next : Option ℕ) : Type 0 where
-  pub is : IsNextOf (length store.audit) next
-  pub unchanged : IsUnchanged old new

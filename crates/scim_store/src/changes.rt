@@ -7,6 +7,7 @@ ghost use Rattle.scim_value.specs.Members.{is_text, lists_value};
 ghost use Rattle.scim_value.specs.Resource.{HasBase};
 ghost use Rattle.scim_value.specs.Uniqueness.{name_of};
 ghost use Rattle.scim_shelf.specs.code.Members.{is_found, is_in, value_in};
+ghost use Rattle.scim_shelf.specs.Stores.{IsOld};
 ghost use Rattle.scim_store.specs.Stands.{is_among};
 ghost use Rattle.scim_store.specs.Edits as spec;
 
@@ -139,18 +140,18 @@ pub(crate) fn edits_to_keep(
 pub fn edits_of(
     alloc: Global,
     change: &Change,
-    old: &Option<Resource>,
+    old: Option<&Resource>,
 ) -> Result<Option<Edits>, NoMemory>
-    ensures { IfOk result (λ edits. (base : List ℕ) (cs : List Content) → spec.IsOld cs change.now old.now → spec.KeepsBelow base change.now → spec.AreEdits base cs change.now edits) }
+    ensures { IfOk result (λ edits. (base : List ℕ) (cs : List Content) → IsOld cs change.now (option_copied old.entry) → spec.KeepsBelow base change.now → spec.AreEdits base cs change.now edits) }
 {
     match change {
         Change::Nothing => Ok(None),
         Change::Keep(resource) => {
-            let edits = edits_to_keep(alloc, resource, old.as_ref())?;
+            let edits = edits_to_keep(alloc, resource, old)?;
             Ok(Some(edits))
         }
         Change::Remove(kind, id) => {
-            let edits = replacement(alloc, *id, *kind, None, old.as_ref(), None)?;
+            let edits = replacement(alloc, *id, *kind, None, old, None)?;
             Ok(Some(edits))
         }
     }

@@ -1,23 +1,23 @@
 //! The commit of a change.
 
-ghost use Rattle.std.specs.Prelude.{◌≡◌, ◌≢◌, ◌≤◌, ◌+◌, ◌↔◌, ℕ, List, false, IfOk, OnOk, OnErr, Err, IsTrue, length};
-ghost use Rattle.sqlite.specs.State.{HasCleanDisk, IsUnchanged, Survives};
+ghost use Rattle.std.specs.Prelude.{◌≡◌, ◌≢◌, ◌≤◌, ◌↔◌, false, IfOk, OnOk, OnErr, IsTrue};
+ghost use Rattle.std.specs.Option.{option_copied};
+ghost use Rattle.sqlite.specs.State.{HasCleanDisk, Survives};
 ghost use Rattle.sqlite.specs.Held.{state};
 ghost use Rattle.sqlite.specs.Tree.{Trees};
 ghost use Rattle.scim_value.specs.Resource.{HasBase};
-ghost use Rattle.scim_shelf.specs.Stores.{Store, CanKeep, after};
+ghost use Rattle.scim_shelf.specs.Stores.{Store, IsOld, after};
 ghost use Rattle.scim_tables.specs.Audit.{last_number};
 ghost use Rattle.scim_tables.specs.Steps.{Leaves};
 ghost use Rattle.scim_tables.specs.Tables.{store_schema};
 ghost use Rattle.scim_store.specs.declared.committing.CommitFault.{CommitFault};
 ghost use Rattle.scim_store.specs.Finding.{StandsIn};
-ghost use Rattle.scim_store.specs.Edits.{IsOld, KeepsBelow};
-ghost use Rattle.scim_store.specs.Committing.{HasStore, AreOf, Changes, Stays, StandForNone, IsReady};
+ghost use Rattle.scim_store.specs.Edits.{KeepsBelow};
+ghost use Rattle.scim_store.specs.Committing.{HasStore, AreOf, IsDue, IsDueOver, Changes, Stays};
 
 use crate::changes::edits_of;
 use crate::columns::{AuditTexts, columns_of};
-use crate::edits::Edits;
-use crate::looking::{find_old, next_number};
+use crate::looking::find_old;
 use crate::writing::write_change;
 use scim_audit::AuditRow;
 use scim_cell::Atom;
@@ -33,8 +33,6 @@ use std::alloc::Global;
 pub enum CommitFault {
     /// The database gave this error.
     Database(Error),
-    /// The last number of the audit is in use.
-    Full,
     /// The resource that is to be kept stands below another base.
     OtherBase,
     /// No memory was to be had.
@@ -104,90 +102,75 @@ fn find_old_of<S: Alter>(
     }
 }
 
-/// The number of the next row of the audit; Full where the last number is in use.
-fn number_for<S: Alter>(conn: &mut Connection<S>) -> Result<u64, CommitFault>
-    ensures mode { conn.old.in_transaction ≡ false → conn.new.in_transaction ≡ false }
-    ensures survives { Survives (state S.Store conn.old) (state S.Store conn.new) (λ _. (state S.Store conn.old).now.schema ≢ store_schema) }
-    ensures number { IfOk result (λ number. number ≤ last_number) }
-    ensures next { HasCleanDisk (state S.Store conn.new) → IfOk result (λ number. (base : List ℕ) (store : Store) → StandsIn base (state S.Store conn.old) store
-        → (number ≡ length store.audit + 1) × IsUnchanged (state S.Store conn.old) (state S.Store conn.new)) }
-    ensures undone { HasCleanDisk (state S.Store conn.new) → OnErr result ((base : List ℕ) (store : Store) → HasStore base (state S.Store conn.old) store → HasStore base (state S.Store conn.new) store) }
-    ensures full { HasCleanDisk (state S.Store conn.new) → result ≡ Err CommitFault.Full → (base : List ℕ) (store : Store) → HasStore base (state S.Store conn.old) store → length store.audit ≡ last_number }
-{
-    match next_number(conn)? {
-        Some(number) => Ok(number),
-        None => Err(CommitFault::Full),
-    }
-}
-
-/// What is to be written for a change.
-#[derive(Drop)]
-struct Prepared {
-    edits: Option<Edits>,
-    /// The number of the row of the audit.
-    number: u64,
-}
-
-/// Looks up what is to be written for a change.
-fn prepare<S: Alter>(
+/// Makes the change and adds the row to the audit under the number, in one transaction, where it is known what there is of
+/// the id of the change, whatever its kind: the old resource, or none. Of a change of nothing it may be anything.
+///
+/// The number is one above that of the last row; the first has number 1. No resource of another id shares a unique name
+/// with one that is to be kept, and none of its id is of the other kind. The caller sees to all of that.
+///
+/// The error is OtherBase where a resource that is to be kept stands below another base, NoMemory, or the one that the
+/// database gave, among them a want of memory of its own, and a constraint where the number is in use. Then nothing is
+/// changed and no row is added, or the connection is shut.
+///
+/// A crash meanwhile leaves the store before or the store after, with the row; one after Ok leaves the store after, where the
+/// disk gives back what was written.
+pub fn commit_over<S: Alter>(
     conn: &mut Connection<S>,
     alloc: Global,
     base: &str,
+    old: Option<&Resource>,
     change: &Change,
-) -> Result<Prepared, CommitFault>
-    ensures mode { conn.old.in_transaction ≡ false → conn.new.in_transaction ≡ false }
-    ensures survives { Survives (state S.Store conn.old) (state S.Store conn.new) (λ _. StandForNone base.now (state S.Store conn.old).now) }
-    ensures number { IfOk result (λ it. it.number ≤ last_number) }
-    ensures ready { HasCleanDisk (state S.Store conn.new) → IfOk result (λ it. (store : Store) → StandsIn base.now (state S.Store conn.old) store
-        → IsReady base.now store change.now (state S.Store conn.old) (state S.Store conn.new) it.edits it.number) }
+    row: &AuditRow,
+    number: u64,
+) -> Result<(), CommitFault>
+    requires idle { conn.old.in_transaction ≡ false }
+    requires number { number ≤ last_number }
+    ensures idle { conn.new.in_transaction ≡ false }
+    ensures made { HasCleanDisk (state S.Store conn.new) → OnOk result ((store : Store) → HasStore base.now (state S.Store conn.old) store
+        → IsDueOver (option_copied old.entry) change.now number store → HasStore base.now (state S.Store conn.new) (after change.now row.now store)) }
     ensures undone { HasCleanDisk (state S.Store conn.new) → OnErr result ((store : Store) → HasStore base.now (state S.Store conn.old) store → HasStore base.now (state S.Store conn.new) store) }
-    ensures full { HasCleanDisk (state S.Store conn.new) → result ≡ Err CommitFault.Full → (store : Store) → HasStore base.now (state S.Store conn.old) store → length store.audit ≡ last_number }
+
+    // A crash leaves what it could leave before, or the tables with the change and its row of the audit.
+    ensures crash { Survives (state S.Store conn.old) (state S.Store conn.new) (Leaves (Changes base.now change.now row.now (IsDueOver (option_copied old.entry) change.now number)) (state S.Store conn.old).now) }
+
+    // Once it has answered Ok, a crash leaves these tables.
+    ensures durable { HasCleanDisk (state S.Store conn.new) → OnOk result ((store : Store) → HasStore base.now (state S.Store conn.old) store
+        → IsDueOver (option_copied old.entry) change.now number store → (trees : Trees) → (state S.Store conn.new).may_leave trees → AreOf base.now (after change.now row.now store) trees) }
 {
     if !keeps_below(alloc, base, change)? {
         return Err(CommitFault::OtherBase);
     }
-    let old = find_old_of(conn, alloc, base, change)?;
-    let number = number_for(conn)?;
-    let edits = edits_of(alloc, change, &old)?;
-    Ok(Prepared { edits, number })
+    let edits = edits_of(alloc, change, old)?;
+    let texts = AuditTexts::of(alloc, row)?;
+    let columns = columns_of(number, row, &texts);
+    write_change(conn, &edits, &columns)?;
+    Ok(())
 }
 
-/// Makes the change and adds the row to the audit, numbered one above the last, in one transaction; the first has
-/// number 1.
-///
-/// No resource of another id shares a unique name with one that is to be kept, and none of its id is of the other kind:
-/// the caller sees to that.
-///
-/// The error is Full where the last number of the audit is in use, OtherBase where a resource that is to be kept stands
-/// below another base, NoMemory, or the one that the database gave, among them a want of memory of its own. Then nothing
-/// is changed and no row is added, or the connection is shut.
-///
-/// A crash meanwhile leaves the store before or the store after, with the row; one after Ok leaves the store after, where the
-/// disk gives back what was written.
+/// The same, where it isn't known what there is of the id of the change: it is looked up first. The database is corrupt
+/// where its document is damaged.
 pub fn commit_change<S: Alter>(
     conn: &mut Connection<S>,
     alloc: Global,
     base: &str,
-    change: Change,
-    row: AuditRow,
+    change: &Change,
+    row: &AuditRow,
+    number: u64,
 ) -> Result<(), CommitFault>
-    requires { conn.old.in_transaction ≡ false }
+    requires idle { conn.old.in_transaction ≡ false }
+    requires number { number ≤ last_number }
     ensures idle { conn.new.in_transaction ≡ false }
-    ensures made { HasCleanDisk (state S.Store conn.new) → OnOk result ((store : Store) → HasStore base.now (state S.Store conn.old) store → CanKeep store change
-        → HasStore base.now (state S.Store conn.new) (after change row store)) }
+    ensures made { HasCleanDisk (state S.Store conn.new) → OnOk result ((store : Store) → HasStore base.now (state S.Store conn.old) store
+        → IsDue change.now number store → HasStore base.now (state S.Store conn.new) (after change.now row.now store)) }
     ensures undone { HasCleanDisk (state S.Store conn.new) → OnErr result ((store : Store) → HasStore base.now (state S.Store conn.old) store → HasStore base.now (state S.Store conn.new) store) }
-    ensures full { HasCleanDisk (state S.Store conn.new) → result ≡ Err CommitFault.Full → (store : Store) → HasStore base.now (state S.Store conn.old) store → length store.audit ≡ last_number }
 
     // A crash leaves what it could leave before, or the tables with the change and its row of the audit.
-    ensures crash { Survives (state S.Store conn.old) (state S.Store conn.new) (Leaves (Changes base.now change row) (state S.Store conn.old).now) }
+    ensures crash { Survives (state S.Store conn.old) (state S.Store conn.new) (Leaves (Changes base.now change.now row.now (IsDue change.now number)) (state S.Store conn.old).now) }
 
     // Once it has answered Ok, a crash leaves these tables.
-    ensures durable { HasCleanDisk (state S.Store conn.new) → OnOk result ((store : Store) → HasStore base.now (state S.Store conn.old) store → CanKeep store change
-        → (trees : Trees) → (state S.Store conn.new).may_leave trees → AreOf base.now (after change row store) trees) }
+    ensures durable { HasCleanDisk (state S.Store conn.new) → OnOk result ((store : Store) → HasStore base.now (state S.Store conn.old) store
+        → IsDue change.now number store → (trees : Trees) → (state S.Store conn.new).may_leave trees → AreOf base.now (after change.now row.now store) trees) }
 {
-    let prepared = prepare(conn, alloc, base, &change)?;
-    let texts = AuditTexts::of(alloc, &row)?;
-    let columns = columns_of(prepared.number, &row, &texts);
-    write_change(conn, &prepared.edits, &columns)?;
-    Ok(())
+    let old = find_old_of(conn, alloc, base, change)?;
+    commit_over(conn, alloc, base, old.as_ref(), change, row, number)
 }

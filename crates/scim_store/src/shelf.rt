@@ -1,6 +1,6 @@
 //! A shelf over the tables of a database.
 
-ghost use Rattle.std.specs.Prelude.{◌≡◌, ◌≢◌, ◌<◌, ◌≤◌, ◌⊎◌, ℕ, List, Ok, Err, IfOk, IfErr, IsTrue, length, false};
+ghost use Rattle.std.specs.Prelude.{◌≡◌, ◌≢◌, ◌<◌, ◌≤◌, ◌+◌, ◌⊎◌, ℕ, List, Ok, Err, IfOk, IfErr, OnErr, IsErr, IsTrue, length, false};
 ghost use Rattle.sqlite.specs.Effect.{Database};
 ghost use Rattle.sqlite.specs.State.{HasCleanDisk, Survives};
 ghost use Rattle.sqlite.specs.Held.{state};
@@ -19,7 +19,7 @@ ghost use Rattle.scim_store.specs.Shelves.{IsKeptIn, HasOpened, Refuses, LeavesB
 
 use crate::auditing::{LAST_NUMBER, read_audit_rows};
 use crate::beginning::begin_store;
-use crate::committing::{CommitFault, commit_change};
+use crate::committing::{CommitFault, commit_change, commit_over};
 use crate::finding::{find_by_id, find_groups_with, find_owner_of_name};
 use crate::opening::{Examined, examine};
 use crate::walking::walk;
@@ -193,8 +193,6 @@ impl<S: Alter> SqlShelf<S> {
 }
 
 /// What a fault of the database is to a shelf: want of memory, or a failure of the device, which counts.
-///
-/// It is full only by the shelf's own count of rows: tables that have more aren't what was written.
 fn fault_of(failures: &mut u64, fault: &CommitFault) -> Failed<ShelfFault>
     ensures grown { failures.old ≤ failures.new }
     ensures device { result ≡ Failed.Because ShelfFault.Device → (failures.old < failures.new) ⊎ (failures.old ≡ 18446744073709551615) }
@@ -221,6 +219,27 @@ fn told<T>(failures: &mut u64, found: Result<T, Error>) -> Result<T, Failed<Shel
     match found {
         Ok(found) => Ok(found),
         Err(error) => Err(fault_of(failures, &CommitFault::Database(error))),
+    }
+}
+
+/// What a commit is to a shelf, which counts the rows of its audit.
+fn told_commit(
+    failures: &mut u64,
+    rows: &mut u64,
+    done: Result<(), CommitFault>,
+) -> Result<(), Failed<ShelfFault>>
+    requires { rows.old < last_number }
+    ensures ok { IfOk result (λ x. (done ≡ Ok x) × (rows.new ≡ rows.old + 1)) }
+    ensures err { OnErr result (IsErr done × (rows.new ≡ rows.old)) }
+    ensures counts { Counts failures.old failures.new result }
+    ensures not_full { result ≢ Err (Failed.Because ShelfFault.Full) }
+{
+    match done {
+        Ok(()) => {
+            *rows += 1;
+            Ok(())
+        }
+        Err(fault) => Err(fault_of(failures, &fault)),
     }
 }
 
@@ -286,13 +305,24 @@ impl<S: Alter> Shelf for SqlShelf<S> {
         if self.rows >= LAST_NUMBER {
             return Err(Failed::Because(ShelfFault::Full));
         }
-        match commit_change(&mut self.connection, alloc, self.base.as_str(), change, row) {
-            Ok(()) => {
-                self.rows += 1;
-                Ok(())
-            }
-            Err(fault) => Err(fault_of(&mut self.failures, &fault)),
+        let (connection, base, number) = (&mut self.connection, self.base.as_str(), self.rows + 1);
+        let done = commit_change(connection, alloc, base, &change, &row, number);
+        told_commit(&mut self.failures, &mut self.rows, done)
+    }
+
+    fn commit_over(
+        &mut self,
+        alloc: Global,
+        old: Option<&Resource>,
+        change: Change,
+        row: AuditRow,
+    ) -> Result<(), Failed<ShelfFault>> {
+        if self.rows >= LAST_NUMBER {
+            return Err(Failed::Because(ShelfFault::Full));
         }
+        let (connection, base, number) = (&mut self.connection, self.base.as_str(), self.rows + 1);
+        let done = commit_over(connection, alloc, base, old, &change, &row, number);
+        told_commit(&mut self.failures, &mut self.rows, done)
     }
 
     fn failures(&self) -> u64 {
