@@ -67,7 +67,7 @@ impl<'a> Visitor for GroupVisitor<'a> {
 }
 
 /// Gathers groups that list a resource, of those that a client sees to list it. For several resources of one request it is
-/// the same visitor, so that none of these groups is decided on twice.
+/// the same visitor, so that none of these groups is decided on twice while its decisions are kept ([`Decided`]).
 #[derive(Drop)]
 pub(crate) struct ListingVisitor<'a> {
     viewer: &'a Viewer<'a>,

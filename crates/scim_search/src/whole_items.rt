@@ -131,7 +131,8 @@ fn push_parts<S: Shelf>(
 }
 
 /// What the client sees of the resources of these ids with their groups, in their order. On none of the resources and
-/// on none of the groups the policy decides twice, nor on one that it has decided on already.
+/// on none of the groups the policy decides twice, nor on one that it has decided on already, as far as the decisions
+/// are still kept ([`Decided`]).
 pub(crate) fn whole_items<S: Shelf>(
     alloc: Global,
     sight: ItemSight<'_>,
