@@ -1,5 +1,5 @@
--- What is kept of a chunked body, one byte further.
-use Rattle.std.proofs.Common.{◌≡◌, ◌↔◌, ℕ, ◌<◌, ◌+◌, ◌-◌, ◌⊎◌, List, [], ◌∷◌, ◌++◌, length, replicate, refl, sym, ap, ◌∙◌, arith, inl, inr, subst}
+-- What is kept of a chunked body, one byte or a run further.
+use Rattle.std.proofs.Common.{◌≡◌, ◌↔◌, ℕ, ◌<◌, ◌≤◌, ◌+◌, ◌-◌, ◌⊎◌, List, [], ◌∷◌, ◌++◌, length, replicate, refl, sym, ap, ◌∙◌, arith, inl, inr, subst}
 use Rattle.std.proofs.lemmas.List.{append-nil, append_assoc, length-append, length-replicate, append_cancel_left, nil_from_length}
 use Rattle.std.proofs.lemmas.List.Elements.{All-nil, All-push}
 use Rattle.std.proofs.lemmas.List.Concat.{flat_map-append}
@@ -50,18 +50,19 @@ line_size line a b e = subst (λ size. IsLineOf size line) e
 data_text : (line now_held after more : List ℕ) → (line ++ (now_held ++ after)) ++ more ≡ line ++ (now_held ++ (after ++ more))
 data_text line now_held after more = append_assoc line (now_held ++ after) more ∙ ap (λ t. line ++ t) (append_assoc now_held after more)
 
-pub data_more : (bytes body : List ℕ) (left byte : ℕ) → 0 < left → IsInData bytes body left [] → IsInData (bytes ++ byte ∷ []) (body ++ byte ∷ []) (left - 1) []
-data_more bytes body left byte some_left in_data =
-    let one_less : length in_data.now_held + left ≡ length (in_data.now_held ++ byte ∷ []) + (left - 1) = omega (arith, length-append in_data.now_held (byte ∷ [])) in
+pub data_more : (bytes body : List ℕ) (left count : ℕ) (more : List ℕ) → length more ≡ count → count ≤ left → IsInData bytes body left []
+    → IsInData (bytes ++ more) (body ++ more) (left - count) []
+data_more bytes body left count more len fits in_data =
+    let less : length in_data.now_held + left ≡ length (in_data.now_held ++ more) + (left - count) = omega (arith, length-append in_data.now_held more, len, fits) in
     record {
       before = in_data.before;
       line = in_data.line;
-      now_held = in_data.now_held ++ byte ∷ [];
-      chunks = chunks_same _ in_data.before _ _ (data_text in_data.line in_data.now_held [] (byte ∷ []) ∙ ap (λ t. in_data.line ++ t) (sym (append-nil (in_data.now_held ++ byte ∷ [])))) (chunks_more bytes in_data.before _ (byte ∷ []) in_data.chunks);
-      holds = ap (λ t. t ++ byte ∷ []) in_data.holds ∙ append_assoc in_data.before in_data.now_held (byte ∷ []);
-      is_line = line_size in_data.line _ _ one_less in_data.is_line;
-      some = omega (arith, one_less, in_data.some);
-      within = omega (arith, one_less, in_data.within);
+      now_held = in_data.now_held ++ more;
+      chunks = chunks_same _ in_data.before _ _ (data_text in_data.line in_data.now_held [] more ∙ ap (λ t. in_data.line ++ t) (sym (append-nil (in_data.now_held ++ more)))) (chunks_more bytes in_data.before _ more in_data.chunks);
+      holds = ap (λ t. t ++ more) in_data.holds ∙ append_assoc in_data.before in_data.now_held more;
+      is_line = line_size in_data.line _ _ less in_data.is_line;
+      some = omega (arith, less, in_data.some);
+      within = omega (arith, less, in_data.within);
     }
 
 -- CR after data

@@ -1,5 +1,5 @@
 //! A chunked body as it comes (RFC 9112 section 7.1).
-ghost use Rattle.std.specs.Prelude.{◌≡◌, ℕ, ◌<◌, List, [], ◌∷◌, ◌++◌};
+ghost use Rattle.std.specs.Prelude.{◌≡◌, ℕ, ◌<◌, ◌≤◌, List, [], ◌∷◌, ◌++◌, IfOk, length, take};
 ghost use Rattle.scim_text.specs.Failures.{UnlessMemory};
 ghost use Rattle.scim_chunks.specs.Chunked.{HasChunks, IsLineOf};
 ghost use Rattle.scim_chunks.specs.Parts.{StandsFor, Leads};
@@ -8,7 +8,7 @@ ghost use Rattle.scim_chunks.specs.code.Steps.{StandsAt};
 use crate::faults::BadChunks;
 use crate::lines::{BadLine, judge_line};
 use crate::trailers::{Trailed, TrailerPart};
-use scim_text::Failed;
+use scim_text::{Failed, NoMemory};
 use std::alloc::Global;
 
 /// The bytes that the chunks may have together.
@@ -72,6 +72,23 @@ impl ChunkedPart {
             Place::Return => self.take_feed(byte),
             Place::Trailers(part) => self.take_in_trailers(part, byte),
         }
+    }
+
+    /// Takes what a piece has of the data of the chunk in which the body stands, and gives how many bytes these are: none
+    /// where it stands elsewhere.
+    ///
+    /// The only error is [`NoMemory`], after which the part counts for nothing.
+    pub fn take_run(&mut self, piece: &[u8]) -> Result<usize, NoMemory>
+        ensures within { IfOk result (λ n. n ≤ length piece.now) }
+        ensures stands { (bytes : List ℕ) → StandsFor self.old bytes → IfOk result (λ n. StandsFor self.new (bytes ++ take n piece.now)) }
+    {
+        let Place::Data(left) = self.place else {
+            return Ok(0);
+        };
+        let count = piece.len().min(left as usize);
+        self.body.extend_from_slice(&piece[..count])?;
+        self.place = Place::Data(left - count as u64);
+        Ok(count)
     }
 
     fn take_in_line(mut self, byte: u8) -> Result<Step, Failed<BadChunks>>

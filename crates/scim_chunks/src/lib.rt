@@ -1,4 +1,4 @@
-//! The chunked transfer coding (RFC 9112 section 7.1), a byte at a time.
+//! The chunked transfer coding (RFC 9112 section 7.1): data in runs, all else a byte at a time.
 #![tactic(auto)]
 
 mod chunked;

@@ -91,11 +91,11 @@ chunks_whole part bytes body byte holds is = record {
 }
 
 -- a chunked body goes on
-pub chunks_more : (part : ChunksPart) (next : ChunkedPart) (bytes : List ℕ) (byte : ℕ) (holds : HoldsChunks part bytes) → chunks.StandsFor next (holds.after ++ byte ∷ [])
-    → HoldsChunks (record { head = part.head; chunks = next }) (bytes ++ byte ∷ [])
-chunks_more part next bytes byte holds stands = record {
-  after = holds.after ++ byte ∷ [];
-  opens = then_more _ bytes holds.after (byte ∷ []) holds.opens;
+pub chunks_more : (part : ChunksPart) (next : ChunkedPart) (bytes more : List ℕ) (holds : HoldsChunks part bytes) → chunks.StandsFor next (holds.after ++ more)
+    → HoldsChunks (record { head = part.head; chunks = next }) (bytes ++ more)
+chunks_more part next bytes more holds stands = record {
+  after = holds.after ++ more;
+  opens = then_more _ bytes holds.after more holds.opens;
   chunked = holds.chunked;
   stands = stands;
 }

@@ -176,4 +176,14 @@ impl ChunksPart {
             Err(Failed::NoMemory) => Err(NoMemory),
         }
     }
+    /// Takes what a piece has of the data of a chunk, and gives how many bytes these are: none elsewhere in the body.
+    ///
+    /// The only error is [`NoMemory`], after which the part counts for nothing.
+    pub fn take_run(&mut self, piece: &[u8]) -> Result<usize, NoMemory>
+        ensures within { IfOk result (λ n. n ≤ length piece.now) }
+        ensures stands { (bytes : List ℕ) (items : List Item) → StandsAt (State.InChunks self.old) bytes items
+            → IfOk result (λ n. StandsAt (State.InChunks self.new) (bytes ++ take n piece.now) items) }
+    {
+        self.chunks.take_run(piece)
+    }
 }

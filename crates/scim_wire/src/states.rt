@@ -97,7 +97,7 @@ impl State {
         match self {
             State::Opening(part) => part.take_run(piece),
             State::InBody(part) => part.take_run(piece),
-            State::InChunks(_) => Ok(0),
+            State::InChunks(part) => part.take_run(piece),
             State::Shut => Ok(piece.len()),
         }
     }

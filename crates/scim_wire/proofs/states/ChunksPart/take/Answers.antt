@@ -1,10 +1,11 @@
+use Rattle.std.proofs.Common.{[], ◌∷◌}
 use Rattle.scim_wire.proofs.WireLemmas.{chunks_more, chunks_whole, chunks_refused}
 use Rattle.scim_wire.proofs.states.ChunksPart.take.Goals as goal
 
 pub returns-in-Ok-More : goal.returns-in-Ok-More
 returns-in-Ok-More c bytes items stands =
     let led = rw (c.in-Ok-More.field-0-is) at (c.in-Ok-More.ensures stands.0.after stands.0.stands) in
-    (chunks_more c.args.self c.in-Ok-More.chunks bytes c.args.byte stands.0 led, stands.1)
+    (chunks_more c.args.self c.in-Ok-More.chunks bytes (c.args.byte ∷ []) stands.0 led, stands.1)
 
 pub returns-in-Ok-Whole : goal.returns-in-Ok-Whole
 returns-in-Ok-Whole c bytes items stands =
