@@ -1,13 +1,11 @@
 //! What a service asks of the place where it keeps its resources and the rows of its audit.
-ghost use Rattle.std.specs.Prelude.{◌≡◌, ℕ, List, IfOk, OnOk, OnErr, Err, length, find, filter};
+ghost use Rattle.std.specs.Prelude.{◌≡◌, ℕ, List, IfOk, OnOk, find, filter};
 ghost use Rattle.std.specs.List.{FoldsTo};
 ghost use Rattle.std.specs.Option.{option_copied};
-ghost use Rattle.scim_text.specs.declared.memory.Failed.{Failed};
 ghost use Rattle.scim_cell.specs.Kinds.{of_kind};
 ghost use Rattle.scim_value.specs.Uniqueness.{name_of};
-ghost use Rattle.scim_shelf.specs.declared.faults.ShelfFault.{ShelfFault};
-ghost use Rattle.scim_shelf.specs.Stores.{Store, AreKeyed, CanKeep, IsOld, is_at, has_name, is_group_with, after, last_number};
-ghost use Rattle.scim_shelf.specs.Shelves.{Counts, KeepsStore, Answers, OnlyReads};
+ghost use Rattle.scim_shelf.specs.Stores.{Store, AreKeyed, CanKeep, IsOld, is_at, has_name, is_group_with, after};
+ghost use Rattle.scim_shelf.specs.Shelves.{Answers, OnlyReads, Commits};
 
 use crate::changes::Change;
 use crate::faults::ShelfFault;
@@ -110,10 +108,7 @@ pub trait Shelf {
     ) -> Result<(), Failed<ShelfFault>>
         ensures ok { OnOk result ((store : Store) → stands self.old store → AreKeyed store.resources → CanKeep store change
             → stands self.new (after change row store)) }
-        ensures err { OnErr result (KeepsStore stands self.old self.new) }
-        ensures honest { is_honest self.new → is_honest self.old }
-        ensures counts { Counts (failures self.old) (failures self.new) result }
-        ensures full { result ≡ Err (Failed.Because ShelfFault.Full) → (store : Store) → stands self.old store → length store.audit ≡ last_number };
+        ensures commits { Commits stands is_honest failures self.old self.new result };
 
     /// The same, by a caller who has what there is of the id of the change, whatever its kind, so that it isn't read
     /// again. Of a change of nothing it may be anything.
@@ -126,10 +121,7 @@ pub trait Shelf {
     ) -> Result<(), Failed<ShelfFault>>
         ensures ok { OnOk result ((store : Store) → stands self.old store → AreKeyed store.resources → CanKeep store change
             → (is_honest self.new → IsOld store.resources change (option_copied old.entry)) → stands self.new (after change row store)) }
-        ensures err { OnErr result (KeepsStore stands self.old self.new) }
-        ensures honest { is_honest self.new → is_honest self.old }
-        ensures counts { Counts (failures self.old) (failures self.new) result }
-        ensures full { result ≡ Err (Failed.Because ShelfFault.Full) → (store : Store) → stands self.old store → length store.audit ≡ last_number }
+        ensures commits { Commits stands is_honest failures self.old self.new result }
     {
         let _old = old;
         self.commit(alloc, change, row)
