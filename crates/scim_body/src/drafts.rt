@@ -22,12 +22,23 @@ pub enum UseFor {
 ///
 /// Contracts know of every draft that its values may stand in a resource of the kind; and of one that was
 /// read for Creating that it has all that the kind requires.
-#[derive(Drop)]
 pub struct Draft {
     kind: Kind,
     use_for: UseFor,
     given: Vec<Unit>,
     rows: Vec<Row>,
+}
+
+/// One call, wherever a draft is dropped, in place of a look at all that it has.
+impl Drop for Draft {
+    fn drop(self) {
+        let Draft {
+            kind: _kind,
+            use_for: _use_for,
+            given: _given,
+            rows: _rows,
+        } = self;
+    }
 }
 
 impl Model for Draft {

@@ -22,12 +22,23 @@ use std::alloc::Global;
 /// A connection joins, its stream comes in pieces, and it leaves. The messages that a piece completes are answered in their
 /// order, for the client that has the token of the message. After a reply that closes the connection it is shut: what
 /// follows isn't read.
-#[derive(Drop)]
 pub struct Hub<S> {
     routes: Routes,
     service: Service<S>,
     tokens: Tokens,
     connections: Connections,
+}
+
+/// One call, wherever a hub is dropped, in place of a look at all that it has.
+impl<S: Drop> Drop for Hub<S> {
+    fn drop(self) {
+        let Hub {
+            routes: _routes,
+            service: _service,
+            tokens: _tokens,
+            connections: _connections,
+        } = self;
+    }
 }
 
 impl<S: Shelf> Hub<S> {

@@ -24,11 +24,21 @@ use std::alloc::Global;
 ///
 /// Each turn is planned by reads alone; then its change and its row of the audit are committed as one. So the
 /// reply is whole before anything is changed.
-#[derive(Drop)]
 pub struct Service<S> {
     policy: Policy,
     base: Text,
     shelf: S,
+}
+
+/// One call, wherever a service is dropped, in place of a look at all that it has.
+impl<S: Drop> Drop for Service<S> {
+    fn drop(self) {
+        let Service {
+            policy: _policy,
+            base: _base,
+            shelf: _shelf,
+        } = self;
+    }
 }
 
 /// Plans a turn, commits its change with its row, and gives its reply; or a fault, and nothing is done.

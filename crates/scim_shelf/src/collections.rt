@@ -32,11 +32,21 @@ use std::collections::{BTreeMap, BTreeSet};
 /// A resource is found by its id by halves, and by a unique name at once, as are the ids of the groups that list a
 /// value: just those, so that nobody looks at the members of a group to tell. A change looks at the resource with its
 /// id alone.
-#[derive(Drop)]
 pub struct Collection {
     by_id: BTreeMap<Id, Resource>,
     owners: Owners,
     members: Members,
+}
+
+/// One call, wherever a collection is dropped, in place of a look at all that it has.
+impl Drop for Collection {
+    fn drop(self) {
+        let Collection {
+            by_id: _by_id,
+            owners: _owners,
+            members: _members,
+        } = self;
+    }
 }
 
 /// A copy of what was found. NoMemory where none was to be had.

@@ -21,10 +21,19 @@ const LAST_NUMBER: u64 = 9_223_372_036_854_775_807;
 /// A shelf in memory, which has no device that could fail.
 ///
 /// It finds resources as a [`Collection`] does. No call copies a resource but those that it answers with.
-#[derive(Drop)]
 pub struct MemoryShelf {
     collection: Collection,
     audit: Vec<AuditRow>,
+}
+
+/// One call, wherever a shelf is dropped, in place of a look at all that it has.
+impl Drop for MemoryShelf {
+    fn drop(self) {
+        let MemoryShelf {
+            collection: _collection,
+            audit: _audit,
+        } = self;
+    }
 }
 
 impl MemoryShelf {
