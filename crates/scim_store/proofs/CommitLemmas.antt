@@ -13,7 +13,7 @@ use Rattle.scim_tables.specs.declared.audit.AuditColumns.{AuditColumns}
 use Rattle.scim_tables.specs.Tables.{store_schema}
 use Rattle.scim_tables.specs.Steps.{Became, Leaves}
 use Rattle.scim_store.specs.declared.edits.Edits.{Edits}
-use Rattle.scim_store.specs.Audit.{audit_row}
+use Rattle.scim_audit_rows.specs.Audit.{audit_row}
 use Rattle.scim_store.specs.Edits.{AreEdits, Writes}
 use Rattle.scim_store.specs.Committing.{HasStore, AreOf, IsDue, IsDueOver, Stays, Changes, StandForNone}
 use Rattle.scim_store.specs.Finding.{StandsIn}

@@ -31,7 +31,7 @@ use Rattle.scim_shelf.proofs.NameLemmas.{by_bool}
 use Rattle.scim_tables.specs.Lists.{Lists, has_text}
 use Rattle.scim_tables.specs.Reading.{Rests, Holds, Finds, IsTextOfFirst, is_resource}
 use Rattle.scim_tables.specs.Lists.{no_rows}
-use Rattle.scim_store.specs.Audit.{kind_number}
+use Rattle.scim_audit_rows.specs.Audit.{kind_number}
 use Rattle.scim_store.specs.Stands.{StandsFor, Entry, IsEntry, lists_of, resource_row}
 use Rattle.scim_store.specs.Finding.{StandsIn, Reads, FindsById, FindsOld}
 use Rattle.scim_store.proofs.PlaceLemmas.{own, found, own_same}

@@ -22,7 +22,7 @@ use Rattle.scim_tables.specs.Reading.{Rests}
 use Rattle.scim_tables.specs.Steps.{Became, Undoes, Leaves}
 use Rattle.scim_tables.specs.Tables.{no_schema}
 use Rattle.scim_store.specs.declared.edits.Edits.{Edits}
-use Rattle.scim_store.specs.Audit.{kind_number}
+use Rattle.scim_audit_rows.specs.Audit.{kind_number}
 use Rattle.scim_store.specs.Committing.{HasStore, AreOf}
 use Rattle.scim_store.specs.Edits.{rows_of_names, rows_of_members, rows_of_document, Replaces}
 use Rattle.scim_store.specs.Importing.{HoldRowsOf, Fills, LeavesImported}

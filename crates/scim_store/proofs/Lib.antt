@@ -12,7 +12,6 @@ pub mod OwnerLemmas
 pub mod GroupLemmas
 pub mod WalkLemmas
 pub mod NoneLemmas
-pub mod BackLemmas
 pub mod SpanLemmas
 pub mod OwnedLemmas
 pub mod IdTextLemmas

@@ -21,7 +21,7 @@ use Rattle.scim_tables.specs.declared.tables.TableRows.{TableRows}
 use Rattle.scim_tables.specs.declared.tables.Reading.TheVariants.{WrongVersion as OtherVersion, Foreign as OtherProgram}
 use Rattle.scim_tables.proofs.OrderLemmas.{order_rising}
 use Rattle.scim_tables.proofs.WholeLemmas.{rows_of, holds_lists}
-use Rattle.scim_store.specs.Audit.{audit_rows}
+use Rattle.scim_audit_rows.specs.Audit.{audit_rows}
 use Rattle.scim_store.specs.Damage.{AreOrdered, AreSound, IsLeastDamage, IsForeign}
 use Rattle.scim_store.specs.Opening.{resource_tables, CountsAudit, IsByAudit, IsFor, Examines}
 use Rattle.scim_store.specs.Finding.{StandsIn}

@@ -1,6 +1,6 @@
 -- The rows of the audit between two numbers.
-use Rattle.std.proofs.Common.{◌≡◌, ℕ, zero, suc, ◌+◌, ◌-◌, ◌<◌, ◌≤◌, ◌⊎◌, inl, inr, pos, min, max, refl, sym, ap, subst, ◌∙◌, arith, true, false, Bool, ◌&&◌, List, [], ◌∷◌, ◌++◌, filter, take, drop, length, get_or, lt→ltb, w64}
-use Rattle.std.specs.Prelude.{All, None, IsPermutation, FitsSigned}
+use Rattle.std.proofs.Common.{◌≡◌, ℕ, zero, suc, ◌+◌, ◌-◌, ◌<◌, ◌≤◌, ◌⊎◌, inl, inr, pos, min, max, refl, sym, ap, subst, ◌∙◌, arith, true, false, Bool, ◌&&◌, List, [], ◌∷◌, filter, take, drop, length, lt→ltb, w64}
+use Rattle.std.specs.Prelude.{IsPermutation, FitsSigned}
 use Rattle.std.proofs.Math.Facts.{sfits_lit}
 use Rattle.std.specs.List.{AllByRecursion}
 use Rattle.std.specs.Cmp.{int_cmp_is}
@@ -8,8 +8,7 @@ use Rattle.std.specs.Ordering.{is_lt, is_ge, ordering_then}
 use Rattle.std.specs.declared.cmp.Ordering.{Ordering}
 use Rattle.std.specs.declared.cmp.Ordering.TheVariants.{Less, Equal, Greater}
 use Rattle.std.proofs.lemmas.Bool.{cases_lt}
-use Rattle.std.proofs.lemmas.List.{nil_from_length, take_all, take_more, length-take, length-drop}
-use Rattle.std.proofs.lemmas.List.Elements.{All-head, All-tail}
+use Rattle.std.proofs.lemmas.List.{nil_from_length, take_all, length-take, length-drop}
 use Rattle.std.proofs.lemmas.List.Sorted.{IsPermutation-trans, IsPermutation-sym}
 use Rattle.sqlite_value.proofs.OrderLemmas.{value_cmp-Int}
 use Rattle.sqlite.specs.declared.types.Value.TheVariants.{Int}
@@ -22,8 +21,9 @@ use Rattle.scim_shelf.specs.Stores.{Store}
 use Rattle.scim_tables.specs.Audit.{last_number}
 use Rattle.scim_tables.specs.Reading.{Tells, HasTables, shown, columns_cmp, is_between}
 use Rattle.scim_tables.proofs.OrderLemmas.{told_rising}
-use Rattle.scim_store.specs.Audit.{audit_row, audit_rows}
-use Rattle.scim_store.specs.AuditBack.{ReadsBack, IsSound, TellsRows}
+use Rattle.scim_audit_rows.specs.Audit.{audit_row, audit_rows}
+use Rattle.scim_store.specs.Auditing.{TellsRows}
+use Rattle.scim_audit_rows.proofs.Facts.{length-audit_rows}
 use Rattle.scim_store.specs.Finding.{StandsIn}
 use Rattle.scim_store.specs.code.Spans.{IsSpan}
 
@@ -90,10 +90,6 @@ rows_between first end n (suc j) k (r ∷ rs) begins ends =
 
 -- ---- rows with their numbers
 
-pub length-audit_rows : (n : ℕ) (rs : List AuditRow) → length (audit_rows n rs) ≡ length rs
-length-audit_rows n [] = refl
-length-audit_rows n (r ∷ rs) = ap suc (length-audit_rows (n + 1) rs)
-
 pub drop-audit_rows : (n m j : ℕ) (rs : List AuditRow) → m ≡ n + j → drop j (audit_rows n rs) ≡ audit_rows m (drop j rs)
 drop-audit_rows n m zero rs is = ap (λ k. audit_rows k rs) (let same : n ≡ m = omega (arith, is) in same)
 drop-audit_rows n m (suc j) [] is = refl
@@ -112,31 +108,6 @@ above m n r (s ∷ rs) low = (ap (λ (o : Ordering). ordering_then o Equal) (les
 pub rows_rise : (n : ℕ) (rs : List AuditRow) → IsAscending (λ a b. columns_cmp (0 ∷ []) a b ≡ Less) (audit_rows n rs)
 rows_rise n [] = tt
 rows_rise n (r ∷ rs) = (above n (n + 1) r rs (omega arith), rows_rise (n + 1) rs)
-
--- ---- row by row
-
-append-audit_rows : (first n : ℕ) (rs : List AuditRow) (r : AuditRow) → n ≡ first + length rs → audit_rows first (rs ++ r ∷ []) ≡ audit_rows first rs ++ audit_row n r ∷ []
-append-audit_rows first n [] r is = ap (λ k. let rows : List Row = audit_row k r ∷ [] in rows) (let same : first ≡ n = omega (arith, is) in same)
-append-audit_rows first n (s ∷ rs) r is = ap (λ (rows : List Row). audit_row first s ∷ rows) (append-audit_rows (first + 1) n rs r (omega (arith, is)))
-
--- one row more is read
-pub more_read : (first n i : ℕ) (rows : List Row) (row : Row) (rs : List AuditRow) (r : AuditRow) → i < length rows → row ≡ get_or rows i row → n ≡ first + i → audit_rows first rs ≡ take i rows → audit_row n r ≡ row → audit_rows first (rs ++ r ∷ []) ≡ take (i + 1) rows
-more_read first n i rows row rs r low at is before one =
-    let long : length rs ≡ i = sym (length-audit_rows first rs) ∙ ap length before ∙ length-take i rows ∙ (let all : min i (length rows) ≡ i = omega (arith, low) in all) in
-    append-audit_rows first n rs r (omega (arith, is, long)) ∙ (λ k. before k ++ one k ∷ []) ∙ sym (take_more rows i row low ∙ ap (λ x. take i rows ++ x ∷ []) (sym at))
-
--- where one row is none of the audit, they aren't all
-pub none_read : (first n i : ℕ) (rows : List Row) (row : Row) → i < length rows → row ≡ get_or rows i row → n ≡ first + i → ReadsBack IsSound (audit_row n) row None → ReadsBack (All IsSound) (audit_rows first) rows None
-none_read first n i rows row low at is none rs sound e =
-    let it = there first i rs (let l : i < length rs = omega (arith, low, ap length e, length-audit_rows first rs) in l) sound in
-    none it.0 it.1 (it.2 n row is ∙ ap (λ (xs : List Row). get_or xs i row) e ∙ sym at)
-  where
-    there : (first i : ℕ) (rs : List AuditRow) → i < length rs → All IsSound rs → (r : AuditRow) × (IsSound r) × ((n : ℕ) (d : Row) → n ≡ first + i → audit_row n r ≡ get_or (audit_rows first rs) i d)
-    there first i [] low sound = absurd (omega (arith, low))
-    there first zero (r ∷ rs) low sound = (r, All-head IsSound r rs sound, λ n d is. ap (λ k. audit_row k r) (let same : n ≡ first = omega (arith, is) in same))
-    there first (suc i) (r ∷ rs) low sound =
-        let rest = there (first + 1) i rs (omega (arith, low)) (All-tail IsSound r rs sound) in
-        (rest.0, rest.1, λ n d is. rest.2 n d (omega (arith, is)))
 
 -- ---- the rows that are asked for
 

@@ -27,7 +27,7 @@ use Rattle.scim_tables.specs.Lists.{Lists, Are, has_text, resource_values}
 use Rattle.scim_tables.specs.Audit.{audit_values}
 use Rattle.scim_tables.specs.declared.audit.AuditColumns.{AuditColumns}
 use Rattle.scim_store.specs.declared.edits.Edits.{Edits}
-use Rattle.scim_store.specs.Audit.{kind_number, audit_row, audit_rows}
+use Rattle.scim_audit_rows.specs.Audit.{kind_number, audit_row, audit_rows}
 use Rattle.scim_store.specs.Stands.{Entry, StandsFor, IsEntry, AreMembers, is_among, lists_of, resource_row, name_row, name_rows, member_row, member_rows}
 use Rattle.scim_store.specs.Edits.{is_name, is_member, rows_of_names, rows_of_members, rows_of_document, edited, edited_by, with_row, names_in, names_beyond, lists_in, Replaces, AreEdits, Writes}
 use Rattle.scim_store.proofs.RowLemmas.{reordered}

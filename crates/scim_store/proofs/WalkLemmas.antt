@@ -2,7 +2,7 @@
 use denote.Enum.Bare.{sameb}
 use Rattle.scim_schema.specs.contracts.Kind.{the_type as the_kind}
 use Rattle.scim_schema.specs.declared.Kind.TheVariants.{User, Group}
-use Rattle.scim_store.specs.Audit.{kind_number}
+use Rattle.scim_audit_rows.specs.Audit.{kind_number}
 use Rattle.scim_store.proofs.FindLemmas.{read_entry}
 use Rattle.std.proofs.Common.{◌≡◌, pos, inl, inr, ℕ, refl, sym, ◌∙◌, ap, subst, true, List, [], ◌∷◌, ◌++◌, map}
 use Rattle.std.specs.Prelude.{All, Option, Some, IsPermutation}

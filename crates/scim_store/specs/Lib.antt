@@ -1,9 +1,8 @@
-pub mod Audit
 pub mod Stands
+pub mod Auditing
 pub mod Beginning
 pub mod Edits
 pub mod Finding
-pub mod AuditBack
 pub mod Committing
 pub mod Shelves
 pub mod Importing

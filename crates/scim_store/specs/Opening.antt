@@ -12,8 +12,8 @@ use Rattle.scim_tables.specs.declared.tables.TableRows.{TableRows}
 use Rattle.scim_tables.specs.declared.tables.Reading.TheVariants.{WrongVersion as OtherVersion}
 use Rattle.scim_store.specs.declared.opening.Examined.{Examined}
 use Rattle.scim_store.specs.declared.opening.Examined.TheVariants.{Empty, Stands, WrongVersion, Damaged, Foreign}
-use Rattle.scim_store.specs.Audit.{audit_rows}
-use Rattle.scim_store.specs.AuditBack.{IsSound}
+use Rattle.scim_audit_rows.specs.Audit.{audit_rows}
+use Rattle.scim_audit_rows.specs.AuditBack.{IsSound}
 use Rattle.scim_store.specs.Damage.{Tables, IsLeastDamage}
 use Rattle.scim_store.specs.Stands.{StandsFor}
 

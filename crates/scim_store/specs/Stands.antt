@@ -13,7 +13,7 @@ use Rattle.scim_json.specs.Stored.{IsDocumentText}
 use Rattle.scim_audit.specs.declared.rows.AuditRow.{AuditRow}
 use Rattle.scim_shelf.specs.Stores.{Store, AreKeyed}
 use Rattle.scim_tables.specs.Lists.{Lists, Are, resource_values, name_values, member_values}
-use Rattle.scim_store.specs.Audit.{kind_number, audit_rows}
+use Rattle.scim_audit_rows.specs.Audit.{kind_number, audit_rows}
 
 -- a resource, with the text of its document and the values that it lists among its members
 pub record Entry : Type 0 where

@@ -1,4 +1,3 @@
 pub mod Finding
-pub mod Places
 pub mod Spans
 pub mod Damage

@@ -6,13 +6,13 @@ ghost use Rattle.sqlite.specs.Held.{state};
 ghost use Rattle.scim_shelf.specs.Stores.{Store};
 ghost use Rattle.scim_tables.specs.Audit.{last_number};
 ghost use Rattle.scim_tables.specs.Reading.{Rests};
-ghost use Rattle.scim_store.specs.Audit.{audit_rows};
-ghost use Rattle.scim_store.specs.AuditBack.{TellsRows};
+ghost use Rattle.scim_audit_rows.specs.Audit.{audit_rows};
+ghost use Rattle.scim_store.specs.Auditing.{TellsRows};
 ghost use Rattle.scim_store.specs.Finding.{StandsIn};
 ghost use Rattle.scim_store.specs.code.Spans.{IsSpan};
 
-use crate::records::are_audit_rows;
 use scim_audit::AuditRow;
+use scim_audit_rows::are_audit_rows;
 use scim_tables::read_audit_between;
 use scim_text::NoMemory;
 use sqlite::{Alter, Connection, Error, ErrorCode, Row};

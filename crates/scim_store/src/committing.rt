@@ -16,10 +16,10 @@ ghost use Rattle.scim_store.specs.Edits.{KeepsBelow};
 ghost use Rattle.scim_store.specs.Committing.{HasStore, AreOf, IsDue, IsDueOver, Changes, Stays};
 
 use crate::changes::edits_of;
-use crate::columns::{AuditTexts, columns_of};
 use crate::looking::find_old;
 use crate::writing::write_change;
 use scim_audit::AuditRow;
+use scim_audit_rows::{AuditTexts, columns_of};
 use scim_cell::Atom;
 use scim_schema::{Attribute, Leaf, SubAttribute};
 use scim_shelf::Change;

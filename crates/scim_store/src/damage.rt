@@ -11,7 +11,7 @@ ghost use Rattle.scim_cell.specs.Content.{Content};
 ghost use Rattle.scim_cell.specs.Ids.{IsId, id_text};
 ghost use Rattle.scim_value.specs.Members.{lists_value};
 ghost use Rattle.scim_value.specs.Uniqueness.{name_of};
-ghost use Rattle.scim_store.specs.Audit.{kind_number as spec_number};
+ghost use Rattle.scim_audit_rows.specs.Audit.{kind_number as spec_number};
 ghost use Rattle.scim_store.specs.Stands.{is_among};
 ghost use Rattle.std.specs.List.{IsDistinct};
 ghost use Rattle.scim_store.specs.Owners.{HasOwner, is_owner};
@@ -19,8 +19,8 @@ ghost use Rattle.scim_store.specs.Damage as spec;
 ghost use Rattle.scim_store.specs.code.Damage as code;
 
 use crate::changes::values_of;
-use crate::columns::kind_number;
 use crate::owners::{has_text, have_owners, note_owners, rows_of, value_in};
+use scim_audit_rows::kind_number;
 use scim_cell::{Id, Text};
 use scim_json::read_stored;
 use scim_text::{Failed, NoMemory, push};

@@ -15,7 +15,7 @@ ghost use Rattle.scim_value.specs.Uniqueness.{name_of};
 ghost use Rattle.scim_store.specs.Finding.{StandsIn, Reads, FindsById, FindsOwner, FindsGroups};
 ghost use Rattle.scim_store.specs.code.Finding.{FindsOwnerId, AreGroups};
 
-use crate::columns::kind_number;
+use scim_audit_rows::kind_number;
 use scim_cell::Id;
 use scim_json::read_stored;
 use scim_schema::{Kind, Leaf, unique_leaves};

@@ -4,19 +4,14 @@
 mod auditing;
 mod beginning;
 mod changes;
-mod columns;
 mod committing;
 mod damage;
 mod edits;
-mod fields;
 mod finding;
 mod importing;
-mod leaves;
 mod looking;
-mod numbers;
 mod opening;
 mod owners;
-mod records;
 mod shelf;
 mod walking;
 mod writing;
@@ -24,7 +19,6 @@ mod writing;
 pub use auditing::read_audit_rows;
 pub use beginning::begin_store;
 pub use changes::edits_of;
-pub use columns::{AuditTexts, columns_of};
 pub use committing::{CommitFault, commit_change, commit_over};
 pub use damage::{
     Judged, ResourceRows, Unreadable, holding_rows_are_sound, judge, sound_rows_hold,
@@ -32,10 +26,8 @@ pub use damage::{
 pub use edits::Edits;
 pub use finding::{find_by_id, find_groups_with, find_owner_of_name};
 pub use importing::{ImportFault, import};
-pub use leaves::leaf_of_path;
 pub use looking::find_old;
 pub use opening::{Examined, examine};
-pub use records::{are_audit_rows, read_audit_row};
 pub use shelf::{OpenFault, SqlShelf};
 pub use walking::walk;
 pub use writing::write_change;

@@ -12,7 +12,7 @@ ghost use Rattle.scim_store.specs.Damage.{AreOrdered, Judges};
 ghost use Rattle.scim_store.specs.Opening as spec;
 
 use crate::damage::{Judged, ResourceRows, judge};
-use crate::records::are_audit_rows;
+use scim_audit_rows::are_audit_rows;
 use scim_cell::Id;
 use scim_tables::{Reading, TableRows, read_tables};
 use scim_text::{Failed, NoMemory};

@@ -8,7 +8,7 @@ ghost use Rattle.scim_text.specs.declared.memory.Failed.{Failed};
 ghost use Rattle.scim_shelf.specs.declared.faults.ShelfFault.{ShelfFault};
 ghost use Rattle.scim_shelf.specs.Shelves.{Counts, Answers, OnlyReads};
 ghost use Rattle.scim_shelf.specs.Stores.{Store, last_number};
-ghost use Rattle.scim_store.specs.AuditBack.{AreRowsFrom};
+ghost use Rattle.scim_store.specs.Auditing.{AreRowsFrom};
 ghost use Rattle.scim_store.specs.Committing.{HasStore};
 ghost use Rattle.scim_tables.specs.Reading.{Rests};
 ghost use Rattle.scim_tables.specs.Tables.{no_schema};

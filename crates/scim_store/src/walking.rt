@@ -12,8 +12,8 @@ ghost use Rattle.scim_tables.specs.Reading.{Rests};
 ghost use Rattle.scim_store.specs.Stands.{Entry, IsEntry, resource_row};
 ghost use Rattle.scim_store.specs.Finding.{StandsIn, Shows};
 
-use crate::columns::kind_number;
 use crate::finding::read_document;
+use scim_audit_rows::kind_number;
 use scim_schema::Kind;
 use scim_shelf::Visitor;
 use scim_value::Resource;

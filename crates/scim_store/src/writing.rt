@@ -8,8 +8,8 @@ ghost use Rattle.scim_tables.specs.Lists.{Lists, Are, without, has_text, resourc
 ghost use Rattle.scim_tables.specs.Steps.{Goes, Keeps, Became, Undoes, Leaves};
 ghost use Rattle.scim_store.specs.Edits.{is_name, is_member, rows_of_names, rows_of_members, rows_of_document, edited, edited_by, with_row, Writes};
 
-use crate::columns::kind_number;
 use crate::edits::Edits;
+use scim_audit_rows::kind_number;
 use scim_cell::Text;
 use scim_tables::{
     AuditColumns, delete_member, delete_name, delete_resource, insert_audit, insert_member,

@@ -16,7 +16,7 @@ use Rattle.scim_tables.specs.Lists.{has_text, resource_values}
 use Rattle.scim_cell.specs.Content.{Content}
 use Rattle.scim_cell.specs.Ids.{id_text}
 use Rattle.scim_json.specs.Stored.{IsDocumentText}
-use Rattle.scim_store.specs.Audit.{kind_number}
+use Rattle.scim_audit_rows.specs.Audit.{kind_number}
 use Rattle.scim_schema.specs.Names.{attribute_name}
 use Rattle.scim_value.specs.Uniqueness.{Name, unique_names}
 

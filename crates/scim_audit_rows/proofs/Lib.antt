@@ -1,0 +1,3 @@
+pub mod BackLemmas
+pub mod ReadLemmas
+pub mod Facts
