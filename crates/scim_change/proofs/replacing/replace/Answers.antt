@@ -1,4 +1,4 @@
-use Rattle.std.proofs.Common.{◌≡◌, ℕ, sym, ◌∙◌, ap, subst, Bool, List}
+use Rattle.std.proofs.Common.{◌≡◌, ℕ, sym, ◌∙◌, ap, subst, Bool, List, rules}
 use Rattle.std.specs.Prelude.{Some}
 use Rattle.scim_schema.specs.declared.Kind.{Kind}
 use Rattle.scim_schema.specs.declared.Unit.{Unit as AttributeUnit}
@@ -85,3 +85,7 @@ returns-clause-base c base h =
     let is = given d us c.into_part.result own part c.into_part.ensures.value c.in_ok-part.ensures.rows c.in_ok-part.ensures.kind c.in_ok-part.ensures.id in
     subst (HasBase base) (sym (c.of_whole.ensures ∙ modified d us own part c.in_ok-part-2.part c.args.moment is c.in_ok-part-2.ensures.whole))
     (base_kept d c.in_ok-part.ensures.valid us own c.into_part.ensures.valid c.requires.kind c.args.moment c.in_ok-part-2.ensures.bound c.requires.writable base h)
+
+-- by name, so that a body that breaks it is refused at once
+pub returns-clause-changed : goal.returns-clause-changed
+returns-clause-changed c = search rules

@@ -1,3 +1,5 @@
+use Rattle.std.proofs.Common.{arith}
+use Rattle.std.proofs.lemmas.Grind.{common_steps}
 use Rattle.scim_chunks.proofs.LineLemmas.{line_open, line_past, line_full}
 use Rattle.scim_chunks.proofs.lines.judge_line.Goals as goal
 
@@ -16,3 +18,7 @@ pub returns-in_default-2-clause-bad : goal.returns-in_default-2-clause-bad
 returns-in_default-2-clause-bad c =
     let none = rw (c.in-Ok-Partial.field-0-is) at c.in-Ok-Partial.ensures.partial in
     line_full c.args.line.now none c.if-has_room.ensures
+
+-- by name, so that a body that breaks it is refused at once
+pub returns-in-Ok-Complete-clause-size : goal.returns-in-Ok-Complete-clause-size
+returns-in-Ok-Complete-clause-size c = grind (arith, common_steps)

@@ -1,4 +1,5 @@
-use Rattle.std.proofs.Common.{◌≡◌, ◌∙◌, sym, true, false}
+use Rattle.std.proofs.Common.{◌≡◌, ◌∙◌, sym, true, false, arith}
+use Rattle.std.proofs.lemmas.Grind.{common_steps}
 use Rattle.scim_schema.specs.Characteristics.{is_multi_valued}
 use Rattle.scim_filter.specs.Tree.{view}
 use Rattle.scim_filter.specs.Truth.{truth}
@@ -23,3 +24,11 @@ some_position_holds-returns-else-is_multi_valued g t c =
 
 pub node_holds-returns-in-Values : goal.node_holds-returns-in-Values
 node_holds-returns-in-Values g t c = rw (c.in-Values.is, ← c.deref-in-Values.ensures) c.some_position_holds.ensures
+
+-- by name, so that a body that breaks it is refused at once
+pub some_value_holds-returns-then-branch : goal.some_value_holds-returns-then-branch
+some_value_holds-returns-then-branch c = grind (arith, common_steps)
+
+-- by name, so that a body that breaks it is refused at once
+pub some_value_holds-loop-row-preserved : goal.some_value_holds-loop-row-preserved
+some_value_holds-loop-row-preserved c = grind (arith, common_steps)
