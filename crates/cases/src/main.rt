@@ -24,7 +24,7 @@ fn main(rt: HostRuntime) -> ExitCode {
 /// Goes through the files of the folder that the command line names.
 fn run(rt: &HostRuntime) -> Result<Tally, FolderFault> {
     let folder = folder_named(rt)?;
-    go_through(rt, rt.alloc(), folder.as_str(), &AllCalls)
+    go_through(rt, rt.alloc(), folder.as_str(), &AllCalls { rt })
 }
 
 /// The last word of the command line.
@@ -36,9 +36,13 @@ fn folder_named(rt: &HostRuntime) -> Result<String, FolderFault> {
 }
 
 /// The calls of all crates.
-struct AllCalls;
+#[derive(Drop)]
+struct AllCalls<'r> {
+    // For the one case of a socket.
+    rt: &'r HostRuntime,
+}
 
-impl Calls for AllCalls {
+impl Calls for AllCalls<'_> {
     fn answer(&self, case: &Case<'_>) -> Result<String, CaseFault> {
         if case.has("outputs") {
             return case_replays::answered(case);
@@ -60,6 +64,9 @@ impl Calls for AllCalls {
             return found;
         }
         if let Some(found) = case_replays::answer(case, call) {
+            return found;
+        }
+        if let Some(found) = case_faults::answer(self.rt, case, call) {
             return found;
         }
         Err(CaseFault::NoSuchCall)

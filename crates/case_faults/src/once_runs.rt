@@ -1,5 +1,6 @@
 //! What `once` does where a read or a write fails.
 use crate::streams::{Stutter, Trickle};
+use case_values::{Case, CaseFault, said, shown, truth};
 use scim_command::{RunFault, Setting, once};
 use scim_samples::{BASE, POLICY};
 use std::alloc::Global;
@@ -22,15 +23,6 @@ fn answer<R: Read>(alloc: Global, reader: &mut R, writer: &mut Stutter) -> Resul
 /// Whether the writer took the first bytes of the reply, so many, and nothing else.
 fn took(writer: &Stutter, count: usize) -> bool {
     writer.taken.len() == count && REPLY.as_bytes().starts_with(writer.taken.as_slice())
-}
-
-/// Whether the reply is written whole to a writer; or, where a count is given, whether the writing fails after so many bytes of it.
-fn comes_to(alloc: Global, writer: &mut Stutter, front: Option<usize>) -> bool {
-    let done = answer(alloc, &mut REQUEST.as_bytes(), writer);
-    match front {
-        Some(count) => done == Err(RunFault::Output) && took(writer, count),
-        None => done.is_ok() && took(writer, REPLY.len()),
-    }
 }
 
 /// Whether the input comes to this fault, and nothing is written.
@@ -59,39 +51,41 @@ fn left(alloc: Global) -> Option<&'static [u8]> {
     (done.is_ok() && took(&writer, REPLY.len())).then_some(reader.bytes)
 }
 
-/// What is shown, how many bytes a call takes, which call fails, how it does, and how many bytes of the reply are written then, where
-/// they aren't all.
-type Writing = (&'static str, usize, u32, ErrorKind, Option<usize>);
-
-const WRITINGS: [Writing; 11] = [
-    ("single bytes", 1, u32::MAX, ErrorKind::Other, None),
-    ("small steps", 7, u32::MAX, ErrorKind::Other, None),
-    ("all at once", 1_000, u32::MAX, ErrorKind::Other, None),
-    ("write 0 fails", 1, 0, ErrorKind::Other, Some(0)),
-    ("write 1 fails", 1, 1, ErrorKind::Other, Some(1)),
-    ("write 20 fails", 1, 20, ErrorKind::Other, Some(20)),
-    ("write 188 fails", 1, 188, ErrorKind::Other, Some(188)),
-    ("write 0 breaks off", 10, 0, ErrorKind::Interrupted, None),
-    ("write 1 breaks off", 10, 1, ErrorKind::Interrupted, None),
-    ("write 20 breaks off", 10, 20, ErrorKind::Interrupted, None),
-    ("nothing is taken", 0, u32::MAX, ErrorKind::Other, Some(0)),
-];
-
-/// A reply is written whole in small steps, and a write that was interrupted is tried again; after one that failed, or took nothing,
-/// nothing more is written.
-#[test]
-fn a_reply_is_written_whole_or_up_to_a_write_that_fails(rt: HostRuntime) {
-    for (name, step, failing, kind, front) in WRITINGS {
-        let mut writer = Stutter::new(rt.alloc(), step, failing, kind);
-        assert!(rt; comes_to(rt.alloc(), &mut writer, front), "{name}");
+/// The call of the writer that fails; none where the case names none.
+fn failing(case: &Case<'_>) -> Result<u32, CaseFault> {
+    if case.has("failing") {
+        Ok(u32::try_from(case.count("failing")?).unwrap_or(u32::MAX))
+    } else {
+        Ok(u32::MAX)
     }
 }
 
-/// Nothing is read past the head; reads that fail and that end are told apart.
-#[test]
-fn an_input_is_read_to_the_end_of_a_head_or_to_its_own(rt: HostRuntime) {
-    assert!(rt; left(rt.alloc()) == Some(b"GET / HTTP/1.1\r\n\r\n".as_slice()));
-    for text in ["", "\r\n", "GET /Users", "GET /Users HTTP/1.1\r\n"] {
-        assert!(rt; are_told_apart(rt.alloc(), text), "after {text:?}");
+/// How much of the reply a writer has that takes so many bytes at a call and fails at one: all of it, or so many bytes, where the writing failed.
+pub(crate) fn written_call(case: &Case<'_>) -> Result<String, CaseFault> {
+    let kind = if case.is_true("interrupted") {
+        ErrorKind::Interrupted
+    } else {
+        ErrorKind::Other
+    };
+    let mut writer = Stutter::new(case.alloc, case.count("step")?, failing(case)?, kind);
+    let done = answer(case.alloc, &mut REQUEST.as_bytes(), &mut writer);
+    let count = writer.taken.len();
+    match done {
+        Ok(()) if took(&writer, REPLY.len()) => said(case.alloc, "whole"),
+        Err(RunFault::Output) if took(&writer, count) => shown(case.alloc, &count),
+        _ => said(case.alloc, "something else"),
+    }
+}
+
+/// Whether an input that breaks off behind this text is told to have failed where a read fails, and to have ended where it ends.
+pub(crate) fn input_call(case: &Case<'_>) -> Result<String, CaseFault> {
+    truth(case.alloc, are_told_apart(case.alloc, case.text("text")?))
+}
+
+/// What is left of two requests where the first has been answered.
+pub(crate) fn left_call(case: &Case<'_>) -> Result<String, CaseFault> {
+    match left(case.alloc) {
+        Some(bytes) => said(case.alloc, str::from_utf8(bytes).unwrap_or("no UTF-8")),
+        None => said(case.alloc, "it was not answered"),
     }
 }

@@ -1,6 +1,7 @@
 //! What a server answers: over connections that a script plays, and over a socket.
 use crate::scripted_peers::ScriptedPeers;
 use crate::served::{REPLIES, REQUESTS, hub};
+use case_values::{Case, CaseFault, truth};
 use scim_hub::Hub;
 use scim_serve::serve;
 use scim_shelf::MemoryShelf;
@@ -71,14 +72,12 @@ fn answers_over_socket(rt: &HostRuntime) -> bool {
     }
 }
 
-#[test]
-fn each_connection_is_answered_what_is_due_to_it(rt: HostRuntime) {
-    for step in [1, 7, 190, 100_000] {
-        assert!(rt; answers_each(rt.alloc(), step), "{step} bytes at a call");
-    }
+/// Whether each connection is answered what is due to it, where it takes so many bytes at a call.
+pub(crate) fn peers_call(case: &Case<'_>) -> Result<String, CaseFault> {
+    truth(case.alloc, answers_each(case.alloc, case.count("step")?))
 }
 
-#[test]
-fn what_a_client_sends_is_answered(rt: HostRuntime) {
-    assert!(rt; answers_over_socket(&rt));
+/// Whether what a client sends over a socket is answered.
+pub(crate) fn socket_call(rt: &HostRuntime, case: &Case<'_>) -> Result<String, CaseFault> {
+    truth(case.alloc, answers_over_socket(rt))
 }

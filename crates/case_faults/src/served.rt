@@ -1,5 +1,6 @@
 //! What `serve_stream` does where a read or a write fails, where there is no stamp, and where a stream comes to no end.
 use crate::streams::{EmptyLines, Stutter, Trickle};
+use case_values::{Case, CaseFault, named, truth};
 use scim_cell::id_of;
 use scim_command::service_over;
 use scim_hub::{Hub, IoFault, NoStamp, Served, Stamp, Stamps, serve_stream};
@@ -121,7 +122,7 @@ fn is_served_up_to(alloc: Global, ending: Ending) -> bool {
     }
 }
 
-const ENDINGS: [(&str, Ending); 11] = [
+static ENDINGS: [(&str, Ending); 11] = [
     ("a read fails", Ending::Read),
     ("write 0 fails", Ending::Write(0)),
     ("write 1 fails", Ending::Write(1)),
@@ -135,11 +136,11 @@ const ENDINGS: [(&str, Ending); 11] = [
     ("lines without an end", Ending::Turns(u32::MAX)),
 ];
 
-/// A stream is served up to a read or a write that fails or a piece without a stamp, and read a million times and no more; what has been
-/// written then is a front of the replies.
-#[test]
-fn a_stream_is_served_up_to_what_ends_it(rt: HostRuntime) {
-    for (name, ending) in ENDINGS {
-        assert!(rt; is_served_up_to(rt.alloc(), ending), "{name}");
-    }
+/// Whether a stream is served up to a read or a write that fails or a piece without a stamp, and read a million times and no more, and what
+/// has been written then is a front of the replies.
+pub(crate) fn ends_call(case: &Case<'_>) -> Result<String, CaseFault> {
+    let Some(ending) = named(&ENDINGS, case.text("end")?) else {
+        return Err(CaseFault::Missing("end"));
+    };
+    truth(case.alloc, is_served_up_to(case.alloc, ending))
 }

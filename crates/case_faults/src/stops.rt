@@ -1,6 +1,7 @@
 //! A store whose files stop at each call in turn.
 use crate::files::{ALL, Calls, Contents, Outcome};
 use crate::request_parts::RequestParts;
+use case_values::{Case, CaseFault, named, truth};
 use scim_samples::{ALICE, BOB, TEAM};
 use scim_schema::{Kind, Op};
 use std::alloc::Global;
@@ -101,23 +102,36 @@ fn nothing_else_is_left_of(alloc: Global, requests: &[RequestParts]) -> bool {
     }
 }
 
-#[test]
-fn a_first_opening_that_stops_leaves_nothing_or_the_tables(rt: HostRuntime) {
-    let alloc = rt.alloc();
-    assert!(rt; nothing_else_is_left(alloc, &Contents::none(alloc), &[]));
+/// What is under way where a disk stops.
+#[derive(Clone, Copy)]
+enum Stopped {
+    /// The first opening of a database.
+    Opening,
+    Create,
+    Patch,
+    Remove,
 }
 
-#[test]
-fn a_create_that_stops_is_done_or_not(rt: HostRuntime) {
-    assert!(rt; nothing_else_is_left_of(rt.alloc(), &CREATE));
+static TURNS: [(&str, Stopped); 4] = [
+    ("opening", Stopped::Opening),
+    ("create", Stopped::Create),
+    ("patch", Stopped::Patch),
+    ("remove", Stopped::Remove),
+];
+
+fn is_done_or_not(alloc: Global, stopped: Stopped) -> bool {
+    match stopped {
+        Stopped::Opening => nothing_else_is_left(alloc, &Contents::none(alloc), &[]),
+        Stopped::Create => nothing_else_is_left_of(alloc, &CREATE),
+        Stopped::Patch => nothing_else_is_left_of(alloc, &PATCH),
+        Stopped::Remove => nothing_else_is_left_of(alloc, &REMOVE),
+    }
 }
 
-#[test]
-fn a_patch_that_stops_is_done_or_not(rt: HostRuntime) {
-    assert!(rt; nothing_else_is_left_of(rt.alloc(), &PATCH));
-}
-
-#[test]
-fn a_remove_that_stops_is_done_or_not(rt: HostRuntime) {
-    assert!(rt; nothing_else_is_left_of(rt.alloc(), &REMOVE));
+/// Whether each stop of a disk in the turn leaves what was there before or what is there after it.
+pub(crate) fn stops_call(case: &Case<'_>) -> Result<String, CaseFault> {
+    let Some(stopped) = named(&TURNS, case.text("turn")?) else {
+        return Err(CaseFault::Missing("turn"));
+    };
+    truth(case.alloc, is_done_or_not(case.alloc, stopped))
 }

@@ -1,0 +1,51 @@
+//! The calls where reads, writes and disks fail: streams that end in one way or another, replies that a writer takes in small steps or not
+//! at all, a server over connections that a script plays and over a socket, and stores whose disk stops at a call and crashes.
+#![tactic(auto)]
+
+mod databases;
+mod files;
+mod once_runs;
+mod request_parts;
+mod scripted_peers;
+mod served;
+mod servers;
+mod stops;
+mod streams;
+
+use case_values::{Case, CaseFault, named};
+
+/// A call of this crate.
+#[derive(Clone, Copy)]
+enum Call {
+    DiskStops,
+    InputEnds,
+    InputLeft,
+    ReplyWritten,
+    ServedPeers,
+    ServedSocket,
+    StreamEnds,
+}
+
+static CALLS: [(&str, Call); 7] = [
+    ("disk_stops", Call::DiskStops),
+    ("input_ends", Call::InputEnds),
+    ("input_left", Call::InputLeft),
+    ("reply_written", Call::ReplyWritten),
+    ("served_peers", Call::ServedPeers),
+    ("served_socket", Call::ServedSocket),
+    ("stream_ends", Call::StreamEnds),
+];
+
+/// What a call gives, if it is one of this crate.
+pub fn answer(rt: &HostRuntime, case: &Case<'_>, call: &str) -> Option<Result<String, CaseFault>> {
+    let call = named(&CALLS, call)?;
+    Some(match call {
+        Call::DiskStops => stops::stops_call(case),
+        Call::InputEnds => once_runs::input_call(case),
+        Call::InputLeft => once_runs::left_call(case),
+        Call::ReplyWritten => once_runs::written_call(case),
+        Call::ServedPeers => servers::peers_call(case),
+        Call::ServedSocket => servers::socket_call(rt, case),
+        Call::StreamEnds => served::ends_call(case),
+    })
+}
