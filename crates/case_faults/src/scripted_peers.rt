@@ -1,4 +1,4 @@
-//! Connections of which a script says beforehand what happens. What they took is looked at by tests: to a contract they are as sockets.
+//! Connections of which a script says beforehand what happens. What they took is looked at by cases: to a contract they are as sockets.
 use scim_cell::id_of;
 use scim_hub::{Happened, Recorded, Stamp};
 use scim_serve::{Incident, Peers, PeersFault};
