@@ -5,7 +5,7 @@ use bench_values::{fastest, numbered, numbered_id, print_heading, print_line};
 use scim_ask::ask;
 use scim_command::service_over;
 use scim_exchange::{Answer, Arrival, answer};
-use scim_policy::read_policy;
+use scim_policy_file::read_policy;
 use scim_route::{Found, Routes};
 use scim_samples::{BASE, POLICY, USERS};
 use scim_service::Service;

@@ -1,7 +1,8 @@
 //! What policies of few and of many rules decide of a user of 15 cells, and what a client sees by them.
 use anyhow::{Result, bail};
 use bench_values::{fastest, print_heading, print_line, push_all, sample_user};
-use scim_policy::{Policy, read_policy};
+use scim_policy::Policy;
+use scim_policy_file::read_policy;
 use scim_samples::BASE;
 use scim_schema::Op;
 use scim_value::Resource;

@@ -3,7 +3,7 @@ use crate::turns::make_from;
 use anyhow::Result;
 use bench_values::{numbered, numbered_id, push_all};
 use scim_cell::Text;
-use scim_policy::read_policy;
+use scim_policy_file::read_policy;
 use scim_samples::BASE;
 use scim_schema::Kind;
 use scim_service::Service;

@@ -6,7 +6,7 @@ use crate::request_parts::{RequestParts, are_answered};
 use scim_audit::{AuditRow, print_row};
 use scim_cell::Text;
 use scim_json::stored_text;
-use scim_policy::read_policy;
+use scim_policy_file::read_policy;
 use scim_samples::{BASE, POLICY};
 use scim_schema::Kind;
 use scim_service::Service;

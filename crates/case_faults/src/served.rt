@@ -4,7 +4,7 @@ use case_values::{Case, CaseFault, named, truth};
 use scim_cell::id_of;
 use scim_command::service_over;
 use scim_hub::{Hub, IoFault, NoStamp, Served, Stamp, Stamps, serve_stream};
-use scim_policy::read_policy;
+use scim_policy_file::read_policy;
 use scim_route::Routes;
 use scim_samples::{BASE, POLICY};
 use scim_shelf::MemoryShelf;

@@ -1,11 +1,12 @@
-//! The calls of `scim_explain`.
+//! The calls of `scim_explain` and of `scim_sentences`.
 use crate::policy_calls::policy;
 use case_values::{Case, CaseFault, named};
-use scim_explain::{explain, idle_rules, print, print_idle_rules, rule_sentences, table};
+use scim_explain::{explain, idle_rules, print, print_idle_rules, table};
 use scim_policy::Policy;
+use scim_sentences::rule_sentences;
 use scim_value::Resource;
 
-/// A call of `scim_explain`.
+/// A call of `scim_explain` or of `scim_sentences`.
 #[derive(Clone, Copy)]
 enum ExplainCall {
     Explain,
@@ -21,7 +22,7 @@ static CALLS: [(&str, ExplainCall); 4] = [
     ("idle_rules", ExplainCall::IdleRules),
 ];
 
-/// What a call of `scim_explain` gives; None where it isn't one.
+/// What a call of these crates gives; None where it isn't one.
 pub fn answer(case: &Case<'_>, call: &str) -> Option<Result<String, CaseFault>> {
     let call = named(&CALLS, call)?;
     Some(policy_call(case, call))

@@ -1,15 +1,14 @@
-//! The calls of `scim_policy`.
+//! The calls of `scim_policy` and of `scim_policy_file`.
 use case_values::{
     Case, CaseFault, between, debugged, file_text, named, policy_text, push_all, said, shown, truth,
 };
-use scim_policy::{
-    ClientName, Decision, Decisions, Misfit, Policy, Rule, Target, is_client_name, read_policy,
-};
+use scim_policy::{ClientName, Decision, Decisions, Misfit, Policy, Rule, Target};
+use scim_policy_file::{is_client_name, read_policy};
 use scim_samples::read_leaf;
 use scim_value::Resource;
 use std::alloc::Global;
 
-/// A call of `scim_policy`.
+/// A call of `scim_policy` or of `scim_policy_file`.
 #[derive(Clone, Copy)]
 enum PolicyCall {
     IsClientName,

@@ -7,7 +7,7 @@ use Rattle.scim_text.specs.declared.memory.NoMemory.{NoMemory}
 use Rattle.scim_text.specs.declared.memory.Failed.{Failed}
 use Rattle.scim_audit.specs.declared.refusals.Refusal.{Refusal}
 use Rattle.scim_policy.specs.Rules.{Rule}
-use Rattle.scim_policy.specs.File.{policy_of}
+use Rattle.scim_policy_file.specs.File.{policy_of}
 use Rattle.scim_shelf.specs.declared.faults.ShelfFault.{ShelfFault}
 use Rattle.scim_shelf.specs.Stores.{Store}
 use Rattle.scim_wire.specs.declared.messages.Message.{Message}

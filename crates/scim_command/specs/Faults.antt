@@ -2,7 +2,7 @@
 use Rattle.scim_text.specs.declared.memory.Failed.{Failed}
 use Rattle.scim_text.specs.declared.memory.Failed.TheVariants as failed
 use Rattle.scim_json.specs.declared.faults.DamagedItem.{DamagedItem}
-use Rattle.scim_policy.specs.declared.faults.PolicyFault.{PolicyFault}
+use Rattle.scim_policy_file.specs.declared.faults.PolicyFault.{PolicyFault}
 use Rattle.scim_shelf.specs.declared.faults.ShelfFault.{ShelfFault}
 use Rattle.scim_command.specs.declared.faults.DatabaseFault.TheVariants.{Unusable}
 use Rattle.scim_command.specs.declared.faults.RunFault.{RunFault}

@@ -5,7 +5,7 @@ use Rattle.scim_audit.specs.declared.refusals.Refusal.TheVariants.{Store as NoSt
 use Rattle.scim_cell.specs.Content.{Content}
 use Rattle.scim_json.specs.Documents.{IsDocumentsText}
 use Rattle.scim_policy.specs.Rules.{Rule}
-use Rattle.scim_policy.specs.File.{policy_of}
+use Rattle.scim_policy_file.specs.File.{policy_of}
 use Rattle.scim_shelf.specs.Stores.{Store, IsNewStore}
 use Rattle.scim_wire.specs.declared.messages.Message.{Message}
 use Rattle.scim_exchange.specs.declared.answers.Answer.{Answer}

@@ -1,9 +1,9 @@
 //! `check`: what a policy file says.
 ghost use Rattle.std.specs.Prelude.{◌≡◌, ◌≢◌, ℕ, List, Ok, Err, IfOk, IfErr, OnOk, string_bytes};
 ghost use Rattle.std.specs.Io.KnownBytes.{Appends};
-ghost use Rattle.scim_policy.specs.File.{policy_of};
+ghost use Rattle.scim_policy_file.specs.File.{policy_of};
 ghost use Rattle.scim_policy.specs.Rules.{Rule};
-ghost use Rattle.scim_policy.specs.declared.faults.Cause.{Cause};
+ghost use Rattle.scim_policy_file.specs.declared.faults.Cause.{Cause};
 ghost use Rattle.scim_wire.specs.Streams.{AppendsFront};
 ghost use Rattle.scim_command.specs.Check as spec;
 ghost use Rattle.scim_command.specs.declared.faults.RunFault.{RunFault};
@@ -11,8 +11,10 @@ ghost use Rattle.scim_command.specs.code.Exits.{IsOfPolicy};
 
 use crate::faults::RunFault;
 use crate::writing::write_or_fault;
-use scim_explain::{idle_rules, print_idle_rules, rule_sentences};
-use scim_policy::{Policy, read_policy};
+use scim_explain::{idle_rules, print_idle_rules};
+use scim_policy::Policy;
+use scim_policy_file::read_policy;
+use scim_sentences::rule_sentences;
 use scim_text::NoMemory;
 use std::alloc::Global;
 use std::io::Write;

@@ -1,7 +1,7 @@
 //! Why a command gave up.
 use scim_cell::Id;
 use scim_json::DamagedItem;
-use scim_policy::{Cause, PolicyFault};
+use scim_policy_file::{Cause, PolicyFault};
 use scim_shelf::ShelfFault;
 use scim_text::{Failed, NoMemory};
 use std::error::Error;

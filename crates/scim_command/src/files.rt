@@ -3,7 +3,8 @@ use crate::command_faults::CommandFault;
 use crate::faults::RunFault;
 use crate::options::OnceOptions;
 use crate::run_once::Setting;
-use scim_policy::{Cause, Policy, read_policy};
+use scim_policy::Policy;
+use scim_policy_file::{Cause, read_policy};
 use std::fs;
 use std::rt::Files;
 

@@ -3,7 +3,7 @@ use crate::command_faults::CommandFault;
 use crate::faults::RunFault;
 use clap::ArgMatches;
 use scim_cell::Id;
-use scim_policy::is_client_name;
+use scim_policy_file::is_client_name;
 use scim_text::{Moment, read_printed_moment};
 use std::alloc::Global;
 

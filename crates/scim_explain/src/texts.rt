@@ -20,15 +20,17 @@ fn misfit_word(misfit: Misfit) -> &'static str
     }
 }
 
-/// The word for whether something is allowed.
-pub(crate) fn effect_word(allow: bool) -> &'static str
+/// The word for whether something is allowed: `allow` or `deny`.
+pub fn effect_word(allow: bool) -> &'static str
     ensures { result.now ≡ spec.effect_word allow }
 {
     if allow { "allow" } else { "deny" }
 }
 
-/// The line that says a word of a rule.
-pub(crate) fn rule_line(alloc: Global, number: usize, word: &str) -> Result<String, NoMemory>
+/// The line that says a word, or a sentence, of the rule with a number: `rule N: `, the word, and a line feed.
+///
+/// The only error is [`NoMemory`].
+pub fn rule_line(alloc: Global, number: usize, word: &str) -> Result<String, NoMemory>
     ensures { IfOk result (λ line. string_bytes line ≡ spec.rule_line number word.now) }
 {
     Ok(format!(in alloc; "rule {number}: {word}\n")?)

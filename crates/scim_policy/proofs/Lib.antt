@@ -1,10 +1,7 @@
 pub mod AccessLemmas
 pub mod ControlLemmas
-pub mod FileLemmas
-pub mod ListLemmas
 pub mod PickedLemmas
 pub mod RuleLemmas
-pub mod ShapeLemmas
 pub mod SharedLemmas
 pub mod TableLemmas
 pub mod Facts

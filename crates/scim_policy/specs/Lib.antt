@@ -2,10 +2,6 @@ pub mod code
 pub mod Access
 pub mod Control
 pub mod Decide
-pub mod File
-pub mod Lists
-pub mod Paths
 pub mod Picked
 pub mod Rules
 pub mod Table
-pub mod Targets

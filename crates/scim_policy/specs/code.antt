@@ -1,4 +1,3 @@
 pub mod Inside
 pub mod Steps
 pub mod Walk
-pub mod Written

@@ -7,23 +7,16 @@
 
 mod access;
 mod decisions;
-mod faults;
 mod fits;
 mod laws;
 mod misfits;
-mod paths;
-mod reading;
 mod rules;
 mod rules_about;
 mod shared_decisions;
-mod targets;
 
 pub use access::Rights;
 pub use decisions::Decisions;
-pub use faults::{Cause, PolicyFault};
 pub use laws::decisions_rest_on_control;
 pub use misfits::Misfit;
-pub use paths::is_client_name;
-pub use reading::read_policy;
 pub use rules::{ClientName, Decision, KindPaths, Policy, PolicyPath, Rule, Target};
 pub use rules_about::RulesAbout;

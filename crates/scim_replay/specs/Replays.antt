@@ -2,7 +2,7 @@
 use Rattle.std.specs.Prelude.{◌≡◌, ℕ, List, [], Result, Ok}
 use Rattle.std.specs.Str.Lines.{lines}
 use Rattle.scim_policy.specs.Rules.{Rule}
-use Rattle.scim_policy.specs.File.{policy_of}
+use Rattle.scim_policy_file.specs.File.{policy_of}
 use Rattle.scim_shelf.specs.Stores.{Store}
 use Rattle.scim_token.specs.TokenFile.{Entry, entries_from}
 use Rattle.scim_hub.specs.declared.events.HubFault.{HubFault}

@@ -4,7 +4,7 @@ use Rattle.std.specs.List.{list_any, position_or_len, before_first, after_first}
 use Rattle.std.specs.Cmp.Lexicographic.{pointwise}
 use Rattle.std.specs.Result.{result_ok}
 use Rattle.hex.specs.Hex.{decode_sized}
-use Rattle.scim_policy.specs.Paths.{is_client_name}
+use Rattle.scim_policy_file.specs.Paths.{is_client_name}
 use Rattle.scim_token.specs.declared.faults.LineFault.{LineFault}
 use Rattle.scim_token.specs.declared.faults.LineFault.TheVariants.{BadLine, BadName, BadDigest, Twice, TooMany}
 use Rattle.scim_token.specs.declared.faults.TokenFault.{TokenFault}

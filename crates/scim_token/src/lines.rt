@@ -5,7 +5,7 @@ ghost use Rattle.scim_token.specs.code.Known.{entry_of};
 
 use crate::digests::Digest;
 use crate::faults::LineFault;
-use scim_policy::is_client_name;
+use scim_policy_file::is_client_name;
 
 /// A client, and the digest of a token that it has.
 #[derive(Clone, Copy)]

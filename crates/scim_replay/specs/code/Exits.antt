@@ -1,7 +1,7 @@
 -- How the functions of `replay` end.
 use Rattle.std.specs.Prelude.{◌≡◌, List, [], Ok}
 use Rattle.std.specs.Str.Lines.{lines}
-use Rattle.scim_policy.specs.File.{policy_of}
+use Rattle.scim_policy_file.specs.File.{policy_of}
 use Rattle.scim_shelf.specs.Stores.{Store}
 use Rattle.scim_token.specs.TokenFile.{Entry, entries_from}
 use Rattle.scim_token.specs.Tokens.{Knows}

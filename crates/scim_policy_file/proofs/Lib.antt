@@ -1,0 +1,3 @@
+pub mod FileLemmas
+pub mod ListLemmas
+pub mod ShapeLemmas

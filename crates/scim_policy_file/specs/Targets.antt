@@ -1,0 +1,72 @@
+-- The target of a rule: a text that is a filter on each of the rule's kinds (RFC 7644 section 3.4.2.2).
+use Rattle.std.specs.Prelude.{ℕ, ◌+◌, Bool, true, false, ◌&&◌, ◌||◌, List, [], ◌∷◌, map, Option, None, Some, option_map, ok_or, slice_get, Result, Ok, Err, if◌then◌else◌}
+use Rattle.std.specs.List.{list_any}
+use denote.Enum.Bare.{sameb}
+use Rattle.scim_schema.specs.declared.Kind.{Kind}
+use Rattle.scim_schema.specs.declared.Attribute.{Attribute}
+use Rattle.scim_schema.specs.declared.Attribute.TheVariants.{Groups, Password, Meta}
+use Rattle.scim_schema.specs.contracts.Attribute.{the_type as the_attribute}
+use Rattle.scim_filter.specs.declared.mentions.Named.{Named}
+use Rattle.scim_filter.specs.Mentions.{mentioned_names, is_known}
+use Rattle.scim_filter.specs.Spelled.{filter_in}
+use Rattle.scim_policy_file.specs.declared.faults.Cause.{Cause}
+use Rattle.scim_policy_file.specs.declared.faults.Cause.TheVariants as cause
+use Rattle.scim_policy.specs.Rules.{Target}
+use Rattle.scim_policy_file.specs.Lists.{each}
+
+-- what follows from what stands, or the first cause against it
+infixl 10 ◌>>=◌
+abbrev pub ◌>>=◌ : {A B : Type 0} → Result A Cause → (A → Result B Cause) → Result B Cause
+(Ok x) >>= f = f x
+(Err e) >>= f = Err e
+
+abbrev pub or_name : {A : Type 0} → Option A → Result A Cause
+or_name o = ok_or o cause.Name
+
+-- the filter that a text is on resources of a kind
+abbrev pub target_on : List ℕ → Kind → Option Target
+target_on text kind = option_map (λ tree. record { kind = kind; tree = tree }) (filter_in kind text)
+
+abbrev pub is_known_name : Option Named → Bool
+is_known_name None = false
+is_known_name (Some n) = is_known n
+
+-- whether the name at a place, from 0, names an attribute
+abbrev pub is_known_at : ℕ → List Named → Bool
+is_known_at i ns = is_known_name (slice_get ns i)
+
+-- whether each name, the first of them at the i-th place, names an attribute in one of the lists
+abbrev pub are_known_from : ℕ → List (List Named) → List Named → Bool
+are_known_from i lists [] = true
+are_known_from i lists (n ∷ ns) = list_any (is_known_at i) lists && are_known_from (i + 1) lists ns
+
+-- of lists of the same names, each read for another kind: whether each name names an attribute of one of the kinds
+abbrev pub are_known : List (List Named) → Bool
+are_known [] = true
+are_known (ns ∷ more) = are_known_from 0 (ns ∷ more) ns
+
+-- `groups`, `password` and `meta`
+abbrev pub is_withheld : Option Attribute → Bool
+is_withheld None = false
+is_withheld (Some a) = sameb the_attribute a Groups || (sameb the_attribute a Password || sameb the_attribute a Meta)
+
+-- whether one of the names names such an attribute
+abbrev pub name_withheld : List Named → Bool
+name_withheld ns = list_any (λ (n : Named). is_withheld n.attribute) ns
+
+-- the targets of these names, or the first cause against them
+abbrev pub allowed : List (List Named) → List Target → Result (List Target) Cause
+allowed lists ts = if are_known lists then (if list_any name_withheld lists then Err cause.TargetNames else Ok ts) else Err cause.Name
+
+-- what the targets on each kind name
+abbrev pub names_of : List Target → List (List Named)
+names_of ts = map (λ (t : Target). mentioned_names t.tree) ts
+
+-- what a target is for these kinds, or the first cause against it
+unfoldable pub targets_in : List Kind → List ℕ → Result (List Target) Cause
+targets_in kinds text = ok_or (each (target_on text) kinds) cause.Target >>= λ ts. allowed (names_of ts) ts
+
+-- no target is none for any kind
+abbrev pub targets_for : List Kind → Option (List ℕ) → Result (List Target) Cause
+targets_for kinds None = Ok []
+targets_for kinds (Some text) = targets_in kinds text

@@ -1,0 +1,160 @@
+//! Reading the target of a rule.
+ghost use Rattle.std.specs.Prelude.{◌≡◌, IfOk, map, option_map};
+ghost use Rattle.std.specs.List.{list_any};
+ghost use Rattle.scim_policy_file.specs.Lists.{each};
+ghost use Rattle.scim_policy_file.specs.Targets as spec;
+ghost use Rattle.scim_policy_file.specs.code.Written.{Gives, text_at};
+
+use crate::faults::Cause;
+use scim_filter::{Named, mentioned_names, read_filter};
+use scim_policy::Target;
+use scim_schema::{Attribute, Kind};
+use scim_text::{Failed, NoMemory, push};
+use std::alloc::Global;
+
+/// What a target is for a rule on these kinds; nothing where there is no target.
+pub(crate) fn targets_for(
+    alloc: Global,
+    kinds: &[Kind],
+    text: Option<&str>,
+) -> Result<Vec<Target>, Failed<Cause>>
+    ensures { Gives (λ v. v.items) result (spec.targets_for kinds.now (option_map text_at text.entry)) }
+{
+    match text {
+        None => Ok(Vec::new(alloc)),
+        Some(text) => targets_in(alloc, kinds, text),
+    }
+}
+
+/// The filters that a text is on these kinds, where it may be a target.
+#[tactic(auto, unfolding(crate::specs::Targets::targets_in))]
+fn targets_in(alloc: Global, kinds: &[Kind], text: &str) -> Result<Vec<Target>, Failed<Cause>>
+    ensures { Gives (λ v. v.items) result (spec.targets_in kinds.now text.now) }
+{
+    let Some(targets) = targets_on(alloc, kinds, text)? else {
+        return Err(Failed::Because(Cause::Target));
+    };
+    let lists = names_of(alloc, &targets)?;
+    if !are_known(&lists) {
+        return Err(Failed::Because(Cause::Name));
+    }
+    if is_one_withheld(&lists) {
+        return Err(Failed::Because(Cause::TargetNames));
+    }
+    Ok(targets)
+}
+
+/// The filters that a text is on each of these kinds, if it is one on each.
+fn targets_on(alloc: Global, kinds: &[Kind], text: &str) -> Result<Option<Vec<Target>>, NoMemory>
+    ensures { IfOk result (λ o. option_map (λ v. v.items) o ≡ each (spec.target_on text.now) kinds.now) }
+{
+    let mut targets = Vec::new(alloc);
+    for kind in kinds {
+        let Some(target) = target_on(alloc, *kind, text)? else {
+            return Ok(None);
+        };
+        push(&mut targets, target)?;
+    }
+    Ok(Some(targets))
+}
+
+/// The filter that a text is on resources of a kind, if it is one.
+fn target_on(alloc: Global, kind: Kind, text: &str) -> Result<Option<Target>, NoMemory>
+    ensures { IfOk result (λ o. o ≡ spec.target_on text.now kind) }
+{
+    match read_filter(alloc, kind, text) {
+        Ok(filter) => Ok(Some(Target::new(kind, filter))),
+        Err(Failed::NoMemory) => Err(NoMemory),
+        Err(_) => Ok(None),
+    }
+}
+
+/// What the targets on each kind name.
+fn names_of(alloc: Global, targets: &[Target]) -> Result<Vec<Vec<Named>>, NoMemory>
+    ensures { IfOk result (λ v. map (λ ns. ns.items) v.items ≡ spec.names_of targets.now) }
+{
+    let mut lists = Vec::new(alloc);
+    for target in targets {
+        push(&mut lists, mentioned_names(alloc, target.filter())?)?;
+    }
+    Ok(lists)
+}
+
+/// Of lists of the same names, each read for another kind: whether each name names an attribute of one
+/// of the kinds.
+fn are_known(lists: &[Vec<Named>]) -> bool
+    ensures { result ≡ spec.are_known (map (λ ns. ns.items) lists.now) }
+{
+    match lists {
+        [] => true,
+        [first, ..] => are_all_known(lists, first),
+    }
+}
+
+/// Whether each of these names names an attribute in one of the lists.
+fn are_all_known(lists: &[Vec<Named>], names: &[Named]) -> bool
+    ensures { result ≡ spec.are_known_from 0 (map (λ ns. ns.items) lists.now) names.now }
+{
+    let mut place = 0;
+    for _name in names {
+        if !is_known(lists, place) {
+            return false;
+        }
+        place += 1;
+    }
+    true
+}
+
+/// Whether the name at a place names an attribute in one of the lists.
+fn is_known(lists: &[Vec<Named>], place: usize) -> bool
+    ensures { result ≡ list_any (spec.is_known_at place) (map (λ ns. ns.items) lists.now) }
+{
+    for names in lists {
+        if is_known_at(names, place) {
+            return true;
+        }
+    }
+    false
+}
+
+/// Whether the name at a place names an attribute.
+fn is_known_at(names: &[Named], place: usize) -> bool
+    ensures { result ≡ spec.is_known_at place names.now }
+{
+    match names.get(place) {
+        Some(name) => name.attribute.is_some(),
+        None => false,
+    }
+}
+
+/// Whether one of the names in one of the lists names `groups`, `password` or `meta`.
+fn is_one_withheld(lists: &[Vec<Named>]) -> bool
+    ensures { result ≡ list_any spec.name_withheld (map (λ ns. ns.items) lists.now) }
+{
+    for names in lists {
+        if has_withheld(names) {
+            return true;
+        }
+    }
+    false
+}
+
+fn has_withheld(names: &[Named]) -> bool
+    ensures { result ≡ spec.name_withheld names.now }
+{
+    names.iter().any(|name| is_withheld(name.attribute))
+}
+
+/// `groups`, `password` and `meta`.
+fn is_withheld(attribute: Option<Attribute>) -> bool
+    ensures { result ≡ spec.is_withheld attribute }
+{
+    match attribute {
+        Some(attribute) => {
+            attribute == Attribute::Groups
+                || attribute == Attribute::Password
+                || attribute == Attribute::Meta
+        }
+        None => false,
+    }
+}
