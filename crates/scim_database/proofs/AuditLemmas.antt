@@ -20,9 +20,9 @@ use Rattle.scim_audit.specs.Rows.{decided_name, no_word, leaf_path, refusal_mark
 use Rattle.scim_shelf.specs.Stores.{Store}
 use Rattle.scim_tables.specs.Audit.{number, last_number}
 use Rattle.scim_audit_rows.specs.Audit.{kind_number, op_number, decided_number, refusal_number, audit_row, audit_rows}
-use Rattle.scim_store.specs.Auditing.{AreRowsFrom}
+use Rattle.scim_looks.specs.Auditing.{AreRowsFrom}
 use Rattle.scim_audit_rows.proofs.Facts.{length-audit_rows}
-use Rattle.scim_store.proofs.SpanLemmas.{drop-audit_rows, take-audit_rows}
+use Rattle.scim_looks.proofs.Facts.{drop-audit_rows, take-audit_rows}
 use Rattle.scim_database.specs.Audit.{audit_lines, audit_text}
 
 -- ---- each word follows from what the table keeps

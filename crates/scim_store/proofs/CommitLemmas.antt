@@ -16,8 +16,8 @@ use Rattle.scim_store.specs.declared.edits.Edits.{Edits}
 use Rattle.scim_audit_rows.specs.Audit.{audit_row}
 use Rattle.scim_store.specs.Edits.{AreEdits, Writes}
 use Rattle.scim_store.specs.Committing.{HasStore, AreOf, IsDue, IsDueOver, Stays, Changes, StandForNone}
-use Rattle.scim_store.specs.Finding.{StandsIn}
-use Rattle.scim_store.specs.Stands.{StandsFor}
+use Rattle.scim_looks.specs.Finding.{StandsIn}
+use Rattle.scim_looks.specs.Stands.{StandsFor}
 
 -- ---- what a crash leaves
 

@@ -24,7 +24,7 @@ use Rattle.std.proofs.lemmas.Map.Text.{is_eq-slice_cmp}
 use Rattle.std.proofs.lemmas.Map.Keys.{sorted_head, sorted_tail}
 use Rattle.std.proofs.lemmas.Map.Lookups.{exact_bytes}
 use Rattle.scim_shelf.proofs.NameLemmas.{by_bool}
-use Rattle.scim_store.specs.Stands.{is_among}
+use Rattle.scim_looks.specs.Stands.{is_among}
 use Rattle.std.specs.List.{AllByRecursion}
 use Rattle.std.specs.List.Sorted.{IsStrictlySortedBy}
 use Rattle.std.specs.declared.cmp.Ordering.TheVariants.{Less, Equal, Greater}
@@ -33,7 +33,7 @@ use Rattle.scim_store.proofs.ValueLemmas.{texts_of}
 use denote.Ref.{Bor}
 use Rattle.scim_store.specs.code.Damage.{pair_of, triple_of, is_pair, is_triple, is_number, is_row, text_in, IsRowOf, HasRows, AreOfOne}
 use Rattle.scim_tables.proofs.TestLemmas.{text_of}
-use Rattle.scim_store.proofs.EntryLemmas.{tied}
+use Rattle.scim_looks.proofs.Facts.{tied}
 
 -- ---- rows of two or three texts
 

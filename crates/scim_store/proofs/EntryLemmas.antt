@@ -22,7 +22,8 @@ use Rattle.scim_cell.specs.Ids.{IsId, id_text}
 use Rattle.scim_cell.proofs.Facts.{id_text-injective}
 use Rattle.scim_shelf.proofs.PlaceLemmas.{by_order}
 use Rattle.scim_tables.specs.Lists.{has_text, has_texts}
-use Rattle.scim_store.specs.Stands.{Entry, is_among, resource_row, member_row}
+use Rattle.scim_looks.specs.Stands.{Entry, is_among, resource_row, member_row}
+use Rattle.scim_looks.proofs.Facts.{tied, ids_apart}
 use Rattle.scim_store.specs.Edits.{is_member}
 
 -- ---- rows of one kind
@@ -46,18 +47,6 @@ replaced f stays es one rest news all come from keep new into =
     let whole : come ++ filter stays (flat_map f (one ++ rest)) ≡ flat_map f (news ++ rest) =
     ap (λ (l : List Row). come ++ l) left ∙ sym (append_assoc come (filter stays (flat_map f one)) (flat_map f rest)) ∙ ap (λ (l : List Row). l ++ flat_map f rest) new ∙ sym (flat_map-append f news rest) in
     IsPermutation-trans _ _ _ moved (IsPermutation-trans _ _ _ (IsPermutation-same _ _ whole) (IsPermutation-flat_map f _ _ into))
-
--- ---- ids
-
-pub tied : (t : List ℕ) → is_eq (slice_cmp nat_cmp t t) ≡ true
-tied t = ap is_eq (tied_itself nat_list_cmp_total t)
-
-pub ids_apart : (x id : List ℕ) → IsId x → IsId id → x ≢ id → is_eq (slice_cmp nat_cmp (id_text x) (id_text id)) ≡ false
-ids_apart x id one two differ =
-    by_order (slice_cmp nat_cmp (id_text x) (id_text id))
-    (λ h. ap is_eq h)
-    (λ h. absurd (differ (id_text-injective x id one two (exact_bytes (id_text x) (id_text id) h))))
-    (λ h. ap is_eq h)
 
 -- ---- rows of resources
 

@@ -29,7 +29,7 @@ use Rattle.scim_tables.specs.Reading.{DoNotFall, columns_cmp, owner_first, group
 use Rattle.scim_value.specs.Uniqueness.{Name, unique_names}
 use Rattle.scim_store.specs.Damage.{Tables, AreThoseOf, HoldsAt, rows_at}
 use Rattle.scim_store.specs.Owners.{is_of}
-use Rattle.scim_store.specs.Stands.{Entry, IsEntry, resource_row, name_row, name_rows, member_row, member_rows}
+use Rattle.scim_looks.specs.Stands.{Entry, IsEntry, resource_row, name_row, name_rows, member_row, member_rows}
 use Rattle.scim_store.specs.code.Damage.{owned_name, owned_member, AreOfOne}
 use Rattle.scim_store.proofs.NameLemmas.{few_of}
 use Rattle.scim_store.proofs.SoundLemmas.{few_keyed}

@@ -26,7 +26,7 @@ use Rattle.scim_audit_rows.specs.Audit.{kind_number}
 use Rattle.scim_store.specs.Committing.{HasStore, AreOf}
 use Rattle.scim_store.specs.Edits.{rows_of_names, rows_of_members, rows_of_document, Replaces}
 use Rattle.scim_store.specs.Importing.{HoldRowsOf, Fills, LeavesImported}
-use Rattle.scim_store.specs.Stands.{Entry, StandsFor, IsEntry, lists_of, resource_row, name_row, name_rows, member_rows}
+use Rattle.scim_looks.specs.Stands.{Entry, StandsFor, IsEntry, lists_of, resource_row, name_row, name_rows, member_rows}
 use Rattle.scim_store.proofs.RowLemmas.{reordered}
 use Rattle.scim_store.proofs.StandLemmas.{document_rows}
 

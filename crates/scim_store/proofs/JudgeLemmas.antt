@@ -27,11 +27,12 @@ use Rattle.scim_tables.specs.Reading.{owner_first, group_first}
 use Rattle.scim_value.specs.Uniqueness.{Name, AreApart, unique_names}
 use Rattle.scim_store.specs.Owners.{is_of, HasOwner, is_owner}
 use Rattle.scim_store.specs.Damage.{Tables, AreSound, HoldsAt, AreOwned, is_shared}
-use Rattle.scim_store.specs.Stands.{Entry, IsEntry, resource_row, name_row, name_rows, member_row, member_rows}
+use Rattle.scim_looks.specs.Stands.{Entry, IsEntry, resource_row, name_row, name_rows, member_row, member_rows}
 use Rattle.scim_store.specs.code.Damage.{HasName, AreAllOwned}
-use Rattle.scim_store.proofs.EntryLemmas.{tied}
-use Rattle.scim_store.proofs.NameLemmas.{few_of, user_names}
-use Rattle.scim_store.proofs.OwnerLemmas.{contents, none_left}
+use Rattle.scim_looks.proofs.Facts.{tied}
+use Rattle.scim_looks.proofs.Facts.{user_names}
+use Rattle.scim_store.proofs.NameLemmas.{few_of}
+use Rattle.scim_looks.proofs.Facts.{contents, none_left}
 use Rattle.scim_store.proofs.SoundLemmas.{sound_id}
 use Rattle.scim_store.proofs.WholeLemmas.{shared_flips, whole}
 

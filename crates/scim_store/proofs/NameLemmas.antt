@@ -28,30 +28,11 @@ use Rattle.scim_shelf.specs.Stores.{is_same_name}
 use Rattle.scim_shelf.proofs.NameLemmas.{by_bool, is_same_name-Decides, is_same_name-flips}
 use Rattle.scim_shelf.specs.code.Owners.{is_among}
 use Rattle.scim_tables.specs.Lists.{has_texts}
-use Rattle.scim_store.specs.Stands.{Entry, name_row, name_rows}
+use Rattle.scim_looks.specs.Stands.{Entry, name_row, name_rows}
+use Rattle.scim_looks.proofs.Facts.{tied, user_names}
 use Rattle.scim_store.specs.Edits.{is_name, names_in, names_beyond}
-use Rattle.scim_store.proofs.EntryLemmas.{tied}
 
 -- ---- the names of a resource
-
-pub unique_leaf : (kind : Kind) → All (λ (l : Leaf). l ≡ simple UserName) (unique_leaves kind)
-unfolding unique_leaves
-unique_leaf User = All-cons (λ (l : Leaf). l ≡ simple UserName) (simple UserName) [] refl (All-nil _)
-unique_leaf Group = All-nil _
-
-name_is_at : (kind : Kind) (l : Leaf) (o : Option Atom) → l ≡ simple UserName → All (λ (n : Name). n.leaf ≡ simple UserName) (name_at kind l o)
-name_is_at kind l None h = All-nil _
-name_is_at kind l (Some (Text t)) h = All-cons (λ (n : Name). n.leaf ≡ simple UserName) _ [] h (All-nil _)
-name_is_at kind l (Some (Truth b)) h = All-nil _
-name_is_at kind l (Some (Moment m)) h = All-nil _
-
-names_at : (c : Content) (ls : List Leaf) → All (λ (l : Leaf). l ≡ simple UserName) ls → All (λ (n : Name). n.leaf ≡ simple UserName) (flat_map (λ l. name_at c.kind l (first_at l c)) ls)
-names_at c [] all = All-nil _
-names_at c (l ∷ ls) all = All-append (λ (n : Name). n.leaf ≡ simple UserName) _ _ (name_is_at c.kind l (first_at l c) (All-head (λ (x : Leaf). x ≡ simple UserName) l ls all)) (names_at c ls (All-tail (λ (x : Leaf). x ≡ simple UserName) l ls all))
-
--- the one unique name of a user is its `userName`, and a group has none
-pub user_names : (c : Content) → All (λ (n : Name). n.leaf ≡ simple UserName) (unique_names c)
-user_names c = names_at c (unique_leaves c.kind) (unique_leaf c.kind)
 
 user_names_in : (o : Option Content) → All (λ (n : Name). n.leaf ≡ simple UserName) (names_in o)
 user_names_in None = All-nil _

@@ -5,7 +5,7 @@ use Rattle.sqlite.specs.State.{State}
 use Rattle.scim_tables.specs.Whole.{Is, AreNone, IsUntouched}
 use Rattle.scim_tables.specs.declared.tables.Reading.TheVariants.{WrongVersion, Foreign}
 use Rattle.scim_tables.proofs.WholeLemmas.{other_none, foreign_none}
-use Rattle.scim_store.specs.Stands.{lists_of}
+use Rattle.scim_looks.specs.Stands.{lists_of}
 use Rattle.scim_store.specs.Committing.{StandForNone, Stays}
 
 -- where the tables hold no rows of ours, they stand for no store, below no base

@@ -24,15 +24,15 @@ use Rattle.scim_tables.proofs.WholeLemmas.{rows_of, holds_lists}
 use Rattle.scim_audit_rows.specs.Audit.{audit_rows}
 use Rattle.scim_store.specs.Damage.{AreOrdered, AreSound, IsLeastDamage, IsForeign}
 use Rattle.scim_store.specs.Opening.{resource_tables, CountsAudit, IsByAudit, IsFor, Examines}
-use Rattle.scim_store.specs.Finding.{StandsIn}
+use Rattle.scim_looks.specs.Finding.{StandsIn}
 use Rattle.scim_store.specs.Shelves.{IsKeptIn, HasOpened, LeavesBegun}
 use Rattle.scim_store.specs.declared.opening.Examined.{Examined}
 use Rattle.scim_store.specs.declared.opening.Examined.TheVariants.{Empty, Stands, WrongVersion, Damaged, Foreign}
-use Rattle.scim_store.specs.Stands.{Entry, StandsFor, lists_of, name_row, name_rows, member_row, member_rows}
+use Rattle.scim_looks.specs.Stands.{Entry, StandsFor, lists_of, name_row, name_rows, member_row, member_rows}
 use Rattle.scim_store.proofs.NoneLemmas.{other_stand, foreign_stand}
-use Rattle.scim_store.proofs.OwnerLemmas.{contents}
+use Rattle.scim_looks.proofs.Facts.{contents}
 use Rattle.scim_store.proofs.SoundLemmas.{sound_holds}
-use Rattle.scim_store.proofs.SpanLemmas.{rows_rise}
+use Rattle.scim_looks.proofs.Facts.{rows_rise}
 
 -- ---- rows of resources have their columns
 

@@ -28,11 +28,11 @@ use Rattle.scim_tables.specs.Audit.{audit_values}
 use Rattle.scim_tables.specs.declared.audit.AuditColumns.{AuditColumns}
 use Rattle.scim_store.specs.declared.edits.Edits.{Edits}
 use Rattle.scim_audit_rows.specs.Audit.{kind_number, audit_row, audit_rows}
-use Rattle.scim_store.specs.Stands.{Entry, StandsFor, IsEntry, AreMembers, is_among, lists_of, resource_row, name_row, name_rows, member_row, member_rows}
+use Rattle.scim_looks.specs.Stands.{Entry, StandsFor, IsEntry, AreMembers, is_among, lists_of, resource_row, name_row, name_rows, member_row, member_rows}
 use Rattle.scim_store.specs.Edits.{is_name, is_member, rows_of_names, rows_of_members, rows_of_document, edited, edited_by, with_row, names_in, names_beyond, lists_in, Replaces, AreEdits, Writes}
 use Rattle.scim_store.proofs.RowLemmas.{reordered}
-use Rattle.scim_store.proofs.PlaceLemmas.{own, lower, upper, others, split, found, own_id, other_own, own_apart, others_all}
-use Rattle.scim_store.proofs.EntryLemmas.{replaced, each_one, resource_goes, resource_stays, own_member, other_member, ids_apart, staying, among_staying, none_among, once_more}
+use Rattle.scim_looks.proofs.Facts.{own, lower, upper, others, split, found, own_id, other_own, own_apart, others_all, ids_apart}
+use Rattle.scim_store.proofs.EntryLemmas.{replaced, each_one, resource_goes, resource_stays, own_member, other_member, staying, among_staying, none_among, once_more}
 use Rattle.scim_store.proofs.NameLemmas.{names_kept, names_stay, none_named, swapped}
 
 abbrev content : Entry → Content

@@ -27,10 +27,10 @@ use Rattle.scim_tables.specs.Reading.{owner_first, group_first}
 use Rattle.scim_value.specs.Uniqueness.{Name, AreApart, unique_names}
 use Rattle.scim_store.specs.Owners.{is_of}
 use Rattle.scim_store.specs.Damage.{Tables, AreThoseOf, AreSound, HoldsAt, rows_at, AreOwned, is_shared}
-use Rattle.scim_store.specs.Stands.{Entry, IsEntry, resource_row, name_row, name_rows, member_rows}
+use Rattle.scim_looks.specs.Stands.{Entry, IsEntry, resource_row, name_row, name_rows, member_rows}
 use Rattle.scim_tables.proofs.TestLemmas.{text_of}
 use Rattle.scim_store.proofs.IdTextLemmas.{same_owner}
-use Rattle.scim_store.proofs.OwnerLemmas.{contents}
+use Rattle.scim_looks.proofs.Facts.{contents}
 use Rattle.scim_store.proofs.SoundLemmas.{sound_id}
 
 -- ---- rows by their owners

@@ -11,7 +11,7 @@ use Rattle.scim_cell.specs.Ids.{IsId}
 use Rattle.scim_shelf.specs.Stores.{AreKeyed}
 use Rattle.scim_tables.specs.Reading.{DoNotFall, owner_first, group_first}
 use Rattle.scim_store.specs.Owners.{is_of}
-use Rattle.scim_store.specs.Stands.{Entry, IsEntry, resource_row, name_rows, member_rows}
+use Rattle.scim_looks.specs.Stands.{Entry, IsEntry, resource_row, name_rows, member_rows}
 use Rattle.scim_store.specs.declared.damage.Judged.{Judged}
 use Rattle.scim_store.specs.declared.damage.Judged.TheVariants.{Sound, Damaged, Foreign}
 

@@ -21,7 +21,7 @@ use Rattle.scim_tables.specs.Audit.{audit_values}
 use Rattle.scim_tables.specs.declared.audit.AuditColumns.{AuditColumns}
 use Rattle.scim_store.specs.declared.edits.Edits.{Edits}
 use Rattle.scim_audit_rows.specs.Audit.{kind_number, audit_row}
-use Rattle.scim_store.specs.Stands.{StandsFor, is_among}
+use Rattle.scim_looks.specs.Stands.{StandsFor, is_among}
 
 -- whether a row is that of one of these names, whoever has it
 abbrev pub is_name : List UniqueName → Row → Bool

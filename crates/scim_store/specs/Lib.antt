@@ -1,8 +1,5 @@
-pub mod Stands
-pub mod Auditing
 pub mod Beginning
 pub mod Edits
-pub mod Finding
 pub mod Committing
 pub mod Shelves
 pub mod Importing

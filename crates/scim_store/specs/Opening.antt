@@ -15,7 +15,7 @@ use Rattle.scim_store.specs.declared.opening.Examined.TheVariants.{Empty, Stands
 use Rattle.scim_audit_rows.specs.Audit.{audit_rows}
 use Rattle.scim_audit_rows.specs.AuditBack.{IsSound}
 use Rattle.scim_store.specs.Damage.{Tables, IsLeastDamage}
-use Rattle.scim_store.specs.Stands.{StandsFor}
+use Rattle.scim_looks.specs.Stands.{StandsFor}
 
 -- the tables stand for no store, unless for one with rows of the audit that no program of ours could write
 abbrev pub StandForNoSound : List ℕ → Database → Type 0

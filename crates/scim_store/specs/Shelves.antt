@@ -11,7 +11,7 @@ use Rattle.scim_store.specs.declared.shelf.OpenFault.TheVariants.{WrongVersion, 
 use Rattle.scim_store.specs.Beginning.{no_store}
 use Rattle.scim_store.specs.Committing.{HasStore}
 use Rattle.scim_store.specs.Opening.{IsFor}
-use Rattle.scim_store.specs.Stands.{StandsFor}
+use Rattle.scim_looks.specs.Stands.{StandsFor}
 
 -- The store is kept in the tables, if the disk gave back what was written; and it has so many rows of the audit.
 pub record IsKeptIn (base : List ℕ) (s : State) (rows : ℕ) (store : Store) : Type 0 where

@@ -1,3 +1,1 @@
-pub mod Finding
-pub mod Spans
 pub mod Damage

@@ -11,16 +11,16 @@ ghost use Rattle.scim_tables.specs.Audit.{last_number};
 ghost use Rattle.scim_tables.specs.Steps.{Leaves};
 ghost use Rattle.scim_tables.specs.Tables.{store_schema};
 ghost use Rattle.scim_store.specs.declared.committing.CommitFault.{CommitFault};
-ghost use Rattle.scim_store.specs.Finding.{StandsIn};
+ghost use Rattle.scim_looks.specs.Finding.{StandsIn};
 ghost use Rattle.scim_store.specs.Edits.{KeepsBelow};
 ghost use Rattle.scim_store.specs.Committing.{HasStore, AreOf, IsDue, IsDueOver, Changes, Stays};
 
 use crate::changes::edits_of;
-use crate::looking::find_old;
 use crate::writing::write_change;
 use scim_audit::AuditRow;
 use scim_audit_rows::{AuditTexts, columns_of};
 use scim_cell::Atom;
+use scim_looks::find_old;
 use scim_schema::{Attribute, Leaf, SubAttribute};
 use scim_shelf::Change;
 use scim_text::NoMemory;

@@ -12,7 +12,7 @@ ghost use Rattle.scim_cell.specs.Ids.{IsId, id_text};
 ghost use Rattle.scim_value.specs.Members.{lists_value};
 ghost use Rattle.scim_value.specs.Uniqueness.{name_of};
 ghost use Rattle.scim_audit_rows.specs.Audit.{kind_number as spec_number};
-ghost use Rattle.scim_store.specs.Stands.{is_among};
+ghost use Rattle.scim_looks.specs.Stands.{is_among};
 ghost use Rattle.std.specs.List.{IsDistinct};
 ghost use Rattle.scim_store.specs.Owners.{HasOwner, is_owner};
 ghost use Rattle.scim_store.specs.Damage as spec;

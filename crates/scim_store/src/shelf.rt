@@ -8,23 +8,23 @@ ghost use Rattle.scim_text.specs.declared.memory.Failed.{Failed};
 ghost use Rattle.scim_shelf.specs.declared.faults.ShelfFault.{ShelfFault};
 ghost use Rattle.scim_shelf.specs.Shelves.{Counts, Answers, OnlyReads};
 ghost use Rattle.scim_shelf.specs.Stores.{Store, last_number};
-ghost use Rattle.scim_store.specs.Auditing.{AreRowsFrom};
+ghost use Rattle.scim_looks.specs.Auditing.{AreRowsFrom};
 ghost use Rattle.scim_store.specs.Committing.{HasStore};
 ghost use Rattle.scim_tables.specs.Reading.{Rests};
 ghost use Rattle.scim_tables.specs.Tables.{no_schema};
 ghost use Rattle.scim_tables.specs.Steps.{Leaves};
 ghost use Rattle.scim_store.specs.Beginning.{no_store, Begins};
-ghost use Rattle.scim_store.specs.Finding.{StandsIn};
+ghost use Rattle.scim_looks.specs.Finding.{StandsIn};
 ghost use Rattle.scim_store.specs.Shelves.{IsKeptIn, HasOpened, Refuses, LeavesBegun};
 
-use crate::auditing::{LAST_NUMBER, read_audit_rows};
 use crate::beginning::begin_store;
 use crate::committing::{CommitFault, commit_change, commit_over};
-use crate::finding::{find_by_id, find_groups_with, find_owner_of_name};
 use crate::opening::{Examined, examine};
-use crate::walking::walk;
 use scim_audit::AuditRow;
 use scim_cell::{Id, Text};
+use scim_looks::{
+    LAST_NUMBER, find_by_id, find_groups_with, find_owner_of_name, read_audit_rows, walk,
+};
 use scim_schema::Kind;
 use scim_shelf::{Change, Shelf, ShelfFault, Visitor, show_all};
 use scim_text::Failed;

@@ -6,7 +6,7 @@ use Rattle.std.specs.HashSet.{HashSet, contains_by}
 use denote.Ref.{Bor}
 use Rattle.std.specs.List.Sorted.{IsStrictlySortedBy}
 use Rattle.scim_value.specs.Members.{lists_value}
-use Rattle.scim_store.specs.Stands.{is_among}
+use Rattle.scim_looks.specs.Stands.{is_among}
 use Rattle.scim_store.specs.Owners.{HasOwner}
 use Rattle.scim_store.specs.Damage.{Tables}
 use Rattle.sqlite.specs.declared.types.Value.{Value}

@@ -1,0 +1,4 @@
+pub mod Stands
+pub mod Finding
+pub mod Auditing
+pub mod code
