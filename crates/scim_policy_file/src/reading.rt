@@ -13,9 +13,9 @@ ghost use Rattle.scim_policy_file.specs.code.Written.{Gives, text_at, texts_view
 
 use crate::faults::{Cause, PolicyFault};
 use crate::paths::{client_named, paths_named};
-use scim_policy::{ClientName, Policy, Rule};
 use crate::targets::targets_for;
 use json::{Error, Scratch, Value};
+use scim_policy::{ClientName, Policy, Rule};
 use scim_schema::{Kind, Op};
 use scim_text::{Failed, NoMemory, push};
 use std::alloc::Global;

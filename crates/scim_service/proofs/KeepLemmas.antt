@@ -23,7 +23,7 @@ use Rattle.scim_service.specs.declared.requests.Ask.TheVariants.{Get, Search, Cr
 use Rattle.scim_service.specs.declared.requests.Turn.{Turn}
 use Rattle.scim_service.specs.Step.{absent, access_to, is_writable, writable, sought, planned, viewer_at, next_store}
 use Rattle.scim_service.proofs.StepLemmas.{Keeps, KeepsSound, can_keep, planned_change, stays_store}
-use Rattle.scim_service.specs.laws.Requests.{IsAsk, IsTurn}
+use Rattle.scim_service.specs.Requests.{IsAsk, IsTurn}
 use Rattle.scim_view.proofs.Facts.{passing}
 
 -- what a turn is planned to: the service lends the functions that give it, and not its name

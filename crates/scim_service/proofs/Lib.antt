@@ -4,13 +4,5 @@ pub mod StepLemmas
 pub mod ReplaceLemmas
 pub mod PatchLemmas
 pub mod RunLemmas
-pub mod RowLemmas
-pub mod UnitLemmas
-pub mod StoreLemmas
-pub mod NameLemmas
-pub mod ChangeLemmas
 pub mod KeepLemmas
-pub mod RequestLemmas
-pub mod LawLemmas
-pub mod ListLemmas
-pub mod CellLemmas
+pub mod Facts

@@ -1,5 +1,5 @@
 pub mod Replies
+pub mod Requests
 pub mod Step
 pub mod Answers
 pub mod code
-pub mod laws

@@ -4,7 +4,6 @@
 
 mod changed;
 mod creations;
-pub mod laws;
 mod names;
 mod patches;
 mod plans;
@@ -15,5 +14,5 @@ mod requests;
 mod service;
 
 pub use replies::{Reply, status_of};
-pub use requests::{Ask, Request, Turn};
+pub use requests::{Ask, Request, Turn, turn_is_sound};
 pub use service::Service;

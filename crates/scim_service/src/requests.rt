@@ -1,7 +1,9 @@
 //! What clients ask of the service.
+ghost use Rattle.scim_service.specs.Requests.{IsAsk, IsTurn};
+
 use scim_audit::Refusal;
 use scim_body::Draft;
-use scim_cell::{Id, Text};
+use scim_cell::{Id, Text, uuid_of};
 use scim_patch::Patch;
 use scim_query::Query;
 use scim_schema::{Kind, Op};
@@ -77,4 +79,32 @@ pub struct Turn {
     pub moment: Moment,
     /// The id of the resource that it makes, if it makes one.
     pub fresh: Id,
+}
+
+/// What a request gives was read as a draft or as a patch.
+fn ask_is_sound(ask: &Result<Ask, Refusal>)
+    ensures { IsAsk ask.now }
+{
+    match ask {
+        Ok(Ask::Create(draft, _)) => {
+            let _ = draft.rows();
+        }
+        Ok(Ask::Replace(draft, _)) => {
+            let _ = draft.rows();
+        }
+        Ok(Ask::Patch(patch, _)) => {
+            let _ = patch.steps();
+        }
+        _ => {}
+    }
+}
+
+/// Each turn is sound: what it gives was read as a draft or as a patch, the id for what it makes is an id, and
+/// its moment can be written.
+pub fn turn_is_sound(turn: &Turn)
+    ensures { IsTurn turn.now }
+{
+    ask_is_sound(&turn.request.ask);
+    let _ = uuid_of(turn.fresh);
+    let _ = turn.moment.seconds();
 }

@@ -8,10 +8,9 @@ ghost use Rattle.scim_shelf.specs.Stores.{Store, IsStore, after, last_number};
 ghost use Rattle.scim_service.specs.Step as spec;
 ghost use Rattle.scim_service.specs.Answers.{IsCause, Answered, Runs};
 
-use crate::laws::turn_is_sound;
 use crate::plans::planned;
 use crate::replies::Reply;
-use crate::requests::Turn;
+use crate::requests::{Turn, turn_is_sound};
 use scim_audit::Refusal;
 use scim_cell::Text;
 use scim_policy::Policy;

@@ -29,8 +29,8 @@ use Rattle.scim_value.proofs.Facts.{get_cell, sound_part, unit_same}
 use Rattle.scim_policy.specs.Rules.{Rule}
 use Rattle.scim_policy.specs.Control.{is_named_in, is_unique, control}
 use Rattle.scim_shelf.specs.Stores.{AreKeyed, is_at, is_same_name, has_name, is_taken, is_used, below, above, keep, without}
-use Rattle.scim_service.specs.laws.Alike.{is_in_use}
-use Rattle.scim_service.proofs.RowLemmas.{filter_implied}
+use Rattle.scim_noninterference.specs.Alike.{is_in_use}
+use Rattle.scim_noninterference.proofs.RowLemmas.{filter_implied}
 use Rattle.scim_search.proofs.Facts.{not_both}
 
 -- a name is in use in a list with a resource more where the resource has it, or it is in use in the list

@@ -21,13 +21,13 @@ use Rattle.scim_shelf.specs.Stores.{Store, IsStore, below, above, keep, without}
 use Rattle.scim_service.specs.declared.requests.Turn.{Turn}
 use Rattle.scim_service.specs.declared.replies.Reply.{Reply}
 use Rattle.scim_service.specs.Step.{viewer_at, plan, next_store}
-use Rattle.scim_service.specs.laws.Alike.{IsAlike, is_in_use}
-use Rattle.scim_service.specs.laws.Lists.{is_of, run, replies_to, AreTurns, Round, first_list, second_list, AreOthers, IsRound, LeadAlike, IsUnseen, IsHidden, IsQuiet, AreQuiet}
-use Rattle.scim_service.specs.laws.Laws.{TwoLists, QuietOthers}
-use Rattle.scim_service.proofs.StoreLemmas.{traits, seen_traits, seen_map, seen_same, controls_same, rows_visible, traits_keep}
-use Rattle.scim_service.proofs.NameLemmas.{names_same, in_use_keep_same}
-use Rattle.scim_service.proofs.LawLemmas.{one_request}
-use Rattle.scim_service.proofs.KeepLemmas.{next_is_store}
+use Rattle.scim_noninterference.specs.Alike.{IsAlike, is_in_use}
+use Rattle.scim_noninterference.specs.Lists.{is_of, run, replies_to, AreTurns, Round, first_list, second_list, AreOthers, IsRound, LeadAlike, IsUnseen, IsHidden, IsQuiet, AreQuiet}
+use Rattle.scim_noninterference.specs.Laws.{TwoLists, QuietOthers}
+use Rattle.scim_noninterference.proofs.StoreLemmas.{traits, seen_traits, seen_map, seen_same, controls_same, rows_visible, traits_keep}
+use Rattle.scim_noninterference.proofs.NameLemmas.{names_same, in_use_keep_same}
+use Rattle.scim_noninterference.proofs.LawLemmas.{one_request}
+use Rattle.scim_service.proofs.Facts.{next_is_store}
 
 -- ---- where a resource stands among others in order of id
 

@@ -10,8 +10,8 @@ use Rattle.scim_shelf.specs.Stores.{Store, keep, without}
 use Rattle.scim_service.specs.declared.requests.Turn.{Turn}
 use Rattle.scim_service.specs.declared.replies.Reply.{Reply}
 use Rattle.scim_service.specs.Step.{plan, next_store}
-use Rattle.scim_service.specs.laws.Alike.{IsAlike, is_in_use}
-use Rattle.scim_service.specs.laws.Requests.{IsTurn, IsFree}
+use Rattle.scim_noninterference.specs.Alike.{IsAlike, is_in_use}
+use Rattle.scim_service.specs.Requests.{IsTurn, IsFree}
 
 -- whether a turn is this client's
 abbrev pub is_of : List ℕ → Turn → Bool

@@ -34,7 +34,7 @@ use Rattle.scim_view.specs.View.{Viewer, read_decision, may_be_seen, sees, visib
 use Rattle.scim_view.specs.Groups.{seen, memberships, visible_with, with_groups, views}
 use Rattle.scim_shelf.specs.Stores.{AreKeyed, is_at, below, above, keep, without}
 use Rattle.scim_search.proofs.Facts.{filter_swap, none_at, made_map, made_views}
-use Rattle.scim_service.proofs.RowLemmas.{restricted_put}
+use Rattle.scim_noninterference.proofs.RowLemmas.{restricted_put}
 
 -- of a resource: its kind and id, the rows of what may be seen of it, and what the policy decides by
 pub record Traits : Type 0 where

@@ -29,10 +29,10 @@ use Rattle.scim_policy.specs.Decide.{decide}
 use Rattle.scim_policy.proofs.Facts.{decide_same}
 use Rattle.scim_view.specs.View.{Viewer, may_be_seen, read_decision}
 use Rattle.scim_change.specs.Laws.{AgreeAt, IsLeft}
-use Rattle.scim_service.proofs.RowLemmas.{OfEach, Narrows, by_leaf, values_restricted, restricted_kept, restricted_twice}
+use Rattle.scim_noninterference.proofs.RowLemmas.{OfEach, Narrows, by_leaf, values_restricted, restricted_kept, restricted_twice}
 use Rattle.scim_view.proofs.Facts.{passing, readable_leaf, not_wider}
-use Rattle.scim_service.proofs.UnitLemmas.{attributes_same, kept_same}
-use Rattle.scim_service.proofs.StoreLemmas.{Traits, may_see, traits, access_same, may_see_same}
+use Rattle.scim_noninterference.proofs.UnitLemmas.{attributes_same, kept_same}
+use Rattle.scim_noninterference.proofs.StoreLemmas.{Traits, may_see, traits, access_same, may_see_same}
 
 -- whether the viewer may see a leaf of a resource
 abbrev pub sees_leaf : Viewer → Content → Leaf → Bool

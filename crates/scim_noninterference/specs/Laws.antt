@@ -8,10 +8,10 @@ use Rattle.scim_view.specs.View.{Viewer}
 use Rattle.scim_shelf.specs.Stores.{Store, IsStore, keep}
 use Rattle.scim_service.specs.declared.requests.Turn.{Turn}
 use Rattle.scim_service.specs.Step.{viewer_at, plan, next_store}
-use Rattle.scim_service.specs.laws.Alike.{IsAlike}
-use Rattle.scim_service.specs.laws.Cells.{IsHiddenAt}
-use Rattle.scim_service.specs.laws.Requests.{IsTurn, IsFree}
-use Rattle.scim_service.specs.laws.Lists.{is_of, run, replies_to, AreTurns, Round, first_list, second_list, AreOthers, IsRound, LeadAlike, IsQuiet, AreQuiet}
+use Rattle.scim_noninterference.specs.Alike.{IsAlike}
+use Rattle.scim_noninterference.specs.Cells.{IsHiddenAt}
+use Rattle.scim_service.specs.Requests.{IsTurn, IsFree}
+use Rattle.scim_noninterference.specs.Lists.{is_of, run, replies_to, AreTurns, Round, first_list, second_list, AreOthers, IsRound, LeadAlike, IsQuiet, AreQuiet}
 
 -- one request of a client, over two stores that are alike for it: it is answered alike, and they stay alike
 abbrev pub OneRequest : Type 0

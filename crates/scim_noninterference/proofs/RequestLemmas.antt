@@ -48,13 +48,13 @@ use Rattle.scim_service.specs.declared.requests.Ask.TheVariants.{Get, Search, Cr
 use Rattle.scim_service.specs.declared.requests.Turn.{Turn}
 use Rattle.scim_service.specs.declared.replies.Reply.TheVariants.{Shown, Created, Refused}
 use Rattle.scim_service.specs.Step.{refused, absent, hidden, denied, resource_text, got, list_text, listed, delete_decision, removed, new_resource, first_denied, kept_text, made_if_free, made_if_allowed, is_for, creating, access_to, first_unit_denied, is_writable, writable, shown_or_done, changed_if_narrow, changed_if_free, changed_if_complete, written_if_allowed, replacing, first_forbidden, step_refusal, patched_with, patched_if_allowed, patching, sought, at_seen, planned}
-use Rattle.scim_service.specs.laws.Alike.{is_in_use}
-use Rattle.scim_service.specs.laws.Requests.{IsAsk, FindsFree}
-use Rattle.scim_service.proofs.KeepLemmas.{Plan, found_holds}
+use Rattle.scim_noninterference.specs.Alike.{is_in_use}
+use Rattle.scim_service.specs.Requests.{IsAsk, FindsFree}
+use Rattle.scim_service.proofs.Facts.{Plan, found_holds}
 use Rattle.scim_view.proofs.Facts.{passing, none_denied}
-use Rattle.scim_service.proofs.StoreLemmas.{Traits, AreFound, IsUnseen, traits, seen_traits, access_same, decision_same, found_same, traits_keep, traits_without, views_same, visible_same, with_groups_same}
-use Rattle.scim_service.proofs.NameLemmas.{in_use_absent, in_use_keep_same, names_same, others_same, taken_same}
-use Rattle.scim_service.proofs.ChangeLemmas.{access_of, access_after, agree_at, control_after, kinds_after, traits_after}
+use Rattle.scim_noninterference.proofs.StoreLemmas.{Traits, AreFound, IsUnseen, traits, seen_traits, access_same, decision_same, found_same, traits_keep, traits_without, views_same, visible_same, with_groups_same}
+use Rattle.scim_noninterference.proofs.NameLemmas.{in_use_absent, in_use_keep_same, names_same, others_same, taken_same}
+use Rattle.scim_noninterference.proofs.ChangeLemmas.{access_of, access_after, agree_at, control_after, kinds_after, traits_after}
 
 -- a client can't tell these resources apart
 pub record AreLike (v : Viewer) (s t : List Content) : Type 0 where

@@ -6,10 +6,10 @@ use Rattle.scim_cell.specs.Content.{Content}
 use Rattle.scim_value.specs.Resource.{IsResource, HasBase}
 use Rattle.scim_view.specs.View.{Viewer}
 use Rattle.scim_service.specs.Step.{viewer_at}
-use Rattle.scim_service.specs.laws.Alike.{IsAlike}
-use Rattle.scim_service.specs.laws.Laws.{OneRequest}
-use Rattle.scim_service.proofs.StoreLemmas.{controls_same, seen_same, traits_from}
-use Rattle.scim_service.proofs.RequestLemmas.{AreLike, planned_same}
+use Rattle.scim_noninterference.specs.Alike.{IsAlike}
+use Rattle.scim_noninterference.specs.Laws.{OneRequest}
+use Rattle.scim_noninterference.proofs.StoreLemmas.{controls_same, seen_same, traits_from}
+use Rattle.scim_noninterference.proofs.RequestLemmas.{AreLike, planned_same}
 
 -- what is alike for a client it can't tell apart, and the other way round
 pub like_alike : (v : Viewer) (s t : List Content) → All (λ c. IsResource c × HasBase v.base c) s → All (λ c. IsResource c × HasBase v.base c) t → IsAlike v s t → AreLike v s t

@@ -24,13 +24,13 @@ use Rattle.scim_policy.specs.Control.{control, is_named_in, is_unique}
 use Rattle.scim_policy.proofs.Facts.{decide_same}
 use Rattle.scim_view.specs.View.{Viewer, read_decision, may_read, may_be_seen, visible, visible_by}
 use Rattle.scim_change.proofs.Facts.{values_fit}
-use Rattle.scim_service.specs.laws.Cells.{IsHiddenAt}
-use Rattle.scim_service.specs.laws.Laws.{HiddenCellsAreQuiet}
-use Rattle.scim_service.proofs.RowLemmas.{by_leaf}
+use Rattle.scim_noninterference.specs.Cells.{IsHiddenAt}
+use Rattle.scim_noninterference.specs.Laws.{HiddenCellsAreQuiet}
+use Rattle.scim_noninterference.proofs.RowLemmas.{by_leaf}
 use Rattle.scim_view.proofs.Facts.{passing}
-use Rattle.scim_service.proofs.UnitLemmas.{same_restricted, attributes_same}
-use Rattle.scim_service.proofs.StoreLemmas.{may_see}
-use Rattle.scim_service.proofs.ChangeLemmas.{sees_leaf}
+use Rattle.scim_noninterference.proofs.UnitLemmas.{same_restricted, attributes_same}
+use Rattle.scim_noninterference.proofs.StoreLemmas.{may_see}
+use Rattle.scim_noninterference.proofs.ChangeLemmas.{sees_leaf}
 
 -- ---- the fields of a value, by the atoms of their leaves
 

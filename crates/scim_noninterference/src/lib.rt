@@ -1,14 +1,11 @@
 //! What a client can infer of what it may not see: nothing. Stores that are alike for a client answer it alike and
 //! stay alike, whatever others do quietly in between.
 //!
-//! The laws speak of the definition of the service, `plan` and `next_store`, which is what
-//! [`crate::Service::answer`] gives. `docs/NONINTERFERENCE.md` says in words what they promise, and what not.
-ghost use Rattle.scim_service.specs.laws.Laws.{OneRequest, TwoLists, QuietOthers, TurnsLeaveStores, HiddenCellsAreQuiet};
-ghost use Rattle.scim_service.specs.laws.Requests.{IsAsk, IsTurn};
+//! The laws speak of the definition of the service, `plan` and `next_store`, which is what `Service::answer` of
+//! `scim_service` gives. `docs/NONINTERFERENCE.md` says in words what they promise, and what not.
+#![tactic(auto)]
 
-use crate::requests::{Ask, Turn};
-use scim_audit::Refusal;
-use scim_cell::uuid_of;
+ghost use Rattle.scim_noninterference.specs.Laws.{OneRequest, TwoLists, QuietOthers, TurnsLeaveStores, HiddenCellsAreQuiet};
 
 /// One request of a client, over two stores that are alike for it, is answered alike, and the stores stay alike. That
 /// is for every policy, every client and whatever is asked; the id for what it may create is in use in neither store.
@@ -38,31 +35,3 @@ pub fn turns_leave_stores()
 pub fn hidden_cells_are_quiet()
     ensures { HiddenCellsAreQuiet }
 {}
-
-/// What a request gives was read as a draft or as a patch.
-fn ask_is_sound(ask: &Result<Ask, Refusal>)
-    ensures { IsAsk ask.now }
-{
-    match ask {
-        Ok(Ask::Create(draft, _)) => {
-            let _ = draft.rows();
-        }
-        Ok(Ask::Replace(draft, _)) => {
-            let _ = draft.rows();
-        }
-        Ok(Ask::Patch(patch, _)) => {
-            let _ = patch.steps();
-        }
-        _ => {}
-    }
-}
-
-/// Each turn is as the laws ask: what it gives was read as a draft or as a patch, the id for what it makes is an id, and
-/// its moment can be written.
-pub fn turn_is_sound(turn: &Turn)
-    ensures { IsTurn turn.now }
-{
-    ask_is_sound(&turn.request.ask);
-    let _ = uuid_of(turn.fresh);
-    let _ = turn.moment.seconds();
-}

@@ -1,0 +1,9 @@
+pub mod RowLemmas
+pub mod UnitLemmas
+pub mod StoreLemmas
+pub mod NameLemmas
+pub mod ChangeLemmas
+pub mod RequestLemmas
+pub mod LawLemmas
+pub mod ListLemmas
+pub mod CellLemmas

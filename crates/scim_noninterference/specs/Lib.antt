@@ -1,0 +1,4 @@
+pub mod Alike
+pub mod Lists
+pub mod Cells
+pub mod Laws
