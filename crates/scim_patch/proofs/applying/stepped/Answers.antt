@@ -1,4 +1,4 @@
-use Rattle.std.proofs.Common.{◌∙◌, sym, ap, subst}
+use Rattle.std.proofs.Common.{◌∙◌, sym, ap, subst, rules}
 use Rattle.scim_cell.specs.Content.{Content}
 use Rattle.scim_cell.specs.Rows.{rows}
 use Rattle.scim_value.specs.Resource.{IsResource, HasBase}
@@ -34,3 +34,7 @@ returns-clause-base c =
     left_of c.args.resource c.into_part.ensures.valid c.into_parts-kind.result.0 c.into_parts-kind.result.1 c.into_parts-kind.result.2.items
     (c.into_parts-kind.ensures.kind ∙ ap (λ (x : Content). x.kind) same) (c.into_parts-kind.ensures.id ∙ ap (λ (x : Content). x.id) same) (c.into_parts-kind.ensures.rows ∙ ap rows same)
     c.in-Of.unit step.0 (change_of c.in-Of.change) step.1 c.in_ok-rows.rows.items c.in_ok-rows.ensures) in λ base has. subst (HasBase base) (sym (c.of_whole.ensures ∙ c.of_rows.ensures.whole)) (left.2 base has)
+
+-- by name, so that a body that breaks it is refused at once
+pub returns-in_default-clause-rows : goal.returns-in_default-clause-rows
+returns-in_default-clause-rows c = search rules
