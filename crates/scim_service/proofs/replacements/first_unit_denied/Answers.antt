@@ -1,4 +1,4 @@
-use Rattle.std.proofs.Common.{◌≡◌, false, sym, ◌∙◌, ap, subst, List}
+use Rattle.std.proofs.Common.{◌≡◌, false, sym, ◌∙◌, ap, subst, List, rules}
 use Rattle.std.specs.List.{list_any}
 use Rattle.scim_schema.specs.declared.Unit.{Unit as AttributeUnit}
 use Rattle.scim_schema.specs.Units.{units}
@@ -21,3 +21,7 @@ returns-then-not-is_any_questionable c =
     = sym (c.is_any_questionable.ensures ∙ ap (λ (us : List AttributeUnit). list_any (is_in_question (access_in c.args.rights.now) draft) us) same) ∙ c.if-not-is_any_questionable.true in
     sym (none_questioned (access_to viewer resource) draft (visible viewer resource) all
     (subst (λ (a : Access). list_any (is_in_question a draft) all ≡ false) c.requires none))
+
+-- by name, so that a body that breaks it is refused at once
+pub returns : goal.returns
+returns c = search rules

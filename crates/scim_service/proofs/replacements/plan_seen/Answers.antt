@@ -1,11 +1,11 @@
-use Rattle.std.proofs.Common.{◌≡◌, true, sym, ◌∙◌}
+use Rattle.std.proofs.Common.{◌≡◌, true, sym, ◌∙◌, rules}
 use Rattle.std.specs.Prelude.{None}
 use Rattle.std.proofs.lemmas.Result.{IfOk-weaker}
 use denote.Enum.Bare.{sameb}
 use Rattle.scim_schema.specs.contracts.Kind.{the_type as the_kind}
 use Rattle.scim_schema.specs.Units.{units}
 use Rattle.scim_view.specs.View.{viewer_of, visible}
-use Rattle.scim_service.specs.Step.{access_to, first_unit_denied}
+use Rattle.scim_service.specs.Step.{access_to, first_unit_denied, replacing}
 use Rattle.scim_search.proofs.Facts.{not_false}
 use Rattle.scim_service.proofs.ReplaceLemmas.{replacing_is}
 use Rattle.scim_service.proofs.replacements.plan_seen.Goals as goal
@@ -22,3 +22,8 @@ returns-in-None-clause-plan g c =
     (λ plan answer store stands honest base is own_kind.
     answer store stands honest base is own_kind ∙ replacing_is viewer c.args.turn.now store.resources draft c.args.wanted.now own fits none)
     c.plan_allowed.ensures.plan
+
+-- by name, so that a body that breaks it is refused at once
+pub returns-in_ok-denied-in-Some-clause-plan : goal.returns-in_ok-denied-in-Some-clause-plan
+unfolding replacing
+returns-in_ok-denied-in-Some-clause-plan g c = search rules

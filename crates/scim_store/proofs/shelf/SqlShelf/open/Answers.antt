@@ -80,3 +80,19 @@ returns-in-Damaged-clause-crash_at_err g c = untouched_survives c.args.base.now 
 
 pub returns-in-Foreign-clause-crash_at_err : goal.returns-in-Foreign-clause-crash_at_err
 returns-in-Foreign-clause-crash_at_err g c = untouched_survives c.args.base.now (state g.S.Store c.args.connection) (state g.S.Store c.examine.new.conn) c.examine.ensures.survives
+
+-- by name, so that a body that breaks it is refused at once
+pub returns-in-WrongVersion-clause-opened : goal.returns-in-WrongVersion-clause-opened
+returns-in-WrongVersion-clause-opened g c = tt
+
+-- by name, so that a body that breaks it is refused at once
+pub returns-in-WrongVersion-clause-refused : goal.returns-in-WrongVersion-clause-refused
+returns-in-WrongVersion-clause-refused g c = λ clean. subst (IsFor c.args.base.now (state g.S.Store c.args.connection).now) c.in-WrongVersion.is (c.in-Ok.ensures.examined clean).is
+
+-- by name, so that a body that breaks it is refused at once
+pub returns-in-WrongVersion-clause-rests : goal.returns-in-WrongVersion-clause-rests
+returns-in-WrongVersion-clause-rests g c = λ clean other. rests_untouched (state g.S.Store c.args.connection) (state g.S.Store c.examine.new.conn) (c.in-Ok.ensures.examined clean).untouched
+
+-- by name, so that a body that breaks it is refused at once
+pub returns-in-WrongVersion-clause-crash : goal.returns-in-WrongVersion-clause-crash
+returns-in-WrongVersion-clause-crash g c = tt
