@@ -1,4 +1,4 @@
-use Rattle.std.proofs.Common.{sym, ◌∙◌, ap, subst₂, List, ℕ, rules}
+use Rattle.std.proofs.Common.{sym, ◌∙◌, ap, subst₂, List, ℕ}
 use Rattle.std.proofs.lemmas.Result.{IfOk-weaker}
 use Rattle.scim_schema.specs.declared.Kind.{Kind}
 use Rattle.scim_patch.specs.Kept.{patch_of}
@@ -25,7 +25,3 @@ returns-in-Ok-clause-plan g c =
     ∙ ap (λ (a : Access). changed_if_free viewer turn store.resources wanted a next.changed next.resource) c.requires.rights
     ∙ patched_is viewer turn store.resources patch wanted own next.resource next.changed c.in-Ok.ensures.outcome))
     c.plan_changed.ensures.plan
-
--- by name, so that a body that breaks it is refused at once
-pub returns-in_ok-refused-in-Err-Because-clause-plan : goal.returns-in_ok-refused-in-Err-Because-clause-plan
-returns-in_ok-refused-in-Err-Because-clause-plan g c = search rules
