@@ -1,6 +1,5 @@
 //! What the tables of a database stand for, and looks into them: resources by id, by a unique name and by a value that
-//! they list, all of a kind in order, and rows of the audit. No look changes anything, and a crash during one leaves
-//! what it could leave before.
+//! they list, all of a kind in order, and rows of the audit. No look changes anything.
 #![tactic(auto)]
 
 mod auditing;
