@@ -133,14 +133,14 @@ fn run(rt: &HostRuntime, alloc: Global, scenario: Scenario) -> Result<()> {
         Scenario::Decisions => bench_policies::run_decisions(rt, alloc),
         Scenario::Filters => bench_values::run_filters(rt, alloc),
         Scenario::FilterTexts => filter_texts::run(rt, alloc),
-        Scenario::Once => bench_messages::run_once(rt, alloc),
+        Scenario::Once => bench_servers::run_once(rt, alloc),
         Scenario::Pages => run_pages(rt, alloc),
         Scenario::Patch => bench_turns::run_patches(rt, alloc),
         Scenario::Put => bench_turns::run_puts(rt, alloc),
         Scenario::Serve => bench_servers::run_servers(rt),
         Scenario::Service => bench_turns::run_service(rt, alloc),
-        Scenario::Store => bench_stores::run_stores(rt),
-        Scenario::Wire => bench_messages::run_wire(rt, alloc),
+        Scenario::Store => bench_servers::run_stores(rt),
+        Scenario::Wire => bench_servers::run_wire(rt, alloc),
     }
 }
 

@@ -2,10 +2,11 @@
 use crate::decisions::{CLIENT, FEW, MANY, OTHER_CLIENT, policy_text};
 use anyhow::{Result, bail};
 use bench_values::{fastest, numbered, numbered_id, print_heading, print_line, push_member, user};
+use scim_client_search::search_view;
 use scim_filter::read_filter;
 use scim_policy::Policy;
 use scim_policy_file::read_policy;
-use scim_query::{Page, Query, search_view};
+use scim_query::{Page, Query};
 use scim_samples::{BASE, resource};
 use scim_schema::{Attribute, Kind, Leaf, SubAttribute};
 use scim_text::push;

@@ -7,7 +7,7 @@ use anyhow::{Result, ensure};
 use bench_values::{print_heading, print_line};
 use scim_operations::read_patch;
 use scim_schema::{Kind, Op};
-use scim_service::{Ask, Service, Turn, status_of};
+use scim_service::{Ask, Service, Turn};
 use scim_shelf::MemoryShelf;
 use scim_view::Wanted;
 use std::alloc::Global;
@@ -107,8 +107,8 @@ fn patch(alloc: Global, service: &mut Service<MemoryShelf>, text: &str) -> Resul
 }
 
 fn answer(alloc: Global, service: &mut Service<MemoryShelf>, turn: &Turn) -> Result<()> {
-    let status = status_of(&service.answer(alloc, turn));
-    ensure!(status.as_u16() == 200, "a PATCH is answered otherwise");
+    let refusal = service.answer(alloc, turn).refusal();
+    ensure!(refusal.is_none(), "a PATCH is refused");
     Ok(())
 }
 

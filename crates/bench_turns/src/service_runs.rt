@@ -162,13 +162,12 @@ fn figure(
     asked: Asked,
     count: usize,
 ) -> Result<u128> {
-    let (first, status) = match asked {
-        Asked::Get | Asked::Search => (FIRST_USERS / 2, 200),
-        Asked::Create => (FIRST_NEW, 201),
-        Asked::Remove => (FIRST_NEW, 204),
+    let first = match asked {
+        Asked::Get | Asked::Search => FIRST_USERS / 2,
+        Asked::Create | Asked::Remove => FIRST_NEW,
     };
     let turns = turns_of(alloc, asked, first, count)?;
-    timed(rt, alloc, service, turns.as_slice(), status)
+    timed(rt, alloc, service, turns.as_slice())
 }
 
 fn pass(rt: &impl Clock, alloc: Global, service: &mut Service<MemoryShelf>) -> Result<Figures> {

@@ -4,7 +4,7 @@ use bench_values::numbered_id;
 use scim_body::{Draft, UseFor, read_body};
 use scim_cell::Text;
 use scim_schema::{Kind, Op};
-use scim_service::{Ask, Reply, Request, Service, Turn, status_of};
+use scim_service::{Ask, Reply, Request, Service, Turn};
 use scim_shelf::Shelf;
 use scim_text::Moment;
 use scim_view::Wanted;
@@ -88,37 +88,28 @@ pub fn make<S: Shelf>(alloc: Global, service: &mut Service<S>, turn: &Turn) -> R
     Ok(())
 }
 
-/// Nanoseconds a turn, where each is answered with the status.
+/// Nanoseconds a turn, where none is refused.
 pub fn timed<S: Shelf>(
     rt: &impl Clock,
     alloc: Global,
     service: &mut Service<S>,
     turns: &[Turn],
-    status: u16,
 ) -> Result<u128> {
     let start = Instant::now(rt)?;
     let replies = service.run(alloc, turns)?;
-    nanoseconds_since(rt, start, replies.as_slice(), status)
+    nanoseconds_since(rt, start, replies.as_slice())
 }
 
-/// Nanoseconds since the start for each of the replies, which all have the status.
-fn nanoseconds_since(
-    rt: &impl Clock,
-    start: Instant,
-    replies: &[Reply],
-    status: u16,
-) -> Result<u128> {
+/// Nanoseconds since the start for each of the replies, none of which is a refusal.
+fn nanoseconds_since(rt: &impl Clock, start: Instant, replies: &[Reply]) -> Result<u128> {
     let spent = start.elapsed(rt)?;
     for reply in replies {
-        ensure!(
-            status_of(reply).as_u16() == status,
-            "a turn is answered otherwise"
-        );
+        ensure!(reply.refusal().is_none(), "a turn is refused");
     }
     Ok(spent.as_nanos() / replies.len().max(1) as u128)
 }
 
-/// Nanoseconds a turn in the fastest of so many passes, where each is answered with 200.
+/// Nanoseconds a turn in the fastest of so many passes, where none is refused.
 pub fn fastest_timed<S: Shelf>(
     rt: &impl Clock,
     alloc: Global,
@@ -128,7 +119,7 @@ pub fn fastest_timed<S: Shelf>(
 ) -> Result<u128> {
     let mut best = u128::MAX;
     for _ in 0..passes {
-        best = best.min(timed(rt, alloc, service, turns, 200)?);
+        best = best.min(timed(rt, alloc, service, turns)?);
     }
     Ok(best)
 }

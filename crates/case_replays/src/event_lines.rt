@@ -1,7 +1,6 @@
 //! The events of a case as the text of an events file.
 use case_runs::request_bytes;
-use case_values::{Case, CaseFault, joined, said, shown};
-use serde_json::Value;
+use case_values::{Argument, Case, CaseFault, joined, said, shown};
 use std::alloc::Global;
 
 /// When an event comes, where the case doesn't say it.
@@ -16,20 +15,22 @@ const FRESH: &str = "00000000-0000-4000-8000-0000000000e1";
 pub(crate) fn events_text(case: &Case<'_>) -> Result<String, CaseFault> {
     let mut text = String::new(case.alloc);
     for value in case.list("events") {
-        let event = Case {
-            alloc: case.alloc,
-            value,
-        };
-        let lines = event_lines(&event)?;
+        let lines = event_lines(case, value)?;
         text.push_str(lines.as_str())?;
     }
     Ok(text)
 }
 
-fn event_lines(event: &Case<'_>) -> Result<String, CaseFault> {
-    if let Value::String(line) = event.value {
-        return line_of(event.alloc, line.as_str());
+/// The lines of an event of the case.
+fn event_lines(case: &Case<'_>, event: &Argument) -> Result<String, CaseFault> {
+    match event.as_str() {
+        Some(line) => line_of(case.alloc, line),
+        None => told_of_event(&case.inner(event)),
     }
+}
+
+/// The lines of an event that is an object.
+fn told_of_event(event: &Case<'_>) -> Result<String, CaseFault> {
     if event.has("interleaved") {
         return interleaved(event);
     }
@@ -80,15 +81,7 @@ fn interleaved(event: &Case<'_>) -> Result<String, CaseFault> {
     let [first, second] = event.list("interleaved") else {
         return Err(CaseFault::Missing("interleaved"));
     };
-    let first = Case {
-        alloc: event.alloc,
-        value: first,
-    };
-    let second = Case {
-        alloc: event.alloc,
-        value: second,
-    };
-    by_turns(&first, &second)
+    by_turns(&event.inner(first), &event.inner(second))
 }
 
 fn by_turns(first: &Case<'_>, second: &Case<'_>) -> Result<String, CaseFault> {

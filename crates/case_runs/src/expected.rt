@@ -2,8 +2,7 @@
 use crate::outputs::outputs_text;
 use crate::requests::{message_text, push_lines};
 use crate::stores::{Store, goes_to, stores_of};
-use case_values::{Case, CaseFault, said};
-use serde_json::Value;
+use case_values::{Case, CaseFault, text_or_json};
 
 /// What the case says that it gives: the replies of whole requests; what is to be done for events; else a text as it stands, or all else as compact JSON
 /// with keys in order.
@@ -14,11 +13,8 @@ pub fn expected(case: &Case<'_>) -> Result<String, CaseFault> {
     if case.has("outputs") {
         return outputs_text(case);
     }
-    match case.value.get("gives").or(case.value.get("said")) {
-        Some(Value::String(text)) => said(case.alloc, text.as_str()),
-        Some(gives) => Ok(gives.to_string(case.alloc)?),
-        None => said(case.alloc, ""),
-    }
+    let name = if case.has("gives") { "gives" } else { "said" };
+    text_or_json(case, name, "")
 }
 
 /// What the steps are to be answered, each with the lines of the audit where it has `audit`; by each store of the case,
@@ -35,10 +31,7 @@ fn replies(case: &Case<'_>) -> Result<String, CaseFault> {
 /// same, and isn't.
 fn push_replies(case: &Case<'_>, store: &Store, text: &mut String) -> Result<(), CaseFault> {
     for value in case.list("steps") {
-        let step = Case {
-            alloc: case.alloc,
-            value,
-        };
+        let step = case.inner(value);
         if goes_to(&step, store).unwrap_or(true) {
             text.push_str(store.title)?;
             push_reply(&step, store, text)?;

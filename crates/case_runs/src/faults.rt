@@ -1,4 +1,5 @@
 //! Why there was no going through the cases.
+use scim_text::NoMemory;
 use std::alloc::{AllocError, AllocFailed};
 use std::io;
 use thiserror::Error;
@@ -20,6 +21,12 @@ pub enum FolderFault {
 impl From<io::Error> for FolderFault {
     fn from(error: io::Error) -> FolderFault {
         FolderFault::Failed(error)
+    }
+}
+
+impl From<NoMemory> for FolderFault {
+    fn from(_: NoMemory) -> FolderFault {
+        FolderFault::NoMemory
     }
 }
 

@@ -2,6 +2,7 @@
 //! written. What the calls of the cases do is told by whoever goes through them.
 #![tactic(auto)]
 
+mod arguments;
 mod expected;
 mod faults;
 mod folder;

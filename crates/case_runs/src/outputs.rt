@@ -1,41 +1,36 @@
 //! What is to be done for the events of a case.
 use crate::requests::{message_text, push_lines};
-use case_values::{Case, CaseFault, push_all, said, shown};
-use serde_json::Value;
+use case_values::{Argument, Case, CaseFault, Form, push_all, said, shown};
 
 /// The lines of the list `outputs`, and then those of `audit`. An output is a line as `replay` writes it; or an object with the
 /// connection `to` which a text is written, and the text as a `reply` of whole requests. A list in the list holds lines.
 pub(crate) fn outputs_text(case: &Case<'_>) -> Result<String, CaseFault> {
     let mut text = String::new(case.alloc);
     for value in case.list("outputs") {
-        let output = Case {
-            alloc: case.alloc,
-            value,
-        };
-        let lines = output_lines(&output)?;
+        let lines = output_lines(case, value)?;
         text.push_str(lines.as_str())?;
     }
     push_lines(case, "audit", ";", &mut text)?;
     Ok(text)
 }
 
-/// The lines of an output.
-fn output_lines(output: &Case<'_>) -> Result<String, CaseFault> {
-    match output.value {
-        Value::String(line) => with_end(output, line.as_str()),
-        Value::Array(lines) => lines_of(output, lines.as_slice()),
-        _ => write_line(output),
+/// The lines of an output of the case.
+fn output_lines(case: &Case<'_>, output: &Argument) -> Result<String, CaseFault> {
+    match output.form {
+        Form::Text => with_end(case, output.text.as_str()),
+        Form::List => lines_of(case, case.items(output)),
+        _ => write_line(&case.inner(output)),
     }
 }
 
-fn with_end(output: &Case<'_>, line: &str) -> Result<String, CaseFault> {
-    let mut text = said(output.alloc, line)?;
+fn with_end(case: &Case<'_>, line: &str) -> Result<String, CaseFault> {
+    let mut text = said(case.alloc, line)?;
     text.push_str("\n")?;
     Ok(text)
 }
 
-fn lines_of(output: &Case<'_>, lines: &[Value]) -> Result<String, CaseFault> {
-    let mut text = String::new(output.alloc);
+fn lines_of(case: &Case<'_>, lines: &[Argument]) -> Result<String, CaseFault> {
+    let mut text = String::new(case.alloc);
     for line in lines {
         push_all(&mut text, &[line.as_str().unwrap_or("no line"), "\n"])?;
     }

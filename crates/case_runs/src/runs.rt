@@ -1,4 +1,5 @@
 //! Going through the files of a folder.
+use crate::arguments::arguments_of;
 use crate::expected::expected;
 use crate::faults::FolderFault;
 use crate::folder::{case_files, read};
@@ -97,8 +98,7 @@ fn take_list(
     };
     for (index, value) in values.iter().enumerate() {
         let line = index.saturating_add(1);
-        let case = Case { alloc, value };
-        take_case(rt, &Place { file, line }, &case, calls, tally)?;
+        take_value(rt, alloc, &Place { file, line }, value, calls, tally)?;
     }
     Ok(())
 }
@@ -133,13 +133,7 @@ fn take_line(
     tally: &mut Tally,
 ) -> Result<(), FolderFault> {
     match Value::from_str(alloc, line) {
-        Ok(value) => {
-            let case = Case {
-                alloc,
-                value: &value,
-            };
-            take_case(rt, place, &case, calls, tally)
-        }
+        Ok(value) => take_value(rt, alloc, place, &value, calls, tally),
         Err(_) => take_no_json(rt, alloc, place, "a JSON object", line, tally),
     }
 }
@@ -153,11 +147,22 @@ fn take_no_json(
     found: &str,
     tally: &mut Tally,
 ) -> Result<(), FolderFault> {
-    let case = Case {
-        alloc,
-        value: &Value::Null,
-    };
+    let case = Case::of(alloc, &[]);
     tally.take(rt, place, &case, &Outcome { expected, found })
+}
+
+/// Makes the call of the case that a JSON value is.
+fn take_value(
+    rt: &impl Print,
+    alloc: Global,
+    place: &Place<'_>,
+    value: &Value,
+    calls: &impl Calls,
+    tally: &mut Tally,
+) -> Result<(), FolderFault> {
+    let arguments = arguments_of(alloc, value)?;
+    let case = Case::of(alloc, arguments.as_slice());
+    take_case(rt, place, &case, calls, tally)
 }
 
 /// Makes the call of a case.

@@ -1,5 +1,5 @@
-//! Whole requests over a store in memory and over one in SQLite, which are to answer alike; turns of a service; commands over a database;
-//! and databases in SQLite that are damaged.
+//! Whole requests over a store in memory and over one in SQLite, which are to answer alike; turns of a service; refusals with
+//! their status codes; commands over a database; and databases in SQLite that are damaged.
 #![tactic(auto)]
 
 mod audited;
@@ -8,6 +8,7 @@ mod database_commands;
 mod databases;
 mod exchanges;
 mod faults;
+mod refusal_calls;
 mod service_calls;
 mod services;
 mod steps;
@@ -20,14 +21,16 @@ use database_commands::DatabaseCommand;
 enum Call {
     Steps,
     Database,
+    Refusal,
     Service,
     ServiceRun,
     Command(DatabaseCommand),
 }
 
-static CALLS: [(&str, Call); 8] = [
+static CALLS: [(&str, Call); 9] = [
     ("steps", Call::Steps),
     ("database", Call::Database),
+    ("refusal", Call::Refusal),
     ("service", Call::Service),
     ("service_run", Call::ServiceRun),
     ("print_audit", Call::Command(DatabaseCommand::Audit)),
@@ -42,6 +45,7 @@ pub fn answer(case: &Case<'_>, call: &str) -> Option<Result<String, CaseFault>> 
     Some(match call {
         Call::Steps => steps::answered(case),
         Call::Database => database_calls::database_call(case),
+        Call::Refusal => refusal_calls::refusal_call(case),
         Call::Service => service_calls::service_call(case),
         Call::ServiceRun => service_calls::run_call(case),
         Call::Command(command) => database_commands::command_call(case, command),

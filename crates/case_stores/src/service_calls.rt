@@ -7,7 +7,8 @@ use case_values::{Case, CaseFault, named, push_all, push_rows_after, shown};
 use scim_audit::{AuditRow, Refusal};
 use scim_body::{BodyFault, Draft, read_body};
 use scim_cell::{Id, Text};
-use scim_service::{Ask, Reply, Request, Service, Turn, status_of};
+use scim_exchange::status_of;
+use scim_service::{Ask, Reply, Request, Service, Turn};
 use scim_shelf::MemoryShelf;
 use scim_text::{Failed, Moment, push};
 use std::alloc::Global;
@@ -38,10 +39,7 @@ fn service_of(case: &Case<'_>) -> Result<Service<MemoryShelf>, CaseFault> {
 fn told_of_turns(case: &Case<'_>, service: &mut Service<MemoryShelf>) -> Result<String, CaseFault> {
     let mut text = String::new(case.alloc);
     for value in case.list("turns") {
-        let turn = Case {
-            alloc: case.alloc,
-            value,
-        };
+        let turn = case.inner(value);
         push_answer(&turn, service, &mut text)?;
     }
     push_rows_after(case.alloc, 0, service.shelf().audit(), &mut text)?;
@@ -65,10 +63,7 @@ fn replies_to(
 fn turns_of(case: &Case<'_>) -> Result<Vec<Turn>, CaseFault> {
     let mut turns = Vec::new(case.alloc);
     for value in case.list("turns") {
-        let turn = Case {
-            alloc: case.alloc,
-            value,
-        };
+        let turn = case.inner(value);
         push(&mut turns, turn_of(&turn)?)?;
     }
     Ok(turns)

@@ -103,10 +103,7 @@ fn push_steps<S: Audited>(
     let mut shelf = shelf;
     let mut known = 0;
     for value in case.list("steps") {
-        let step = Case {
-            alloc: case.alloc,
-            value,
-        };
+        let step = case.inner(value);
         let service = service_for(case, &step, shelf)?;
         shelf = after_step(&step, asked, service, &mut known, text)?;
     }

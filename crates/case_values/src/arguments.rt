@@ -4,7 +4,6 @@ use crate::faults::CaseFault;
 use scim_samples::{ALICE, part, read_leaf, sample};
 use scim_schema::{Kind, Leaf, Op};
 use scim_value::{Part, Resource};
-use serde_json::Value;
 use std::alloc::Global;
 use std::cmp::Ordering;
 use std::fmt::{Debug, Display};
@@ -132,9 +131,8 @@ pub fn truth(alloc: Global, truth: bool) -> Result<String, CaseFault> {
 
 /// An argument's text, or its JSON without spaces; another text where it isn't given.
 pub fn text_or_json(case: &Case<'_>, name: &'static str, other: &str) -> Result<String, CaseFault> {
-    match case.value.get(name) {
-        Some(Value::String(text)) => said(case.alloc, text.as_str()),
-        Some(value) => Ok(value.to_string(case.alloc)?),
+    match case.get(name) {
+        Some(value) => said(case.alloc, value.text.as_str()),
         None => said(case.alloc, other),
     }
 }

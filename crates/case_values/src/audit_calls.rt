@@ -3,7 +3,7 @@ use crate::arguments::{debugged, joined, push_all, said, shown};
 use crate::case::Case;
 use crate::faults::CaseFault;
 use crate::tables::named;
-use scim_audit::{AuditRow, Decided, Methods, Refusal, leaf_path, print_row, status_of};
+use scim_audit::{AuditRow, Decided, Methods, Refusal, leaf_path, print_row};
 use scim_cell::{Id, Text};
 use scim_text::read_printed_moment;
 use std::alloc::Global;
@@ -47,15 +47,13 @@ const DECIDED: [Decided; 5] = [
 /// A call of `scim_audit`.
 #[derive(Clone, Copy)]
 enum AuditCall {
-    Refusal,
     RefusalBody,
     LeafPath,
     PrintRow,
     CopiedRow,
 }
 
-static CALLS: [(&str, AuditCall); 5] = [
-    ("refusal", AuditCall::Refusal),
+static CALLS: [(&str, AuditCall); 4] = [
     ("refusal_body", AuditCall::RefusalBody),
     ("leaf_path", AuditCall::LeafPath),
     ("print_row", AuditCall::PrintRow),
@@ -66,7 +64,6 @@ static CALLS: [(&str, AuditCall); 5] = [
 pub fn answer(case: &Case<'_>, call: &str) -> Option<Result<String, CaseFault>> {
     let call = named(&CALLS, call)?;
     Some(match call {
-        AuditCall::Refusal => refusal_call(case),
         AuditCall::RefusalBody => refusal_body(case),
         AuditCall::LeafPath => leaf_path_call(case),
         AuditCall::PrintRow => row_line(case),
@@ -75,7 +72,7 @@ pub fn answer(case: &Case<'_>, call: &str) -> Option<Result<String, CaseFault>> 
 }
 
 /// The refusal that `refusal` names, as `NotFound` or `BadMethod(Search)`.
-fn refusal(case: &Case<'_>) -> Result<Refusal, CaseFault> {
+pub fn refusal_of(case: &Case<'_>) -> Result<Refusal, CaseFault> {
     let name = case.text("refusal")?;
     for refusal in REFUSALS.iter() {
         if is_named(case.alloc, *refusal, name)? {
@@ -90,45 +87,8 @@ fn is_named(alloc: Global, refusal: Refusal, name: &str) -> Result<bool, CaseFau
     Ok(own.as_str() == name)
 }
 
-/// The number of a refusal, its status, its keyword where it has one, and what else the reply says.
-fn refusal_call(case: &Case<'_>) -> Result<String, CaseFault> {
-    let refusal = refusal(case)?;
-    let mut text = number_and_status(case.alloc, refusal)?;
-    push_words(refusal, &mut text)?;
-    push_asks(refusal, &mut text)?;
-    Ok(text)
-}
-
-fn number_and_status(alloc: Global, refusal: Refusal) -> Result<String, CaseFault> {
-    let number = shown(alloc, &refusal.number())?;
-    let status = shown(alloc, &status_of(refusal).as_u16())?;
-    joined(alloc, &["F", number.as_str(), " ", status.as_str()])
-}
-
-/// Writes the keyword and the methods that are allowed, where there are any.
-fn push_words(refusal: Refusal, text: &mut String) -> Result<(), CaseFault> {
-    if let Some(scim_type) = refusal.scim_type() {
-        push_all(text, &[" ", scim_type])?;
-    }
-    if let Some(allow) = refusal.allow() {
-        push_all(text, &[", Allow: ", allow])?;
-    }
-    Ok(())
-}
-
-/// Writes whether a token is asked for, and whether the connection is closed.
-fn push_asks(refusal: Refusal, text: &mut String) -> Result<(), CaseFault> {
-    if refusal.asks_for_token() {
-        text.push_str(", asks for a token")?;
-    }
-    if refusal.closes() {
-        text.push_str(", closes")?;
-    }
-    Ok(())
-}
-
 fn refusal_body(case: &Case<'_>) -> Result<String, CaseFault> {
-    said(case.alloc, refusal(case)?.body())
+    said(case.alloc, refusal_of(case)?.body())
 }
 
 fn leaf_path_call(case: &Case<'_>) -> Result<String, CaseFault> {
@@ -166,7 +126,7 @@ fn row(case: &Case<'_>) -> Result<AuditRow, CaseFault> {
         decided,
         rule: rule(case),
         leaf: case.leaf("leaf").ok(),
-        refusal: refusal(case).ok(),
+        refusal: refusal_of(case).ok(),
     })
 }
 

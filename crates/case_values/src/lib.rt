@@ -7,6 +7,7 @@ mod audit_calls;
 mod case;
 mod cell_calls;
 mod faults;
+mod forms;
 mod listed;
 mod policies;
 mod row_tests;
@@ -19,9 +20,10 @@ pub use arguments::{
     beside, between, debugged, file_text, joined, kind_of, push_all, said, shown, text_or_json,
     truth, written_text,
 };
-pub use audit_calls::push_rows_after;
+pub use audit_calls::{push_rows_after, refusal_of};
 pub use case::Case;
 pub use faults::CaseFault;
+pub use forms::{Argument, Form};
 pub use listed::{parts_of, resources, resources_of, spaced_text, texts};
 pub use policies::policy_text;
 pub use schema_calls::{attribute_name, urn_of};

@@ -2,11 +2,11 @@
 use crate::arguments::{between, joined, said};
 use crate::case::Case;
 use crate::faults::CaseFault;
+use crate::forms::Argument;
 use scim_samples::{part, resource, sample, sample_groups, sample_users};
 use scim_schema::Kind;
 use scim_text::push;
 use scim_value::{Part, Resource};
-use serde_json::Value;
 use std::alloc::Global;
 
 /// The texts of a list.
@@ -53,21 +53,21 @@ pub fn resources(
 ) -> Result<Vec<Resource>, CaseFault> {
     let mut resources = Vec::new(case.alloc);
     for value in case.list(name) {
-        push(&mut resources, resource_of(case.alloc, kind, value)?)?;
+        push(&mut resources, resource_of(case, kind, value)?)?;
     }
     Ok(resources)
 }
 
-fn resource_of(alloc: Global, kind: Kind, value: &Value) -> Result<Resource, CaseFault> {
+fn resource_of(case: &Case<'_>, kind: Kind, value: &Argument) -> Result<Resource, CaseFault> {
     if let Some(name) = value.as_str() {
-        return match sample(alloc, name)? {
+        return match sample(case.alloc, name)? {
             Some(resource) => Ok(resource),
             None => Err(CaseFault::Missing("a sample")),
         };
     }
-    let case = Case { alloc, value };
-    match (case.text("id"), case.text("cells")) {
-        (Ok(id), Ok(cells)) => Ok(resource(alloc, kind, id, cells)?),
+    let inner = case.inner(value);
+    match (inner.text("id"), inner.text("cells")) {
+        (Ok(id), Ok(cells)) => Ok(resource(case.alloc, kind, id, cells)?),
         _ => Err(CaseFault::Missing("id and cells")),
     }
 }

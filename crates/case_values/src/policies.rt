@@ -3,37 +3,34 @@ use crate::arguments::{joined, text_or_json};
 use crate::case::Case;
 use crate::faults::CaseFault;
 use scim_samples::POLICY;
-use serde_json::Value;
 use std::alloc::Global;
 
 /// The text of a policy file: `policy`, a text or a JSON value; or the file of the list `rules`; or of `times`
 /// times the rule `rule`; else the sample policy.
 pub fn policy_text(case: &Case<'_>) -> Result<String, CaseFault> {
     let alloc = case.alloc;
-    if let Some(rules) = case.value.get("rules") {
-        return file_of(alloc, rules);
+    if let Some(rules) = case.get("rules") {
+        return file_of(alloc, rules.text.as_str());
     }
-    if let Some(rule) = case.value.get("rule") {
-        return repeated(alloc, rule, case.number("times")?);
+    if let Some(rule) = case.get("rule") {
+        return repeated(alloc, rule.text.as_str(), case.number("times")?);
     }
     text_or_json(case, "policy", POLICY)
 }
 
 /// The file of a list of rules.
-fn file_of(alloc: Global, rules: &Value) -> Result<String, CaseFault> {
-    let rules = rules.to_string(alloc)?;
-    joined(alloc, &["{\"version\":1,\"rules\":", rules.as_str(), "}"])
+fn file_of(alloc: Global, rules: &str) -> Result<String, CaseFault> {
+    joined(alloc, &["{\"version\":1,\"rules\":", rules, "}"])
 }
 
 /// The file of a rule so many times.
-fn repeated(alloc: Global, rule: &Value, times: i64) -> Result<String, CaseFault> {
-    let rule = rule.to_string(alloc)?;
+fn repeated(alloc: Global, rule: &str, times: i64) -> Result<String, CaseFault> {
     let mut text = String::from_str(alloc, "{\"version\":1,\"rules\":[")?;
     for number in 0..times {
         if number > 0 {
             text.push_str(",")?;
         }
-        text.push_str(rule.as_str())?;
+        text.push_str(rule)?;
     }
     text.push_str("]}")?;
     Ok(text)

@@ -4,9 +4,7 @@
 mod methods;
 mod refusals;
 mod rows;
-mod statuses;
 
 pub use methods::Methods;
 pub use refusals::Refusal;
 pub use rows::{AuditRow, Decided, leaf_path, print_row};
-pub use statuses::status_of;

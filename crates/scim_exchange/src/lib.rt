@@ -5,6 +5,8 @@
 mod answers;
 mod exchanges;
 mod replies;
+mod statuses;
 
 pub use answers::Answer;
 pub use exchanges::{Arrival, answer};
+pub use statuses::{status_of, status_of_refusal};

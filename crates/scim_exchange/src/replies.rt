@@ -2,6 +2,7 @@
 ghost use Rattle.std.specs.Prelude.{◌≡◌, IfOk, string_bytes};
 ghost use Rattle.scim_exchange.specs.Replies as spec;
 
+use crate::statuses::{status_of, status_of_refusal};
 use http::StatusCode;
 use scim_audit::Refusal;
 use scim_service::Reply;
@@ -18,7 +19,7 @@ pub(crate) fn refusal_text(alloc: Global, refusal: Refusal, close: bool) -> Resu
     ensures { IfOk result (λ t. string_bytes t ≡ spec.refusal_text refusal close) }
 {
     let reply = WireReply {
-        status: scim_audit::status_of(refusal),
+        status: status_of_refusal(refusal),
         body: Some(refusal.body()),
         location: None,
         allow: refusal.allow(),
@@ -43,7 +44,7 @@ fn success_text(alloc: Global, reply: &Reply, close: bool) -> Result<String, NoM
     ensures { IfOk result (λ t. string_bytes t ≡ spec.success_text reply.now close) }
 {
     let reply = WireReply {
-        status: scim_service::status_of(reply),
+        status: status_of(reply),
         body: reply.body(),
         location: reply.location(),
         allow: None,

@@ -2,7 +2,6 @@
 //! sections 3.4.2.2 to 3.4.2.4).
 #![tactic(auto)]
 
-mod client_searches;
 mod entries;
 mod kept_parts;
 mod keys;
@@ -12,10 +11,11 @@ mod needed_texts;
 mod pagers;
 mod possible_matches;
 mod queries;
+mod shown_pages;
 mod sort_keys;
 
-pub use client_searches::{search_view, shown_page};
 pub use laws::queries_have_one_page;
 pub use pagers::Pager;
 pub use queries::{Page, Query, search};
+pub use shown_pages::shown_page;
 pub use sort_keys::read_sort_by;

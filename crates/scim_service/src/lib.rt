@@ -13,6 +13,6 @@ mod replies;
 mod requests;
 mod service;
 
-pub use replies::{Reply, status_of};
+pub use replies::Reply;
 pub use requests::{Ask, Request, Turn, turn_is_sound};
 pub use service::Service;

@@ -3,7 +3,6 @@ ghost use Rattle.std.specs.Prelude.{◌≡◌};
 ghost use Rattle.std.specs.Option.{option_copied};
 ghost use Rattle.scim_service.specs.Replies as spec;
 
-use http::StatusCode;
 use scim_audit::Refusal;
 use scim_cell::Text;
 use scim_shelf::ShelfFault;
@@ -67,19 +66,5 @@ impl Reply {
             Reply::Created(location, _) => Some(location.as_str()),
             _ => None,
         }
-    }
-}
-
-/// The status code of a reply. It stands apart from the reply's own calls, so that who names a reply needn't know what a
-/// status code is.
-pub fn status_of(reply: &Reply) -> StatusCode
-    ensures { result ≡ spec.status_of reply.now }
-{
-    match reply {
-        Reply::Shown(_) => StatusCode::OK,
-        Reply::Created(_, _) => StatusCode::CREATED,
-        Reply::Done => StatusCode::NO_CONTENT,
-        Reply::Refused(refusal) => scim_audit::status_of(*refusal),
-        Reply::Failed(_) => scim_audit::status_of(Refusal::Store),
     }
 }

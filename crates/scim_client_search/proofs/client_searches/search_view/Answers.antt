@@ -7,7 +7,7 @@ use Rattle.scim_query.specs.declared.queries.Query.{Query}
 use Rattle.scim_query.specs.declared.queries.Page.{Page}
 use Rattle.scim_query.specs.Pages.{IsPage}
 use Rattle.scim_query.specs.ClientSearches.{IsShownPage}
-use Rattle.scim_query.proofs.client_searches.search_view.Goals as goal
+use Rattle.scim_client_search.proofs.client_searches.search_view.Goals as goal
 
 -- a page whose items are shown as they are wanted
 page_shown : (view : List Content) (query : Query) (found : Page) (r : Result Page NoMemory) → IsPage view query found

@@ -5,7 +5,7 @@ use scim_body::{UseFor, read_body};
 use scim_cell::Text;
 use scim_operations::read_patch;
 use scim_schema::{Kind, Op};
-use scim_service::{Ask, Request, Service, Turn, status_of};
+use scim_service::{Ask, Request, Service, Turn};
 use scim_shelf::Shelf;
 use scim_text::Moment;
 use scim_view::Wanted;
@@ -77,17 +77,12 @@ fn get(alloc: Global, user: usize) -> Result<Turn> {
     turn_with(alloc, Op::Read, user, Ask::Get(Wanted::Default))
 }
 
-/// Nanoseconds of a turn, which is answered with the status.
-fn figure<S: Shelf>(
-    rt: &HostRuntime,
-    service: &mut Service<S>,
-    turn: &Turn,
-    status: u16,
-) -> Result<u128> {
+/// Nanoseconds of a turn, which is not refused.
+fn figure<S: Shelf>(rt: &HostRuntime, service: &mut Service<S>, turn: &Turn) -> Result<u128> {
     let start = Instant::now(rt)?;
-    let answered = status_of(&service.answer(rt.alloc(), turn));
+    let refusal = service.answer(rt.alloc(), turn).refusal();
     let spent = start.elapsed(rt)?;
-    ensure!(answered.as_u16() == status, "a turn is answered otherwise");
+    ensure!(refusal.is_none(), "a turn is refused");
     Ok(spent.as_nanos())
 }
 
@@ -98,8 +93,8 @@ pub(crate) fn answer<S: Shelf>(
     user: usize,
     own: usize,
 ) -> Result<[u128; 3]> {
-    let create = figure(rt, service, &create(rt.alloc(), own)?, 201)?;
-    let patch = figure(rt, service, &patch(rt.alloc(), user, own)?, 200)?;
-    let get = figure(rt, service, &get(rt.alloc(), user)?, 200)?;
+    let create = figure(rt, service, &create(rt.alloc(), own)?)?;
+    let patch = figure(rt, service, &patch(rt.alloc(), user, own)?)?;
+    let get = figure(rt, service, &get(rt.alloc(), user)?)?;
     Ok([create, patch, get])
 }

@@ -1,7 +1,7 @@
 //! Stores of few and of many users, and the figures of both.
 ghost use Rattle.std.specs.Prelude.{◌≡◌, false};
 
-use crate::files::{FileWork, over_file, remove_database, unusable};
+use crate::database_files::{FileWork, over_file, remove_database, unusable};
 use crate::first_turns::ASKED;
 use crate::looks::{LOOKS, users_sought};
 use crate::measuring::{Measuring, OPENINGS};

@@ -16,7 +16,7 @@ const JOURNALS: [&str; 2] = ["bench.db-journal", "bench.db-wal"];
 ///
 /// It is generic in the database's files, and gives the connection back to be closed: a function that holds a connection to
 /// the system's files costs its proof a minute, so that `over_file` alone does.
-pub trait FileWork {
+pub(crate) trait FileWork {
     /// Does it over a connection, whose opening began at `start`.
     fn over<S: Alter + Drop>(
         &mut self,
@@ -28,12 +28,12 @@ pub trait FileWork {
 }
 
 /// Fails, since the database can't be used.
-pub fn unusable() -> Result<()> {
+pub(crate) fn unusable() -> Result<()> {
     bail!("the database can't be used")
 }
 
 /// Opens the database, which is made where there is none, does the work over it, and closes it.
-pub fn over_file<W: FileWork>(rt: &HostRuntime, work: &mut W) -> Result<()> {
+pub(crate) fn over_file<W: FileWork>(rt: &HostRuntime, work: &mut W) -> Result<()> {
     let start = Instant::now(rt)?;
     match Connection::open(rt, PATH) {
         Ok(connection) => {
@@ -47,7 +47,7 @@ pub fn over_file<W: FileWork>(rt: &HostRuntime, work: &mut W) -> Result<()> {
 
 /// Removes the database and its journals, those of them that are there. One that can't be removed is refused by the
 /// next run, which wants an empty database.
-pub fn remove_database(rt: &HostRuntime) {
+pub(crate) fn remove_database(rt: &HostRuntime) {
     for path in JOURNALS {
         let _removed = fs::remove_file(rt, path);
     }

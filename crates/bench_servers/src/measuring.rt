@@ -1,7 +1,7 @@
 //! The opening of a store in a database, and what is measured over it.
 ghost use Rattle.std.specs.Prelude.{◌≡◌, false};
 
-use crate::files::{FileWork, unusable};
+use crate::database_files::{FileWork, unusable};
 use crate::first_turns::answer;
 use crate::looks::{Sought, find_all};
 use anyhow::Result;

@@ -1,14 +1,16 @@
-//! The status codes of refusals. They stand apart from the other answers of a refusal, so that who names one needn't know
-//! what a status code is.
+//! The status codes of refusals and of replies. They stand here, and not beside the refusals and replies, so that who names
+//! one of those needn't know what a status code is.
 ghost use Rattle.std.specs.Prelude.{◌≡◌};
-ghost use Rattle.scim_audit.specs.Refusals as spec;
+ghost use Rattle.scim_audit.specs.Refusals as refusals;
+ghost use Rattle.scim_service.specs.Replies as replies;
 
-use crate::refusals::Refusal;
 use http::StatusCode;
+use scim_audit::Refusal;
+use scim_service::Reply;
 
 /// The status code of the reply that a refusal is (RFC 9110 section 15, RFC 7644 table 8).
-pub fn status_of(refusal: Refusal) -> StatusCode
-    ensures { result ≡ spec.status_of refusal }
+pub fn status_of_refusal(refusal: Refusal) -> StatusCode
+    ensures { result ≡ refusals.status_of refusal }
 {
     match refusal {
         Refusal::BadHead
@@ -29,5 +31,18 @@ pub fn status_of(refusal: Refusal) -> StatusCode
         Refusal::Taken => StatusCode::CONFLICT,
         Refusal::IdInUse => StatusCode::SERVICE_UNAVAILABLE,
         Refusal::Store => StatusCode::INTERNAL_SERVER_ERROR,
+    }
+}
+
+/// The status code of a reply of the service (RFC 9110 section 15).
+pub fn status_of(reply: &Reply) -> StatusCode
+    ensures { result ≡ replies.status_of reply.now }
+{
+    match reply {
+        Reply::Shown(_) => StatusCode::OK,
+        Reply::Created(_, _) => StatusCode::CREATED,
+        Reply::Done => StatusCode::NO_CONTENT,
+        Reply::Refused(refusal) => status_of_refusal(*refusal),
+        Reply::Failed(_) => status_of_refusal(Refusal::Store),
     }
 }

@@ -1,10 +1,10 @@
 //! The stores that are served: in memory, and in a database, which is a file.
 ghost use Rattle.std.specs.Prelude.{◌≡◌, false};
 
+use crate::database_files::{FileWork, over_file, remove_database, unusable};
 use crate::directories::read_directory;
-use crate::runs::print_all;
+use crate::server_runs::print_all;
 use anyhow::{Result, bail};
-use bench_stores::{FileWork, over_file, remove_database, unusable};
 use bench_values::{TOKENS, print_heading, users_file};
 use scim_cache::CachedShelf;
 use scim_cell::Text;

@@ -1,0 +1,42 @@
+//! What a refusal is answered with.
+use case_values::{Case, CaseFault, joined, push_all, refusal_of, shown};
+use scim_audit::Refusal;
+use scim_exchange::status_of_refusal;
+use std::alloc::Global;
+
+/// The number of a refusal, its status, its keyword where it has one, and what else the reply says.
+pub fn refusal_call(case: &Case<'_>) -> Result<String, CaseFault> {
+    let refusal = refusal_of(case)?;
+    let mut text = number_and_status(case.alloc, refusal)?;
+    push_words(refusal, &mut text)?;
+    push_asks(refusal, &mut text)?;
+    Ok(text)
+}
+
+fn number_and_status(alloc: Global, refusal: Refusal) -> Result<String, CaseFault> {
+    let number = shown(alloc, &refusal.number())?;
+    let status = shown(alloc, &status_of_refusal(refusal).as_u16())?;
+    joined(alloc, &["F", number.as_str(), " ", status.as_str()])
+}
+
+/// Writes the keyword and the methods that are allowed, where there are any.
+fn push_words(refusal: Refusal, text: &mut String) -> Result<(), CaseFault> {
+    if let Some(scim_type) = refusal.scim_type() {
+        push_all(text, &[" ", scim_type])?;
+    }
+    if let Some(allow) = refusal.allow() {
+        push_all(text, &[", Allow: ", allow])?;
+    }
+    Ok(())
+}
+
+/// Writes whether a token is asked for, and whether the connection is closed.
+fn push_asks(refusal: Refusal, text: &mut String) -> Result<(), CaseFault> {
+    if refusal.asks_for_token() {
+        text.push_str(", asks for a token")?;
+    }
+    if refusal.closes() {
+        text.push_str(", closes")?;
+    }
+    Ok(())
+}
