@@ -47,8 +47,8 @@ use Rattle.scim_filter.specs.declared.tree.Meant.TheVariants as meant
 use Rattle.scim_filter.specs.declared.tree.Operator.TheVariants.{Eq}
 use Rattle.scim_filter.specs.Tree.{Tree, And, Compare, Values}
 use Rattle.scim_filter.specs.Types.{truth_in}
-use Rattle.scim_steps.specs.Described.{text_atom, atom_for, has_sub_attribute, field_for, equality, joined, equalities, is_each_once, if_each_once, described}
-use Rattle.scim_steps.specs.Fields.{field_cmp, put_field, over, row_over, without, row_without, not_primary, demoted}
+use Rattle.scim_matches.specs.Described.{text_atom, atom_for, has_sub_attribute, field_for, equality, joined, equalities, is_each_once, if_each_once, described}
+use Rattle.scim_matches.specs.Fields.{field_cmp, put_field, over, row_over, without, row_without, not_primary, demoted}
 use Rattle.scim_patch.specs.Patch.{AreGivenFields}
 
 -- ---- what is kept of one value

@@ -23,8 +23,9 @@ use Rattle.scim_change.specs.Agreement.{are_same_values}
 use Rattle.scim_change.proofs.Facts.{values_put}
 use Rattle.scim_lists.specs.SameValues.{is_same_value, with_value, with_values}
 use Rattle.scim_filter.specs.Truth.{truth_in_value}
+use Rattle.scim_matches.specs.Matches.{kept, marked, given_primary, is_listed}
 use Rattle.scim_steps.specs.Changes.{Change, Keep, KeepMatches, KeepSubAttribute, Append, Replace, Clear, RemoveListed, AddToMatches, ReplaceMatches, RemoveMatches, AddAtMatches, SetAtMatches, ClearAtMatches, SetEverywhere, ClearEverywhere}
-use Rattle.scim_steps.specs.Table.{kept, marked, given_primary, is_listed, row}
+use Rattle.scim_steps.specs.Table.{row}
 use Rattle.scim_steps.specs.Steps.{is_forbidden, gives_two_primary, settled, judged, after}
 use Rattle.scim_patch.specs.Patch.{Step, Pathless, Of, Patch, AreGivenValues, MayBeMade, IsStep, IsPatch, units_in, stepped, all_stepped, is_unseen_writing, changes}
 use Rattle.scim_patch.specs.code.Touched.{is_other}

@@ -27,9 +27,9 @@ use Rattle.scim_cell.specs.Rows.{Row, atom_in, is_truth, is_primary}
 use Rattle.scim_lists.specs.SameValues.{is_members, member_value, is_same_value, with_value, with_values}
 use Rattle.scim_filter.specs.Tree.{Tree}
 use Rattle.scim_filter.specs.Truth.{truth_in_value}
-use Rattle.scim_steps.specs.Fields.{field_cmp, put_field, over, row_without, not_primary, demoted}
-use Rattle.scim_patch.proofs.Outcomes.{Position}
-use Rattle.scim_steps.specs.Table.{kept, given_primary, marked, made, set_over, set_at_match, replaced_at_match, cleared_at_match}
+use Rattle.scim_matches.specs.declared.positions.Position.{Position}
+use Rattle.scim_matches.specs.Fields.{field_cmp, put_field, over, row_without, not_primary, demoted}
+use Rattle.scim_matches.specs.Matches.{kept, given_primary, marked, made, set_over, set_at_match, replaced_at_match, cleared_at_match}
 
 -- ---- positions
 

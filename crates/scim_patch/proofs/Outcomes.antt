@@ -1,15 +1,6 @@
--- What a row of the table makes, and what was made where nothing is refused.
+-- What was made where nothing is refused.
 use Rattle.std.proofs.Common.{◌≡◌, Bool, true, false, refl}
 use Rattle.std.specs.Prelude.{Result, Ok, Err, if◌then◌else◌}
-use Rattle.scim_steps.specs.Table.{kept}
-
--- what a function answers
-abbrev Answer : {A B : Type 0} → (A → B) → Type 0
-Answer {A} {B} f = B
-
--- a value after a step, and whether the step chose it: scim_steps keeps the name to itself
-abbrev pub Position : Type 0
-Position = Answer kept
 
 -- what isn't refused is what was made
 pub not_refused : {X E : Type 0} (b : Bool) (e : E) (o : Result X E) (y : X) → (if b then Err e else o) ≡ Ok y → (b ≡ false) × (o ≡ Ok y)

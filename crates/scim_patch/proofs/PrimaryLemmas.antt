@@ -14,14 +14,15 @@ use Rattle.scim_cell.specs.Rows.{Row, is_primary, has_fields}
 use Rattle.scim_lists.specs.SameValues.{is_nameless}
 use Rattle.scim_filter.specs.Tree.{Tree}
 use Rattle.scim_filter.specs.Truth.{truth_in_value}
+use Rattle.scim_matches.specs.declared.positions.Position.{Position}
+use Rattle.scim_matches.specs.Described.{described}
+use Rattle.scim_matches.specs.Fields.{row_without, demoted}
+use Rattle.scim_matches.specs.Matches.{kept, made, value_of, is_listed, is_any_match, set_over, set_at_match, cleared_at_match, with_made, added_at_matches, set_everywhere}
 use Rattle.scim_steps.specs.declared.steps.StepFault.{StepFault}
 use Rattle.scim_steps.specs.Changes.{Change, Keep, KeepMatches, KeepSubAttribute, Append, Replace, Clear, RemoveListed, AddToMatches, ReplaceMatches, RemoveMatches, AddAtMatches, SetAtMatches, ClearAtMatches, SetEverywhere, ClearEverywhere}
-use Rattle.scim_steps.specs.Described.{described}
-use Rattle.scim_steps.specs.Fields.{row_without, demoted}
-use Rattle.scim_steps.specs.Table.{kept, made, value_of, is_listed, is_any_match, set_over, set_at_match, cleared_at_match, with_made, added_at_matches, set_everywhere, row}
+use Rattle.scim_steps.specs.Table.{row}
 use Rattle.scim_steps.specs.Steps.{is_forbidden, gives_two_primary, are_refused, beside_chosen, primary_settled, checked, settled, judged, after}
 use Rattle.scim_patch.specs.Patch.{MayBeMade}
-use Rattle.scim_patch.proofs.Outcomes.{Position}
 use Rattle.scim_patch.proofs.LooseLemmas.{is_loose, count_map, count_filter, count_none, Rises, demoted_is_not, primary_without, primary_cleared, loose_kept, loose_over, loose_at_match, loose_made, loose_given, loose_replaced}
 
 -- ---- the table

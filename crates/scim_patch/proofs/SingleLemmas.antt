@@ -22,9 +22,11 @@ use Rattle.scim_value.specs.Resource.{MayBeKept, IsFilled}
 use Rattle.scim_lists.specs.SameValues.{is_members, is_nameless}
 use Rattle.scim_body.specs.Drafts.{MayBeGiven}
 use Rattle.scim_change.proofs.Facts.{filled, kept_field}
+use Rattle.scim_matches.specs.declared.positions.Position.{Position}
+use Rattle.scim_matches.specs.Matches.{kept}
 use Rattle.scim_steps.specs.Changes.{Change, Keep, KeepMatches, KeepSubAttribute, Append, Replace, Clear, RemoveListed, AddToMatches, ReplaceMatches, RemoveMatches, AddAtMatches, SetAtMatches, ClearAtMatches, SetEverywhere, ClearEverywhere}
-use Rattle.scim_steps.specs.Table.{kept, row}
-use Rattle.scim_patch.proofs.Outcomes.{Position, not_refused}
+use Rattle.scim_steps.specs.Table.{row}
+use Rattle.scim_patch.proofs.Outcomes.{not_refused}
 use Rattle.scim_steps.specs.declared.steps.StepFault.TheVariants as fault
 use Rattle.scim_steps.specs.Steps.{is_required, is_forbidden, gives_two_primary, are_refused, primary_settled, checked, settled, judged, after}
 use Rattle.scim_schema.specs.Mutability.{is_fixed}

@@ -27,13 +27,15 @@ use Rattle.scim_change.proofs.Facts.{kept_field}
 use Rattle.scim_lists.specs.SameValues.{is_members, is_nameless, is_same_value, with_value, with_values}
 use Rattle.scim_filter.specs.Tree.{Tree}
 use Rattle.scim_filter.specs.Truth.{truth_in_value}
+use Rattle.scim_matches.specs.declared.positions.Position.{Position}
+use Rattle.scim_matches.specs.Described.{described}
+use Rattle.scim_matches.specs.Fields.{over, row_without, demoted}
+use Rattle.scim_matches.specs.Matches.{kept, given_primary, marked, made, value_of, is_listed, is_any_match, set_over, set_at_match, replaced_at_match, cleared_at_match, with_made, set_everywhere}
 use Rattle.scim_steps.specs.Changes.{Change, Keep, KeepMatches, KeepSubAttribute, Append, Replace, Clear, RemoveListed, AddToMatches, ReplaceMatches, RemoveMatches, AddAtMatches, SetAtMatches, ClearAtMatches, SetEverywhere, ClearEverywhere}
-use Rattle.scim_steps.specs.Described.{described}
-use Rattle.scim_steps.specs.Fields.{over, row_without, demoted}
-use Rattle.scim_steps.specs.Table.{kept, given_primary, marked, made, value_of, is_listed, is_any_match, set_over, set_at_match, replaced_at_match, cleared_at_match, with_made, set_everywhere, row}
+use Rattle.scim_steps.specs.Table.{row}
 use Rattle.scim_steps.specs.Steps.{is_forbidden, gives_two_primary, are_refused, beside_chosen, primary_settled, checked, settled, judged, after}
 use Rattle.scim_patch.specs.Patch.{AreGivenFields, AreGivenValues, MayBeMade}
-use Rattle.scim_patch.proofs.Outcomes.{Position, not_refused}
+use Rattle.scim_patch.proofs.Outcomes.{not_refused}
 use Rattle.scim_patch.proofs.FieldLemmas.{IsKeptField, AreKeptFields, IsValueOf, each_kept, given_kept, row_over_kept, row_without_kept, primary_field, demoted_kept, demoted_full, passes_in, described_kept}
 
 -- ---- values

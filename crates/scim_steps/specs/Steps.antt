@@ -15,12 +15,13 @@ use Rattle.scim_schema.specs.Mutability.{is_fixed}
 use Rattle.scim_schema.specs.Units.{leaf_at}
 use Rattle.scim_cell.specs.Rows.{Row, has_fields}
 use Rattle.scim_lists.specs.SameValues.{is_members, is_nameless}
+use Rattle.scim_matches.specs.declared.positions.Position.{Position}
+use Rattle.scim_matches.specs.Fields.{demoted}
+use Rattle.scim_matches.specs.Matches.{given_primary, is_any_match}
 use Rattle.scim_steps.specs.declared.steps.StepFault.{StepFault}
 use Rattle.scim_steps.specs.declared.steps.StepFault.TheVariants as fault
 use Rattle.scim_steps.specs.Changes.{Change, KeepMatches, KeepSubAttribute, Append, Replace, Clear, AddToMatches, AddAtMatches, SetAtMatches, ClearAtMatches, SetEverywhere, ClearEverywhere}
-use Rattle.scim_steps.specs.Fields.{demoted}
-use Rattle.scim_steps.specs.declared.positions.Position.{Position}
-use Rattle.scim_steps.specs.Table.{given_primary, is_any_match, row}
+use Rattle.scim_steps.specs.Table.{row}
 
 -- ---- what may not be changed at all
 

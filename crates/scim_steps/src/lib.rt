@@ -3,13 +3,7 @@
 #![tactic(auto)]
 
 mod changes;
-mod described;
-mod everywhere;
-mod fields;
-mod listed;
-mod matches;
 mod permission;
-mod positions;
 mod settling;
 mod steps;
 mod table;

@@ -4,13 +4,13 @@ ghost use Rattle.scim_steps.specs.Changes.{change_of};
 ghost use Rattle.scim_filter.specs.Tree.{tree_of};
 ghost use Rattle.std.specs.Prelude.{◌&&◌};
 ghost use Rattle.scim_lists.specs.SameValues.{is_members};
+ghost use Rattle.scim_matches.specs.Matches as matches;
 ghost use Rattle.scim_steps.specs.Steps as spec;
-ghost use Rattle.scim_steps.specs.Table as table;
 
 use crate::changes::Change;
-use crate::matches::is_any_match;
 use scim_cell::Row;
 use scim_filter::Filter;
+use scim_matches::is_any_match;
 use scim_schema::{Attribute, Kind, Leaf, Mutability, Unit, characteristics_of, mutability_of};
 use scim_text::NoMemory;
 use std::alloc::Global;
@@ -42,7 +42,7 @@ fn changes_member(
     filter: &Filter,
     values: &[Row],
 ) -> Result<bool, NoMemory>
-    ensures { IfOk result (λ b. b ≡ (is_members unit.attribute && table.is_any_match (tree_of filter.now) values.now)) }
+    ensures { IfOk result (λ b. b ≡ (is_members unit.attribute && matches.is_any_match (tree_of filter.now) values.now)) }
 {
     if unit.attribute != Attribute::Members {
         return Ok(false);

@@ -4,15 +4,14 @@ ghost use Rattle.std.specs.List.{list_any};
 ghost use Rattle.scim_text.specs.Failures.{UnlessMemory};
 ghost use Rattle.scim_cell.specs.Rows.{has_fields};
 ghost use Rattle.scim_lists.specs.SameValues as lists;
-ghost use Rattle.scim_steps.specs.declared.positions.Position.{Position};
+ghost use Rattle.scim_matches.specs.declared.positions.Position.{Position};
 ghost use Rattle.scim_steps.specs.Steps as spec;
 ghost use Rattle.scim_steps.specs.Steps.{rows_answered};
 
-use crate::fields::demoted;
-use crate::positions::Position;
 use crate::steps::StepFault;
 use scim_cell::Row;
 use scim_lists::{MOST_VALUES, is_nameless};
+use scim_matches::{Position, demoted};
 use scim_schema::Attribute;
 use scim_text::{Failed, NoMemory, push};
 use std::alloc::Global;

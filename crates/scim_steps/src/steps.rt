@@ -7,10 +7,10 @@ ghost use Rattle.scim_steps.specs.Steps.{rows_answered};
 
 use crate::changes::Change;
 use crate::permission::is_forbidden;
-use crate::positions::given_primary;
 use crate::settling::settle;
 use crate::table::row;
 use scim_cell::Row;
+use scim_matches::given_primary;
 use scim_schema::{Attribute, Kind, Unit};
 use scim_text::{Failed, NoMemory};
 use std::alloc::Global;

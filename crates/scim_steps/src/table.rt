@@ -2,20 +2,20 @@
 ghost use Rattle.std.specs.Prelude.{◌≡◌, Some, IfOk, map};
 ghost use Rattle.scim_lists.specs.SameValues as lists;
 ghost use Rattle.scim_filter.specs.Tree.{tree_of};
+ghost use Rattle.scim_matches.specs.Found.{Is};
+ghost use Rattle.scim_matches.specs.Matches as matches;
 ghost use Rattle.scim_steps.specs.Changes.{ReplaceMatches, change_of};
 ghost use Rattle.scim_steps.specs.Table as spec;
-ghost use Rattle.scim_steps.specs.code.Found.{Is};
 
 use crate::changes::Change;
-use crate::everywhere::{clear_everywhere, set_everywhere, value_of};
-use crate::listed::remove_listed;
-use crate::matches::{
-    add_at_matches, clear_at_matches, is_any_match, remove_matches, replace_matches, set_at_matches,
-};
-use crate::positions::{Position, given_primary, keep, mark};
 use scim_cell::{Field, Row};
 use scim_filter::Filter;
 use scim_lists::with_values;
+use scim_matches::{
+    Position, add_at_matches, clear_at_matches, clear_everywhere, given_primary, is_any_match,
+    keep, mark, remove_listed, remove_matches, replace_matches, set_at_matches, set_everywhere,
+    value_of,
+};
 use scim_schema::{Leaf, Unit};
 use scim_text::NoMemory;
 use scim_value::copy_rows;
@@ -84,7 +84,7 @@ fn append(
     given: &[Row],
     values: Vec<Row>,
 ) -> Result<Option<Vec<Position>>, NoMemory>
-    ensures { IfOk result (λ o. Is o (Some (map (spec.marked unit.attribute (spec.given_primary unit.attribute given.now))
+    ensures { IfOk result (λ o. Is o (Some (map (matches.marked unit.attribute (matches.given_primary unit.attribute given.now))
         (lists.with_values unit.attribute values.items given.now)))) }
 {
     let primary = given_primary(alloc, unit.attribute, given)?;
@@ -122,7 +122,7 @@ fn replace_field_at_matches(
     values: Vec<Row>,
 ) -> Result<Option<Vec<Position>>, NoMemory>
     ensures { IfOk result (λ o. Is o (spec.at_matches (tree_of filter.now) values.items
-        (map (spec.set_at_match (tree_of filter.now) given.now) values.items))) }
+        (map (matches.set_at_match (tree_of filter.now) given.now) values.items))) }
 {
     if !is_any_match(alloc, filter, values.as_slice())? {
         return Ok(None);

@@ -1,7 +1,7 @@
 use Rattle.std.proofs.Common.{◌≡◌}
 use Rattle.std.specs.Prelude.{filter}
 use Rattle.scim_cell.specs.Rows.{has_fields}
-use Rattle.scim_steps.specs.declared.positions.Position.{Position}
+use Rattle.scim_matches.specs.declared.positions.Position.{Position}
 use Rattle.scim_steps.proofs.settling.close_up.Given as goal
 
 abbrev pub invariant-loop-position : goal.invariant-loop-position

@@ -1,6 +1,6 @@
 use Rattle.std.proofs.Common.{◌≡◌}
 use Rattle.std.specs.Prelude.{map}
-use Rattle.scim_steps.specs.declared.positions.Position.{Position}
+use Rattle.scim_matches.specs.declared.positions.Position.{Position}
 use Rattle.scim_steps.proofs.settling.values_of.Given as goal
 
 abbrev pub invariant-loop-position : goal.invariant-loop-position

@@ -1,0 +1,5 @@
+pub mod Described
+pub mod Fields
+pub mod Matches
+pub mod Found
+pub mod code
