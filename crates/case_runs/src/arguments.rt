@@ -22,6 +22,7 @@ pub(crate) fn arguments_of(alloc: Global, value: &Value) -> Result<Vec<Argument>
 /// What was met, and all that stands in it and is met thereby.
 fn all_of(alloc: Global, met: &mut Vec<Met<'_>>) -> Result<Vec<Argument>, NoMemory> {
     let mut arguments = Vec::new(alloc);
+    // Each turn may meet more, so this goes by places; it ends behind the last that was met.
     for place in 0..usize::MAX {
         let Some(next) = met.get(place).copied() else {
             break;

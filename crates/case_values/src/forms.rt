@@ -3,10 +3,15 @@
 /// What a JSON value is.
 #[derive(Clone, Copy)]
 pub enum Form {
+    /// A string.
     Text,
+    /// A whole number.
     Number(i64),
+    /// True or false.
     Truth(bool),
+    /// An array.
     List,
+    /// An object.
     Object,
     /// Null, or a number that isn't whole or goes beyond an `i64`.
     Other,
@@ -19,6 +24,7 @@ pub struct Argument {
     pub name: String,
     /// Its text, if it is one; else its JSON without spaces.
     pub text: String,
+    /// What it is.
     pub form: Form,
     /// Where its items or members begin among the values of the case.
     pub first: usize,
