@@ -1,4 +1,4 @@
-//! Users in groups.
+//! Users in groups, and what a client may do with them.
 use anyhow::{Result, bail};
 use bench_values::{numbered_id, push_all, read_users};
 use scim_json::read_documents;
@@ -11,6 +11,10 @@ const FIRST_GROUP: usize = 10_000_000;
 
 /// How many members a group has.
 const MEMBERS: usize = 100;
+
+/// The policy of a server and of a store in a file: `hr` may do all that is measured.
+pub(crate) const POLICY: &str =
+    "{\"version\":1,\"rules\":[{\"allow\":true,\"clients\":[\"hr\"],\"ops\":[\"read\",\"create\",\"modify\"],\"types\":[\"User\",\"Group\"],\"paths\":[\"*\"]}]}";
 
 /// So many users, and so many groups of 100 of them: those of a group follow those of the group before it, and the
 /// first user follows the last.

@@ -1,13 +1,10 @@
 //! What the first turns over a store take, each with its row of the audit.
-use anyhow::{Result, bail, ensure};
-use bench_values::{numbered, numbered_id};
-use scim_body::{UseFor, read_body};
-use scim_cell::Text;
-use scim_operations::read_patch;
+use anyhow::{Result, ensure};
+use bench_turns::{heading, making_turn, patching_turn, turn_with};
+use bench_values::numbered;
 use scim_schema::{Kind, Op};
-use scim_service::{Ask, Request, Service, Turn};
+use scim_service::{Ask, Service, Turn};
 use scim_shelf::Shelf;
-use scim_text::Moment;
 use scim_view::Wanted;
 use std::alloc::Global;
 use std::time::Instant;
@@ -22,27 +19,6 @@ pub(crate) const ASKED: [&str; 3] = [
     "a GET behind both",
 ];
 
-/// A turn about the user of a number.
-fn turn_with(alloc: Global, op: Op, number: usize, ask: Ask) -> Result<Turn> {
-    let Some(moment) = Moment::new(1_717_243_200) else {
-        bail!("there is no such moment");
-    };
-    let client = Text::copy_of(alloc, "hr")?;
-    let id = numbered_id(number);
-    let request = Request {
-        client,
-        op,
-        kind: Kind::User,
-        id: Some(id),
-        ask: Ok(ask),
-    };
-    Ok(Turn {
-        request,
-        moment,
-        fresh: id,
-    })
-}
-
 /// The turn that makes a user, whose name and id have a number that no others have.
 fn create(alloc: Global, own: usize) -> Result<Turn> {
     let body = numbered(
@@ -51,12 +27,8 @@ fn create(alloc: Global, own: usize) -> Result<Turn> {
         own,
         "\",\"title\":\"Guest\",\"active\":true}",
     )?;
-    let Ok(draft) = read_body(alloc, Kind::User, UseFor::Creating, body.as_str()) else {
-        bail!("a body is refused");
-    };
     let number = own.saturating_add(FIRST_NEW);
-    let ask = Ask::Create(draft, Wanted::Default);
-    turn_with(alloc, Op::Create, number, ask)
+    making_turn(alloc, Kind::User, number, body.as_str())
 }
 
 /// The turn that gives the user of a number a title, which has the other number.
@@ -67,14 +39,14 @@ fn patch(alloc: Global, user: usize, own: usize) -> Result<Turn> {
         own,
         "\"}]}",
     )?;
-    let patch = read_patch(alloc, Kind::User, text.as_str())?;
-    let ask = Ask::Patch(patch, Wanted::Default);
-    turn_with(alloc, Op::Modify, user, ask)
+    patching_turn(alloc, Kind::User, user, text.as_str())
 }
 
 /// The turn that shows the user of a number.
 fn get(alloc: Global, user: usize) -> Result<Turn> {
-    turn_with(alloc, Op::Read, user, Ask::Get(Wanted::Default))
+    let heading = heading(alloc)?;
+    let ask = Ask::Get(Wanted::Default);
+    Ok(turn_with(heading, Op::Read, Kind::User, user, ask))
 }
 
 /// Nanoseconds of a turn, which is not refused.

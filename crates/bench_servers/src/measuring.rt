@@ -2,6 +2,7 @@
 ghost use Rattle.std.specs.Prelude.{◌≡◌, false};
 
 use crate::database_files::{FileWork, unusable};
+use crate::directories::POLICY;
 use crate::first_turns::answer;
 use crate::looks::{Sought, find_all};
 use anyhow::Result;
@@ -18,9 +19,6 @@ use std::time::Instant;
 /// What the steps of an opening are, in their order. The database's own opening reads the whole file, and checks all its pages
 /// and that each row keeps to its table; the store's reads all rows once more.
 pub(crate) const OPENINGS: [&str; 3] = ["Connection::open", "read_tables", "SqlShelf::open"];
-
-const POLICY: &str =
-    "{\"version\":1,\"rules\":[{\"allow\":true,\"clients\":[\"hr\"],\"ops\":[\"read\",\"create\",\"modify\"],\"types\":[\"User\",\"Group\"],\"paths\":[\"*\"]}]}";
 
 /// What is measured over a store, whose least figures of all passes are kept.
 #[derive(Drop)]

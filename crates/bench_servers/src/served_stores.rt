@@ -2,7 +2,7 @@
 ghost use Rattle.std.specs.Prelude.{◌≡◌, false};
 
 use crate::database_files::{FileWork, over_file, remove_database, unusable};
-use crate::directories::read_directory;
+use crate::directories::{POLICY, read_directory};
 use crate::server_runs::print_all;
 use anyhow::{Result, bail};
 use bench_values::{TOKENS, print_heading, users_file};
@@ -30,9 +30,6 @@ const USERS: [usize; 2] = [2_000, 100_000];
 const GROUPED: usize = 10_000;
 
 const GROUPS: usize = 1_000;
-
-const POLICY: &str =
-    "{\"version\":1,\"rules\":[{\"allow\":true,\"clients\":[\"hr\"],\"ops\":[\"read\",\"create\",\"modify\"],\"types\":[\"User\",\"Group\"],\"paths\":[\"*\"]}]}";
 
 /// By what a hub answers.
 #[derive(Drop)]

@@ -13,3 +13,4 @@ pub use pages::run as run_pages;
 pub use patch_runs::run as run_patches;
 pub use put_runs::run as run_puts;
 pub use service_runs::run as run_service;
+pub use turns::{heading, making_turn, patching_turn, turn_with};

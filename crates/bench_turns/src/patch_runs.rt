@@ -2,14 +2,12 @@
 //! message names.
 use crate::directories::service_over_nothing;
 use crate::put_runs::{group_body, members_text, policy_text};
-use crate::turns::{heading, in_turn, make, making_turn, turn_with};
+use crate::turns::{in_turn, make, making_turn, patching_turn};
 use anyhow::{Result, ensure};
 use bench_values::{print_heading, print_line};
-use scim_operations::read_patch;
-use scim_schema::{Kind, Op};
-use scim_service::{Ask, Service, Turn};
+use scim_schema::Kind;
+use scim_service::{Service, Turn};
 use scim_shelf::MemoryShelf;
-use scim_view::Wanted;
 use std::alloc::Global;
 use std::io::Print;
 use std::time::{Clock, Instant};
@@ -92,17 +90,9 @@ fn message_text(alloc: Global, change: Change) -> Result<String> {
     Ok(pieces.concat(alloc)?)
 }
 
-/// The turn that the text of a message asks for.
-fn turn_for(alloc: Global, text: &str) -> Result<Turn> {
-    let heading = heading(alloc)?;
-    let patch = read_patch(alloc, Kind::Group, text)?;
-    let ask = Ask::Patch(patch, Wanted::Default);
-    Ok(turn_with(heading, Op::Modify, Kind::Group, 1, ask))
-}
-
 /// Reads the text of a message and answers it.
 fn patch(alloc: Global, service: &mut Service<MemoryShelf>, text: &str) -> Result<()> {
-    let turn = turn_for(alloc, text)?;
+    let turn = patching_turn(alloc, Kind::Group, 1, text)?;
     answer(alloc, service, &turn)
 }
 

@@ -3,6 +3,7 @@ use anyhow::{Result, bail, ensure};
 use bench_values::numbered_id;
 use scim_body::{Draft, UseFor, read_body};
 use scim_cell::Text;
+use scim_operations::read_patch;
 use scim_schema::{Kind, Op};
 use scim_service::{Ask, Reply, Request, Service, Turn};
 use scim_shelf::Shelf;
@@ -67,6 +68,14 @@ pub fn making_turn(alloc: Global, kind: Kind, number: usize, body: &str) -> Resu
     let draft = draft_of(alloc, kind, UseFor::Creating, body)?;
     let ask = Ask::Create(draft, Wanted::Default);
     Ok(turn_with(heading, Op::Create, kind, number, ask))
+}
+
+/// A turn that changes the resource of a number as the text of a message asks.
+pub fn patching_turn(alloc: Global, kind: Kind, number: usize, text: &str) -> Result<Turn> {
+    let heading = heading(alloc)?;
+    let patch = read_patch(alloc, kind, text)?;
+    let ask = Ask::Patch(patch, Wanted::Default);
+    Ok(turn_with(heading, Op::Modify, kind, number, ask))
 }
 
 /// Makes the resource of a number from a body.

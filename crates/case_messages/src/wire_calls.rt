@@ -1,6 +1,5 @@
 //! The calls of `scim_wire`.
-use case_values::{Case, CaseFault, between, debugged, push_all, said};
-use http::StatusCode;
+use case_values::{Case, CaseFault, between, debugged, push_all};
 use scim_wire::{Item, Message, Octets, Reply, Wire, print_reply};
 use std::alloc::Global;
 
@@ -134,9 +133,8 @@ fn push_cut(alloc: Global, cut: usize, found: &str, text: &mut String) -> Result
 
 /// The text of a reply.
 fn print_reply_call(case: &Case<'_>) -> Result<String, CaseFault> {
-    let number = u16::try_from(case.number("status")?).unwrap_or(0);
-    let Ok(status) = StatusCode::from_u16(number) else {
-        return said(case.alloc, "no status");
+    let Ok(status) = u16::try_from(case.number("status")?) else {
+        return Err(CaseFault::Missing("status"));
     };
     let reply = Reply {
         status,

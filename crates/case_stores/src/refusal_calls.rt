@@ -15,7 +15,7 @@ pub fn refusal_call(case: &Case<'_>) -> Result<String, CaseFault> {
 
 fn number_and_status(alloc: Global, refusal: Refusal) -> Result<String, CaseFault> {
     let number = shown(alloc, &refusal.number())?;
-    let status = shown(alloc, &status_of_refusal(refusal).as_u16())?;
+    let status = shown(alloc, &status_of_refusal(refusal))?;
     joined(alloc, &["F", number.as_str(), " ", status.as_str()])
 }
 

@@ -103,7 +103,7 @@ fn push_reply_to(
 }
 
 fn push_reply(alloc: Global, reply: &Reply, text: &mut String) -> Result<(), CaseFault> {
-    let status = shown(alloc, &status_of(reply).as_u16())?;
+    let status = shown(alloc, &status_of(reply))?;
     text.push_str(status.as_str())?;
     if let Some(location) = reply.location() {
         push_all(text, &[" at ", location])?;

@@ -3,7 +3,6 @@ ghost use Rattle.std.specs.Prelude.{◌≡◌, IfOk, string_bytes};
 ghost use Rattle.scim_exchange.specs.Replies as spec;
 
 use crate::statuses::{status_of, status_of_refusal};
-use http::StatusCode;
 use scim_audit::Refusal;
 use scim_service::Reply;
 use scim_text::NoMemory;
@@ -59,7 +58,7 @@ pub(crate) fn page_text(alloc: Global, page: &str, close: bool) -> Result<String
     ensures { IfOk result (λ t. string_bytes t ≡ spec.page_text page.now close) }
 {
     let reply = WireReply {
-        status: StatusCode::OK,
+        status: 200,
         body: Some(page),
         location: None,
         allow: None,

@@ -1,15 +1,13 @@
-//! The status codes of refusals and of replies. They stand here, and not beside the refusals and replies, so that who names
-//! one of those needn't know what a status code is.
+//! The status codes of refusals and of replies.
 ghost use Rattle.std.specs.Prelude.{◌≡◌};
 ghost use Rattle.scim_audit.specs.Refusals as refusals;
 ghost use Rattle.scim_service.specs.Replies as replies;
 
-use http::StatusCode;
 use scim_audit::Refusal;
 use scim_service::Reply;
 
 /// The status code of the reply that a refusal is (RFC 9110 section 15, RFC 7644 table 8).
-pub fn status_of_refusal(refusal: Refusal) -> StatusCode
+pub fn status_of_refusal(refusal: Refusal) -> u16
     ensures { result ≡ refusals.status_of refusal }
 {
     match refusal {
@@ -21,27 +19,27 @@ pub fn status_of_refusal(refusal: Refusal) -> StatusCode
         | Refusal::MessageValue
         | Refusal::Mutability
         | Refusal::NoTarget
-        | Refusal::ResultValue => StatusCode::BAD_REQUEST,
-        Refusal::TooLarge => StatusCode::PAYLOAD_TOO_LARGE,
-        Refusal::UnknownCoding | Refusal::NotSupported => StatusCode::NOT_IMPLEMENTED,
-        Refusal::NoRoute | Refusal::NotFound => StatusCode::NOT_FOUND,
-        Refusal::BadMethod(_) => StatusCode::METHOD_NOT_ALLOWED,
-        Refusal::NoToken => StatusCode::UNAUTHORIZED,
-        Refusal::Denied | Refusal::Widens => StatusCode::FORBIDDEN,
-        Refusal::Taken => StatusCode::CONFLICT,
-        Refusal::IdInUse => StatusCode::SERVICE_UNAVAILABLE,
-        Refusal::Store => StatusCode::INTERNAL_SERVER_ERROR,
+        | Refusal::ResultValue => 400,
+        Refusal::TooLarge => 413,
+        Refusal::UnknownCoding | Refusal::NotSupported => 501,
+        Refusal::NoRoute | Refusal::NotFound => 404,
+        Refusal::BadMethod(_) => 405,
+        Refusal::NoToken => 401,
+        Refusal::Denied | Refusal::Widens => 403,
+        Refusal::Taken => 409,
+        Refusal::IdInUse => 503,
+        Refusal::Store => 500,
     }
 }
 
 /// The status code of a reply of the service (RFC 9110 section 15).
-pub fn status_of(reply: &Reply) -> StatusCode
+pub fn status_of(reply: &Reply) -> u16
     ensures { result ≡ replies.status_of reply.now }
 {
     match reply {
-        Reply::Shown(_) => StatusCode::OK,
-        Reply::Created(_, _) => StatusCode::CREATED,
-        Reply::Done => StatusCode::NO_CONTENT,
+        Reply::Shown(_) => 200,
+        Reply::Created(_, _) => 201,
+        Reply::Done => 204,
         Reply::Refused(refusal) => status_of_refusal(*refusal),
         Reply::Failed(_) => status_of_refusal(Refusal::Store),
     }

@@ -18,5 +18,5 @@ pub use laws::{
     documents_are_apart, documents_read_back, parts_are_shown_whole, stored_resources_read_back,
 };
 pub use lists::to_list_json;
-pub use reading::{parse, read_stored};
+pub use reading::read_stored;
 pub use writing::{stored_text, to_json};

@@ -60,7 +60,7 @@ pub(crate) fn read_spelled(
 }
 
 /// The JSON value of a text (RFC 8259). Damaged where it has none; NoMemory where none was to be had.
-pub fn parse(alloc: Global, text: &str) -> Result<Value, Failed<Damaged>>
+pub(crate) fn parse(alloc: Global, text: &str) -> Result<Value, Failed<Damaged>>
     ensures value { IfOk result (λ v. read text.now ≡ Some (view v)) }
     ensures nests { IfOk result (λ v. depth (view v) ≤ max_depth) }
     ensures damaged { OnFault result (read text.now ≡ None) }

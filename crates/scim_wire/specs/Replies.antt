@@ -21,9 +21,13 @@ option_line name (Some value) = line name value
 abbrev pub line_if : Bool → List ℕ → List ℕ → List ℕ
 line_if due name value = if due then line name value else []
 
+-- the phrase of a code (RFC 9110 section 15), which is empty where it has none
+abbrev pub phrase_of : ℕ → List ℕ
+phrase_of code = unwrap_or (reason_phrase code) []
+
 -- the code and its phrase
 abbrev pub status_line : ℕ → List ℕ
-status_line code = codes "HTTP/1.1 " ++ decimal code ++ codes " " ++ unwrap_or (reason_phrase code) [] ++ crlf
+status_line code = codes "HTTP/1.1 " ++ decimal code ++ codes " " ++ phrase_of code ++ crlf
 
 -- what a reply says
 pub record Said : Type 0 where

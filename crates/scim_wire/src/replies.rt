@@ -1,7 +1,7 @@
 //! The text of a reply.
 ghost use Rattle.std.specs.Prelude.{◌≡◌, [], ◌++◌, unwrap_or, IfOk, OnOk, string_bytes};
 ghost use Rattle.std.specs.Option.{option_copied};
-ghost use Rattle.scim_wire.specs.Replies.{line, option_line, line_if, status_line, reply_text};
+ghost use Rattle.scim_wire.specs.Replies.{line, option_line, line_if, phrase_of, status_line, reply_text};
 
 use http::StatusCode;
 use scim_text::NoMemory;
@@ -10,8 +10,9 @@ use std::alloc::Global;
 /// What is answered to a request.
 #[derive(Clone, Copy)]
 pub struct Reply<'a> {
-    /// The status code. With 204 no length is told, as there is no body then.
-    pub status: StatusCode,
+    /// The status code (RFC 9110 section 15), as a number, so that who names a reply needn't know all that `http` knows of
+    /// one. With 204 no length is told, as there is no body then.
+    pub status: u16,
     /// The body, in JSON (RFC 7644 section 3.1).
     pub body: Option<&'a str>,
     /// Where the resource is, for `Location`.
@@ -63,13 +64,22 @@ fn or_empty<'a>(text: Option<&'a str>) -> &'a str
     }
 }
 
+/// The phrase of a code, and the empty text where it has none.
+fn phrase_of(status: u16) -> &'static str
+    ensures { result.now ≡ phrase_of status }
+{
+    match StatusCode::from_u16(status) {
+        Ok(status) => or_empty(status.canonical_reason()),
+        Err(_) => "",
+    }
+}
+
 /// The code and its phrase.
-fn status_line(alloc: Global, status: StatusCode) -> Result<String, NoMemory>
+fn status_line(alloc: Global, status: u16) -> Result<String, NoMemory>
     ensures { IfOk result (λ text. string_bytes text ≡ status_line status) }
 {
-    let code = status.as_u16();
-    let phrase = or_empty(status.canonical_reason());
-    let text = format!(in alloc; "HTTP/1.1 {code} {phrase}\r\n")?;
+    let phrase = phrase_of(status);
+    let text = format!(in alloc; "HTTP/1.1 {status} {phrase}\r\n")?;
     Ok(text)
 }
 
@@ -91,7 +101,7 @@ pub fn print_reply(alloc: Global, reply: &Reply<'_>, close: bool) -> Result<Stri
     )?;
     push_if(
         &mut text,
-        reply.status.as_u16() != 204,
+        reply.status != 204,
         "Content-Length",
         length.as_str(),
     )?;

@@ -18,7 +18,6 @@ returns c =
       c.in_ok-text.ensures,
       c.is_some.ensures,
       is_some-copied,
-      c.as_u16.ensures.value,
       c.as_str.ensures.value,
       c.in_ok-length.ensures.ok,
       c.or_empty-body.ensures,

@@ -3,4 +3,4 @@ use Rattle.scim_wire.proofs.replies.status_line.Goals as goal
 
 pub returns : goal.returns
 returns c =
-    rw (c.in_ok-text.ensures.ok, c.as_u16-code.ensures.value, c.or_empty-phrase.ensures, c.canonical_reason.ensures.value) (simp append_assoc)
+    rw (c.in_ok-text.ensures.ok, c.phrase_of-phrase.ensures) (simp append_assoc)
