@@ -10,8 +10,9 @@ use std::alloc::Global;
 /// What is answered to a request.
 #[derive(Clone, Copy)]
 pub struct Reply<'a> {
-    /// The status code (RFC 9110 section 15), as a number, so that who names a reply needn't know all that `http` knows of
-    /// one. With 204 no length is told, as there is no body then.
+    /// The status code (RFC 9110 section 15), a number of three digits; any other is printed as it is, without a phrase. It
+    /// is no type of `http`, so that who names a reply needn't know all that `http` knows of one. With 204 no length is told,
+    /// as there is no body then.
     pub status: u16,
     /// The body, in JSON (RFC 7644 section 3.1).
     pub body: Option<&'a str>,
