@@ -1,12 +1,12 @@
-//! The calls of `scim_explain` and of `scim_sentences`.
+//! The calls of `scim_explain` and of `scim_policy_sentences`.
 use crate::policy_calls::policy;
 use case_values::{Case, CaseFault, named};
 use scim_explain::{explain, idle_rules, print, print_idle_rules, table};
 use scim_policy::Policy;
-use scim_sentences::rule_sentences;
+use scim_policy_sentences::rule_sentences;
 use scim_value::Resource;
 
-/// A call of `scim_explain` or of `scim_sentences`.
+/// A call of `scim_explain` or of `scim_policy_sentences`.
 #[derive(Clone, Copy)]
 enum ExplainCall {
     Explain,

@@ -1,10 +1,9 @@
 //! The audit of what happens to connections.
 use crate::recordings::Texts;
 use case_values::{CaseFault, push_rows_after};
-use scim_command::{DatabaseFault, RunFault, service_over};
+use scim_command::{DatabaseFault, Recording, RunFault, events_of, read_events, service_over};
 use scim_hub::{Hub, Recorded};
 use scim_policy_file::read_policy;
-use scim_replay::{Recording, events_of, read_events};
 use scim_route::Routes;
 use scim_shelf::MemoryShelf;
 use scim_token::Tokens;

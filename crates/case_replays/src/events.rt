@@ -5,7 +5,7 @@ use crate::event_lines::{events_text, piece_line};
 use crate::recordings::Texts;
 use case_runs::request_bytes;
 use case_values::{Case, CaseFault, push_all, said, shown};
-use scim_replay::replay;
+use scim_command::replay;
 use std::alloc::Global;
 
 /// What is to be done for the events of a case, in lines as `replay` writes them; and behind them the lines of the audit, where the

@@ -1,6 +1,6 @@
 //! What the events of a case are answered by.
 use case_values::{Case, CaseFault, policy_text, said, text_or_json};
-use scim_replay::Recording;
+use scim_command::Recording;
 use scim_samples::{BASE, USERS};
 
 /// The tokens where a case gives none: those of `hr`, which is `abc`, and of `mail`, which is `hello`.

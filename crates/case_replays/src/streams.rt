@@ -5,7 +5,7 @@ use case_runs::request_bytes;
 use case_values::{Case, CaseFault, joined, shown};
 use scim_cell::id_of;
 use scim_hub::{Hub, IoFault, NoStamp, Served, Stamp, Stamps, serve_stream};
-use scim_replay::Recording;
+use scim_command::Recording;
 use scim_shelf::MemoryShelf;
 use scim_text::read_printed_moment;
 use std::alloc::Global;

@@ -1,4 +1,4 @@
-//! The calls of `scim_database`, over a database in memory.
+//! The calls of `scim_command_database`, over a database in memory.
 ghost use Rattle.std.specs.Prelude.{◌≡◌, false};
 
 use crate::database_calls::prepared;
@@ -7,7 +7,7 @@ use crate::faults::{StoreFault, told_or_fault};
 use case_policies::policy;
 use case_values::{Case, CaseFault, shown, written_text};
 use scim_cell::Id;
-use scim_database::{Question, explain, export, import, print_audit};
+use scim_command_database::{Question, explain, export, import, print_audit};
 use scim_policy::Policy;
 use scim_samples::{BASE, USERS};
 use scim_store::SqlShelf;

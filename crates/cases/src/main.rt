@@ -66,7 +66,7 @@ impl Calls for AllCalls<'_> {
         if let Some(found) = case_replays::answer(case, call) {
             return found;
         }
-        if let Some(found) = case_faults::answer(self.rt, case, call) {
+        if let Some(found) = case_failures::answer(self.rt, case, call) {
             return found;
         }
         Err(CaseFault::NoSuchCall)

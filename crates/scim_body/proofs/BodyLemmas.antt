@@ -4,8 +4,8 @@ use Rattle.std.specs.Prelude.{option_and_then}
 use Rattle.std.proofs.lemmas.Bool.Decides.{nat_tests}
 use Rattle.std.proofs.lemmas.List.{at_drop_more}
 use Rattle.serde_json.specs.Data.{array}
-use Rattle.scim_tree.specs.View.{items_view}
-use Rattle.scim_tree.specs.declared.trees.Tree.{Tree}
+use Rattle.scim_body.specs.View.{items_view}
+use Rattle.scim_body.specs.declared.trees.Tree.{Tree}
 use Rattle.scim_body.specs.BodyValues.{is_absent, collected}
 use Rattle.scim_body.specs.code.Given.{after}
 

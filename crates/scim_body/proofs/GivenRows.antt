@@ -34,7 +34,7 @@ use Rattle.scim_cell.specs.Rows.{Row, has_fields, values, atom_in, is_primary, I
 use Rattle.scim_value.specs.Resource.{IsShort}
 use Rattle.scim_value.proofs.Facts.{precedes_less, unit_same}
 use Rattle.scim_body.specs.BodyNames.{listed}
-use Rattle.scim_lists.specs.SameValues.{member_value, is_members, is_nameless, is_same_value, with_value, with_values}
+use Rattle.scim_cell.specs.SameValues.{member_value, is_members, is_nameless, is_same_value, with_value, with_values}
 use Rattle.scim_body.specs.BodyValues.{is_absent, fields_of, value_with, value_of, are_refused, checked, listed_values, values_of}
 use Rattle.scim_body.specs.Drafts.{MayBeGiven, is_empty}
 use Rattle.scim_body.specs.Bodies.{Given, field_given, whole_given}

@@ -5,3 +5,6 @@ pub mod GivenFields
 pub mod GivenRows
 pub mod DraftLemmas
 pub mod Facts
+mod NumberLemmas
+pub mod Views
+mod ReadingLemmas

@@ -23,7 +23,7 @@ use Rattle.scim_cell.specs.declared.atoms.Atom.TheVariants.{Text, Truth, Moment}
 use Rattle.scim_cell.specs.declared.rows.Field.{Field}
 use Rattle.scim_cell.specs.Place.{sub_attributes_by_place}
 use Rattle.scim_cell.specs.Rows.{Row, is_primary}
-use Rattle.scim_lists.specs.SameValues.{is_nameless, with_values}
+use Rattle.scim_cell.specs.SameValues.{is_nameless, with_values}
 use Rattle.scim_json.specs.Found.{atom_of}
 use Rattle.scim_body.specs.BodyNames.{value_named, listed}
 

@@ -3,3 +3,4 @@ pub mod BodyValues
 pub mod Drafts
 pub mod Bodies
 pub mod code
+pub mod View

@@ -3,7 +3,7 @@
 ghost use Rattle.std.specs.Prelude.{◌≡◌, ◌++◌, IfOk, OnOk, Some, None, option_map, map};
 ghost use Rattle.std.specs.List.{flat_map};
 ghost use Rattle.serde_json.specs.Read.{read};
-ghost use Rattle.scim_tree.specs.View.{view, members_view};
+ghost use Rattle.scim_body.specs.View.{view, members_view};
 ghost use Rattle.scim_schema.specs.JsonKeys.{shape_of};
 ghost use Rattle.scim_text.specs.Failures.{UnlessMemory, OnFault};
 ghost use Rattle.scim_body.specs.BodyValues.{collected, values_of};
@@ -19,12 +19,10 @@ use crate::required::lacks_required;
 use crate::values::{WrongValue, read_atom, read_fields, read_values};
 use json::Scratch;
 use scim_cell::{Atom, Field, Row};
-use scim_schema::{
-    Attribute, JsonShape, Kind, Leaf, Schema, Unit, attributes, characteristics_of, extension_of,
-    is_read_only, is_write_only, shape_of, unit_of,
-};
+use scim_schema::{Attribute, JsonShape, Kind, Leaf, Schema, Unit, attributes, characteristics_of, extension_of, is_read_only, is_write_only, shape_of, unit_of};
 use scim_text::{Failed, NoMemory, push};
-use scim_tree::{Member, NotJson, Tree};
+use crate::trees::{Member, Tree};
+use crate::reading::NotJson;
 use std::alloc::Global;
 use thiserror::Error;
 

@@ -1,15 +1,12 @@
 //! Keys of a body that clash: two keys of one object that are one name leave open which of their values is meant.
 ghost use Rattle.std.specs.Prelude.{◌≡◌};
 ghost use Rattle.std.specs.List.{list_any};
-ghost use Rattle.scim_tree.specs.View.{view, items_view, members_view};
+ghost use Rattle.scim_body.specs.View.{view, items_view, members_view};
 ghost use Rattle.scim_body.specs.BodyNames as spec;
 
 use crate::members::{is_twice, value_named};
-use scim_schema::{
-    Attribute, Kind, Leaf, Schema, attributes, extension_of, extensions, is_multi_valued,
-    is_read_only, sub_attributes,
-};
-use scim_tree::{Member, Tree};
+use scim_schema::{Attribute, Kind, Leaf, Schema, attributes, extension_of, extensions, is_multi_valued, is_read_only, sub_attributes};
+use crate::trees::{Member, Tree};
 
 /// Whether two keys name one sub-attribute of the attribute.
 fn sub_attributes_clash(members: &[Member<'_>], attribute: Attribute) -> bool

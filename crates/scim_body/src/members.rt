@@ -1,11 +1,11 @@
 //! The members of an object, which are found in any case of the letters of their keys (RFC 7643 section 2.1).
 ghost use Rattle.std.specs.Prelude.{◌≡◌, option_map};
-ghost use Rattle.scim_tree.specs.View.{view, members_view};
+ghost use Rattle.scim_body.specs.View.{view, members_view};
 ghost use Rattle.scim_body.specs.BodyNames as spec;
 ghost use Rattle.scim_body.specs.BodyValues as values;
 
 use scim_text::same_name;
-use scim_tree::{Member, Tree};
+use crate::trees::{Member, Tree};
 
 /// The value under a name; the first, where two keys are the name.
 pub fn value_named<'a, 'b>(members: &'a [Member<'b>], name: &str) -> Option<&'a Tree<'b>>

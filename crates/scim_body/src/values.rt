@@ -1,24 +1,20 @@
 //! The values of a body (RFC 7643 sections 2.3 to 2.5).
 ghost use Rattle.std.specs.Prelude.{◌≡◌, ◌∷◌, [], IfOk, OnOk, Some, None, option_map, count_by};
 ghost use Rattle.std.specs.List.{list_any};
-ghost use Rattle.scim_tree.specs.View.{view, items_view, members_view};
+ghost use Rattle.scim_body.specs.View.{view, items_view, members_view};
 ghost use Rattle.scim_text.specs.Failures.{OnFault};
 ghost use Rattle.scim_body.specs.BodyNames.{items_list};
 ghost use Rattle.scim_cell.specs.Rows.{is_primary};
-ghost use Rattle.scim_lists.specs.SameValues.{is_nameless};
+ghost use Rattle.scim_cell.specs.SameValues.{is_nameless};
 ghost use Rattle.scim_body.specs.BodyValues as spec;
 ghost use Rattle.scim_body.specs.code.Given.{after};
 
 use crate::members::{given_named, is_absent};
-use scim_cell::{Atom, Field, Row, sub_attributes_by_place};
+use scim_cell::{Atom, Field, MOST_VALUES, Row, is_nameless, sub_attributes_by_place, with_values};
 use scim_json::atom_of;
-use scim_lists::{MOST_VALUES, is_nameless, with_values};
-use scim_schema::{
-    Attribute, AttributeType, Kind, Leaf, SubAttribute, Unit, characteristics_of, is_read_only,
-    sub_attributes,
-};
+use scim_schema::{Attribute, AttributeType, Kind, Leaf, SubAttribute, Unit, characteristics_of, is_read_only, sub_attributes};
 use scim_text::{Failed, push, same_name};
-use scim_tree::{Member, Tree};
+use crate::trees::{Member, Tree};
 use std::alloc::Global;
 use std::slice;
 

@@ -4,3 +4,4 @@ pub mod FieldLemmas
 pub mod KeptLemmas
 pub mod EqualityLemmas
 pub mod Facts
+pub mod KeyLemmas

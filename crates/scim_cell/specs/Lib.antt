@@ -7,3 +7,4 @@ pub mod Order
 pub mod Place
 pub mod Rows
 pub mod code
+pub mod SameValues

@@ -1,17 +1,22 @@
 //! Ids, atoms, and the cells and rows of atoms that parts are made of (RFC 7643 sections 2 and 3.1).
 #![tactic(auto)]
 
+mod appending;
 mod atoms;
 mod cells;
 mod equality;
 mod ids;
+mod keys;
 mod places;
 mod row_checks;
 mod rows;
+mod same_values;
 
+pub use appending::with_values;
 pub use atoms::{Atom, Text};
 pub use cells::{Cell, has_type};
 pub use ids::{Id, id_of, ids_ordered_as_texts, ids_read_back, uuid_of};
 pub use places::{Place, compare_units, sub_attributes_by_place};
 pub use row_checks::are_values;
 pub use rows::{Field, Row, RowTest};
+pub use same_values::{MOST_VALUES, is_nameless, is_same_value};

@@ -7,7 +7,7 @@ use Rattle.scim_schema.specs.Mutability.{is_fixed, is_secret}
 use Rattle.scim_cell.specs.Content.{Content}
 use Rattle.scim_cell.specs.Equality.{is_same_row}
 use Rattle.scim_cell.specs.Rows.{Row, rows, values}
-use Rattle.scim_lists.specs.SameValues.{with_values}
+use Rattle.scim_cell.specs.SameValues.{with_values}
 use Rattle.scim_body.specs.Drafts.{Draft, gives}
 
 -- what a body with these values of a unit would give of it: nothing of a readOnly unit, and else each value once

@@ -3,8 +3,7 @@ ghost use Rattle.std.specs.Prelude.{◌≡◌, IfOk};
 ghost use Rattle.scim_change.specs.Agreement as spec;
 
 use scim_body::Draft;
-use scim_cell::Row;
-use scim_lists::with_values;
+use scim_cell::{Row, with_values};
 use scim_schema::{Kind, Mutability, Unit, mutability_of};
 use scim_text::NoMemory;
 use scim_value::{Part, copy_rows};

@@ -2,7 +2,7 @@
 use Rattle.std.specs.Prelude.{Bool, ℕ, List, [], ◌++◌, length, codes, decimal, if◌then◌else◌}
 use Rattle.scim_policy.specs.Rules.{Rule}
 use Rattle.scim_explain.specs.Idle.{idle_rules, idle_lines}
-use Rattle.scim_sentences.specs.Sentences.{rule_sentences}
+use Rattle.scim_policy_sentences.specs.Sentences.{rule_sentences}
 use Rattle.scim_command.specs.declared.faults.RunFault.{RunFault}
 use Rattle.scim_command.specs.declared.faults.RunFault.TheVariants.{Policy, Output, NoMemory}
 

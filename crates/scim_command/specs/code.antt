@@ -1,2 +1,4 @@
 -- How the functions of the commands end.
 pub mod Exits
+pub mod ReplayExits
+pub mod Findings

@@ -14,7 +14,7 @@ use crate::writing::write_or_fault;
 use scim_explain::{idle_rules, print_idle_rules};
 use scim_policy::Policy;
 use scim_policy_file::read_policy;
-use scim_sentences::rule_sentences;
+use scim_policy_sentences::rule_sentences;
 use scim_text::NoMemory;
 use std::alloc::Global;
 use std::io::Write;

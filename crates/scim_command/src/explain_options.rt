@@ -3,7 +3,7 @@ use crate::command_faults::CommandFault;
 use crate::options::text_of;
 use clap::ArgMatches;
 use scim_cell::Id;
-use scim_filter::{Meant, attribute_path};
+use scim_filter_grammar::{Meant, attribute_path};
 use scim_policy_file::is_client_name;
 use scim_schema::{Kind, Leaf, Op, has_leaf};
 

@@ -1,1 +1,6 @@
 pub mod ExchangeLemmas
+pub mod AskLemmas
+pub mod BodyLemmas
+pub mod IntegerLemmas
+pub mod NameLemmas
+pub mod WantedLemmas

@@ -15,7 +15,7 @@ use Rattle.scim_route.specs.declared.routes.Found.TheVariants.{Discovery, Resour
 use Rattle.scim_route.specs.Targets.{query_of}
 use Rattle.scim_route.specs.Routes.{named, Finds}
 use Rattle.scim_discovery.specs.Pages.{Replies}
-use Rattle.scim_ask.specs.Asks.{Asks}
+use Rattle.scim_exchange.specs.Asks.{Asks}
 use Rattle.scim_service.specs.declared.requests.Turn.{Turn}
 use Rattle.scim_service.specs.declared.replies.Reply.{Reply}
 use Rattle.scim_service.specs.Answers.{Answered}

@@ -1,3 +1,10 @@
 pub mod Replies
 pub mod Exchanges
 pub mod code
+pub mod Arrangements
+pub mod Asks
+pub mod AttributeLists
+pub mod QueryStrings
+pub mod Refused
+pub mod SearchBodies
+pub mod Searches

@@ -1,2 +1,3 @@
 -- How the functions of exchanges answer.
 pub mod Faults
+pub mod Views

@@ -5,7 +5,7 @@ ghost use Rattle.scim_audit.specs.declared.refusals.Refusal.{Refusal};
 ghost use Rattle.scim_text.specs.Failures.{UnlessMemory};
 ghost use Rattle.scim_route.specs.Targets.{query_of};
 ghost use Rattle.scim_route.specs.Routes.{named, Finds};
-ghost use Rattle.scim_ask.specs.Asks.{Asks};
+ghost use Rattle.scim_exchange.specs.Asks.{Asks};
 ghost use Rattle.scim_shelf.specs.Stores.{Store, IsStore};
 ghost use Rattle.scim_service.specs.Answers.{IsCause};
 ghost use Rattle.scim_exchange.specs.Exchanges.{IsTurnOf, IsPageOr, IsServedTo, IsTold, Exchanged};
@@ -13,7 +13,7 @@ ghost use Rattle.scim_exchange.specs.code.Faults as spec;
 ghost use Rattle.scim_exchange.specs.declared.answers.Answer.{Answer};
 
 use crate::answers::Answer;
-use scim_ask::ask;
+use crate::asks::ask;
 use scim_audit::Refusal;
 use scim_cell::{Id, Text};
 use scim_discovery::page_reply;

@@ -3,10 +3,17 @@
 #![tactic(auto)]
 
 mod answers;
+mod arrangements;
+mod asks;
+mod attribute_lists;
 mod exchanges;
+mod query_strings;
 mod replies;
+mod search_bodies;
+mod searches;
 mod statuses;
 
 pub use answers::Answer;
+pub use asks::ask;
 pub use exchanges::{Arrival, answer};
 pub use statuses::{status_of, status_of_refusal};

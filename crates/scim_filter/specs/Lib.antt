@@ -1,14 +1,3 @@
-pub mod Bytes
-pub mod Tree
-pub mod Names
-pub mod Literals
-pub mod Grammar
-pub mod WrittenPaths
-pub mod Spelled
-pub mod Types
 pub mod Relation
 pub mod Truth
-pub mod Mentions
-pub mod Brackets
-pub mod Tokens
 pub mod code

@@ -8,12 +8,12 @@ use Rattle.scim_text.specs.declared.readings.Reading.{Reading}
 use Rattle.scim_text.specs.Names.{folded}
 use Rattle.scim_cell.specs.declared.atoms.Atom.{Atom}
 use Rattle.scim_cell.specs.declared.atoms.Atom.TheVariants as atom
-use Rattle.scim_filter.specs.declared.tree.Literal.{Literal}
-use Rattle.scim_filter.specs.declared.tree.Literal.TheVariants as literal
-use Rattle.scim_filter.specs.declared.tree.Operator.{Operator}
-use Rattle.scim_filter.specs.declared.tree.Operator.TheVariants.{Eq, Ne, Co, Sw, Ew, Gt, Ge, Lt, Le}
+use Rattle.scim_filter_grammar.specs.declared.tree.Literal.{Literal}
+use Rattle.scim_filter_grammar.specs.declared.tree.Literal.TheVariants as literal
+use Rattle.scim_filter_grammar.specs.declared.tree.Operator.{Operator}
+use Rattle.scim_filter_grammar.specs.declared.tree.Operator.TheVariants.{Eq, Ne, Co, Sw, Ew, Gt, Ge, Lt, Le}
 use Rattle.scim_text.specs.MomentIn.{moment_in}
-use Rattle.scim_filter.specs.Types.{truth_in}
+use Rattle.scim_filter_grammar.specs.Types.{truth_in}
 
 -- the part stands somewhere in the text
 abbrev pub contains_text : List ℕ → List ℕ → Bool

@@ -8,16 +8,16 @@ use Rattle.scim_schema.specs.Units.{leaf_at, is_same_leaf}
 use Rattle.scim_cell.specs.declared.atoms.Atom.{Atom}
 use Rattle.scim_cell.specs.declared.rows.Field.{Field}
 use Rattle.scim_cell.specs.Rows.{Row, attribute_rows}
-use Rattle.scim_filter.specs.declared.tree.Operator.{Operator}
-use Rattle.scim_filter.specs.declared.tree.Operator.TheVariants.{Eq, Ne}
-use Rattle.scim_filter.specs.declared.tree.Literal.{Literal}
-use Rattle.scim_filter.specs.declared.tree.Literal.TheVariants as literal
-use Rattle.scim_filter.specs.declared.tree.Meant.{Meant}
-use Rattle.scim_filter.specs.declared.tree.Meant.TheVariants as meant
+use Rattle.scim_filter_grammar.specs.declared.tree.Operator.{Operator}
+use Rattle.scim_filter_grammar.specs.declared.tree.Operator.TheVariants.{Eq, Ne}
+use Rattle.scim_filter_grammar.specs.declared.tree.Literal.{Literal}
+use Rattle.scim_filter_grammar.specs.declared.tree.Literal.TheVariants as literal
+use Rattle.scim_filter_grammar.specs.declared.tree.Meant.{Meant}
+use Rattle.scim_filter_grammar.specs.declared.tree.Meant.TheVariants as meant
 use Rattle.scim_filter.specs.Relation.{stands}
 use Rattle.scim_schema.specs.Characteristics.{is_case_exact}
-use Rattle.scim_filter.specs.Types.{compared_leaf}
-use Rattle.scim_filter.specs.Tree.{Tree, Or, And, Not, Present, Compare, Values}
+use Rattle.scim_filter_grammar.specs.Types.{compared_leaf}
+use Rattle.scim_filter_grammar.specs.Tree.{Tree, Or, And, Not, Present, Compare, Values}
 
 -- some cell of an attribute passes
 abbrev pub some_cell : (Field → Bool) → Attribute → List Row → Bool

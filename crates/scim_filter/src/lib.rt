@@ -1,34 +1,8 @@
-//! Filters (RFC 7644 section 3.4.2.2): the tree that a text spells, its types and tokens, and whether it
-//! holds of a part; and paths as they are written.
+//! Whether a filter holds of a part (RFC 7644 section 3.4.2.2).
 #![tactic(auto)]
 
-mod attribute_paths;
-mod bytes;
-mod faults;
-mod laws;
-mod limits;
-mod literals;
 mod looks;
-mod mentions;
-mod names;
-mod reading;
 mod relation;
-mod string_literals;
-mod tokens;
-mod tree;
 mod truth;
-mod types;
-mod written_paths;
 
-pub use attribute_paths::{attribute_path, lone_word};
-pub use faults::FilterFault;
-pub use laws::{filters_are_spelled, one_path_is_spelled, paths_are_spelled};
-pub use limits::LONGEST_TEXT;
-pub use mentions::{Named, knows_names, mentioned_names};
-pub use reading::read_filter;
-pub use string_literals::StringLiteral;
-pub use tokens::{Token, read_tokens};
-pub use tree::{Filter, Literal, Meant, Node, Operator, Path};
 pub use truth::{holds, holds_at, holds_of, holds_where};
-pub use types::truth_of;
-pub use written_paths::{WrittenPath, written_path};

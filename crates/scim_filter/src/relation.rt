@@ -3,9 +3,7 @@
 ghost use Rattle.std.specs.Prelude.{◌≡◌, IfOk};
 ghost use Rattle.scim_filter.specs.Relation as spec;
 
-use crate::string_literals::StringLiteral;
-use crate::tree::{Literal, Operator};
-use crate::types::truth_of;
+use scim_filter_grammar::{Literal, Operator, StringLiteral, truth_of};
 use scim_cell::{Atom, Text};
 use scim_text::{Moment, NoMemory, Reading, fold};
 use std::alloc::Global;

@@ -3,8 +3,8 @@ ghost use Rattle.std.specs.Prelude.{◌≡◌, ◌&&◌, ◌∷◌, [], IfOk, tr
 ghost use Rattle.std.specs.List.{list_any};
 ghost use Rattle.scim_schema.specs.Units.{is_same_leaf};
 ghost use Rattle.scim_cell.specs.Rows.{rows, attribute_rows, restricted};
-ghost use Rattle.scim_filter.specs.declared.tree.Meant.TheVariants as meant;
-ghost use Rattle.scim_filter.specs.Tree.{view, tree_of};
+ghost use Rattle.scim_filter_grammar.specs.declared.tree.Meant.TheVariants as meant;
+ghost use Rattle.scim_filter_grammar.specs.Tree.{view, tree_of};
 ghost use Rattle.scim_filter.specs.Relation.{stands};
 ghost use Rattle.scim_filter.specs.Truth as spec;
 ghost use Rattle.scim_filter.specs.code.Cells.{rows_in};
@@ -12,7 +12,7 @@ ghost use Rattle.scim_filter.specs.code.Looks.{admitted, looked};
 
 use crate::looks::{Look, NoTest};
 use crate::relation::atom_stands;
-use crate::tree::{Filter, Literal, Meant, Node, Operator};
+use scim_filter_grammar::{Filter, Literal, Meant, Node, Operator};
 use scim_cell::{Row, RowTest};
 use scim_schema::{Attribute, Leaf, is_case_exact, is_multi_valued};
 use scim_text::NoMemory;

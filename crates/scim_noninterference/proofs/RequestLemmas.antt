@@ -29,11 +29,11 @@ use Rattle.scim_change.specs.Create.{created}
 use Rattle.scim_change.specs.Replace.{changes, replaced}
 use Rattle.scim_change.specs.Laws.{AgreeAt, IsLeft, AreAlike as AreReplacedAlike}
 use Rattle.scim_change.proofs.Facts.{IsSound, replaced_sound, replacing_rests_on_its_units}
-use Rattle.scim_steps.specs.declared.steps.StepFault.{StepFault}
-use Rattle.scim_patch.specs.Patch.{Patch, IsPatch, touched, applied}
-use Rattle.scim_patch.specs.Laws.{AreAlike as ArePatchedAlike}
-use Rattle.scim_patch.specs.Kept.{patch_of}
-use Rattle.scim_patch.proofs.Facts.{applied_sound, patching_rests_on_its_units}
+use Rattle.scim_patch_steps.specs.declared.steps.StepFault.{StepFault}
+use Rattle.scim_patch_steps.specs.Patch.{Patch, IsPatch, touched, applied}
+use Rattle.scim_patch_steps.specs.Laws.{AreAlike as ArePatchedAlike}
+use Rattle.scim_patch_steps.specs.Kept.{patch_of}
+use Rattle.scim_patch_steps.proofs.Facts.{applied_sound, patching_rests_on_its_units}
 use Rattle.scim_policy.specs.declared.rules.Decision.{Decision}
 use Rattle.scim_policy.specs.Access.{forbidding, widening}
 use Rattle.scim_view.specs.declared.projection.Wanted.{Wanted}

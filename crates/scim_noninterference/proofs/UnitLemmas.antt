@@ -15,7 +15,7 @@ use Rattle.scim_value.specs.Resource.{IsResource}
 use Rattle.scim_value.proofs.Facts.{part_content, restricted_sound, rows_content, sound_part}
 use Rattle.scim_change.specs.Laws.{AgreeAt, IsLeft}
 use Rattle.scim_change.proofs.Facts.{stamp}
-use Rattle.scim_patch.proofs.Facts.{same_content}
+use Rattle.scim_patch_steps.proofs.Facts.{same_content}
 use Rattle.scim_noninterference.proofs.RowLemmas.{by_leaf, values_restricted, attributes_kept}
 
 -- ---- rows that agree unit by unit

@@ -8,14 +8,14 @@ use Rattle.scim_schema.specs.declared.schemas.Schema.{Schema}
 use Rattle.scim_schema.specs.Characteristics.{is_multi_valued}
 use Rattle.scim_schema.specs.Schemas.{urn, extensions}
 use Rattle.scim_schema.specs.Lookup.{sub_attribute_named}
-use Rattle.scim_filter.specs.declared.limits.TheConstants.{LONGEST_TEXT}
-use Rattle.scim_filter.specs.declared.tree.Meant.{Meant}
-use Rattle.scim_filter.specs.declared.tree.Meant.TheVariants as meant
-use Rattle.scim_filter.specs.Bytes.{is_word, lone_word}
-use Rattle.scim_filter.specs.Tree.{Tree, Values, tree_of}
-use Rattle.scim_filter.specs.Types.{fits}
-use Rattle.scim_filter.specs.Mentions.{is_known, mentioned_names}
-use Rattle.scim_filter.specs.WrittenPaths.{Written, Plain, Filtered, IsWritten}
+use Rattle.scim_filter_grammar.specs.declared.limits.TheConstants.{LONGEST_TEXT}
+use Rattle.scim_filter_grammar.specs.declared.tree.Meant.{Meant}
+use Rattle.scim_filter_grammar.specs.declared.tree.Meant.TheVariants as meant
+use Rattle.scim_filter_grammar.specs.Bytes.{is_word, lone_word}
+use Rattle.scim_filter_grammar.specs.Tree.{Tree, Values, tree_of}
+use Rattle.scim_filter_grammar.specs.Types.{fits}
+use Rattle.scim_filter_grammar.specs.Mentions.{is_known, mentioned_names}
+use Rattle.scim_filter_grammar.specs.WrittenPaths.{Written, Plain, Filtered, IsWritten}
 use Rattle.scim_path.specs.declared.faults.PathFault.{PathFault}
 use Rattle.scim_path.specs.declared.faults.PathFault.TheVariants.{Syntax, Unknown}
 use Rattle.scim_path.specs.declared.paths.Path.{Path}

@@ -1,5 +1,5 @@
 //! Paths.
-use scim_filter::Filter;
+use scim_filter_grammar::Filter;
 use scim_schema::{Attribute, Schema, SubAttribute};
 
 /// What a change is made to (RFC 7644 section 3.5.2).

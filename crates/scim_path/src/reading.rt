@@ -1,17 +1,15 @@
 //! Reading a path.
 ghost use Rattle.std.specs.Prelude.{◌≡◌, ℕ, List, Option, option_map};
 ghost use Rattle.scim_text.specs.Failures.{UnlessMemory};
-ghost use Rattle.scim_filter.specs.Tree.{Tree, tree_of};
-ghost use Rattle.scim_filter.specs.WrittenPaths.{Filtered, written_of};
+ghost use Rattle.scim_filter_grammar.specs.Tree.{Tree, tree_of};
+ghost use Rattle.scim_filter_grammar.specs.WrittenPaths.{Filtered, written_of};
 ghost use Rattle.scim_path.specs.Paths as spec;
 ghost use Rattle.scim_path.specs.code.Results.{target_read, values_read, chosen_read, filtered_read, parts_read};
 
 use crate::faults::PathFault;
 use crate::paths::{Path, ValuePath};
 use scim_cell::Text;
-use scim_filter::{
-    Filter, LONGEST_TEXT, Meant, Node, WrittenPath, knows_names, lone_word, written_path,
-};
+use scim_filter_grammar::{Filter, LONGEST_TEXT, Meant, Node, WrittenPath, knows_names, lone_word, written_path};
 use scim_schema::{
     Attribute, Kind, Schema, SubAttribute, extensions, is_multi_valued, sub_attribute_named,
 };

@@ -19,18 +19,18 @@ use Rattle.scim_schema.specs.Units.{is_same_attribute, leaf_at}
 use Rattle.scim_schema.proofs.Facts.{attribute_one}
 use Rattle.scim_cell.specs.Content.{Content}
 use Rattle.scim_cell.specs.Rows.{Row, rows, attribute_rows}
-use Rattle.scim_filter.specs.declared.mentions.Named.{Named}
-use Rattle.scim_filter.specs.declared.tree.Operator.{Operator}
-use Rattle.scim_filter.specs.declared.tree.Operator.TheVariants.{Eq, Ne}
-use Rattle.scim_filter.specs.declared.tree.Literal.{Literal}
-use Rattle.scim_filter.specs.declared.tree.Literal.TheVariants as literal
-use Rattle.scim_filter.specs.declared.tree.Meant.{Meant}
-use Rattle.scim_filter.specs.declared.tree.Meant.TheVariants as meant
-use Rattle.scim_filter.specs.declared.tree.Path.{Path}
-use Rattle.scim_filter.specs.Mentions.{mentioned_attribute, mentioned_names, named}
-use Rattle.scim_filter.specs.Tree.{Tree, Or, And, Not, Present, Compare, Values}
+use Rattle.scim_filter_grammar.specs.declared.mentions.Named.{Named}
+use Rattle.scim_filter_grammar.specs.declared.tree.Operator.{Operator}
+use Rattle.scim_filter_grammar.specs.declared.tree.Operator.TheVariants.{Eq, Ne}
+use Rattle.scim_filter_grammar.specs.declared.tree.Literal.{Literal}
+use Rattle.scim_filter_grammar.specs.declared.tree.Literal.TheVariants as literal
+use Rattle.scim_filter_grammar.specs.declared.tree.Meant.{Meant}
+use Rattle.scim_filter_grammar.specs.declared.tree.Meant.TheVariants as meant
+use Rattle.scim_filter_grammar.specs.declared.tree.Path.{Path}
+use Rattle.scim_filter_grammar.specs.Mentions.{mentioned_attribute, mentioned_names, named}
+use Rattle.scim_filter_grammar.specs.Tree.{Tree, Or, And, Not, Present, Compare, Values}
 use Rattle.scim_filter.specs.Truth.{is_present, leaf_compares, compares, some_position, truth}
-use Rattle.scim_filter.specs.Types.{leaf_for, compared_leaf}
+use Rattle.scim_filter_grammar.specs.Types.{leaf_for, compared_leaf}
 use Rattle.scim_policy.specs.Rules.{Rule, Target}
 use Rattle.scim_policy.specs.Decide.{holds_on, speaks_of, fits, first_of, decide}
 use Rattle.scim_policy.specs.Control.{names_attribute, is_named_in, is_unique, control}

@@ -10,8 +10,8 @@ use Rattle.scim_schema.specs.Units.{is_same_attribute}
 use Rattle.scim_schema.specs.UniqueLeaves.{unique_leaves}
 use Rattle.scim_cell.specs.Content.{Content}
 use Rattle.scim_cell.specs.Rows.{Row, rows}
-use Rattle.scim_filter.specs.declared.mentions.Named.{Named}
-use Rattle.scim_filter.specs.Mentions.{mentioned_names}
+use Rattle.scim_filter_grammar.specs.declared.mentions.Named.{Named}
+use Rattle.scim_filter_grammar.specs.Mentions.{mentioned_names}
 use Rattle.scim_policy.specs.Rules.{Rule, Target}
 use Rattle.scim_policy.specs.Decide.{decide}
 

@@ -2,7 +2,7 @@
 use Rattle.std.specs.Prelude.{Bool, List}
 use Rattle.scim_schema.specs.declared.Kind.{Kind}
 use Rattle.scim_schema.specs.declared.Op.{Op}
-use Rattle.scim_filter.specs.Tree.{Tree}
+use Rattle.scim_filter_grammar.specs.Tree.{Tree}
 use Rattle.scim_policy.specs.declared.rules.ClientName.{ClientName}
 use Rattle.scim_policy.specs.declared.rules.PolicyPath.{PolicyPath}
 

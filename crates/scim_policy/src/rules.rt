@@ -1,11 +1,11 @@
 //! Rules and policies.
 ghost use Rattle.std.specs.Prelude.{◌≡◌, ◌≤◌, length};
-ghost use Rattle.scim_filter.specs.Tree.{tree_of};
+ghost use Rattle.scim_filter_grammar.specs.Tree.{tree_of};
 ghost use Rattle.scim_policy.specs.Decide.{paths_on};
 ghost use Rattle.scim_policy.specs.Rules as spec;
 
 use scim_cell::Text;
-use scim_filter::Filter;
+use scim_filter_grammar::Filter;
 use scim_schema::{Attribute, Kind, Op, SubAttribute};
 use std::fmt;
 use std::marker::Model;
@@ -73,7 +73,7 @@ pub struct Policy {
 impl Model for Target {
     ghost use Rattle.std.specs.Coded.{codes};
     ghost use Rattle.scim_schema.specs.contracts.Kind as kind_type;
-    ghost use Rattle.scim_filter.specs.Tree.{tree_of};
+    ghost use Rattle.scim_filter_grammar.specs.Tree.{tree_of};
     ghost use Rattle.scim_policy.specs.Rules.{Target};
     ghost use Rattle.scim_policy.specs.code.Steps.{tree_code};
 

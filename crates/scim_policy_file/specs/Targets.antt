@@ -6,9 +6,9 @@ use Rattle.scim_schema.specs.declared.Kind.{Kind}
 use Rattle.scim_schema.specs.declared.Attribute.{Attribute}
 use Rattle.scim_schema.specs.declared.Attribute.TheVariants.{Groups, Password, Meta}
 use Rattle.scim_schema.specs.contracts.Attribute.{the_type as the_attribute}
-use Rattle.scim_filter.specs.declared.mentions.Named.{Named}
-use Rattle.scim_filter.specs.Mentions.{mentioned_names, is_known}
-use Rattle.scim_filter.specs.Spelled.{filter_in}
+use Rattle.scim_filter_grammar.specs.declared.mentions.Named.{Named}
+use Rattle.scim_filter_grammar.specs.Mentions.{mentioned_names, is_known}
+use Rattle.scim_filter_grammar.specs.Spelled.{filter_in}
 use Rattle.scim_policy_file.specs.declared.faults.Cause.{Cause}
 use Rattle.scim_policy_file.specs.declared.faults.Cause.TheVariants as cause
 use Rattle.scim_policy.specs.Rules.{Target}

@@ -5,7 +5,7 @@ ghost use Rattle.scim_policy_file.specs.Paths as spec;
 ghost use Rattle.scim_policy_file.specs.code.Written.{text_at};
 
 use scim_cell::Text;
-use scim_filter::{Meant, attribute_path};
+use scim_filter_grammar::{Meant, attribute_path};
 use scim_policy::{ClientName, KindPaths, PolicyPath};
 use scim_schema::Kind;
 use scim_text::{NoMemory, push};

@@ -6,7 +6,7 @@ ghost use Rattle.scim_policy_file.specs.Targets as spec;
 ghost use Rattle.scim_policy_file.specs.code.Written.{Gives, text_at};
 
 use crate::faults::Cause;
-use scim_filter::{Named, mentioned_names, read_filter};
+use scim_filter_grammar::{Named, mentioned_names, read_filter};
 use scim_policy::Target;
 use scim_schema::{Attribute, Kind};
 use scim_text::{Failed, NoMemory, push};

@@ -20,10 +20,10 @@ use Rattle.scim_cell.specs.Content.{Content, IsPart}
 use Rattle.scim_cell.specs.Place.{unit_cmp}
 use Rattle.scim_cell.specs.Rows.{Row, rows, values}
 use Rattle.scim_value.proofs.Facts.{unit_same}
-use Rattle.scim_filter.specs.declared.mentions.Named.{Named}
-use Rattle.scim_filter.specs.declared.tree.Filter.{Filter}
-use Rattle.scim_filter.specs.Mentions.{mentioned_names}
-use Rattle.scim_filter.specs.Tree.{tree_of}
+use Rattle.scim_filter_grammar.specs.declared.mentions.Named.{Named}
+use Rattle.scim_filter_grammar.specs.declared.tree.Filter.{Filter}
+use Rattle.scim_filter_grammar.specs.Mentions.{mentioned_names}
+use Rattle.scim_filter_grammar.specs.Tree.{tree_of}
 use Rattle.scim_filter.specs.Truth.{truth}
 use Rattle.scim_policy.specs.declared.rules.Decision.{Decision}
 use Rattle.scim_policy.proofs.Facts.{PassesNames, kept_rows, truth_kept}

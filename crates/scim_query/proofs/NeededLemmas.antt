@@ -6,11 +6,11 @@ use Rattle.scim_schema.specs.declared.Leaf.{Leaf}
 use Rattle.scim_schema.specs.Units.{is_same_leaf}
 use Rattle.scim_schema.proofs.Facts.{leaf_one}
 use Rattle.scim_cell.specs.Rows.{Row}
-use Rattle.scim_filter.specs.declared.tree.Literal.TheVariants.{Text}
-use Rattle.scim_filter.specs.declared.tree.Meant.{Meant}
-use Rattle.scim_filter.specs.declared.tree.Operator.TheVariants.{Eq}
+use Rattle.scim_filter_grammar.specs.declared.tree.Literal.TheVariants.{Text}
+use Rattle.scim_filter_grammar.specs.declared.tree.Meant.{Meant}
+use Rattle.scim_filter_grammar.specs.declared.tree.Operator.TheVariants.{Eq}
 use Rattle.scim_filter.specs.Truth.{compares}
-use Rattle.scim_filter.specs.Types.{compared_leaf}
+use Rattle.scim_filter_grammar.specs.Types.{compared_leaf}
 use Rattle.scim_query.specs.Needed.{has_text}
 
 leaf_given : (o : Option Leaf) (l : Leaf) → option_eq is_same_leaf o (Some l) ≡ true → o ≡ Some l

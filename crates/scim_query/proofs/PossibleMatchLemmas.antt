@@ -14,17 +14,17 @@ use Rattle.scim_schema.specs.Characteristics.{is_multi_valued}
 use Rattle.scim_schema.specs.Units.{is_same_attribute}
 use Rattle.scim_cell.specs.Content.{Content, IsPart}
 use Rattle.scim_cell.specs.Rows.{Row, rows, attribute_rows}
-use Rattle.scim_filter.specs.declared.tree.Literal.{Literal}
-use Rattle.scim_filter.specs.declared.tree.Literal.TheVariants as literal
-use Rattle.scim_filter.specs.declared.tree.Meant.{Meant}
-use Rattle.scim_filter.specs.declared.tree.Meant.TheVariants as meant
-use Rattle.scim_filter.specs.declared.tree.Operator.{Operator}
-use Rattle.scim_filter.specs.declared.tree.Operator.TheVariants.{Eq, Ne}
-use Rattle.scim_filter.specs.declared.tree.Path.{Path}
-use Rattle.scim_filter.specs.Mentions.{mentioned_attribute, mentioned_names, named}
-use Rattle.scim_filter.specs.Tree.{Tree, Present, Compare}
+use Rattle.scim_filter_grammar.specs.declared.tree.Literal.{Literal}
+use Rattle.scim_filter_grammar.specs.declared.tree.Literal.TheVariants as literal
+use Rattle.scim_filter_grammar.specs.declared.tree.Meant.{Meant}
+use Rattle.scim_filter_grammar.specs.declared.tree.Meant.TheVariants as meant
+use Rattle.scim_filter_grammar.specs.declared.tree.Operator.{Operator}
+use Rattle.scim_filter_grammar.specs.declared.tree.Operator.TheVariants.{Eq, Ne}
+use Rattle.scim_filter_grammar.specs.declared.tree.Path.{Path}
+use Rattle.scim_filter_grammar.specs.Mentions.{mentioned_attribute, mentioned_names, named}
+use Rattle.scim_filter_grammar.specs.Tree.{Tree, Present, Compare}
 use Rattle.scim_filter.specs.Truth.{is_present, is_unlike, leaf_compares, compares, some_position, truth}
-use Rattle.scim_filter.specs.Types.{compared_leaf}
+use Rattle.scim_filter_grammar.specs.Types.{compared_leaf}
 use Rattle.scim_policy.specs.declared.rules.Decision.{Decision}
 use Rattle.scim_policy.proofs.Facts.{PassesNames, kept_rows, truth_kept}
 use Rattle.scim_view.specs.View.{shows_some, visible_attributes}

@@ -8,10 +8,10 @@ use Rattle.scim_schema.specs.contracts.Attribute.{the_type as the_attribute}
 use Rattle.scim_schema.specs.declared.Leaf.{Leaf}
 use Rattle.scim_cell.specs.Content.{Content}
 use Rattle.scim_cell.specs.Rows.{rows}
-use Rattle.scim_filter.specs.declared.mentions.Named.{Named}
-use Rattle.scim_filter.specs.declared.tree.Filter.{Filter}
-use Rattle.scim_filter.specs.Mentions.{mentioned_names}
-use Rattle.scim_filter.specs.Tree.{tree_of}
+use Rattle.scim_filter_grammar.specs.declared.mentions.Named.{Named}
+use Rattle.scim_filter_grammar.specs.declared.tree.Filter.{Filter}
+use Rattle.scim_filter_grammar.specs.Mentions.{mentioned_names}
+use Rattle.scim_filter_grammar.specs.Tree.{tree_of}
 use Rattle.scim_query.specs.declared.queries.Query.{Query}
 use Rattle.scim_query.specs.Keys.{key_by}
 use Rattle.scim_query.specs.Pages.{is_match}

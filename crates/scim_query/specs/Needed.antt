@@ -4,9 +4,9 @@ use Rattle.scim_schema.specs.declared.Leaf.{Leaf}
 use Rattle.scim_schema.specs.Characteristics.{is_case_exact}
 use Rattle.scim_cell.specs.Content.{Content}
 use Rattle.scim_cell.specs.Rows.{Row, rows}
-use Rattle.scim_filter.specs.declared.tree.Filter.{Filter}
-use Rattle.scim_filter.specs.declared.tree.Literal.TheVariants.{Text}
-use Rattle.scim_filter.specs.declared.tree.Operator.TheVariants.{Eq}
+use Rattle.scim_filter_grammar.specs.declared.tree.Filter.{Filter}
+use Rattle.scim_filter_grammar.specs.declared.tree.Literal.TheVariants.{Text}
+use Rattle.scim_filter_grammar.specs.declared.tree.Operator.TheVariants.{Eq}
 use Rattle.scim_filter.specs.Relation.{stands}
 use Rattle.scim_filter.specs.Truth.{some_atom}
 use Rattle.scim_query.specs.Pages.{is_match}

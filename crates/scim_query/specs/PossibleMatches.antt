@@ -7,10 +7,10 @@ use Rattle.scim_schema.specs.Characteristics.{is_multi_valued}
 use Rattle.scim_schema.specs.Units.{is_same_attribute}
 use Rattle.scim_cell.specs.Content.{Content, IsPart}
 use Rattle.scim_cell.specs.Rows.{Row, rows}
-use Rattle.scim_filter.specs.declared.tree.Filter.{Filter}
-use Rattle.scim_filter.specs.declared.tree.Meant.{Meant}
-use Rattle.scim_filter.specs.declared.tree.Meant.TheVariants as meant
-use Rattle.scim_filter.specs.Mentions.{mentioned_attribute}
+use Rattle.scim_filter_grammar.specs.declared.tree.Filter.{Filter}
+use Rattle.scim_filter_grammar.specs.declared.tree.Meant.{Meant}
+use Rattle.scim_filter_grammar.specs.declared.tree.Meant.TheVariants as meant
+use Rattle.scim_filter_grammar.specs.Mentions.{mentioned_attribute}
 use Rattle.scim_policy.specs.declared.rules.Decision.{Decision}
 use Rattle.scim_view.specs.Groups.{memberships, visible_with}
 use Rattle.scim_query.specs.Pages.{is_match}

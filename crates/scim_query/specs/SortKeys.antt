@@ -2,9 +2,9 @@
 use Rattle.std.specs.Prelude.{ℕ, List, Option, option_and_then}
 use Rattle.scim_schema.specs.declared.Kind.{Kind}
 use Rattle.scim_schema.specs.declared.Leaf.{Leaf}
-use Rattle.scim_filter.specs.declared.tree.Path.{Path}
-use Rattle.scim_filter.specs.Spelled.{path_in}
-use Rattle.scim_filter.specs.Types.{compared_leaf}
+use Rattle.scim_filter_grammar.specs.declared.tree.Path.{Path}
+use Rattle.scim_filter_grammar.specs.Spelled.{path_in}
+use Rattle.scim_filter_grammar.specs.Types.{compared_leaf}
 
 -- the leaf that a text names to sort by: what the path names that it spells, and of a complex attribute its `value`
 abbrev pub sort_leaf : Kind → List ℕ → Option Leaf

@@ -1,6 +1,7 @@
 //! Searching a list of parts: filter, order and page (RFC 7644 sections 3.4.2.2 to 3.4.2.4).
 #![tactic(auto)]
 
+mod client_searches;
 mod entries;
 mod kept_parts;
 mod keys;
@@ -13,6 +14,7 @@ mod queries;
 mod shown_pages;
 mod sort_keys;
 
+pub use client_searches::search_view;
 pub use laws::queries_have_one_page;
 pub use pagers::Pager;
 pub use queries::{Page, Query, search};

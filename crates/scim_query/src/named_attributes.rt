@@ -3,7 +3,7 @@ ghost use Rattle.std.specs.Prelude.{◌≡◌, IfOk};
 ghost use Rattle.scim_query.specs.NamedAttributes as spec;
 
 use crate::queries::Query;
-use scim_filter::{Filter, Named, mentioned_names};
+use scim_filter_grammar::{Filter, Named, mentioned_names};
 use scim_schema::Attribute;
 use scim_text::{NoMemory, push};
 use std::alloc::Global;

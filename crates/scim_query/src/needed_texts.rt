@@ -1,12 +1,12 @@
 //! Texts without which no part matches, by which the one that may can be looked up.
 ghost use Rattle.std.specs.Prelude.{◌≡◌, true, List, IfSome};
 ghost use Rattle.scim_cell.specs.Rows.{Row};
-ghost use Rattle.scim_filter.specs.Tree.{view};
+ghost use Rattle.scim_filter_grammar.specs.Tree.{view};
 ghost use Rattle.scim_filter.specs.Truth.{compares, truth};
 ghost use Rattle.scim_query.specs.Needed as spec;
 
 use crate::queries::Query;
-use scim_filter::{Literal, Meant, Node, Operator, StringLiteral};
+use scim_filter_grammar::{Literal, Meant, Node, Operator, StringLiteral};
 use scim_schema::Leaf;
 
 /// The text of a term that holds only where it stands at the leaf.

@@ -1,14 +1,14 @@
 //! Whether resources may match at all, by what may be seen of them.
 ghost use Rattle.std.specs.Prelude.{◌≡◌, false, []};
 ghost use Rattle.scim_cell.specs.Content.{Content, IsPart};
-ghost use Rattle.scim_filter.specs.declared.tree.Meant.TheVariants.{Nothing};
-ghost use Rattle.scim_filter.specs.Tree.{view};
+ghost use Rattle.scim_filter_grammar.specs.declared.tree.Meant.TheVariants.{Nothing};
+ghost use Rattle.scim_filter_grammar.specs.Tree.{view};
 ghost use Rattle.scim_filter.specs.Truth.{compares, truth};
 ghost use Rattle.scim_policy.specs.Table.{decision};
 ghost use Rattle.scim_query.specs.PossibleMatches as spec;
 
 use crate::queries::Query;
-use scim_filter::{Literal, Meant, Node, Operator};
+use scim_filter_grammar::{Literal, Meant, Node, Operator};
 use scim_policy::Decisions;
 use scim_schema::{Attribute, Kind, is_multi_valued};
 use scim_view::shows_some;

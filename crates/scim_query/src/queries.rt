@@ -3,7 +3,7 @@ ghost use Rattle.std.specs.Prelude.{◌≡◌, IfOk};
 ghost use Rattle.scim_query.specs.Pages as spec;
 
 use crate::entries::{copy_parts, matching_entries, slice_of, sort_entries};
-use scim_filter::Filter;
+use scim_filter_grammar::Filter;
 use scim_schema::Leaf;
 use scim_text::NoMemory;
 use scim_value::Part;

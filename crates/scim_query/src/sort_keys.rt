@@ -2,7 +2,7 @@
 ghost use Rattle.std.specs.Prelude.{◌≡◌};
 ghost use Rattle.scim_query.specs.SortKeys.{sort_leaf};
 
-use scim_filter::attribute_path;
+use scim_filter_grammar::attribute_path;
 use scim_schema::{Kind, Leaf};
 
 /// The leaf that the text of `sortBy` names for resources of a kind (RFC 7644 section 3.4.2.3): a simple

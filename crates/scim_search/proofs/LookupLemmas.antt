@@ -30,11 +30,11 @@ use Rattle.scim_cell.specs.Kinds.{is_of, of_kind}
 use Rattle.scim_cell.specs.Order.{id_cmp}
 use Rattle.scim_value.specs.Resource.{IsResource, HasBase, IsFilled, IsNamed, IsNamedAs, first_at}
 use Rattle.scim_value.specs.Uniqueness.{Name, AreApart, unique_names}
-use Rattle.scim_filter.specs.declared.tree.Filter.{Filter}
+use Rattle.scim_filter_grammar.specs.declared.tree.Filter.{Filter}
 use Rattle.scim_view.specs.View.{Viewer, sees}
 use Rattle.scim_view.specs.Groups.{and_those, with_groups, view_with_groups, views}
-use Rattle.scim_filter.specs.declared.tree.Literal.TheVariants as literal
-use Rattle.scim_filter.specs.declared.tree.Operator.TheVariants.{Eq}
+use Rattle.scim_filter_grammar.specs.declared.tree.Literal.TheVariants as literal
+use Rattle.scim_filter_grammar.specs.declared.tree.Operator.TheVariants.{Eq}
 use Rattle.scim_filter.specs.Relation.{cased, stands}
 use Rattle.scim_query.specs.Needed.{NeedsText}
 use Rattle.scim_view.proofs.Facts.{and_those_append, seen_stands}

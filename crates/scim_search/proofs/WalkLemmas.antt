@@ -18,7 +18,7 @@ use Rattle.scim_schema.specs.Units.{simple}
 use Rattle.scim_cell.specs.Content.{Content, IsPart}
 use Rattle.scim_cell.specs.Kinds.{is_of, of_kind}
 use Rattle.scim_value.specs.Uniqueness.{AreApart}
-use Rattle.scim_filter.specs.declared.tree.Filter.{Filter}
+use Rattle.scim_filter_grammar.specs.declared.tree.Filter.{Filter}
 use Rattle.scim_policy.specs.declared.rules.Decision.{Decision}
 use Rattle.scim_value.specs.Changes.{restricted_part}
 use Rattle.scim_cell.specs.Rows.{rows, restricted, content}

@@ -3,7 +3,7 @@ use Rattle.std.specs.Prelude.{◌≡◌, Bool, true, List, Option}
 use Rattle.scim_schema.specs.declared.Kind.{Kind}
 use Rattle.scim_cell.specs.Content.{Content}
 use Rattle.scim_value.specs.Resource.{IsResource}
-use Rattle.scim_filter.specs.declared.tree.Filter.{Filter}
+use Rattle.scim_filter_grammar.specs.declared.tree.Filter.{Filter}
 use Rattle.scim_view.specs.View.{Viewer}
 use Rattle.scim_view.specs.Groups.{with_groups}
 use Rattle.scim_query.specs.Pages.{is_match}

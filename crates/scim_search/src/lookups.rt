@@ -15,7 +15,7 @@ ghost use Rattle.scim_search.specs.Lookups as spec;
 use crate::beside::view_beside;
 use crate::visitors::ListingVisitor;
 use scim_cell::Id;
-use scim_filter::StringLiteral;
+use scim_filter_grammar::StringLiteral;
 use scim_query::{Page, Pager, Query};
 use scim_schema::{Attribute, Kind, Leaf, is_case_exact, unique_leaves};
 use scim_shelf::{Shelf, ShelfFault};

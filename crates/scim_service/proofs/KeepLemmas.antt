@@ -12,8 +12,8 @@ use Rattle.scim_audit.specs.declared.refusals.Refusal.{Refusal}
 use Rattle.scim_body.specs.declared.drafts.UseFor.TheVariants.{Creating}
 use Rattle.scim_body.specs.contracts.drafts.UseFor.{the_type as the_use_for}
 use Rattle.scim_change.proofs.Facts.{IsSound, created_sound, replaced_sound}
-use Rattle.scim_patch.specs.Kept.{patch_of}
-use Rattle.scim_patch.proofs.Facts.{applied_sound}
+use Rattle.scim_patch_steps.specs.Kept.{patch_of}
+use Rattle.scim_patch_steps.proofs.Facts.{applied_sound}
 use Rattle.scim_policy.specs.Rules.{Rule}
 use Rattle.scim_policy.specs.Access.{forbidding}
 use Rattle.scim_view.specs.View.{Viewer}

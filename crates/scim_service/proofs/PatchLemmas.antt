@@ -4,8 +4,8 @@ use Rattle.std.specs.Prelude.{None, Ok, Err}
 use denote.Enum.Bare.{sameb}
 use Rattle.scim_schema.specs.contracts.Kind.{the_type as the_kind}
 use Rattle.scim_cell.specs.Content.{Content}
-use Rattle.scim_steps.specs.declared.steps.StepFault.{StepFault}
-use Rattle.scim_patch.specs.Patch.{Patch, touched, applied}
+use Rattle.scim_patch_steps.specs.declared.steps.StepFault.{StepFault}
+use Rattle.scim_patch_steps.specs.Patch.{Patch, touched, applied}
 use Rattle.scim_view.specs.declared.projection.Wanted.{Wanted}
 use Rattle.scim_view.specs.View.{Viewer}
 use Rattle.scim_service.specs.declared.requests.Turn.{Turn}

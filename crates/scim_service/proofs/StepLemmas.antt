@@ -17,9 +17,9 @@ use Rattle.scim_audit.specs.declared.refusals.Refusal.{Refusal}
 use Rattle.scim_audit.specs.declared.rows.AuditRow.{AuditRow}
 use Rattle.scim_body.specs.Drafts.{Draft, lacks_required}
 use Rattle.scim_change.specs.Replace.{changes, with_units, modified_at, if_complete, replaced}
-use Rattle.scim_steps.specs.declared.steps.StepFault.{StepFault}
-use Rattle.scim_patch.specs.Patch.{Patch, touched, all_stepped, changes as changes_by, finished, if_stepped, applied}
-use Rattle.scim_patch.specs.Kept.{patch_of}
+use Rattle.scim_patch_steps.specs.declared.steps.StepFault.{StepFault}
+use Rattle.scim_patch_steps.specs.Patch.{Patch, touched, all_stepped, changes as changes_by, finished, if_stepped, applied}
+use Rattle.scim_patch_steps.specs.Kept.{patch_of}
 use Rattle.scim_policy.specs.declared.rules.Decision.{Decision}
 use Rattle.scim_policy.specs.Access.{Access, widening}
 use Rattle.scim_view.specs.declared.projection.Wanted.{Wanted}

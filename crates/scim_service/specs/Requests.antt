@@ -5,8 +5,8 @@ use Rattle.scim_cell.specs.Content.{Content}
 use Rattle.scim_cell.specs.Ids.{IsId}
 use Rattle.scim_audit.specs.declared.refusals.Refusal.{Refusal}
 use Rattle.scim_body.specs.Drafts.{IsDraft}
-use Rattle.scim_patch.specs.Patch.{IsPatch}
-use Rattle.scim_patch.specs.Kept.{patch_of}
+use Rattle.scim_patch_steps.specs.Patch.{IsPatch}
+use Rattle.scim_patch_steps.specs.Kept.{patch_of}
 use Rattle.scim_shelf.specs.Stores.{is_used}
 use Rattle.scim_service.specs.declared.requests.Ask.{Ask}
 use Rattle.scim_service.specs.declared.requests.Ask.TheVariants.{Create, Replace, Patch}

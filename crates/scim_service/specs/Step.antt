@@ -31,10 +31,10 @@ use Rattle.scim_json.specs.PartData.{part_data}
 use Rattle.scim_json.specs.ListData.{list_data}
 use Rattle.scim_change.specs.Create.{created}
 use Rattle.scim_change.specs.Replace.{changes, replaced}
-use Rattle.scim_steps.specs.declared.steps.StepFault.{StepFault}
-use Rattle.scim_steps.specs.declared.steps.StepFault.TheVariants as fault
-use Rattle.scim_patch.specs.Patch.{Patch, touched, applied}
-use Rattle.scim_patch.specs.Kept.{patch_of}
+use Rattle.scim_patch_steps.specs.declared.steps.StepFault.{StepFault}
+use Rattle.scim_patch_steps.specs.declared.steps.StepFault.TheVariants as fault
+use Rattle.scim_patch_steps.specs.Patch.{Patch, touched, applied}
+use Rattle.scim_patch_steps.specs.Kept.{patch_of}
 use Rattle.scim_policy.specs.Rules.{Rule}
 use Rattle.scim_policy.specs.declared.rules.Decision.{Decision}
 use Rattle.scim_policy.specs.Access.{Access, access, forbidding, widening}

@@ -1,7 +1,7 @@
 //! What is to be done for a request to change a resource step by step (RFC 7644 section 3.5.2).
 ghost use Rattle.std.specs.Prelude.{◌≡◌, ℕ, List, None, IfOk};
-ghost use Rattle.scim_patch.specs.Patch.{touched};
-ghost use Rattle.scim_patch.specs.Kept.{patch_of};
+ghost use Rattle.scim_patch_steps.specs.Patch.{touched};
+ghost use Rattle.scim_patch_steps.specs.Kept.{patch_of};
 ghost use Rattle.scim_policy.specs.Table.{access_in};
 ghost use Rattle.scim_view.specs.View.{viewer_of};
 ghost use Rattle.scim_shelf.specs.Shelves.{Answers, OnlyReads};
@@ -13,11 +13,10 @@ use crate::plans::{Plan, denied, refused};
 use crate::reached::{Reached, reach};
 use crate::requests::Turn;
 use scim_audit::Refusal;
-use scim_patch::{Patch, Step, apply};
+use scim_patch_steps::{Patch, Step, StepFault, apply};
 use scim_policy::{Decision, Rights};
 use scim_schema::Leaf;
 use scim_shelf::{Shelf, ShelfFault};
-use scim_steps::StepFault;
 use scim_text::Failed;
 use scim_value::Resource;
 use scim_view::{Viewer, Wanted};

@@ -4,7 +4,7 @@ ghost use Rattle.scim_service.specs.Requests.{IsAsk, IsTurn};
 use scim_audit::Refusal;
 use scim_body::Draft;
 use scim_cell::{Id, Text, uuid_of};
-use scim_patch::Patch;
+use scim_patch_steps::Patch;
 use scim_query::Query;
 use scim_schema::{Kind, Op};
 use scim_text::Moment;

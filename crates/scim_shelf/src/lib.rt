@@ -1,6 +1,7 @@
 //! Where a service provider keeps its resources and the rows of its audit.
 #![tactic(auto)]
 
+mod caches;
 mod changes;
 mod collections;
 mod copies;
@@ -11,6 +12,7 @@ mod memory;
 mod owners;
 mod shelf;
 
+pub use caches::CachedShelf;
 pub use changes::Change;
 pub use collections::Collection;
 pub use copies::{all_of, collection_of};

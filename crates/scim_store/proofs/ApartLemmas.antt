@@ -8,7 +8,7 @@ use Rattle.std.proofs.lemmas.List.Folds.{list_any-append}
 use Rattle.sqlite.specs.declared.types.Value.{Value}
 use Rattle.sqlite.specs.declared.types.Value.TheVariants.{Null, Int, Real, Text, Blob}
 use Rattle.sqlite.specs.Order.{Row, column, value_cmp}
-use Rattle.scim_tables.specs.Lists.{has_text, is_text}
+use Rattle.scim_store_tables.specs.Lists.{has_text, is_text}
 use Rattle.scim_store.specs.Damage.{is_shared}
 use Rattle.scim_store.specs.code.Damage.{text_in}
 use Rattle.scim_store.proofs.OwnedLemmas.{is_text_against}

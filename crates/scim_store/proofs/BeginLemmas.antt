@@ -5,11 +5,11 @@ use Rattle.sqlite.specs.Effect.{Database}
 use Rattle.sqlite.specs.State.{State}
 use Rattle.sqlite.specs.Tree.{Trees}
 use Rattle.scim_shelf.proofs.StoreLemmas.{keyed_nil}
-use Rattle.scim_tables.specs.Lists.{Are, no_rows}
-use Rattle.scim_tables.specs.Opening.{MakesTables}
-use Rattle.scim_tables.specs.Steps.{Became, Leaves}
+use Rattle.scim_store_tables.specs.Lists.{Are, no_rows}
+use Rattle.scim_store_tables.specs.Opening.{MakesTables}
+use Rattle.scim_store_tables.specs.Steps.{Became, Leaves}
 use Rattle.scim_store.specs.Beginning.{Begins, no_store}
-use Rattle.scim_looks.specs.Stands.{StandsFor, IsEntry}
+use Rattle.scim_store_rows.specs.Stands.{StandsFor, IsEntry}
 
 stands_none : (base : List ℕ) (db : Database) → Are db no_rows → StandsFor base db no_store
 stands_none base db are = record { entries = []; resources = refl; sound = All-nil (IsEntry base); keyed = keyed_nil; tables = are }

@@ -8,16 +8,16 @@ use Rattle.scim_cell.specs.Content.{Content}
 use Rattle.scim_audit.specs.declared.rows.AuditRow.{AuditRow}
 use Rattle.scim_shelf.specs.declared.changes.Change.{Change}
 use Rattle.scim_shelf.specs.Stores.{Store, IsOld, after}
-use Rattle.scim_tables.specs.Audit.{audit_values}
-use Rattle.scim_tables.specs.declared.audit.AuditColumns.{AuditColumns}
-use Rattle.scim_tables.specs.Tables.{store_schema}
-use Rattle.scim_tables.specs.Steps.{Became, Leaves}
+use Rattle.scim_store_tables.specs.Audit.{audit_values}
+use Rattle.scim_store_tables.specs.declared.audit.AuditColumns.{AuditColumns}
+use Rattle.scim_store_tables.specs.Tables.{store_schema}
+use Rattle.scim_store_tables.specs.Steps.{Became, Leaves}
 use Rattle.scim_store.specs.declared.edits.Edits.{Edits}
-use Rattle.scim_audit_rows.specs.Audit.{audit_row}
+use Rattle.scim_store_rows.specs.Audit.{audit_row}
 use Rattle.scim_store.specs.Edits.{AreEdits, Writes}
 use Rattle.scim_store.specs.Committing.{HasStore, AreOf, IsDue, IsDueOver, Stays, Changes, StandForNone}
-use Rattle.scim_looks.specs.Finding.{StandsIn}
-use Rattle.scim_looks.specs.Stands.{StandsFor}
+use Rattle.scim_store_rows.specs.Finding.{StandsIn}
+use Rattle.scim_store_rows.specs.Stands.{StandsFor}
 
 -- ---- what a crash leaves
 

@@ -6,11 +6,11 @@ use Rattle.std.proofs.lemmas.Slice.Eq.{bytes_eq-Decides}
 use Rattle.sqlite.specs.declared.types.Value.{Value}
 use Rattle.sqlite.specs.declared.types.Value.TheVariants.{Null, Int, Real, Text, Blob}
 use Rattle.sqlite.specs.Order.{Row, column}
-use Rattle.scim_tables.specs.Lists.{has_text, resource_values}
+use Rattle.scim_store_tables.specs.Lists.{has_text, resource_values}
 use Rattle.serde_json.specs.Data.{Data}
 use Rattle.scim_cell.specs.Content.{Content}
 use Rattle.scim_cell.specs.Ids.{id_text}
-use Rattle.scim_audit_rows.specs.Audit.{kind_number}
+use Rattle.scim_store_rows.specs.Audit.{kind_number}
 use Rattle.scim_json.specs.PartData.{stored_data}
 use Rattle.scim_json.specs.Stored.{IsDocumentText}
 use Rattle.scim_json.proofs.Back.{documents_are_apart}
@@ -24,7 +24,7 @@ use Rattle.std.proofs.lemmas.Map.Text.{is_eq-slice_cmp}
 use Rattle.std.proofs.lemmas.Map.Keys.{sorted_head, sorted_tail}
 use Rattle.std.proofs.lemmas.Map.Lookups.{exact_bytes}
 use Rattle.scim_shelf.proofs.NameLemmas.{by_bool}
-use Rattle.scim_looks.specs.Stands.{is_among}
+use Rattle.scim_store_rows.specs.Stands.{is_among}
 use Rattle.std.specs.List.{AllByRecursion}
 use Rattle.std.specs.List.Sorted.{IsStrictlySortedBy}
 use Rattle.std.specs.declared.cmp.Ordering.TheVariants.{Less, Equal, Greater}
@@ -32,8 +32,8 @@ use Rattle.std.specs.Cmp.Lexicographic.{slice_cmp}
 use Rattle.scim_store.proofs.ValueLemmas.{texts_of}
 use denote.Ref.{Bor}
 use Rattle.scim_store.specs.code.Damage.{pair_of, triple_of, is_pair, is_triple, is_number, is_row, text_in, IsRowOf, HasRows, AreOfOne}
-use Rattle.scim_tables.proofs.TestLemmas.{text_of}
-use Rattle.scim_looks.proofs.Facts.{tied}
+use Rattle.scim_store_tables.proofs.TestLemmas.{text_of}
+use Rattle.scim_store_rows.proofs.Facts.{tied}
 
 -- ---- rows of two or three texts
 

@@ -25,11 +25,11 @@ use Rattle.sqlite.specs.Order.{Row, column, value_cmp}
 use Rattle.sqlite_value.proofs.OrderLemmas.{value_cmp_total, value_cmp-Text}
 use Rattle.scim_cell.specs.Ids.{id_text}
 use Rattle.scim_shelf.proofs.StoreLemmas.{keyed_nil, ids_differ}
-use Rattle.scim_tables.specs.Reading.{DoNotFall, columns_cmp, owner_first, group_first}
+use Rattle.scim_store_tables.specs.Reading.{DoNotFall, columns_cmp, owner_first, group_first}
 use Rattle.scim_value.specs.Uniqueness.{Name, unique_names}
 use Rattle.scim_store.specs.Damage.{Tables, AreThoseOf, HoldsAt, rows_at}
 use Rattle.scim_store.specs.Owners.{is_of}
-use Rattle.scim_looks.specs.Stands.{Entry, IsEntry, resource_row, name_row, name_rows, member_row, member_rows}
+use Rattle.scim_store_rows.specs.Stands.{Entry, IsEntry, resource_row, name_row, name_rows, member_row, member_rows}
 use Rattle.scim_store.specs.code.Damage.{owned_name, owned_member, AreOfOne}
 use Rattle.scim_store.proofs.NameLemmas.{few_of}
 use Rattle.scim_store.proofs.SoundLemmas.{few_keyed}

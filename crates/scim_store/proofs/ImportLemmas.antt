@@ -17,16 +17,16 @@ use Rattle.scim_cell.specs.Content.{Content}
 use Rattle.scim_value.specs.Resource.{HasBase}
 use Rattle.scim_value.specs.Uniqueness.{name_of, unique_names}
 use Rattle.scim_shelf.specs.Stores.{Store, IsNewStore}
-use Rattle.scim_tables.specs.Lists.{Lists, Are, no_rows, resource_values}
-use Rattle.scim_tables.specs.Reading.{Rests}
-use Rattle.scim_tables.specs.Steps.{Became, Undoes, Leaves}
-use Rattle.scim_tables.specs.Tables.{no_schema}
+use Rattle.scim_store_tables.specs.Lists.{Lists, Are, no_rows, resource_values}
+use Rattle.scim_store_tables.specs.Reading.{Rests}
+use Rattle.scim_store_tables.specs.Steps.{Became, Undoes, Leaves}
+use Rattle.scim_store_tables.specs.Tables.{no_schema}
 use Rattle.scim_store.specs.declared.edits.Edits.{Edits}
-use Rattle.scim_audit_rows.specs.Audit.{kind_number}
+use Rattle.scim_store_rows.specs.Audit.{kind_number}
 use Rattle.scim_store.specs.Committing.{HasStore, AreOf}
 use Rattle.scim_store.specs.Edits.{rows_of_names, rows_of_members, rows_of_document, Replaces}
 use Rattle.scim_store.specs.Importing.{HoldRowsOf, Fills, LeavesImported}
-use Rattle.scim_looks.specs.Stands.{Entry, StandsFor, IsEntry, lists_of, resource_row, name_row, name_rows, member_rows}
+use Rattle.scim_store_rows.specs.Stands.{Entry, StandsFor, IsEntry, lists_of, resource_row, name_row, name_rows, member_rows}
 use Rattle.scim_store.proofs.RowLemmas.{reordered}
 use Rattle.scim_store.proofs.StandLemmas.{document_rows}
 

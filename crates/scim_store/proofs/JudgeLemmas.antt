@@ -23,16 +23,16 @@ use Rattle.scim_cell.specs.Content.{Content}
 use Rattle.scim_cell.specs.Ids.{IsId, id_text}
 use Rattle.scim_shelf.specs.Stores.{AreKeyed}
 use Rattle.scim_shelf.proofs.StoreLemmas.{keyed_nil, keyed_apart, keyed_tail}
-use Rattle.scim_tables.specs.Reading.{owner_first, group_first}
+use Rattle.scim_store_tables.specs.Reading.{owner_first, group_first}
 use Rattle.scim_value.specs.Uniqueness.{Name, AreApart, unique_names}
 use Rattle.scim_store.specs.Owners.{is_of, HasOwner, is_owner}
 use Rattle.scim_store.specs.Damage.{Tables, AreSound, HoldsAt, AreOwned, is_shared}
-use Rattle.scim_looks.specs.Stands.{Entry, IsEntry, resource_row, name_row, name_rows, member_row, member_rows}
+use Rattle.scim_store_rows.specs.Stands.{Entry, IsEntry, resource_row, name_row, name_rows, member_row, member_rows}
 use Rattle.scim_store.specs.code.Damage.{HasName, AreAllOwned}
-use Rattle.scim_looks.proofs.Facts.{tied}
-use Rattle.scim_looks.proofs.Facts.{user_names}
+use Rattle.scim_store_rows.proofs.Facts.{tied}
+use Rattle.scim_store_rows.proofs.Facts.{user_names}
 use Rattle.scim_store.proofs.NameLemmas.{few_of}
-use Rattle.scim_looks.proofs.Facts.{contents, none_left}
+use Rattle.scim_store_rows.proofs.Facts.{contents, none_left}
 use Rattle.scim_store.proofs.SoundLemmas.{sound_id}
 use Rattle.scim_store.proofs.WholeLemmas.{shared_flips, whole}
 

@@ -27,9 +27,9 @@ use Rattle.scim_value.specs.Uniqueness.{Name, name_of, name_at, unique_names, Ar
 use Rattle.scim_shelf.specs.Stores.{is_same_name}
 use Rattle.scim_shelf.proofs.NameLemmas.{by_bool, is_same_name-Decides, is_same_name-flips}
 use Rattle.scim_shelf.specs.code.Owners.{is_among}
-use Rattle.scim_tables.specs.Lists.{has_texts}
-use Rattle.scim_looks.specs.Stands.{Entry, name_row, name_rows}
-use Rattle.scim_looks.proofs.Facts.{tied, user_names}
+use Rattle.scim_store_tables.specs.Lists.{has_texts}
+use Rattle.scim_store_rows.specs.Stands.{Entry, name_row, name_rows}
+use Rattle.scim_store_rows.proofs.Facts.{tied, user_names}
 use Rattle.scim_store.specs.Edits.{is_name, names_in, names_beyond}
 
 -- ---- the names of a resource

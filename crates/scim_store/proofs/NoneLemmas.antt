@@ -2,10 +2,10 @@
 use Rattle.std.proofs.Common.{List, ℕ}
 use Rattle.sqlite.specs.Effect.{Database}
 use Rattle.sqlite.specs.State.{State}
-use Rattle.scim_tables.specs.Whole.{Is, AreNone, IsUntouched}
-use Rattle.scim_tables.specs.declared.tables.Reading.TheVariants.{WrongVersion, Foreign}
-use Rattle.scim_tables.proofs.WholeLemmas.{other_none, foreign_none}
-use Rattle.scim_looks.specs.Stands.{lists_of}
+use Rattle.scim_store_tables.specs.Whole.{Is, AreNone, IsUntouched}
+use Rattle.scim_store_tables.specs.declared.tables.Reading.TheVariants.{WrongVersion, Foreign}
+use Rattle.scim_store_tables.proofs.WholeLemmas.{other_none, foreign_none}
+use Rattle.scim_store_rows.specs.Stands.{lists_of}
 use Rattle.scim_store.specs.Committing.{StandForNone, Stays}
 
 -- where the tables hold no rows of ours, they stand for no store, below no base

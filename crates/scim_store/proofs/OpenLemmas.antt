@@ -8,31 +8,31 @@ use Rattle.sqlite.specs.Effect.{Database}
 use Rattle.sqlite.specs.Order.{Row, column}
 use Rattle.sqlite.specs.State.{State, HasCleanDisk, Survives}
 use Rattle.sqlite.proofs.StateLemmas.{survives_then, survives_weaker}
-use Rattle.scim_tables.specs.Steps.{Leaves}
+use Rattle.scim_store_tables.specs.Steps.{Leaves}
 use Rattle.scim_shelf.specs.Stores.{Store, AreKeyed}
 use Rattle.scim_value.specs.Uniqueness.{Name, unique_names}
-use Rattle.scim_tables.specs.Tables.{no_schema}
+use Rattle.scim_store_tables.specs.Tables.{no_schema}
 use Rattle.scim_store.specs.Beginning.{no_store, Begins}
 use Rattle.scim_store.proofs.ShelfLemmas.{clean_before}
-use Rattle.scim_tables.specs.Lists.{Are}
-use Rattle.scim_tables.specs.Reading.{shown, Rests}
-use Rattle.scim_tables.specs.Whole.{AreRowsOf as AreRead, Is, IsUntouched}
-use Rattle.scim_tables.specs.declared.tables.TableRows.{TableRows}
-use Rattle.scim_tables.specs.declared.tables.Reading.TheVariants.{WrongVersion as OtherVersion, Foreign as OtherProgram}
-use Rattle.scim_tables.proofs.OrderLemmas.{order_rising}
-use Rattle.scim_tables.proofs.WholeLemmas.{rows_of, holds_lists}
-use Rattle.scim_audit_rows.specs.Audit.{audit_rows}
+use Rattle.scim_store_tables.specs.Lists.{Are}
+use Rattle.scim_store_tables.specs.Reading.{shown, Rests}
+use Rattle.scim_store_tables.specs.Whole.{AreRowsOf as AreRead, Is, IsUntouched}
+use Rattle.scim_store_tables.specs.declared.tables.TableRows.{TableRows}
+use Rattle.scim_store_tables.specs.declared.tables.Reading.TheVariants.{WrongVersion as OtherVersion, Foreign as OtherProgram}
+use Rattle.scim_store_tables.proofs.OrderLemmas.{order_rising}
+use Rattle.scim_store_tables.proofs.WholeLemmas.{rows_of, holds_lists}
+use Rattle.scim_store_rows.specs.Audit.{audit_rows}
 use Rattle.scim_store.specs.Damage.{AreOrdered, AreSound, IsLeastDamage, IsForeign}
 use Rattle.scim_store.specs.Opening.{resource_tables, CountsAudit, IsByAudit, IsFor, Examines}
-use Rattle.scim_looks.specs.Finding.{StandsIn}
+use Rattle.scim_store_rows.specs.Finding.{StandsIn}
 use Rattle.scim_store.specs.Shelves.{IsKeptIn, HasOpened, LeavesBegun}
 use Rattle.scim_store.specs.declared.opening.Examined.{Examined}
 use Rattle.scim_store.specs.declared.opening.Examined.TheVariants.{Empty, Stands, WrongVersion, Damaged, Foreign}
-use Rattle.scim_looks.specs.Stands.{Entry, StandsFor, lists_of, name_row, name_rows, member_row, member_rows}
+use Rattle.scim_store_rows.specs.Stands.{Entry, StandsFor, lists_of, name_row, name_rows, member_row, member_rows}
 use Rattle.scim_store.proofs.NoneLemmas.{other_stand, foreign_stand}
-use Rattle.scim_looks.proofs.Facts.{contents}
+use Rattle.scim_store_rows.proofs.Facts.{contents}
 use Rattle.scim_store.proofs.SoundLemmas.{sound_holds}
-use Rattle.scim_looks.proofs.Facts.{rows_rise}
+use Rattle.scim_store_rows.proofs.Facts.{rows_rise}
 
 -- ---- rows of resources have their columns
 

@@ -18,7 +18,7 @@ use Rattle.sqlite.specs.declared.types.Value.TheVariants.{Null, Int, Real, Text,
 use Rattle.sqlite.specs.Order.{Row, column, value_cmp}
 use Rattle.sqlite_value.specs.Order.{class}
 use Rattle.sqlite_value.proofs.OrderLemmas.{value_cmp-Text, value_cmp-apart, value_cmp_total}
-use Rattle.scim_tables.specs.Lists.{is_text, has_text}
+use Rattle.scim_store_tables.specs.Lists.{is_text, has_text}
 use Rattle.scim_store.specs.code.Damage.{IsPartedAt}
 
 pub text_against : (v : Value) (bytes text : List ℕ) → Text bytes ≡ v → value_cmp v (Text text) ≡ slice_cmp nat_cmp bytes text

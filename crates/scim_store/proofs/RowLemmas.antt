@@ -8,7 +8,7 @@ use Rattle.sqlite_trees.proofs.ListLemmas.{IsPermutation-same}
 use Rattle.std.proofs.lemmas.List.{take_more, map-append, append_assoc}
 use Rattle.sqlite.specs.Order.{Row}
 use Rattle.sqlite.specs.Effect.{Database}
-use Rattle.scim_tables.specs.Lists.{Lists, Are, IsTableOf, without}
+use Rattle.scim_store_tables.specs.Lists.{Lists, Are, IsTableOf, without}
 
 -- the same rows in another order
 other_order : (shows : Row → Row) (rows values others : List Row) → IsTableOf shows rows values → IsPermutation values others → IsTableOf shows rows others

@@ -13,13 +13,13 @@ use Rattle.scim_cell.specs.Ids.{IsId, id_text}
 use Rattle.scim_cell.proofs.Facts.{slice_cmp-id_text}
 use Rattle.scim_shelf.specs.Stores.{AreKeyed}
 use Rattle.scim_shelf.proofs.StoreLemmas.{keyed_nil, keyed_cons}
-use Rattle.scim_tables.specs.Reading.{owner_first, group_first}
+use Rattle.scim_store_tables.specs.Reading.{owner_first, group_first}
 use Rattle.scim_value.specs.Uniqueness.{AreApart, unique_names}
 use Rattle.scim_store.specs.Owners.{is_of}
 use Rattle.scim_store.specs.Damage.{Tables, AreSound, HoldsAt}
-use Rattle.scim_looks.specs.Stands.{Entry, IsEntry, resource_row, name_row, name_rows, member_row, member_rows}
-use Rattle.scim_looks.proofs.Facts.{contents}
-use Rattle.scim_looks.proofs.Facts.{own, found}
+use Rattle.scim_store_rows.specs.Stands.{Entry, IsEntry, resource_row, name_row, name_rows, member_row, member_rows}
+use Rattle.scim_store_rows.proofs.Facts.{contents}
+use Rattle.scim_store_rows.proofs.Facts.{own, found}
 
 -- the rows that pass, of rows that all pass or all fail with what they are of
 pub filter-flat_map : (p : Row → Bool) (q : Entry → Bool) (f : Entry → List Row) (es : List Entry) → All (λ e. All (λ r. p r ≡ q e) (f e)) es → filter p (flat_map f es) ≡ flat_map f (filter q es)

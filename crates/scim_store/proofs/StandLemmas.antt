@@ -23,15 +23,15 @@ use Rattle.scim_shelf.specs.declared.changes.Change.{Change}
 use Rattle.scim_shelf.specs.declared.changes.Change.TheVariants.{Nothing, Keep, Remove}
 use Rattle.scim_shelf.specs.Stores.{Store, AreKeyed, CanKeep, below, above, after, of_id}
 use Rattle.scim_shelf.proofs.StoreLemmas.{keep_keyed, without_keyed}
-use Rattle.scim_tables.specs.Lists.{Lists, Are, has_text, resource_values}
-use Rattle.scim_tables.specs.Audit.{audit_values}
-use Rattle.scim_tables.specs.declared.audit.AuditColumns.{AuditColumns}
+use Rattle.scim_store_tables.specs.Lists.{Lists, Are, has_text, resource_values}
+use Rattle.scim_store_tables.specs.Audit.{audit_values}
+use Rattle.scim_store_tables.specs.declared.audit.AuditColumns.{AuditColumns}
 use Rattle.scim_store.specs.declared.edits.Edits.{Edits}
-use Rattle.scim_audit_rows.specs.Audit.{kind_number, audit_row, audit_rows}
-use Rattle.scim_looks.specs.Stands.{Entry, StandsFor, IsEntry, AreMembers, is_among, lists_of, resource_row, name_row, name_rows, member_row, member_rows}
+use Rattle.scim_store_rows.specs.Audit.{kind_number, audit_row, audit_rows}
+use Rattle.scim_store_rows.specs.Stands.{Entry, StandsFor, IsEntry, AreMembers, is_among, lists_of, resource_row, name_row, name_rows, member_row, member_rows}
 use Rattle.scim_store.specs.Edits.{is_name, is_member, rows_of_names, rows_of_members, rows_of_document, edited, edited_by, with_row, names_in, names_beyond, lists_in, Replaces, AreEdits, Writes}
 use Rattle.scim_store.proofs.RowLemmas.{reordered}
-use Rattle.scim_looks.proofs.Facts.{own, lower, upper, others, split, found, own_id, other_own, own_apart, others_all, ids_apart}
+use Rattle.scim_store_rows.proofs.Facts.{own, lower, upper, others, split, found, own_id, other_own, own_apart, others_all, ids_apart}
 use Rattle.scim_store.proofs.EntryLemmas.{replaced, each_one, resource_goes, resource_stays, own_member, other_member, staying, among_staying, none_among, once_more}
 use Rattle.scim_store.proofs.NameLemmas.{names_kept, names_stay, none_named, swapped}
 

@@ -15,7 +15,7 @@ use denote.Ref.{Bor}
 use Rattle.sqlite_trees.proofs.ListLemmas.{filter-map}
 use Rattle.scim_shelf.specs.code.Members.{is_in}
 use Rattle.scim_shelf.proofs.StoreLemmas.{ids_differ}
-use Rattle.scim_looks.specs.Stands.{is_among}
+use Rattle.scim_store_rows.specs.Stands.{is_among}
 use Rattle.scim_store.proofs.EntryLemmas.{staying, among_staying}
 
 -- the texts that are borrowed

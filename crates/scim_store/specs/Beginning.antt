@@ -2,8 +2,8 @@
 use Rattle.std.specs.Prelude.{◌≡◌, ℕ, List, []}
 use Rattle.sqlite.specs.Effect.{Database}
 use Rattle.scim_shelf.specs.Stores.{Store}
-use Rattle.scim_tables.specs.Tables.{no_schema}
-use Rattle.scim_looks.specs.Stands.{StandsFor}
+use Rattle.scim_store_tables.specs.Tables.{no_schema}
+use Rattle.scim_store_rows.specs.Stands.{StandsFor}
 
 -- no resource and no row of the audit
 abbrev pub no_store : Store

@@ -7,7 +7,7 @@ use Rattle.scim_cell.specs.Content.{Content}
 use Rattle.scim_audit.specs.declared.rows.AuditRow.{AuditRow}
 use Rattle.scim_shelf.specs.declared.changes.Change.{Change}
 use Rattle.scim_shelf.specs.Stores.{Store, CanKeep, IsOld, after}
-use Rattle.scim_looks.specs.Stands.{StandsFor}
+use Rattle.scim_store_rows.specs.Stands.{StandsFor}
 
 -- where the connection is open, its tables stand for the store, and are committed
 pub record HasStore (base : List ℕ) (s : State) (store : Store) : Type 0 where

@@ -9,9 +9,9 @@ use Rattle.std.specs.Cmp.Lexicographic.{slice_cmp}
 use Rattle.sqlite.specs.Order.{Row, column, value_cmp}
 use Rattle.scim_cell.specs.Ids.{IsId}
 use Rattle.scim_shelf.specs.Stores.{AreKeyed}
-use Rattle.scim_tables.specs.Reading.{DoNotFall, owner_first, group_first}
+use Rattle.scim_store_tables.specs.Reading.{DoNotFall, owner_first, group_first}
 use Rattle.scim_store.specs.Owners.{is_of}
-use Rattle.scim_looks.specs.Stands.{Entry, IsEntry, resource_row, name_rows, member_rows}
+use Rattle.scim_store_rows.specs.Stands.{Entry, IsEntry, resource_row, name_rows, member_rows}
 use Rattle.scim_store.specs.declared.damage.Judged.{Judged}
 use Rattle.scim_store.specs.declared.damage.Judged.TheVariants.{Sound, Damaged, Foreign}
 

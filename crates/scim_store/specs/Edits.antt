@@ -16,12 +16,12 @@ use Rattle.scim_audit.specs.declared.rows.AuditRow.{AuditRow}
 use Rattle.scim_shelf.specs.declared.changes.Change.{Change}
 use Rattle.scim_shelf.specs.declared.changes.Change.TheVariants.{Nothing, Keep, Remove}
 use Rattle.scim_shelf.specs.Stores.{Store, CanKeep, after, is_same_name, of_id}
-use Rattle.scim_tables.specs.Lists.{Lists, without, has_text, has_texts, resource_values, name_values, member_values}
-use Rattle.scim_tables.specs.Audit.{audit_values}
-use Rattle.scim_tables.specs.declared.audit.AuditColumns.{AuditColumns}
+use Rattle.scim_store_tables.specs.Lists.{Lists, without, has_text, has_texts, resource_values, name_values, member_values}
+use Rattle.scim_store_tables.specs.Audit.{audit_values}
+use Rattle.scim_store_tables.specs.declared.audit.AuditColumns.{AuditColumns}
 use Rattle.scim_store.specs.declared.edits.Edits.{Edits}
-use Rattle.scim_audit_rows.specs.Audit.{kind_number, audit_row}
-use Rattle.scim_looks.specs.Stands.{StandsFor, is_among}
+use Rattle.scim_store_rows.specs.Audit.{kind_number, audit_row}
+use Rattle.scim_store_rows.specs.Stands.{StandsFor, is_among}
 
 -- whether a row is that of one of these names, whoever has it
 abbrev pub is_name : List UniqueName → Row → Bool

@@ -6,9 +6,9 @@ use Rattle.sqlite.specs.Tree.{Trees}
 use Rattle.scim_cell.specs.Content.{Content}
 use Rattle.scim_value.specs.Resource.{HasBase}
 use Rattle.scim_shelf.specs.Stores.{Store, IsNewStore}
-use Rattle.scim_tables.specs.Lists.{Are}
-use Rattle.scim_tables.specs.Tables.{no_schema}
-use Rattle.scim_looks.specs.Stands.{Entry, IsEntry, StandsFor, lists_of}
+use Rattle.scim_store_tables.specs.Lists.{Are}
+use Rattle.scim_store_tables.specs.Tables.{no_schema}
+use Rattle.scim_store_rows.specs.Stands.{Entry, IsEntry, StandsFor, lists_of}
 
 -- the tables hold the rows of these resources, which stand below the base, in any order, and no row of the audit
 pub record HoldRowsOf (base : List ℕ) (cs : List Content) (db : Database) : Type 0 where

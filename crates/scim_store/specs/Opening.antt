@@ -5,17 +5,17 @@ use Rattle.sqlite.specs.Order.{Row}
 use Rattle.sqlite.specs.State.{State}
 use Rattle.scim_audit.specs.declared.rows.AuditRow.{AuditRow}
 use Rattle.scim_shelf.specs.Stores.{Store}
-use Rattle.scim_tables.specs.Tables.{no_schema}
-use Rattle.scim_tables.specs.Reading.{shown}
-use Rattle.scim_tables.specs.Whole.{AreRowsOf, Is, IsUntouched}
-use Rattle.scim_tables.specs.declared.tables.TableRows.{TableRows}
-use Rattle.scim_tables.specs.declared.tables.Reading.TheVariants.{WrongVersion as OtherVersion}
+use Rattle.scim_store_tables.specs.Tables.{no_schema}
+use Rattle.scim_store_tables.specs.Reading.{shown}
+use Rattle.scim_store_tables.specs.Whole.{AreRowsOf, Is, IsUntouched}
+use Rattle.scim_store_tables.specs.declared.tables.TableRows.{TableRows}
+use Rattle.scim_store_tables.specs.declared.tables.Reading.TheVariants.{WrongVersion as OtherVersion}
 use Rattle.scim_store.specs.declared.opening.Examined.{Examined}
 use Rattle.scim_store.specs.declared.opening.Examined.TheVariants.{Empty, Stands, WrongVersion, Damaged, Foreign}
-use Rattle.scim_audit_rows.specs.Audit.{audit_rows}
-use Rattle.scim_audit_rows.specs.AuditBack.{IsSound}
+use Rattle.scim_store_rows.specs.Audit.{audit_rows}
+use Rattle.scim_store_rows.specs.AuditBack.{IsSound}
 use Rattle.scim_store.specs.Damage.{Tables, IsLeastDamage}
-use Rattle.scim_looks.specs.Stands.{StandsFor}
+use Rattle.scim_store_rows.specs.Stands.{StandsFor}
 
 -- the tables stand for no store, unless for one with rows of the audit that no program of ours could write
 abbrev pub StandForNoSound : List ℕ → Database → Type 0

@@ -3,7 +3,7 @@ use Rattle.std.specs.Prelude.{◌≡◌, ℕ, Bool, true, List}
 use Rattle.std.specs.List.{list_any}
 use Rattle.sqlite.specs.Order.{Row}
 use Rattle.scim_cell.specs.Ids.{IsId, id_text}
-use Rattle.scim_tables.specs.Lists.{has_text}
+use Rattle.scim_store_tables.specs.Lists.{has_text}
 
 -- whether the row is of the resource with an id: its first column is the text of the id
 abbrev pub is_of : List ℕ → Row → Bool

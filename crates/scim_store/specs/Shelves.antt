@@ -4,14 +4,14 @@ use Rattle.sqlite.specs.Effect.{Database}
 use Rattle.sqlite.specs.Tree.{Trees}
 use Rattle.sqlite.specs.State.{State, HasCleanDisk}
 use Rattle.scim_shelf.specs.Stores.{Store}
-use Rattle.scim_tables.specs.Tables.{no_schema}
+use Rattle.scim_store_tables.specs.Tables.{no_schema}
 use Rattle.scim_store.specs.declared.opening.Examined.TheVariants.{WrongVersion as OtherVersion, Damaged as DamagedAt}
 use Rattle.scim_store.specs.declared.shelf.OpenFault.{OpenFault}
 use Rattle.scim_store.specs.declared.shelf.OpenFault.TheVariants.{WrongVersion, Damaged, Store as NoStore, NoMemory}
 use Rattle.scim_store.specs.Beginning.{no_store}
 use Rattle.scim_store.specs.Committing.{HasStore}
 use Rattle.scim_store.specs.Opening.{IsFor}
-use Rattle.scim_looks.specs.Stands.{StandsFor}
+use Rattle.scim_store_rows.specs.Stands.{StandsFor}
 
 -- The store is kept in the tables, if the disk gave back what was written; and it has so many rows of the audit.
 pub record IsKeptIn (base : List ℕ) (s : State) (rows : ℕ) (store : Store) : Type 0 where

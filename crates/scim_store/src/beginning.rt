@@ -3,10 +3,10 @@
 ghost use Rattle.std.specs.Prelude.{◌≡◌, false, OnOk, OnErr};
 ghost use Rattle.sqlite.specs.State.{HasCleanDisk, Survives};
 ghost use Rattle.sqlite.specs.Held.{state};
-ghost use Rattle.scim_tables.specs.Steps.{Became, Undoes, Leaves};
+ghost use Rattle.scim_store_tables.specs.Steps.{Became, Undoes, Leaves};
 ghost use Rattle.scim_store.specs.Beginning.{Begins};
 
-use scim_tables::create_tables;
+use scim_store_tables::create_tables;
 use sqlite::{Alter, Connection, Error};
 
 /// Makes the tables of a store in a database that has no table, index or view, in one transaction. They stand for a

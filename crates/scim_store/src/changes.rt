@@ -8,7 +8,7 @@ ghost use Rattle.scim_value.specs.Resource.{HasBase};
 ghost use Rattle.scim_value.specs.Uniqueness.{name_of};
 ghost use Rattle.scim_shelf.specs.code.Members.{is_found, is_in, value_in};
 ghost use Rattle.scim_shelf.specs.Stores.{IsOld};
-ghost use Rattle.scim_looks.specs.Stands.{is_among};
+ghost use Rattle.scim_store_rows.specs.Stands.{is_among};
 ghost use Rattle.scim_store.specs.Edits as spec;
 
 use crate::edits::Edits;

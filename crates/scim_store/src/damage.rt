@@ -11,8 +11,8 @@ ghost use Rattle.scim_cell.specs.Content.{Content};
 ghost use Rattle.scim_cell.specs.Ids.{IsId, id_text};
 ghost use Rattle.scim_value.specs.Members.{lists_value};
 ghost use Rattle.scim_value.specs.Uniqueness.{name_of};
-ghost use Rattle.scim_audit_rows.specs.Audit.{kind_number as spec_number};
-ghost use Rattle.scim_looks.specs.Stands.{is_among};
+ghost use Rattle.scim_store_rows.specs.Audit.{kind_number as spec_number};
+ghost use Rattle.scim_store_rows.specs.Stands.{is_among};
 ghost use Rattle.std.specs.List.{IsDistinct};
 ghost use Rattle.scim_store.specs.Owners.{HasOwner, is_owner};
 ghost use Rattle.scim_store.specs.Damage as spec;
@@ -20,7 +20,7 @@ ghost use Rattle.scim_store.specs.code.Damage as code;
 
 use crate::changes::values_of;
 use crate::owners::{has_text, have_owners, note_owners, rows_of, value_in};
-use scim_audit_rows::kind_number;
+use scim_store_rows::kind_number;
 use scim_cell::{Id, Text};
 use scim_json::read_stored;
 use scim_text::{Failed, NoMemory, push};
@@ -48,7 +48,7 @@ pub enum Judged {
 #[derive(Clone, Copy, PartialEq, Eq)]
 pub struct Unreadable;
 
-/// The rows of the tables of resources, as `read_tables` of `scim_tables` tells them.
+/// The rows of the tables of resources, as `read_tables` of `scim_store_tables` tells them.
 #[derive(Drop)]
 pub struct ResourceRows {
     /// Id, kind and document of each resource.

@@ -9,8 +9,8 @@ ghost use Rattle.sqlite.specs.declared.types.Value.TheVariants.{Text};
 ghost use Rattle.sqlite.specs.Order.{column, value_cmp};
 ghost use Rattle.sqlite_value.specs.Value.{owned};
 ghost use Rattle.scim_cell.specs.Ids.{IsId, id_text};
-ghost use Rattle.scim_tables.specs.Lists as tables;
-ghost use Rattle.scim_tables.specs.Reading.{DoNotFall};
+ghost use Rattle.scim_store_tables.specs.Lists as tables;
+ghost use Rattle.scim_store_tables.specs.Reading.{DoNotFall};
 ghost use Rattle.scim_store.specs.Owners.{is_of, HasOwner, is_owner};
 ghost use Rattle.scim_store.specs.code.Damage.{IsPartedAt};
 

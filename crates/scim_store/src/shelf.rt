@@ -8,13 +8,13 @@ ghost use Rattle.scim_text.specs.declared.memory.Failed.{Failed};
 ghost use Rattle.scim_shelf.specs.declared.faults.ShelfFault.{ShelfFault};
 ghost use Rattle.scim_shelf.specs.Shelves.{Counts, Answers, OnlyReads};
 ghost use Rattle.scim_shelf.specs.Stores.{Store, last_number};
-ghost use Rattle.scim_looks.specs.Auditing.{AreRowsFrom};
+ghost use Rattle.scim_store_rows.specs.Auditing.{AreRowsFrom};
 ghost use Rattle.scim_store.specs.Committing.{HasStore};
-ghost use Rattle.scim_tables.specs.Reading.{Rests};
-ghost use Rattle.scim_tables.specs.Tables.{no_schema};
-ghost use Rattle.scim_tables.specs.Steps.{Leaves};
+ghost use Rattle.scim_store_tables.specs.Reading.{Rests};
+ghost use Rattle.scim_store_tables.specs.Tables.{no_schema};
+ghost use Rattle.scim_store_tables.specs.Steps.{Leaves};
 ghost use Rattle.scim_store.specs.Beginning.{no_store, Begins};
-ghost use Rattle.scim_looks.specs.Finding.{StandsIn};
+ghost use Rattle.scim_store_rows.specs.Finding.{StandsIn};
 ghost use Rattle.scim_store.specs.Shelves.{IsKeptIn, HasOpened, Refuses, LeavesBegun};
 
 use crate::beginning::begin_store;
@@ -22,7 +22,7 @@ use crate::committing::{CommitFault, commit_change, commit_over};
 use crate::opening::{Examined, examine};
 use scim_audit::AuditRow;
 use scim_cell::{Id, Text};
-use scim_looks::{
+use scim_store_rows::{
     LAST_NUMBER, find_by_id, find_groups_with, find_owner_of_name, read_audit_rows, walk,
 };
 use scim_schema::Kind;

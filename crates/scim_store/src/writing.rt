@@ -3,18 +3,15 @@
 ghost use Rattle.std.specs.Prelude.{◌≡◌, ◌≤◌, ◌∷◌, ◌++◌, false, OnOk, OnErr};
 ghost use Rattle.sqlite.specs.State.{HasCleanDisk, Survives};
 ghost use Rattle.sqlite.specs.Held.{state};
-ghost use Rattle.scim_tables.specs.Audit.{last_number, audit_values};
-ghost use Rattle.scim_tables.specs.Lists.{Lists, Are, without, has_text, resource_values};
-ghost use Rattle.scim_tables.specs.Steps.{Goes, Keeps, Became, Undoes, Leaves};
+ghost use Rattle.scim_store_tables.specs.Audit.{last_number, audit_values};
+ghost use Rattle.scim_store_tables.specs.Lists.{Lists, Are, without, has_text, resource_values};
+ghost use Rattle.scim_store_tables.specs.Steps.{Goes, Keeps, Became, Undoes, Leaves};
 ghost use Rattle.scim_store.specs.Edits.{is_name, is_member, rows_of_names, rows_of_members, rows_of_document, edited, edited_by, with_row, Writes};
 
 use crate::edits::Edits;
-use scim_audit_rows::kind_number;
+use scim_store_rows::kind_number;
 use scim_cell::Text;
-use scim_tables::{
-    AuditColumns, delete_member, delete_name, delete_resource, insert_audit, insert_member,
-    insert_name, insert_resource, update_resource,
-};
+use scim_store_tables::{AuditColumns, delete_member, delete_name, delete_resource, insert_audit, insert_member, insert_name, insert_resource, update_resource};
 use scim_value::UniqueName;
 use sqlite::{Alter, Connection, Error, ErrorCode, Transaction};
 

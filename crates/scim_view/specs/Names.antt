@@ -7,10 +7,10 @@ use Rattle.scim_schema.specs.declared.Leaf.{Leaf}
 use Rattle.scim_schema.specs.declared.schemas.Schema.{Schema}
 use Rattle.scim_schema.specs.Schemas.{extension_of, is_same_schema}
 use Rattle.scim_schema.specs.Units.{leaf_at, is_same_attribute, is_same_leaf}
-use Rattle.scim_filter.specs.declared.tree.Meant.{Meant}
-use Rattle.scim_filter.specs.declared.tree.Meant.TheVariants.{Nothing, Attribute as AnAttribute, SubAttribute as ASubAttribute}
-use Rattle.scim_filter.specs.declared.tree.Path.{Path}
-use Rattle.scim_filter.specs.Spelled.{path_in}
+use Rattle.scim_filter_grammar.specs.declared.tree.Meant.{Meant}
+use Rattle.scim_filter_grammar.specs.declared.tree.Meant.TheVariants.{Nothing, Attribute as AnAttribute, SubAttribute as ASubAttribute}
+use Rattle.scim_filter_grammar.specs.declared.tree.Path.{Path}
+use Rattle.scim_filter_grammar.specs.Spelled.{path_in}
 use Rattle.scim_path.specs.Paths.{extension_named}
 use Rattle.scim_view.specs.declared.names.Names.{Names}
 

@@ -5,7 +5,7 @@ ghost use Rattle.scim_schema.specs.declared.Leaf.{Leaf};
 ghost use Rattle.scim_schema.specs.Units.{is_same_attribute, is_same_leaf};
 ghost use Rattle.scim_view.specs.Names as spec;
 
-use scim_filter::{Meant, attribute_path};
+use scim_filter_grammar::{Meant, attribute_path};
 use scim_path::extension_named;
 use scim_schema::{Attribute, Kind, Leaf, Schema, extension_of};
 use scim_text::NoMemory;

@@ -7,3 +7,8 @@ pub mod WireLemmas
 pub mod WritingLemmas
 pub mod ReplyLemmas
 pub mod Facts
+pub mod FrontLemmas
+pub mod ChunkLawLemmas
+pub mod ChunkLineLemmas
+pub mod ChunkStepLemmas
+pub mod TrailerLemmas

@@ -9,10 +9,10 @@ use Rattle.std.proofs.lemmas.List.Concat.{flat_map-append}
 use Rattle.scim_audit.specs.declared.refusals.Refusal.{Refusal}
 use Rattle.scim_audit.specs.declared.refusals.Refusal.TheVariants.{BadHead}
 use Rattle.scim_wire.specs.declared.framings.Framing.{Framing}
-use Rattle.scim_chunks.specs.Chunked.{IsChunked, IsBadChunked}
-use Rattle.scim_chunks.specs.declared.chunked.ChunkedPart.{ChunkedPart}
-use Rattle.scim_chunks.specs.declared.faults.BadChunks.{BadChunks}
-use Rattle.scim_chunks.specs.Parts as chunks
+use Rattle.scim_wire.specs.Chunked.{IsChunked, IsBadChunked}
+use Rattle.scim_wire.specs.declared.chunked.ChunkedPart.{ChunkedPart}
+use Rattle.scim_wire.specs.declared.chunk_faults.BadChunks.{BadChunks}
+use Rattle.scim_wire.specs.ChunkParts as chunks
 use Rattle.scim_wire.specs.declared.message_heads.MessageHead.{MessageHead}
 use Rattle.scim_wire.specs.declared.messages.Item.{Item}
 use Rattle.scim_wire.specs.declared.messages.Item.TheVariants.{Continue, Whole, Refused}

@@ -2,9 +2,9 @@
 use Rattle.std.specs.Prelude.{◌≡◌, ℕ, ◌<◌, Bool, true, List, ◌++◌, length, nat_lt}
 use Rattle.scim_audit.specs.declared.refusals.Refusal.{Refusal}
 use Rattle.scim_audit.specs.declared.refusals.Refusal.TheVariants as refusals
-use Rattle.scim_chunks.specs.Chunked.{IsChunked, IsChunkedPart, IsBadChunked}
-use Rattle.scim_chunks.specs.declared.faults.BadChunks.{BadChunks}
-use Rattle.scim_chunks.specs.declared.faults.BadChunks.TheVariants.{TooLarge, Malformed}
+use Rattle.scim_wire.specs.Chunked.{IsChunked, IsChunkedPart, IsBadChunked}
+use Rattle.scim_wire.specs.declared.chunk_faults.BadChunks.{BadChunks}
+use Rattle.scim_wire.specs.declared.chunk_faults.BadChunks.TheVariants.{TooLarge, Malformed}
 use Rattle.scim_wire.specs.declared.framings.Framing.{Framing}
 use Rattle.scim_wire.specs.declared.framings.Framing.TheVariants.{Sized, Chunked}
 

@@ -11,3 +11,6 @@ pub mod Streams
 pub mod Tokens
 pub mod Wires
 pub mod code
+pub mod Chunked
+pub mod Fronts
+pub mod ChunkParts

@@ -1,6 +1,10 @@
 //! What SCIM says over HTTP/1.1 (RFC 9112): requests are read from a stream, and replies are printed.
 #![tactic(auto)]
 
+mod chunk_faults;
+mod chunk_laws;
+mod chunk_lines;
+mod chunked;
 mod ends;
 mod framings;
 mod head_steps;
@@ -17,9 +21,13 @@ mod state_steps;
 mod states;
 mod texts;
 mod tokens;
+mod trailers;
 mod wires;
 mod writing;
 
+pub use chunk_faults::BadChunks;
+pub use chunk_laws::chunked_bodies_are_read_in_one_way;
+pub use chunked::{ChunkedPart, Step};
 pub use laws::streams_are_read_in_one_way;
 pub use messages::{Item, Message};
 pub use octets::Octets;

@@ -14,7 +14,8 @@ use crate::octets::Octets;
 use crate::parts::{HeadPart, HeadStep};
 use crate::states::{BodyPart, ChunksPart, State, StateStep};
 use scim_audit::Refusal;
-use scim_chunks::{BadChunks, ChunkedPart, Step};
+use crate::chunk_faults::BadChunks;
+use crate::chunked::{ChunkedPart, Step};
 use scim_text::{Failed, NoMemory};
 use std::alloc::Global;
 

@@ -6,7 +6,7 @@ use crate::message_heads::MessageHead;
 use crate::messages::Item;
 use crate::parts::HeadPart;
 use crate::state_steps::take_in_head;
-use scim_chunks::ChunkedPart;
+use crate::chunked::ChunkedPart;
 use scim_text::NoMemory;
 use std::alloc::Global;
 

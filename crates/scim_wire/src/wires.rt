@@ -47,7 +47,7 @@ impl Wire {
     ///   request line and headers (RFC 9112 sections 2 to 5);
     /// - `TooLarge`: a `Content-Length` above 1,048,576, or chunks of more bytes together;
     /// - `BadFraming`: a `Content-Length` that is no number, or one beside another or beside a `Transfer-Encoding`, or
-    ///   two of these (RFC 9112 section 6.3); or a body that isn't chunked, as [`scim_chunks::BadChunks`] says;
+    ///   two of these (RFC 9112 section 6.3); or a body that isn't chunked, as [`crate::BadChunks`] says;
     /// - `UnknownCoding`: a transfer coding that isn't `chunked` (RFC 9112 section 7).
     ///
     /// Of several causes the first counts. The only error is [`NoMemory`].

@@ -4,7 +4,7 @@ use scim_command::{
     AuditOptions, CommandFault, DEFAULT_BASE, ExplainOptions, ExportOptions, FileKind,
     ImportOptions, find_file, policy_at, read_file,
 };
-use scim_database::{DatabaseWork, Explaining, Importing, Question, unopened};
+use scim_command_database::{DatabaseWork, Explaining, Importing, Question, unopened};
 use scim_json::read_documents;
 use sqlite::Connection;
 

@@ -2,11 +2,10 @@
 use crate::databases::with_database;
 use clap::ArgMatches;
 use scim_cell::Text;
-use scim_command::{CommandFault, RunFault, ServeOptions, policy_at};
-use scim_database::{DatabaseWork, open_cached};
+use scim_command::{CommandFault, RunFault, ServeOptions, policy_at, tokens_at};
+use scim_command_database::{DatabaseWork, open_cached};
 use scim_hub::Hub;
 use scim_policy::Policy;
-use scim_replay::tokens_at;
 use scim_route::Routes;
 use scim_serve::serve;
 use scim_service::Service;

@@ -3,15 +3,15 @@ use Rattle.std.specs.Prelude.{◌≡◌, ℕ, zero, suc, List, [], ◌∷◌, �
 use Rattle.std.specs.Coded.{Coded, code_by, coded×, coded⊎, coded_ℕ, coded_list}
 use mathlib.Core.Path.{refl, ap, ◌∙◌}
 use mathlib.Core.Logic.{inl, inr}
-use Rattle.scim_filter.specs.declared.tree.Meant.TheVariants as meant
-use Rattle.scim_filter.specs.declared.tree.Operator.{Operator}
-use Rattle.scim_filter.specs.declared.tree.Literal.{Literal}
-use Rattle.scim_filter.specs.declared.tree.Path.{Path}
-use Rattle.scim_filter.specs.contracts.tree.Operator as operator
-use Rattle.scim_filter.specs.contracts.tree.Literal as literal
-use Rattle.scim_filter.specs.contracts.tree.Path as path
-use Rattle.scim_filter.specs.Tree as tree
-use Rattle.scim_filter.specs.Tree.{Tree}
+use Rattle.scim_filter_grammar.specs.declared.tree.Meant.TheVariants as meant
+use Rattle.scim_filter_grammar.specs.declared.tree.Operator.{Operator}
+use Rattle.scim_filter_grammar.specs.declared.tree.Literal.{Literal}
+use Rattle.scim_filter_grammar.specs.declared.tree.Path.{Path}
+use Rattle.scim_filter_grammar.specs.contracts.tree.Operator as operator
+use Rattle.scim_filter_grammar.specs.contracts.tree.Literal as literal
+use Rattle.scim_filter_grammar.specs.contracts.tree.Path as path
+use Rattle.scim_filter_grammar.specs.Tree as tree
+use Rattle.scim_filter_grammar.specs.Tree.{Tree}
 
 -- what is put on the stack, or what is made of the last one or two trees on it
 pub data Step : Type 0 where

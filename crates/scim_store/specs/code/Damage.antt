@@ -6,17 +6,17 @@ use Rattle.std.specs.HashSet.{HashSet, contains_by}
 use denote.Ref.{Bor}
 use Rattle.std.specs.List.Sorted.{IsStrictlySortedBy}
 use Rattle.scim_value.specs.Members.{lists_value}
-use Rattle.scim_looks.specs.Stands.{is_among}
+use Rattle.scim_store_rows.specs.Stands.{is_among}
 use Rattle.scim_store.specs.Owners.{HasOwner}
 use Rattle.scim_store.specs.Damage.{Tables}
 use Rattle.sqlite.specs.declared.types.Value.{Value}
 use Rattle.sqlite.specs.declared.types.Value.TheVariants.{Int, Text}
 use Rattle.sqlite.specs.Order.{Row, column}
-use Rattle.scim_tables.specs.Lists.{has_text, resource_values}
+use Rattle.scim_store_tables.specs.Lists.{has_text, resource_values}
 use Rattle.scim_cell.specs.Content.{Content}
 use Rattle.scim_cell.specs.Ids.{id_text}
 use Rattle.scim_json.specs.Stored.{IsDocumentText}
-use Rattle.scim_audit_rows.specs.Audit.{kind_number}
+use Rattle.scim_store_rows.specs.Audit.{kind_number}
 use Rattle.scim_schema.specs.Names.{attribute_name}
 use Rattle.scim_value.specs.Uniqueness.{Name, unique_names}
 

@@ -1,6 +1,6 @@
 -- What is kept of a stream, and what a byte makes of it.
 use Rattle.std.specs.Prelude.{◌≡◌, ℕ, ◌+◌, ◌<◌, List, [], ◌∷◌, ◌++◌, length, Option, Some, None, Ok}
-use Rattle.scim_chunks.specs.Parts as chunks
+use Rattle.scim_wire.specs.ChunkParts as chunks
 use Rattle.scim_wire.specs.declared.framings.Framing.TheVariants.{Sized, Chunked}
 use Rattle.scim_wire.specs.declared.message_heads.MessageHead.{MessageHead}
 use Rattle.scim_wire.specs.declared.messages.Item.{Item}

@@ -1,5 +1,5 @@
 use Rattle.std.proofs.Common.{ap}
-use Rattle.scim_tree.specs.View.{members_view}
+use Rattle.scim_body.specs.View.{members_view}
 use Rattle.scim_schema.specs.Table.{attributes}
 use Rattle.scim_body.specs.BodyValues.{collected}
 use Rattle.scim_body.specs.Bodies.{all_given, given_of}

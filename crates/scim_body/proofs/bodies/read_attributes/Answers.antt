@@ -1,5 +1,5 @@
 use Rattle.std.proofs.Common.{◌∙◌}
-use Rattle.scim_tree.specs.View.{members_view}
+use Rattle.scim_body.specs.View.{members_view}
 use Rattle.scim_body.specs.Bodies.{given_of}
 use Rattle.scim_body.specs.code.Given.{units_given}
 use Rattle.scim_body.proofs.BodyLemmas.{collected_at}

@@ -1,5 +1,5 @@
 use Rattle.std.proofs.Common.{◌≡◌, drop}
-use Rattle.scim_tree.specs.View.{members_view}
+use Rattle.scim_body.specs.View.{members_view}
 use Rattle.scim_body.specs.BodyValues.{collected}
 use Rattle.scim_body.specs.Bodies.{given_of}
 use Rattle.scim_body.specs.code.Given.{with_given}

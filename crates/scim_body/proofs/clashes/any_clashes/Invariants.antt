@@ -1,6 +1,6 @@
 use Rattle.std.proofs.Common.{◌≡◌, drop}
 use Rattle.std.specs.List.{list_any}
-use Rattle.scim_tree.specs.View.{items_view}
+use Rattle.scim_body.specs.View.{items_view}
 use Rattle.scim_body.specs.BodyNames.{items_list, value_clashes}
 use Rattle.scim_body.proofs.clashes.any_clashes.Given as goal
 

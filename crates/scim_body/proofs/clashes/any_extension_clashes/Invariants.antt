@@ -1,6 +1,6 @@
 use Rattle.std.proofs.Common.{◌≡◌, drop}
 use Rattle.std.specs.List.{list_any}
-use Rattle.scim_tree.specs.View.{members_view}
+use Rattle.scim_body.specs.View.{members_view}
 use Rattle.scim_body.specs.BodyNames.{extension_clashes}
 use Rattle.scim_body.proofs.clashes.any_extension_clashes.Given as goal
 

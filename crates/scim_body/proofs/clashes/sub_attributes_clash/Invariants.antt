@@ -1,6 +1,6 @@
 use Rattle.std.proofs.Common.{◌≡◌, drop}
 use Rattle.std.specs.List.{list_any}
-use Rattle.scim_tree.specs.View.{members_view}
+use Rattle.scim_body.specs.View.{members_view}
 use Rattle.scim_schema.specs.declared.SubAttribute.{SubAttribute}
 use Rattle.scim_schema.specs.Names.{sub_attribute_name}
 use Rattle.scim_body.specs.BodyNames.{is_twice}

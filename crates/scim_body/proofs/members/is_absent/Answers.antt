@@ -1,6 +1,6 @@
 use Rattle.std.proofs.Common.{◌≡◌, ◌==◌, length, rules, sym, ap, ◌∙◌}
-use Rattle.scim_tree.proofs.Views.{view-Array}
-use Rattle.scim_tree.specs.View.{view}
+use Rattle.scim_body.proofs.Views.{view-Array}
+use Rattle.scim_body.specs.View.{view}
 use Rattle.scim_body.specs.BodyValues.{is_absent}
 use Rattle.scim_body.proofs.BodyLemmas.{absent_items}
 use Rattle.scim_body.proofs.members.is_absent.Goals as goal

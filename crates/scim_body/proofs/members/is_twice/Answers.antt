@@ -1,8 +1,8 @@
 -- Of less than two members none has the key of another.
 use Rattle.std.proofs.Common.{◌≡◌, ◌<◌, ◌∷◌, [], ℕ, List, Bool, true, false, Bor, length, nat_lt, if◌then◌else◌, refl, arith}
 use Rattle.serde_json.specs.Data.{Data}
-use Rattle.scim_tree.specs.View.{view, members_view}
-use Rattle.scim_tree.specs.declared.trees.Tree.{Tree}
+use Rattle.scim_body.specs.View.{view, members_view}
+use Rattle.scim_body.specs.declared.trees.Tree.{Tree}
 use Rattle.scim_text.specs.Names.{is_same_name}
 use Rattle.scim_body.specs.BodyNames.{is_twice}
 use Rattle.scim_body.proofs.members.is_twice.Goals as goal

@@ -1,5 +1,5 @@
 use Rattle.std.proofs.Common.{◌≡◌, drop}
-use Rattle.scim_tree.specs.View.{members_view}
+use Rattle.scim_body.specs.View.{members_view}
 use Rattle.scim_body.specs.BodyNames.{values_named}
 use Rattle.scim_body.proofs.members.value_named.Given as goal
 

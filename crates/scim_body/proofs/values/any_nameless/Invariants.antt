@@ -1,6 +1,6 @@
 use Rattle.std.proofs.Common.{◌≡◌, drop}
 use Rattle.std.specs.List.{list_any}
-use Rattle.scim_lists.specs.SameValues.{is_nameless}
+use Rattle.scim_cell.specs.SameValues.{is_nameless}
 use Rattle.scim_body.proofs.values.any_nameless.Given as goal
 
 -- those that are left decide

@@ -1,5 +1,5 @@
 use Rattle.std.proofs.Common.{◌≡◌, ◌++◌, drop, option_map}
-use Rattle.scim_tree.specs.View.{items_view}
+use Rattle.scim_body.specs.View.{items_view}
 use Rattle.scim_body.specs.BodyNames.{items_list}
 use Rattle.scim_body.specs.BodyValues.{collected, value_of}
 use Rattle.scim_body.proofs.values.read_items.Given as goal

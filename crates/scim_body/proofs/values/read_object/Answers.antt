@@ -1,5 +1,5 @@
 use Rattle.std.proofs.Common.{◌∙◌}
-use Rattle.scim_tree.specs.View.{members_view}
+use Rattle.scim_body.specs.View.{members_view}
 use Rattle.scim_body.specs.BodyValues.{field_in}
 use Rattle.scim_body.proofs.BodyLemmas.{collected_at}
 use Rattle.scim_body.proofs.values.read_object.Goals as goal

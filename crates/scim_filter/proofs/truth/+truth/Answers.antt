@@ -1,7 +1,7 @@
 use Rattle.std.proofs.Common.{◌≡◌, ◌∙◌, sym, true, false, arith}
 use Rattle.std.proofs.lemmas.Grind.{common_steps}
 use Rattle.scim_schema.specs.Characteristics.{is_multi_valued}
-use Rattle.scim_filter.specs.Tree.{view}
+use Rattle.scim_filter_grammar.specs.Tree.{view}
 use Rattle.scim_filter.specs.Truth.{truth}
 use Rattle.scim_filter.specs.code.Cells.{rows_in}
 use Rattle.scim_filter.proofs.LookLemmas.{values_of_looked, own_looked, own_looked_alike}

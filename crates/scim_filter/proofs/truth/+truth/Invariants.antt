@@ -1,7 +1,7 @@
 use Rattle.std.proofs.Common.{◌≡◌, drop, ◌∷◌, []}
 use Rattle.std.specs.List.{list_any}
 use Rattle.scim_cell.specs.Rows.{Row, attribute_rows}
-use Rattle.scim_filter.specs.Tree.{view}
+use Rattle.scim_filter_grammar.specs.Tree.{view}
 use Rattle.scim_filter.specs.Truth.{truth}
 use Rattle.scim_filter.specs.code.Looks.{looked}
 use Rattle.scim_filter.proofs.LookLemmas.{passes_alone}

@@ -2,9 +2,9 @@ use Rattle.std.proofs.Common.{◌≡◌, ◌≤◌, length, List, ℕ, Option, N
 use Rattle.std.specs.Prelude.{MatchOption}
 use Rattle.scim_schema.specs.declared.Kind.{Kind}
 use Rattle.scim_schema.specs.declared.schemas.Schema.{Schema}
-use Rattle.scim_filter.specs.declared.limits.TheConstants.{LONGEST_TEXT}
-use Rattle.scim_filter.specs.declared.written_paths.WrittenPath.{WrittenPath}
-use Rattle.scim_filter.specs.WrittenPaths.{Written, IsWritten, written_of}
+use Rattle.scim_filter_grammar.specs.declared.limits.TheConstants.{LONGEST_TEXT}
+use Rattle.scim_filter_grammar.specs.declared.written_paths.WrittenPath.{WrittenPath}
+use Rattle.scim_filter_grammar.specs.WrittenPaths.{Written, IsWritten, written_of}
 use Rattle.scim_path.specs.declared.faults.PathFault.{PathFault}
 use Rattle.scim_path.specs.declared.faults.PathFault.TheVariants.{Syntax}
 use Rattle.scim_path.specs.Paths.{PathTarget, OfExtension, extension_named, Reads, spelled, unspelled, Names, written_target}

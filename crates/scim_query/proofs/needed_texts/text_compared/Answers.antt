@@ -4,8 +4,8 @@ use Rattle.std.specs.Option.{option_eq}
 use denote.Enum.Bare.{same_true}
 use Rattle.scim_schema.specs.declared.Leaf.{Leaf}
 use Rattle.scim_schema.specs.Units.{is_same_leaf}
-use Rattle.scim_filter.specs.declared.tree.Operator.TheVariants.{Eq}
-use Rattle.scim_filter.specs.contracts.tree.Operator.{the_type as the_operator}
+use Rattle.scim_filter_grammar.specs.declared.tree.Operator.TheVariants.{Eq}
+use Rattle.scim_filter_grammar.specs.contracts.tree.Operator.{the_type as the_operator}
 use Rattle.scim_filter.specs.Truth.{compares}
 use Rattle.scim_query.proofs.NeededLemmas.{text_stands}
 use Rattle.scim_query.proofs.needed_texts.text_compared.Goals as goal

@@ -1,5 +1,5 @@
 use Rattle.std.proofs.Common.{sym, ◌∙◌}
-use Rattle.scim_filter.specs.Tree.{view}
+use Rattle.scim_filter_grammar.specs.Tree.{view}
 use Rattle.scim_query.proofs.PossibleMatchLemmas.{present_fails, compare_fails, position_fails}
 use Rattle.scim_query.proofs.possible_matches.+may_hold.Goals as goal
 

@@ -1,7 +1,7 @@
 use Rattle.std.proofs.Common.{sym, ◌∙◌, ap, subst₂, List, ℕ}
 use Rattle.std.proofs.lemmas.Result.{IfOk-weaker}
 use Rattle.scim_schema.specs.declared.Kind.{Kind}
-use Rattle.scim_patch.specs.Kept.{patch_of}
+use Rattle.scim_patch_steps.specs.Kept.{patch_of}
 use Rattle.scim_policy.specs.Access.{Access}
 use Rattle.scim_view.specs.View.{viewer_of}
 use Rattle.scim_shelf.specs.Stores.{AreOf}

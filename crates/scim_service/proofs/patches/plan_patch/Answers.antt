@@ -1,6 +1,6 @@
 use Rattle.std.proofs.Common.{subst}
 use Rattle.std.proofs.lemmas.Result.{IfOk-weaker}
-use Rattle.scim_patch.specs.Kept.{patch_of}
+use Rattle.scim_patch_steps.specs.Kept.{patch_of}
 use Rattle.scim_view.specs.View.{viewer_of}
 use Rattle.scim_service.specs.declared.reached.Reached.{Reached}
 use Rattle.scim_service.specs.Step.{patching}

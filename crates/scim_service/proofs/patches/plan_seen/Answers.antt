@@ -3,8 +3,8 @@ use Rattle.std.specs.Prelude.{None}
 use Rattle.std.proofs.lemmas.Result.{IfOk-weaker}
 use denote.Enum.Bare.{sameb}
 use Rattle.scim_schema.specs.contracts.Kind.{the_type as the_kind}
-use Rattle.scim_patch.specs.Patch.{touched}
-use Rattle.scim_patch.specs.Kept.{patch_of}
+use Rattle.scim_patch_steps.specs.Patch.{touched}
+use Rattle.scim_patch_steps.specs.Kept.{patch_of}
 use Rattle.scim_policy.specs.Access.{Access}
 use Rattle.scim_view.specs.View.{viewer_of}
 use Rattle.scim_service.specs.Step.{access_to, first_forbidden}

@@ -5,7 +5,7 @@ use Rattle.sqlite.specs.declared.types.Value.TheVariants.{Text}
 use Rattle.sqlite.specs.Order.{column}
 use Rattle.std.specs.Option.{option_copied}
 use Rattle.scim_store.specs.code.Damage.{is_in}
-use Rattle.scim_tables.specs.Lists.{has_text}
+use Rattle.scim_store_tables.specs.Lists.{has_text}
 use Rattle.scim_store.proofs.ApartLemmas.{text_in_is, no_text_in, none_distinct, apart_more, apart_clash, known_more, not_true, not_false}
 use Rattle.scim_store.proofs.damage.are_apart.Goals as goal
 

@@ -1,7 +1,7 @@
 use Rattle.std.proofs.Common.{◌∙◌, ap, filter, subst, sym, ◌∷◌, []}
 use Rattle.std.proofs.lemmas.Result.{IfOk-weaker}
-use Rattle.scim_tables.specs.Lists.{has_text}
-use Rattle.scim_tables.specs.Reading.{DoNotFall}
+use Rattle.scim_store_tables.specs.Lists.{has_text}
+use Rattle.scim_store_tables.specs.Reading.{DoNotFall}
 use Rattle.scim_store.specs.Damage.{Tables}
 use Rattle.scim_store.proofs.HoldLemmas.{holds_yes, holds_no, falls_less}
 use Rattle.scim_store.proofs.damage.holds_at.Goals as goal

@@ -5,7 +5,7 @@ use Rattle.std.specs.List.Sorted.{IsStrictlySortedBy}
 use Rattle.std.specs.Map.Iter.{deref}
 use Rattle.std.proofs.lemmas.List.{append-nil}
 use Rattle.std.proofs.lemmas.Map.Iter.{rest_all}
-use Rattle.scim_looks.specs.Stands.{is_among}
+use Rattle.scim_store_rows.specs.Stands.{is_among}
 use Rattle.scim_store.proofs.ValueLemmas.{texts_of, among_texts}
 use Rattle.scim_store.proofs.DamageLemmas.{texts_rise}
 use Rattle.scim_store.proofs.damage.listed_values.Goals as goal

@@ -1,7 +1,7 @@
 use Rattle.std.proofs.Common.{◌≡◌, refl, subst, rules}
 use Rattle.sqlite.specs.State.{HasCleanDisk, Survives}
 use Rattle.sqlite.specs.Held.{state}
-use Rattle.scim_tables.specs.Steps.{Leaves}
+use Rattle.scim_store_tables.specs.Steps.{Leaves}
 use Rattle.scim_store.specs.Importing.{Fills}
 use Rattle.scim_store.proofs.ImportLemmas.{fill_survives}
 use Rattle.scim_store.proofs.importing.fill.Goals as goal

@@ -3,7 +3,7 @@ use Rattle.std.specs.Prelude.{All}
 use Rattle.std.proofs.lemmas.Result.{on_ok_weaker, on_err_weaker}
 use Rattle.sqlite.specs.Held.{state}
 use Rattle.scim_value.specs.Resource.{HasBase}
-use Rattle.scim_tables.specs.Tables.{no_schema}
+use Rattle.scim_store_tables.specs.Tables.{no_schema}
 use Rattle.scim_store.proofs.ImportLemmas.{import_made, import_lasts, import_survives, rests_undone}
 use Rattle.scim_store.proofs.importing.import.Goals as goal
 

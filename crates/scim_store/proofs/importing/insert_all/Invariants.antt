@@ -2,8 +2,8 @@ use Rattle.std.proofs.Common.{◌≡◌, ℕ, List, take}
 use Rattle.std.specs.Prelude.{All}
 use Rattle.sqlite.specs.Held.{state}
 use Rattle.scim_value.specs.Resource.{HasBase}
-use Rattle.scim_tables.specs.Lists.{Are, no_rows}
-use Rattle.scim_tables.specs.Steps.{Loops}
+use Rattle.scim_store_tables.specs.Lists.{Are, no_rows}
+use Rattle.scim_store_tables.specs.Steps.{Loops}
 use Rattle.scim_store.specs.Importing.{HoldRowsOf}
 use Rattle.scim_store.proofs.importing.insert_all.Given as goal
 

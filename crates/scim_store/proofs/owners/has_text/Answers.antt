@@ -1,7 +1,7 @@
 use Rattle.std.proofs.Common.{sym, ◌∙◌, ap}
 use Rattle.std.proofs.lemmas.Map.Text.{is_eq-slice_cmp}
 use Rattle.std.specs.Str.{bytes_eq}
-use Rattle.scim_tables.specs.Lists.{is_text}
+use Rattle.scim_store_tables.specs.Lists.{is_text}
 use Rattle.scim_store.proofs.owners.has_text.Goals as goal
 
 pub returns-in-Text : goal.returns-in-Text

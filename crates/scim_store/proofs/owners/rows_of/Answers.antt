@@ -2,7 +2,7 @@ use Rattle.std.proofs.Common.{◌≡◌, true, false, sym, ◌∙◌, ap, subst,
 use Rattle.std.specs.List.Sorted.{IsPartitionPoint}
 use Rattle.std.specs.Ordering.{is_le}
 use Rattle.std.proofs.lemmas.List.{take_all, length-drop}
-use Rattle.scim_tables.specs.Reading.{DoNotFall}
+use Rattle.scim_store_tables.specs.Reading.{DoNotFall}
 use Rattle.scim_store.proofs.OwnedLemmas.{against, ascending-drop, run}
 use Rattle.scim_store.proofs.owners.rows_of.Goals as goal
 

@@ -5,8 +5,8 @@ use Rattle.sqlite.specs.Held.{state}
 use Rattle.sqlite.specs.Order.{Row}
 use Rattle.scim_schema.specs.Names.{attribute_name}
 use Rattle.scim_value.specs.declared.uniqueness.UniqueName.{UniqueName}
-use Rattle.scim_tables.specs.Lists.{Are, has_texts}
-use Rattle.scim_tables.proofs.StepLemmas.{loops_more}
+use Rattle.scim_store_tables.specs.Lists.{Are, has_texts}
+use Rattle.scim_store_tables.proofs.StepLemmas.{loops_more}
 use Rattle.scim_store.proofs.RowLemmas.{without_none, without_more}
 use Rattle.scim_store.proofs.writing.delete_names.Goals as goal
 

@@ -1,7 +1,7 @@
 use Rattle.std.proofs.Common.{◌≡◌, take}
 use Rattle.sqlite.specs.Held.{state}
-use Rattle.scim_tables.specs.Lists.{Lists, Are, without}
-use Rattle.scim_tables.specs.Steps.{Loops}
+use Rattle.scim_store_tables.specs.Lists.{Lists, Are, without}
+use Rattle.scim_store_tables.specs.Steps.{Loops}
 use Rattle.scim_store.specs.Edits.{is_name}
 use Rattle.scim_store.proofs.writing.delete_names.Given as goal
 

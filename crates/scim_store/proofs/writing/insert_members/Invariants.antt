@@ -1,7 +1,7 @@
 use Rattle.std.proofs.Common.{◌≡◌, ◌++◌, take}
 use Rattle.sqlite.specs.Held.{state}
-use Rattle.scim_tables.specs.Lists.{Lists, Are}
-use Rattle.scim_tables.specs.Steps.{Loops}
+use Rattle.scim_store_tables.specs.Lists.{Lists, Are}
+use Rattle.scim_store_tables.specs.Steps.{Loops}
 use Rattle.scim_store.specs.Edits.{rows_of_members}
 use Rattle.scim_store.proofs.writing.insert_members.Given as goal
 

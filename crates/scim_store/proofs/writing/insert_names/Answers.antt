@@ -5,8 +5,8 @@ use Rattle.std.proofs.lemmas.List.Sorted.{IsPermutation-refl}
 use Rattle.sqlite.specs.Held.{state}
 use Rattle.scim_schema.specs.Names.{attribute_name}
 use Rattle.scim_value.specs.declared.uniqueness.UniqueName.{UniqueName}
-use Rattle.scim_tables.specs.Lists.{name_values}
-use Rattle.scim_tables.proofs.StepLemmas.{loops_more}
+use Rattle.scim_store_tables.specs.Lists.{name_values}
+use Rattle.scim_store_tables.proofs.StepLemmas.{loops_more}
 use Rattle.scim_store.proofs.RowLemmas.{more_rows, reordered}
 use Rattle.scim_store.proofs.writing.insert_names.Goals as goal
 

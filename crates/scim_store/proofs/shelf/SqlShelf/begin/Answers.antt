@@ -2,7 +2,7 @@ use Rattle.std.proofs.Common.{refl, subst, sym}
 use Rattle.std.proofs.lemmas.Result.{IfOk-weaker, IfErr-weaker}
 use Rattle.sqlite.specs.Held.{state}
 use Rattle.sqlite.specs.State.{Survives}
-use Rattle.scim_tables.specs.Steps.{Leaves}
+use Rattle.scim_store_tables.specs.Steps.{Leaves}
 use Rattle.scim_store.specs.Beginning.{no_store, Begins}
 use Rattle.scim_store.proofs.ShelfLemmas.{clean_before}
 use Rattle.scim_store.proofs.shelf.SqlShelf.begin.Goals as goal

@@ -2,7 +2,7 @@ use Rattle.std.proofs.Common.{subst, sym}
 use Rattle.std.proofs.lemmas.Result.{IfOk-weaker, IfErr-weaker}
 use Rattle.sqlite.specs.Held.{state}
 use Rattle.sqlite.specs.State.{HasCleanDisk, Survives}
-use Rattle.scim_tables.specs.Reading.{Rests}
+use Rattle.scim_store_tables.specs.Reading.{Rests}
 use Rattle.scim_store.specs.Opening.{IsFor, Examines}
 use Rattle.scim_store.specs.Shelves.{LeavesBegun}
 use Rattle.scim_store.proofs.OpenLemmas.{opened_over, opened_begun, rests_untouched, untouched_survives, begun_survives}

@@ -1,0 +1,135 @@
+//! What is done over a database, and what is found in one. It is generic in what the database lies in: a function that holds a
+//! connection to one that is known is dear to prove.
+ghost use Rattle.std.specs.Prelude.{◌≡◌, false};
+
+use crate::request_parts::{RequestParts, are_answered};
+use scim_audit::{AuditRow, print_row};
+use scim_cell::Text;
+use scim_json::stored_text;
+use scim_policy_file::read_policy;
+use scim_samples::{BASE, POLICY};
+use scim_schema::Kind;
+use scim_service::Service;
+use scim_shelf::all_of;
+use scim_store::SqlShelf;
+use scim_store_tables::is_empty_database;
+use scim_text::NoMemory;
+use scim_value::Resource;
+use sqlite::{Alter, Connection};
+use std::alloc::Global;
+
+/// What is done over a database.
+#[derive(Clone, Copy)]
+pub(crate) enum Work<'a> {
+    /// A store is opened, and answers these. An empty text comes of it where none is answered by the 500.
+    Answer(&'a [RequestParts]),
+    /// What the database has is told: nothing, or the resources of the store and the rows of its audit.
+    Look,
+}
+
+/// Does it, and gives the connection back. None, where the store isn't opened, or fails.
+pub(crate) fn work_over<S: Alter>(
+    alloc: Global,
+    connection: Connection<S>,
+    work: Work<'_>,
+) -> (Option<String>, Connection<S>)
+    requires { connection.in_transaction ≡ false }
+{
+    let has_tables = !is_empty_database(&connection);
+    match SqlShelf::open(alloc, connection, BASE) {
+        Ok(shelf) => match work {
+            Work::Answer(requests) => answer(alloc, shelf, requests),
+            Work::Look => look(alloc, shelf, has_tables),
+        },
+        Err((_, connection)) => (None, connection),
+    }
+}
+
+fn answer<S: Alter>(
+    alloc: Global,
+    shelf: SqlShelf<S>,
+    requests: &[RequestParts],
+) -> (Option<String>, Connection<S>) {
+    let Ok(base) = Text::copy_of(alloc, BASE) else {
+        return (None, shelf.into_connection());
+    };
+    match read_policy(alloc, POLICY) {
+        Ok(policy) => {
+            let mut service = Service::new(policy, base, shelf);
+            let told = if are_answered(alloc, &mut service, requests) {
+                Some(String::new(alloc))
+            } else {
+                None
+            };
+            (told, service.into_shelf().into_connection())
+        }
+        Err(_) => (None, shelf.into_connection()),
+    }
+}
+
+fn look<S: Alter>(
+    alloc: Global,
+    shelf: SqlShelf<S>,
+    has_tables: bool,
+) -> (Option<String>, Connection<S>) {
+    let mut shelf = shelf;
+    let told = if has_tables {
+        told_of(alloc, &mut shelf)
+    } else {
+        Some(String::new(alloc))
+    };
+    (told, shelf.into_connection())
+}
+
+/// The documents of a store, and the rows of its audit. None, where it can't be read.
+fn told_of<S: Alter>(alloc: Global, shelf: &mut SqlShelf<S>) -> Option<String> {
+    let (Ok(users), Ok(groups)) = (
+        all_of(alloc, shelf, Kind::User),
+        all_of(alloc, shelf, Kind::Group),
+    ) else {
+        return None;
+    };
+    let Ok(rows) = shelf.audit_rows(alloc, 1, u64::MAX) else {
+        return None;
+    };
+    match text_of(alloc, users.as_slice(), groups.as_slice(), rows.as_slice()) {
+        Ok(text) => Some(text),
+        Err(_) => None,
+    }
+}
+
+fn text_of(
+    alloc: Global,
+    users: &[Resource],
+    groups: &[Resource],
+    rows: &[AuditRow],
+) -> Result<String, NoMemory> {
+    let mut text = String::from_str(alloc, "users ")?;
+    push_documents(alloc, users, &mut text)?;
+    text.push_str("groups ")?;
+    push_documents(alloc, groups, &mut text)?;
+    push_rows(alloc, rows, &mut text)?;
+    Ok(text)
+}
+
+fn push_documents(
+    alloc: Global,
+    resources: &[Resource],
+    text: &mut String,
+) -> Result<(), NoMemory> {
+    for resource in resources {
+        let document = stored_text(alloc, resource)?;
+        text.push_str(document.as_str())?;
+    }
+    Ok(())
+}
+
+fn push_rows(alloc: Global, rows: &[AuditRow], text: &mut String) -> Result<(), NoMemory> {
+    let mut number: u64 = 0;
+    for row in rows {
+        number = number.saturating_add(1);
+        let line = print_row(alloc, number, row)?;
+        text.push_str(line.as_str())?;
+    }
+    Ok(())
+}

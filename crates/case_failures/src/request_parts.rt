@@ -1,0 +1,79 @@
+//! Requests to a store, by their parts, and whether they are answered.
+use scim_body::{UseFor, read_body};
+use scim_cell::{Id, Text};
+use scim_patch_message::read_patch;
+use scim_schema::{Kind, Op};
+use scim_service::{Ask, Reply, Request, Service, Turn};
+use scim_shelf::Shelf;
+use scim_text::Moment;
+use scim_view::Wanted;
+use std::alloc::Global;
+
+/// A request: what it is about to do, with which resource, and its body, which is empty where it has none.
+#[derive(Clone, Copy)]
+pub(crate) struct RequestParts {
+    pub(crate) op: Op,
+    pub(crate) kind: Kind,
+    pub(crate) id: &'static str,
+    pub(crate) body: &'static str,
+}
+
+fn ask_of(alloc: Global, parts: RequestParts) -> Option<Ask> {
+    match parts.op {
+        Op::Create => match read_body(alloc, parts.kind, UseFor::Creating, parts.body) {
+            Ok(draft) => Some(Ask::Create(draft, Wanted::Default)),
+            Err(_) => None,
+        },
+        Op::Modify => match read_patch(alloc, parts.kind, parts.body) {
+            Ok(patch) => Some(Ask::Patch(patch, Wanted::Default)),
+            Err(_) => None,
+        },
+        Op::Delete => Some(Ask::Remove),
+        Op::Read => None,
+    }
+}
+
+fn turn_of(alloc: Global, parts: RequestParts) -> Option<Turn> {
+    let (Some(moment), Some(id)) = (Moment::new(1_717_243_200), Id::read(parts.id)) else {
+        return None;
+    };
+    let Ok(client) = Text::copy_of(alloc, "hr") else {
+        return None;
+    };
+    match ask_of(alloc, parts) {
+        Some(ask) => Some(Turn {
+            request: Request {
+                client,
+                op: parts.op,
+                kind: parts.kind,
+                id: Some(id),
+                ask: Ok(ask),
+            },
+            moment,
+            fresh: id,
+        }),
+        None => None,
+    }
+}
+
+/// Whether a request is answered otherwise than by the 500.
+fn is_answered<H: Shelf>(alloc: Global, service: &mut Service<H>, parts: RequestParts) -> bool {
+    match turn_of(alloc, parts) {
+        Some(turn) => !matches!(service.answer(alloc, &turn), Reply::Failed(..)),
+        None => false,
+    }
+}
+
+/// Whether all these are answered so, one after another.
+pub(crate) fn are_answered<H: Shelf>(
+    alloc: Global,
+    service: &mut Service<H>,
+    requests: &[RequestParts],
+) -> bool {
+    for parts in requests {
+        if !is_answered(alloc, service, *parts) {
+            return false;
+        }
+    }
+    true
+}

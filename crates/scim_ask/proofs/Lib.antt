@@ -1,5 +1,0 @@
-pub mod AskLemmas
-pub mod BodyLemmas
-pub mod IntegerLemmas
-pub mod NameLemmas
-pub mod WantedLemmas

@@ -1,3 +1,0 @@
-pub mod BackLemmas
-pub mod ReadLemmas
-pub mod Facts

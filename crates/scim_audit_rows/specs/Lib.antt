@@ -1,3 +1,0 @@
-pub mod Audit
-pub mod AuditBack
-pub mod code

@@ -1,2 +1,0 @@
--- What other crates may use of the proofs here.
-pub use Rattle.scim_chunks.proofs.LawLemmas.{part_of_standing, one_body, one_fault, body_not_bad, body_not_part, bad_not_part}

@@ -1,6 +1,0 @@
-use Rattle.scim_chunks.proofs.LineLemmas.{line_start}
-use Rattle.scim_chunks.proofs.StepLemmas.{chunks_start}
-use Rattle.scim_chunks.proofs.chunked.ChunkedPart.new.Goals as goal
-
-pub returns : goal.returns
-returns c = rw (c.new.ensures.items, c.new-2.ensures.items) (chunks_start, line_start)

@@ -1,6 +1,0 @@
-use Rattle.std.proofs.Common.{◌∷◌, [], refl}
-use Rattle.scim_chunks.proofs.StepLemmas.{data_more}
-use Rattle.scim_chunks.proofs.chunked.ChunkedPart.take_in_data.Goals as goal
-
-pub returns : goal.returns
-returns c bytes in_data = rw (c.in_ok-push.ensures.items) (data_more bytes c.args.self.body.items c.args.left 1 (c.args.byte ∷ []) refl c.requires in_data)

@@ -1,4 +1,0 @@
-pub mod Chunked
-pub mod Fronts
-pub mod Parts
-pub mod code

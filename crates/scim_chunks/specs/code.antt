@@ -1,4 +1,0 @@
--- What is kept while a chunked body comes.
-pub mod Lines
-pub mod Steps
-pub mod Trailers

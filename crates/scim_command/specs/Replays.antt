@@ -1,0 +1,34 @@
+-- What `replay` writes.
+use Rattle.std.specs.Prelude.{◌≡◌, ℕ, List, [], Result, Ok}
+use Rattle.std.specs.Str.Lines.{lines}
+use Rattle.scim_policy.specs.Rules.{Rule}
+use Rattle.scim_policy_file.specs.File.{policy_of}
+use Rattle.scim_shelf.specs.Stores.{Store}
+use Rattle.scim_token.specs.TokenFile.{Entry, entries_from}
+use Rattle.scim_hub.specs.declared.events.HubFault.{HubFault}
+use Rattle.scim_hub.specs.Events.{Seen, Deed, Hall, none_joined, Runs}
+use Rattle.scim_command.specs.Once.{IsStoreOf}
+use Rattle.scim_command.specs.declared.replays.Recording.{Recording}
+use Rattle.scim_command.specs.EventFiles.{IsEventFile}
+use Rattle.scim_command.specs.Outputs.{results_text}
+
+module _ (policy : List Rule) (base : List ℕ) (entries : List Entry) (hall : Hall) where
+  -- the text says what events are answered, one after another, from a hall on
+  pub record AreResultsOf (events : List Seen) (text : List ℕ) : Type 0 where
+    pub results : List (Result (List Deed) HubFault)
+    pub next : Hall
+    pub runs : Runs policy base entries hall events results next
+    pub text_is : text ≡ results_text events results
+
+-- the text says what the events of a file are answered by the policy, over what the users file holds, and for the clients that have the
+-- tokens; at first nobody has joined
+pub record Replays (r : Recording) (text : List ℕ) : Type 0 where
+  pub policy : List Rule
+  pub allows : policy_of r.policy.now ≡ Ok policy
+  pub store : Store
+  pub holds : IsStoreOf r.base.now r.users.now store
+  pub entries : List Entry
+  pub knows : entries_from 1 [] (lines r.tokens.now) ≡ Ok entries
+  pub events : List Seen
+  pub tells : IsEventFile r.events.now events
+  pub answers : AreResultsOf policy r.base.now entries (none_joined store) events text

@@ -1,0 +1,50 @@
+-- How the functions of `replay` end.
+use Rattle.std.specs.Prelude.{◌≡◌, List, [], Ok}
+use Rattle.std.specs.Str.Lines.{lines}
+use Rattle.scim_policy_file.specs.File.{policy_of}
+use Rattle.scim_shelf.specs.Stores.{Store}
+use Rattle.scim_token.specs.TokenFile.{Entry, entries_from}
+use Rattle.scim_token.specs.Tokens.{Knows}
+use Rattle.scim_hub.specs.declared.hubs.Hub.{Hub}
+use Rattle.scim_hub.specs.Events.{none_joined}
+use Rattle.scim_hub.specs.Halls.{IsHall}
+use Rattle.scim_command.specs.Once.{IsStoreOf}
+use Rattle.scim_command.specs.declared.faults.RunFault.{RunFault}
+use Rattle.scim_command.specs.declared.faults.RunFault.TheVariants.{Policy, Users, Tokens, Events, NoMemory}
+use Rattle.scim_command.specs.declared.replays.Recording.{Recording}
+
+-- a fault of the token file, or want of memory
+abbrev pub IsOfTokens : RunFault → Type 0
+IsOfTokens (Tokens n) = Unit {0}
+IsOfTokens NoMemory = Unit {0}
+IsOfTokens _ = ⊥
+
+-- a fault of the policy file, the token file or the users file, or want of memory
+abbrev pub IsOfFiles : RunFault → Type 0
+IsOfFiles (Policy rule cause) = Unit {0}
+IsOfFiles (Users n) = Unit {0}
+IsOfFiles (Tokens n) = Unit {0}
+IsOfFiles NoMemory = Unit {0}
+IsOfFiles _ = ⊥
+
+-- a fault of the events file, or want of memory
+abbrev pub IsOfEvents : RunFault → Type 0
+IsOfEvents (Events n) = Unit {0}
+IsOfEvents NoMemory = Unit {0}
+IsOfEvents _ = ⊥
+
+-- a fault of one of the files, or want of memory
+abbrev pub IsReplayFault : RunFault → Type 0
+IsReplayFault (Events n) = Unit {0}
+IsReplayFault fault = IsOfFiles fault
+
+-- a hub without connections, by the policy, over what the users file holds, for the clients that have the tokens
+pub record IsHubOver {H : Type 0} (Stands : H → Store → Type 0) (r : Recording) (hub : Hub H) : Type 0 where
+  pub store : Store
+  pub holds : IsStoreOf r.base.now r.users.now store
+  pub hall : IsHall Stands hub (none_joined store)
+  pub entries : List Entry
+  pub knows : entries_from 1 [] (lines r.tokens.now) ≡ Ok entries
+  pub has : Knows entries hub.tokens
+  pub policy : policy_of r.policy.now ≡ Ok hub.service.policy
+  pub base : hub.service.base ≡ r.base.now

@@ -1,0 +1,136 @@
+//! One line of an events file.
+ghost use Rattle.std.specs.Prelude.{◌≡◌, IfOk, codes};
+ghost use Rattle.scim_command.specs.EventFiles as spec;
+ghost use Rattle.scim_command.specs.EventFiles.{IsNumberText, IsHexText, IsEventLine};
+ghost use Rattle.scim_hub.specs.Halls.{kept_happened, recorded_of};
+ghost use Rattle.scim_command.specs.code.Findings.{Finds, IsStampText, IsToldBy, IsAlone, happening_of};
+
+use hex::FromHexError;
+use scim_cell::Id;
+use scim_hub::{Happened, Recorded, Stamp};
+use scim_text::{NoMemory, read_printed_moment};
+use std::alloc::Global;
+
+/// What happened to which connection.
+#[derive(Drop)]
+struct Change {
+    connection: u64,
+    happened: Happened,
+}
+
+/// The text before the first space, and the text behind it; all of it and none, where there is no space.
+fn cut(text: &str) -> (&str, &str)
+    ensures word { result.0.now ≡ spec.word text.now }
+    ensures behind { result.1.now ≡ spec.behind text.now }
+{
+    match text.split_once(' ') {
+        Some(parts) => parts,
+        None => (text, ""),
+    }
+}
+
+/// The number in 64 bits that digits say; None where the text is anything else.
+fn number_in(text: &str) -> Option<u64>
+    ensures { Finds (λ n. n) (IsNumberText text.now) result }
+{
+    if matches!(text.as_bytes(), [b'+', ..]) {
+        return None;
+    }
+    match text.parse::<u64>() {
+        Ok(number) => Some(number),
+        Err(_) => None,
+    }
+}
+
+/// The bytes that hex digits say, one or more; None where the text is anything else. NoMemory where none was to be had.
+fn bytes_in(alloc: Global, text: &str) -> Result<Option<Vec<u8>>, NoMemory>
+    ensures { IfOk result (Finds (λ bytes. bytes.items) (IsHexText text.now)) }
+{
+    match hex::decode(alloc, text) {
+        Ok(bytes) if bytes.is_empty() => Ok(None),
+        Ok(bytes) => Ok(Some(bytes)),
+        Err(FromHexError::OutOfMemory) => Err(NoMemory),
+        Err(_) => Ok(None),
+    }
+}
+
+/// The stamp that the texts of a moment and of an id say; None where one of them is none. NoMemory where none was to be had.
+fn stamp_in(alloc: Global, moment: &str, first: &str) -> Result<Option<Stamp>, NoMemory>
+    ensures { IfOk result (Finds (λ stamp. stamp) (IsStampText moment.now first.now)) }
+{
+    let Some(moment) = read_printed_moment(alloc, moment)? else {
+        return Ok(None);
+    };
+    match Id::read(first) {
+        Some(first) => Ok(Some(Stamp { moment, first })),
+        None => Ok(None),
+    }
+}
+
+/// The piece of a connection that the text behind `piece` tells: a number, and hex digits. NoMemory where none was to be had.
+fn piece_in(alloc: Global, text: &str) -> Result<Option<Change>, NoMemory>
+    ensures { IfOk result (Finds happening_of (IsToldBy (codes "piece") text.now)) }
+{
+    let (number, digits) = cut(text);
+    let Some(connection) = number_in(number) else {
+        return Ok(None);
+    };
+    match bytes_in(alloc, digits)? {
+        Some(bytes) => Ok(Some(Change {
+            connection,
+            happened: Happened::Piece(bytes),
+        })),
+        None => Ok(None),
+    }
+}
+
+/// What happened to the connection whose number the text is; None where it is none.
+fn change_of(text: &str, happened: Happened) -> Option<Change>
+    ensures { Finds happening_of (IsAlone (kept_happened happened) text.now) result }
+{
+    match number_in(text) {
+        Some(connection) => Some(Change {
+            connection,
+            happened,
+        }),
+        None => None,
+    }
+}
+
+/// What happened to which connection, as a word and the text behind it tell it; None where they tell nothing. NoMemory where
+/// none was to be had.
+fn change_in(alloc: Global, name: &str, text: &str) -> Result<Option<Change>, NoMemory>
+    ensures { IfOk result (Finds happening_of (IsToldBy name.now text.now)) }
+{
+    match name {
+        "joined" => Ok(change_of(text, Happened::Joined)),
+        "piece" => piece_in(alloc, text),
+        "left" => Ok(change_of(text, Happened::Left)),
+        _ => Ok(None),
+    }
+}
+
+/// The event that a line tells; None where it tells none. NoMemory where none was to be had.
+pub(crate) fn read_line(alloc: Global, line: &str) -> Result<Option<Recorded>, NoMemory>
+    ensures { IfOk result (Finds recorded_of (IsEventLine line.now)) }
+{
+    let (moment, line) = cut(line);
+    let (first, line) = cut(line);
+    let (name, line) = cut(line);
+    let Some(stamp) = stamp_in(alloc, moment, first)? else {
+        return Ok(None);
+    };
+    match change_in(alloc, name, line)? {
+        Some(
+            Change {
+                connection,
+                happened,
+            },
+        ) => Ok(Some(Recorded {
+            connection,
+            stamp,
+            happened,
+        })),
+        None => Ok(None),
+    }
+}

@@ -1,0 +1,80 @@
+//! What is written for the results of events.
+ghost use Rattle.std.specs.Prelude.{◌≡◌, ◌++◌, IfOk, OnOk, map, length, string_bytes};
+ghost use Rattle.std.specs.List.{flat_map};
+ghost use Rattle.scim_hub.specs.Halls.{deed_of, done, seen_of};
+ghost use Rattle.scim_command.specs.Outputs as spec;
+
+use scim_hub::{Event, HubFault, Output};
+use scim_text::NoMemory;
+use std::alloc::Global;
+
+/// Why an event isn't answered, in words.
+fn fault_words(fault: HubFault) -> &'static str
+    ensures { result.now ≡ spec.fault_words fault }
+{
+    match fault {
+        HubFault::AlreadyJoined => "already joined",
+        HubFault::Unknown => "unknown",
+        HubFault::Closed => "closed",
+        HubFault::NoMemory => "out of memory",
+    }
+}
+
+/// The line of an output. NoMemory where none was to be had.
+fn output_line(alloc: Global, output: &Output) -> Result<String, NoMemory>
+    ensures { IfOk result (λ line. string_bytes line ≡ spec.deed_line (deed_of output.now)) }
+{
+    match output {
+        Output::Write(connection, text) => {
+            let digits = hex::encode(alloc, text.as_str())?;
+            Ok(format!(in alloc; "write {connection} {digits}\n")?)
+        }
+        Output::Shut(connection) => Ok(format!(in alloc; "close {connection}\n")?),
+    }
+}
+
+/// The lines of outputs. NoMemory where none was to be had.
+fn output_lines(alloc: Global, outputs: &[Output]) -> Result<String, NoMemory>
+    ensures { IfOk result (λ text. string_bytes text ≡ flat_map spec.deed_line (map deed_of outputs.now)) }
+{
+    let mut text = String::new(alloc);
+    for output in outputs {
+        let line = output_line(alloc, output)?;
+        text.push_str(line.as_str())?;
+    }
+    Ok(text)
+}
+
+/// The lines for the result of an event of a connection. NoMemory where none was to be had.
+fn result_lines(
+    alloc: Global,
+    connection: u64,
+    answer: &Result<Vec<Output>, HubFault>,
+) -> Result<String, NoMemory>
+    ensures { IfOk result (λ text. string_bytes text ≡ spec.result_lines connection (done answer.now)) }
+{
+    match answer {
+        Ok(outputs) => output_lines(alloc, outputs.as_slice()),
+        Err(fault) => {
+            let words = fault_words(*fault);
+            Ok(format!(in alloc; "fault {connection} {words}\n")?)
+        }
+    }
+}
+
+/// The lines for the results of events, each of which has one: `write N HEX` for a text that is written to connection N, `close N` where it
+/// is shut, and `fault N` with the reason where the event isn't answered. NoMemory where none was to be had.
+pub fn results_text(
+    alloc: Global,
+    events: &[Event<'_>],
+    results: &[Result<Vec<Output>, HubFault>],
+) -> Result<String, NoMemory>
+    ensures { length events.now ≡ length results.now → IfOk result (λ text. string_bytes text ≡ spec.results_text (map seen_of events.now) (map done results.now)) }
+{
+    let mut text = String::new(alloc);
+    for index in 0..events.len().min(results.len()) {
+        let lines = result_lines(alloc, events[index].connection, &results[index])?;
+        text.push_str(lines.as_str())?;
+    }
+    Ok(text)
+}

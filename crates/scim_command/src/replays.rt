@@ -1,0 +1,130 @@
+//! `replay`: the events of a file, answered by a hub over a users file in memory.
+ghost use Rattle.std.specs.Prelude.{◌≡◌, ◌≢◌, ℕ, List, [], Ok, Err, IfOk, IfErr, OnOk, map, string_bytes};
+ghost use Rattle.std.specs.Io.KnownBytes.{Appends};
+ghost use Rattle.std.specs.Str.Lines.{lines};
+ghost use Rattle.scim_json.specs.Documents.{IsDamagedAt};
+ghost use Rattle.scim_policy_file.specs.File.{policy_of};
+ghost use Rattle.scim_policy_file.specs.declared.faults.Cause.{Cause};
+ghost use Rattle.scim_token.specs.TokenFile.{Entry, entries_from};
+ghost use Rattle.scim_token.specs.Tokens.{Knows};
+ghost use Rattle.scim_token.specs.declared.faults.LineFault.{LineFault};
+ghost use Rattle.scim_wire.specs.Streams.{AppendsFront};
+ghost use Rattle.scim_command.specs.declared.faults.RunFault.{RunFault};
+ghost use Rattle.scim_hub.specs.Events.{Hall};
+ghost use Rattle.scim_hub.specs.Halls.{IsHall, recorded_of};
+ghost use Rattle.scim_command.specs.EventFiles.{IsEventFile, IsFaultyAt};
+ghost use Rattle.scim_command.specs.Replays.{Replays, AreResultsOf};
+ghost use Rattle.scim_command.specs.code.ReplayExits.{IsHubOver, IsOfFiles, IsOfEvents, IsReplayFault};
+
+use crate::event_files::{FaultyLine, read_events};
+use crate::outputs::results_text;
+use crate::recorded::events_of;
+use crate::token_files::read_tokens;
+use crate::faults::{DatabaseFault, RunFault};
+use crate::services::service_over;
+use crate::writing::write_or_fault;
+use scim_hub::{Hub, Recorded};
+use scim_policy_file::read_policy;
+use scim_route::Routes;
+use scim_shelf::{MemoryShelf, Shelf};
+use scim_text::{Failed, NoMemory};
+use std::alloc::Global;
+use std::io::Write;
+
+/// What is replayed, and by what it is answered.
+#[derive(Clone, Copy)]
+pub struct Recording<'a> {
+    /// The text of the policy file.
+    pub policy: &'a str,
+    /// The text of the token file.
+    pub tokens: &'a str,
+    /// The text of the users file, which holds users and groups.
+    pub users: &'a str,
+    /// The text of the events file.
+    pub events: &'a str,
+    /// That below which resources stand, as `http://127.0.0.1:8080`.
+    pub base: &'a str,
+}
+
+/// Answers the events of a file one after another, and writes in lines what is to be done for each: `write N HEX`, `close N`, or
+/// `fault N` with the reason.
+///
+/// The fault is that of the first file that has one, in this order: Policy, where the policy file is faulty; Tokens, where the
+/// token file is faulty; Users, where the users file is damaged; Events, where a line of the events file tells no event. Then no event
+/// was answered, and nothing is written; nor with NoMemory, where none was to be had. Output, where a write fails: then a front of the
+/// lines has been written, perhaps none or all of them, and nothing else.
+pub fn replay<W: Write>(
+    alloc: Global,
+    recording: &Recording<'_>,
+    writer: &mut W,
+) -> Result<(), RunFault>
+    ensures told { OnOk result ((text : List ℕ) × Replays recording.now text × Appends (W.contents writer.old) (W.contents writer.new) text) }
+    ensures output { result ≡ Err RunFault.Output → (text : List ℕ) × Replays recording.now text × AppendsFront (W.contents writer.old) (W.contents writer.new) text }
+    ensures policy { (rule : ℕ) (cause : Cause) → result ≡ Err (RunFault.Policy rule cause) → policy_of recording.now.policy.now ≡ Err (record { rule = rule; cause = cause }) }
+    ensures users { (n : ℕ) → result ≡ Err (RunFault.Users n) → IsDamagedAt recording.now.base.now recording.now.users.now n }
+    ensures tokens { (n : ℕ) → result ≡ Err (RunFault.Tokens n) → (cause : LineFault) × (entries_from 1 [] (lines recording.now.tokens.now) ≡ Err (record { line = n; cause = cause })) }
+    ensures events { (n : ℕ) → result ≡ Err (RunFault.Events n) → IsFaultyAt (lines recording.now.events.now) n }
+    ensures silent { IfErr result (λ f. f ≢ RunFault.Output → writer.new ≡ writer.old) }
+{
+    let text = replayed(alloc, recording)?;
+    write_or_fault(text.as_str(), writer)
+}
+
+/// The lines for the events. Fails as [`replay`] does, but for Output.
+fn replayed(alloc: Global, recording: &Recording<'_>) -> Result<String, RunFault>
+    ensures told { IfOk result (λ text. Replays recording.now (string_bytes text)) }
+    ensures policy { (rule : ℕ) (cause : Cause) → result ≡ Err (RunFault.Policy rule cause) → policy_of recording.now.policy.now ≡ Err (record { rule = rule; cause = cause }) }
+    ensures users { (n : ℕ) → result ≡ Err (RunFault.Users n) → IsDamagedAt recording.now.base.now recording.now.users.now n }
+    ensures tokens { (n : ℕ) → result ≡ Err (RunFault.Tokens n) → (cause : LineFault) × (entries_from 1 [] (lines recording.now.tokens.now) ≡ Err (record { line = n; cause = cause })) }
+    ensures events { (n : ℕ) → result ≡ Err (RunFault.Events n) → IsFaultyAt (lines recording.now.events.now) n }
+    ensures fault { IfErr result IsReplayFault }
+{
+    let mut hub = hub_over(alloc, recording)?;
+    let events = recorded_in(alloc, recording.events)?;
+    Ok(answered(alloc, &mut hub, events.as_slice())?)
+}
+
+/// A hub without connections, by the policy, over what the users file holds, for the clients that have the tokens.
+///
+/// Policy, where the policy file is faulty; else Tokens, where the token file is faulty; else Users, where the users file is
+/// damaged. NoMemory where none was to be had.
+fn hub_over(alloc: Global, recording: &Recording<'_>) -> Result<Hub<MemoryShelf>, RunFault>
+    ensures hub { IfOk result (IsHubOver ⟦<MemoryShelf as Shelf>⟧.stands recording.now) }
+    ensures policy { (rule : ℕ) (cause : Cause) → result ≡ Err (RunFault.Policy rule cause) → policy_of recording.now.policy.now ≡ Err (record { rule = rule; cause = cause }) }
+    ensures users { (n : ℕ) → result ≡ Err (RunFault.Users n) → IsDamagedAt recording.now.base.now recording.now.users.now n }
+    ensures tokens { (n : ℕ) → result ≡ Err (RunFault.Tokens n) → (cause : LineFault) × (entries_from 1 [] (lines recording.now.tokens.now) ≡ Err (record { line = n; cause = cause })) }
+    ensures fault { IfErr result IsOfFiles }
+{
+    let policy = read_policy(alloc, recording.policy)?;
+    let tokens = read_tokens(alloc, recording.tokens)?;
+    let service = service_over(alloc, policy, recording.users, recording.base)?;
+    let routes = Routes::new(alloc)?;
+    Ok(Hub::new(alloc, routes, service, tokens))
+}
+
+/// The events of a file. Events, where a line tells none; NoMemory where none was to be had.
+fn recorded_in(alloc: Global, text: &str) -> Result<Vec<Recorded>, RunFault>
+    ensures events { IfOk result (λ events. IsEventFile text.now (map recorded_of events.items)) }
+    ensures faulty { (n : ℕ) → result ≡ Err (RunFault.Events n) → IsFaultyAt (lines text.now) n }
+    ensures fault { IfErr result IsOfEvents }
+{
+    match read_events(alloc, text) {
+        Ok(events) => Ok(events),
+        Err(Failed::Because(FaultyLine(line))) => Err(RunFault::Events(line)),
+        Err(Failed::NoMemory) => Err(RunFault::NoMemory),
+    }
+}
+
+/// The lines for what a hub answers to events. NoMemory where none was to be had.
+fn answered(
+    alloc: Global,
+    hub: &mut Hub<MemoryShelf>,
+    recorded: &[Recorded],
+) -> Result<String, NoMemory>
+    ensures { (entries : List Entry) (hall : Hall) → Knows entries hub.old.tokens → IsHall ⟦<MemoryShelf as Shelf>⟧.stands hub.old hall
+        → IfOk result (λ text. AreResultsOf hub.old.service.policy hub.old.service.base entries hall (map recorded_of recorded.now) (string_bytes text)) }
+{
+    let events = events_of(alloc, recorded)?;
+    let results = hub.run(alloc, events.as_slice())?;
+    results_text(alloc, events.as_slice(), results.as_slice())
+}

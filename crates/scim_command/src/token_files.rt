@@ -1,0 +1,28 @@
+//! Token files, with their faults as those of a command.
+ghost use Rattle.std.specs.Prelude.{◌≡◌, ℕ, List, [], Ok, Err, IfOk, IfErr};
+ghost use Rattle.std.specs.Str.Lines.{lines};
+ghost use Rattle.scim_token.specs.TokenFile.{Entry, entries_from};
+ghost use Rattle.scim_token.specs.Tokens.{Knows};
+ghost use Rattle.scim_token.specs.declared.faults.LineFault.{LineFault};
+ghost use Rattle.scim_command.specs.declared.faults.RunFault.{RunFault};
+ghost use Rattle.scim_command.specs.code.ReplayExits.{IsOfTokens};
+
+use crate::faults::{DatabaseFault, RunFault};
+use scim_text::Failed;
+use scim_token::{TokenFault, Tokens};
+use std::alloc::Global;
+
+/// The tokens of a file.
+///
+/// Tokens, where it is faulty: its first faulty line. NoMemory where none was to be had.
+pub fn read_tokens(alloc: Global, text: &str) -> Result<Tokens, RunFault>
+    ensures tokens { IfOk result (λ tokens. (entries : List Entry) × (entries_from 1 [] (lines text.now) ≡ Ok entries) × Knows entries tokens) }
+    ensures faulty { (n : ℕ) → result ≡ Err (RunFault.Tokens n) → (cause : LineFault) × (entries_from 1 [] (lines text.now) ≡ Err (record { line = n; cause = cause })) }
+    ensures fault { IfErr result IsOfTokens }
+{
+    match Tokens::read(alloc, text) {
+        Ok(tokens) => Ok(tokens),
+        Err(Failed::Because(TokenFault { line, .. })) => Err(RunFault::Tokens(line)),
+        Err(Failed::NoMemory) => Err(RunFault::NoMemory),
+    }
+}

@@ -1,0 +1,65 @@
+//! `import`: the resources of a users file, in an empty database.
+ghost use Rattle.std.specs.Prelude.{◌≡◌, ◌≢◌, ℕ, List, false, Err, IfErr, OnOk, OnErr};
+ghost use Rattle.sqlite.specs.State.{HasCleanDisk, Survives};
+ghost use Rattle.sqlite.specs.Held.{state};
+ghost use Rattle.scim_cell.specs.Content.{Content};
+ghost use Rattle.scim_json.specs.Documents.{IsDocumentsText, IsDamagedAt};
+ghost use Rattle.scim_shelf.specs.Stores.{Store, IsNewStore};
+ghost use Rattle.scim_store_tables.specs.Reading.{Rests};
+ghost use Rattle.scim_store_tables.specs.Tables.{no_schema};
+ghost use Rattle.scim_store.specs.Committing.{HasStore};
+ghost use Rattle.scim_store.specs.declared.importing.ImportFault.{ImportFault};
+ghost use Rattle.scim_command.specs.declared.faults.DatabaseFault.{DatabaseFault};
+ghost use Rattle.scim_command.specs.declared.faults.RunFault.{RunFault};
+ghost use Rattle.scim_command_database.specs.Faults.{IsImportFault, of_importing};
+ghost use Rattle.scim_command_database.specs.Imports.{LeavesUsers};
+
+use scim_command::{DatabaseFault, RunFault};
+use scim_json::read_documents;
+use scim_store::ImportFault;
+use sqlite::{Alter, Connection, Error, ErrorCode};
+use std::alloc::Global;
+
+/// Brings the resources of a users file into an empty database, in one transaction. The audit has no rows then.
+///
+/// Users, where the file is damaged: the database isn't looked at then. Database with NotEmpty, where it has a table, an
+/// index or a view, and with Unusable, where it can't be read or written; NoMemory where none was to be had. Then the
+/// database is as it was or as the last commit left it, or the connection is shut.
+///
+/// A crash meanwhile leaves what was there before, or all resources of the file.
+pub fn import<S: Alter>(
+    alloc: Global,
+    connection: &mut Connection<S>,
+    base: &str,
+    users: &str,
+) -> Result<(), RunFault>
+    requires { connection.old.in_transaction ≡ false }
+    ensures idle { connection.new.in_transaction ≡ false }
+    ensures kept { HasCleanDisk (state S.Store connection.new) → OnOk result ((resources : List Content) × (store : Store) × IsDocumentsText base.now users.now resources × IsNewStore resources store × HasStore base.now (state S.Store connection.new) store) }
+    ensures empty { HasCleanDisk (state S.Store connection.new) → OnOk result ((state S.Store connection.old).now.schema ≡ no_schema) }
+    ensures users { (n : ℕ) → result ≡ Err (RunFault.Users n) → IsDamagedAt base.now users.now n }
+    ensures not_empty { HasCleanDisk (state S.Store connection.new) → result ≡ Err (RunFault.Database DatabaseFault.NotEmpty) → (state S.Store connection.old).now.schema ≢ no_schema }
+    ensures undone { HasCleanDisk (state S.Store connection.new) → OnErr result (Rests (state S.Store connection.old) (state S.Store connection.new)) }
+    ensures crash { Survives (state S.Store connection.old) (state S.Store connection.new) (LeavesUsers base.now users.now (state S.Store connection.old)) }
+    ensures faults { IfErr result IsImportFault }
+{
+    let resources = read_documents(alloc, base, users)?;
+    match scim_store::import(connection, alloc, base, resources.as_slice()) {
+        Ok(()) => Ok(()),
+        Err(fault) => Err(import_fault(fault)),
+    }
+}
+
+/// What keeps resources below the base from being brought into a database, as the fault of a command.
+fn import_fault(fault: ImportFault) -> RunFault
+    requires { fault ≢ ImportFault.OtherBase }
+    ensures { result ≡ of_importing fault }
+{
+    match fault {
+        ImportFault::NotEmpty => RunFault::Database(DatabaseFault::NotEmpty),
+        ImportFault::OtherBase => unreachable!(),
+        ImportFault::Database(Error::SqliteFailure(ErrorCode::OutOfMemory)) => RunFault::NoMemory,
+        ImportFault::Database(_) => RunFault::Database(DatabaseFault::Unusable),
+        ImportFault::NoMemory => RunFault::NoMemory,
+    }
+}

@@ -1,0 +1,57 @@
+-- Searches (RFC 7644 sections 3.4.2 and 3.4.3): what is looked for, and the query that looks for it.
+use Rattle.std.specs.Prelude.{◌≡◌, ◌==◌, ℕ, Bool, List, Option, None, Some, option_map, Result, Ok, ok_or, if◌then◌else◌}
+use Rattle.std.specs.List.{list_all}
+use Rattle.scim_schema.specs.declared.Kind.{Kind}
+use Rattle.scim_audit.specs.declared.refusals.Refusal.{Refusal}
+use Rattle.scim_audit.specs.declared.refusals.Refusal.TheVariants.{Filter}
+use Rattle.scim_filter_grammar.specs.Tree.{Tree, tree_of}
+use Rattle.scim_filter_grammar.specs.Spelled.{filter_in}
+use Rattle.scim_query.specs.declared.queries.Query.{Query}
+use Rattle.scim_exchange.specs.declared.arrangements.Arrangement.{Arrangement}
+use Rattle.scim_exchange.specs.Refused.{◌>>=◌}
+use Rattle.scim_exchange.specs.AttributeLists.{Lists, one_of, Wants}
+
+-- what a search says besides its filter
+pub record Settings : Type 0 where
+  pub lists : Lists
+  pub arrangement : Arrangement
+
+-- a search as it is given: the text of its filter, and the rest, or that a value of it is refused
+pub record Search : Type 0 where
+  pub filter : Option (List ℕ)
+  pub settings : Result Settings Refusal
+
+-- a text of spaces alone, or an empty one
+abbrev pub is_blank : List ℕ → Bool
+is_blank text = list_all (λ b. b == 32) text
+
+-- the filter of a text; a blank one is none (RFC 7644 section 3.4.2.2)
+unfoldable pub filter_of : Kind → Option (List ℕ) → Result (Option Tree) Refusal
+filter_of kind None = Ok None
+filter_of kind (Some text) = if is_blank text then Ok None else ok_or (option_map Some (filter_in kind text)) Filter
+
+-- what is looked for
+pub record Sought : Type 0 where
+  pub filter : Option Tree
+  pub settings : Settings
+
+-- a filter and the rest, of which at most one attribute list is given
+abbrev pub sought_with : Option Tree → Settings → Result Sought Refusal
+sought_with filter settings = one_of settings.lists >>= λ lists. Ok (record { filter = filter; settings = settings })
+
+-- what a search looks for; a wrong filter is told before other wrong values
+abbrev pub sought : Kind → Search → Result Sought Refusal
+sought kind search = filter_of kind search.filter >>= λ filter. search.settings >>= λ settings. sought_with filter settings
+
+-- the same, where there is a search
+abbrev pub sought_of : Kind → Result Search Refusal → Result Sought Refusal
+sought_of kind search = search >>= sought kind
+
+-- the query looks for that
+pub record IsQuery (kind : Kind) (s : Sought) (query : Query) : Type 0 where
+  pub filter : option_map tree_of query.filter ≡ s.filter
+  pub sort_by : query.sort_by ≡ s.settings.arrangement.sort_by
+  pub descending : query.descending ≡ s.settings.arrangement.descending
+  pub start : query.start ≡ s.settings.arrangement.start
+  pub count : query.count ≡ s.settings.arrangement.count
+  pub wanted : Wants kind s.settings.lists query.wanted

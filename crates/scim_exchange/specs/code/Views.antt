@@ -1,0 +1,28 @@
+-- What the code's own types say, in the words of the definitions.
+use Rattle.std.specs.Prelude.{◌≡◌, ℕ, List, map, Option, None, Result}
+use Rattle.std.specs.Global.{Vec}
+use denote.Ref.{Bor}
+use Rattle.scim_text.specs.declared.memory.Failed.{Failed}
+use Rattle.scim_text.specs.Failures.{IfFault}
+use Rattle.scim_audit.specs.declared.refusals.Refusal.{Refusal}
+use Rattle.scim_audit.specs.declared.refusals.Refusal.TheVariants.{MessageValue}
+use Rattle.scim_exchange.specs.declared.attribute_lists.AttributeLists.{AttributeLists}
+use Rattle.scim_exchange.specs.declared.searches.Settings.{Settings as SettingsInCode}
+use Rattle.scim_exchange.specs.AttributeLists.{Lists}
+use Rattle.scim_exchange.specs.Searches.{Settings}
+
+-- the texts that are held
+abbrev pub texts_in : Vec (Bor (List ℕ)) → List (List ℕ)
+texts_in v = map (λ text. text.now) v.items
+
+-- the attribute lists
+abbrev pub lists_in : AttributeLists → Lists
+lists_in lists = record { attributes = texts_in lists.attributes; excluded = texts_in lists.excluded }
+
+-- what a search says besides its filter
+abbrev pub settings_in : SettingsInCode → Settings
+settings_in settings = record { lists = lists_in settings.lists; arrangement = settings.arrangement }
+
+-- a fault is MessageValue, where a value is refused
+abbrev pub IsWrong : {X Y : Type 0} → Option X → Result Y (Failed Refusal) → Type 0
+IsWrong read result = IfFault result (λ refusal. (refusal ≡ MessageValue) × (read ≡ None))

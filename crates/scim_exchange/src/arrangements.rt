@@ -1,0 +1,87 @@
+//! In which order resources are listed, from which on, and how many (RFC 7644 sections 3.4.2.3 and 3.4.2.4).
+ghost use Rattle.std.specs.Prelude.{◌≡◌, option_and_then};
+ghost use Rattle.std.specs.Option.{option_copied};
+ghost use Rattle.scim_query.specs.SortKeys.{sort_leaf};
+ghost use Rattle.scim_exchange.specs.Arrangements as spec;
+
+use scim_audit::Refusal;
+use scim_query::read_sort_by;
+use scim_schema::{Kind, Leaf};
+use scim_text::same_name;
+
+/// How many resources are shown where a search doesn't say.
+const COUNT_BY_DEFAULT: usize = 100;
+
+/// How many are shown at most, whatever it says.
+const MOST_SHOWN: i64 = 200;
+
+/// In which order resources are listed, from which on, and how many at most.
+#[derive(Clone, Copy)]
+pub(crate) struct Arrangement {
+    pub(crate) sort_by: Option<Leaf>,
+    pub(crate) descending: bool,
+    pub(crate) start: usize,
+    pub(crate) count: usize,
+}
+
+/// Whether the last comes first. MessageValue where the text names no order.
+fn is_descending(sort_order: Option<&str>) -> Result<bool, Refusal>
+    ensures { result ≡ spec.is_descending (option_copied sort_order.entry) }
+{
+    let Some(text) = sort_order else {
+        return Ok(false);
+    };
+    if same_name(text, "descending") {
+        return Ok(true);
+    }
+    if same_name(text, "ascending") {
+        return Ok(false);
+    }
+    Err(Refusal::MessageValue)
+}
+
+/// The position of the first that is shown.
+fn first_shown(start_index: Option<i64>) -> usize
+    ensures { result ≡ spec.first_shown start_index }
+{
+    match start_index {
+        Some(position) => { if position < 1 { 1 } else { position as usize } }
+        None => 1,
+    }
+}
+
+/// How many are shown at most.
+fn most_shown(count: Option<i64>) -> usize
+    ensures { result ≡ spec.most_shown count }
+{
+    match count {
+        Some(most) => most.clamp(0, MOST_SHOWN) as usize,
+        None => COUNT_BY_DEFAULT,
+    }
+}
+
+/// What a search says of all that. MessageValue where the text of the order names none.
+pub(crate) fn arranged(
+    kind: Kind,
+    sort_by: Option<&str>,
+    sort_order: Option<&str>,
+    start_index: Option<i64>,
+    count: Option<i64>,
+) -> Result<Arrangement, Refusal>
+    ensures { result ≡ spec.arranged kind (option_copied sort_by.entry) (option_copied sort_order.entry) start_index count }
+{
+    let descending = is_descending(sort_order)?;
+    Ok(Arrangement {
+        sort_by: leaf_to_sort_by(kind, sort_by),
+        descending,
+        start: first_shown(start_index),
+        count: most_shown(count),
+    })
+}
+
+/// The leaf that a text names to sort by.
+fn leaf_to_sort_by(kind: Kind, sort_by: Option<&str>) -> Option<Leaf>
+    ensures { result ≡ option_and_then (sort_leaf kind) (option_copied sort_by.entry) }
+{
+    read_sort_by(kind, sort_by?)
+}

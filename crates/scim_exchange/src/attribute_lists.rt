@@ -1,0 +1,48 @@
+//! Attribute lists, and what a client wants by them (RFC 7644 section 3.9).
+ghost use Rattle.std.specs.Prelude.{◌≡◌, IfOk};
+ghost use Rattle.scim_text.specs.Failures.{UnlessMemory};
+ghost use Rattle.scim_exchange.specs.Refused.{Tells};
+ghost use Rattle.scim_exchange.specs.AttributeLists.{AreNames, Wants, is_given, one_of};
+ghost use Rattle.scim_exchange.specs.code.Views.{texts_in, lists_in};
+
+use scim_audit::Refusal;
+use scim_schema::Kind;
+use scim_text::{Failed, NoMemory};
+use scim_view::{Names, Wanted};
+use std::alloc::Global;
+
+/// The attribute lists of a request; one that isn't given has no text.
+#[derive(Drop)]
+pub(crate) struct AttributeLists<'r> {
+    pub(crate) attributes: Vec<&'r str>,
+    pub(crate) excluded: Vec<&'r str>,
+}
+
+/// What the texts name for a kind. NoMemory where none was to be had.
+fn names_of(alloc: Global, kind: Kind, texts: &Vec<&str>) -> Result<Names, NoMemory>
+    ensures { IfOk result (AreNames kind (texts_in texts.now)) }
+{
+    Names::of(alloc, kind, texts.as_slice())
+}
+
+/// What a client wants by the lists.
+///
+/// MessageValue where both are given. NoMemory where none was to be had.
+pub(crate) fn wanted_by(
+    alloc: Global,
+    kind: Kind,
+    lists: &AttributeLists<'_>,
+) -> Result<Wanted, Failed<Refusal>>
+    ensures { UnlessMemory (Tells (Wants kind) (one_of (lists_in lists.now))) result }
+{
+    if lists.attributes.is_empty() {
+        if lists.excluded.is_empty() {
+            return Ok(Wanted::Default);
+        }
+        return Ok(Wanted::Without(names_of(alloc, kind, &lists.excluded)?));
+    }
+    if lists.excluded.is_empty() {
+        return Ok(Wanted::Only(names_of(alloc, kind, &lists.attributes)?));
+    }
+    Err(Failed::Because(Refusal::MessageValue))
+}

@@ -1,5 +1,0 @@
-use Rattle.scim_filter.proofs.WrittenPathLemmas.{one_path_is_spelled}
-use Rattle.scim_filter.proofs.laws.one_path_is_spelled.Goals as goal
-
-pub returns : goal.returns
-returns c = one_path_is_spelled

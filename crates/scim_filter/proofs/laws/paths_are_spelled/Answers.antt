@@ -1,5 +1,0 @@
-use Rattle.scim_filter.proofs.FunctionLemmas.{paths_are_spelled}
-use Rattle.scim_filter.proofs.laws.paths_are_spelled.Goals as goal
-
-pub returns : goal.returns
-returns c = paths_are_spelled

@@ -1,0 +1,16 @@
+pub mod FrontLemmas
+pub mod SpelledLemmas
+pub mod NameLemmas
+pub mod LiteralLemmas
+pub mod IntegerLemmas
+pub mod LiteralAgainLemmas
+pub mod TakeLemmas
+pub mod StepLemmas
+pub mod AgainLemmas
+pub mod WrittenPathLemmas
+pub mod BracketLemmas
+pub mod NestingLemmas
+pub mod TokenLemmas
+pub mod BorderLemmas
+pub mod FunctionLemmas
+pub mod Facts

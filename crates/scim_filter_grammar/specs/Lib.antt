@@ -1,0 +1,14 @@
+pub mod Bytes
+pub mod Tree
+pub mod Names
+pub mod Literals
+pub mod Grammar
+pub mod WrittenPaths
+pub mod Spelled
+pub mod Types
+pub mod Mentions
+pub mod Brackets
+pub mod Tokens
+pub mod Reading
+pub mod PathReading
+pub mod code

@@ -1,0 +1,38 @@
+-- The filter and the path that a text spells, as functions of the text.
+use Rattle.std.specs.Prelude.{◌≡◌, ◌≤◌, ◌↔◌, ℕ, true, nat_le, List, length, Option, Some, None, option_and_then, if◌then◌else◌}
+use Rattle.std.specs.Result.{result_ok}
+use Rattle.scim_schema.specs.declared.Kind.{Kind}
+use Rattle.scim_filter_grammar.specs.declared.limits.TheConstants.{LONGEST_TEXT}
+use Rattle.scim_filter_grammar.specs.declared.tree.Path.{Path}
+use Rattle.scim_filter_grammar.specs.declared.tree.Scope.TheVariants.{Attributes}
+use Rattle.scim_filter_grammar.specs.Bytes.{lone_word}
+use Rattle.scim_filter_grammar.specs.Grammar.{IsFilter}
+use Rattle.scim_filter_grammar.specs.Reading.{path_of, all_of}
+use Rattle.scim_filter_grammar.specs.Tree.{Tree}
+use Rattle.scim_filter_grammar.specs.Types.{fits}
+use Rattle.scim_filter_grammar.specs.WrittenPaths.{Written, IsWritten, Plain}
+
+-- a tree whose values are of the types of what they are compared with
+abbrev pub fitting : Option Tree → Option Tree
+fitting None = None
+fitting (Some tree) = if fits tree then Some tree else None
+
+-- the filter that a text spells within the limits and types, if it spells one
+unfoldable pub filter_in : Kind → List ℕ → Option Tree
+filter_in kind text = if nat_le (length text) LONGEST_TEXT then fitting (result_ok (all_of (Attributes kind) text)) else None
+
+-- the path of an attribute or a sub-attribute that a text spells within the limit, if it spells one (RFC 7644 section 3.10)
+unfoldable pub path_in : Kind → List ℕ → Option Path
+path_in kind text = if nat_le (length text) LONGEST_TEXT then option_and_then (λ word. result_ok (path_of (Attributes kind) word)) (lone_word text) else None
+
+-- the filter that a text spells is what the grammar says
+abbrev pub FiltersAreSpelled : Type 0
+FiltersAreSpelled = (kind : Kind) (text : List ℕ) (tree : Tree) → (filter_in kind text ≡ Some tree) ↔ ((length text ≤ LONGEST_TEXT) × IsFilter kind 32 text tree × (fits tree ≡ true))
+
+-- and so is the path of an attribute
+abbrev pub PathsAreSpelled : Type 0
+PathsAreSpelled = (kind : Kind) (text : List ℕ) (path : Path) → (path_in kind text ≡ Some path) ↔ ((length text ≤ LONGEST_TEXT) × IsWritten kind 0 text (Plain path))
+
+-- a text spells one path of a change at most, value paths too, however many brackets are open in it
+abbrev pub OnePathIsSpelled : Type 0
+OnePathIsSpelled = (kind : Kind) (text : List ℕ) (m n : ℕ) (v w : Written) → IsWritten kind m text v → IsWritten kind n text w → v ≡ w

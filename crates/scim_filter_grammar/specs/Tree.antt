@@ -1,0 +1,29 @@
+-- The tree of a filter, without where its parts lie in memory.
+use Rattle.scim_filter_grammar.specs.declared.tree.Operator.{Operator}
+use Rattle.scim_filter_grammar.specs.declared.tree.Literal.{Literal}
+use Rattle.scim_filter_grammar.specs.declared.tree.Path.{Path}
+use Rattle.scim_filter_grammar.specs.declared.tree.Node.{Node}
+use Rattle.scim_filter_grammar.specs.declared.tree.Filter.{Filter}
+use Rattle.scim_filter_grammar.specs.declared.tree.Node.TheVariants as node
+
+-- the tree that the text of a filter spells: `or`, `and` and `not`; `pr`; a comparison; and a value path with the filter between its brackets
+pub data Tree : Type 0 where
+  Or : Tree → Tree → Tree
+  And : Tree → Tree → Tree
+  Not : Tree → Tree
+  Present : Path → Tree
+  Compare : Path → Operator → Literal → Tree
+  Values : Path → Tree → Tree
+
+-- the tree that a node stands for
+abbrev pub view : Node → Tree
+view (node.Or' p a q b) = Or (view a) (view b)
+view (node.And' p a q b) = And (view a) (view b)
+view (node.Not' p a) = Not (view a)
+view (node.Present path) = Present path
+view (node.Compare path op literal) = Compare path op literal
+view (node.Values' path p a) = Values path (view a)
+
+-- the tree of a filter
+abbrev pub tree_of : Filter → Tree
+tree_of filter = view filter.node

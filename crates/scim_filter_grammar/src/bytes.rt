@@ -1,0 +1,150 @@
+//! Spaces and words at the front of bytes.
+
+ghost use Rattle.std.specs.Prelude.{◌≡◌, ◌↔◌, IsTrue, Bool, ℕ, map, option_map, IfSome, length, ◌<◌, ◌≤◌};
+ghost use Rattle.std.specs.Prelude.{drop};
+ghost use Rattle.scim_filter_grammar.specs.Bytes.{is_space, is_word_byte, is_no_colon, front, behind, is_word, past_quote};
+ghost use Rattle.scim_filter_grammar.specs.code.Cuts.{is_no_dot, past_gap, past_join, names_in, urn_in};
+
+/// Whether the byte is one of a word: no space, no quote and no bracket.
+fn is_word_byte_at(byte: u8) -> bool
+    ensures { result ≡ is_word_byte byte }
+{
+    !matches!(byte, b' ' | b'"' | b'(' | b')' | b'[' | b']')
+}
+
+/// What is behind the spaces in front.
+pub fn skip_spaces(bytes: &[u8]) -> &[u8]
+    ensures rest { result.now ≡ behind is_space bytes.now }
+    ensures shorter { length result.now ≤ length bytes.now }
+{
+    let mut rest = bytes;
+    while let [b' ', others @ ..] = rest {
+        rest = others;
+    }
+    rest
+}
+
+/// The longest word in front, and what is behind it.
+pub fn split_word(bytes: &[u8]) -> (&[u8], &[u8])
+    ensures word { result.0.now ≡ front is_word_byte bytes.now }
+    ensures rest { result.1.now ≡ behind is_word_byte bytes.now }
+    ensures shorter { length result.1.now ≤ length bytes.now }
+{
+    let mut end = 0;
+    while end < bytes.len() && is_word_byte_at(bytes[end]) {
+        end += 1;
+    }
+    bytes.split_at(end)
+}
+
+/// What stands before the first dot, and the rest from the dot on.
+pub fn split_name(bytes: &[u8]) -> (&[u8], &[u8])
+    ensures name { result.0.now ≡ front is_no_dot bytes.now }
+    ensures rest { result.1.now ≡ behind is_no_dot bytes.now }
+{
+    let mut end = 0;
+    while end < bytes.len() && bytes[end] != b'.' {
+        end += 1;
+    }
+    bytes.split_at(end)
+}
+
+/// Whether a text is this keyword, in any ASCII case.
+pub fn is_keyword(keyword: &[u8], text: &[u8]) -> bool
+    ensures { result ≡ is_word keyword.now text.now }
+{
+    text.eq_ignore_ascii_case(keyword)
+}
+
+/// What stands before the first colon.
+pub fn before_colon(bytes: &[u8]) -> &[u8]
+    ensures { result.now ≡ front is_no_colon bytes.now }
+{
+    let mut end = 0;
+    while end < bytes.len() && bytes[end] != b':' {
+        end += 1;
+    }
+    bytes.split_at(end).0
+}
+
+/// What stands behind the last colon, or the whole word where it has none.
+pub fn skip_urn(word: &[u8]) -> &[u8]
+    ensures { result.now ≡ names_in word.now }
+{
+    let mut names = word;
+    let mut rest = word;
+    while let [first, others @ ..] = rest {
+        if *first == b':' {
+            names = others;
+        }
+        rest = others;
+    }
+    names
+}
+
+/// What stands before the last colon, if there is one.
+pub fn urn_before(word: &[u8]) -> Option<&[u8]>
+    ensures { option_map (λ u. u.now) result ≡ urn_in word.now }
+{
+    let names = skip_urn(word);
+    if names.len() < word.len() {
+        Some(&word[..word.len() - names.len() - 1])
+    } else {
+        None
+    }
+}
+
+/// What is behind the first byte, if there is one.
+pub fn skip_one(bytes: &[u8]) -> &[u8]
+    ensures rest { result.now ≡ drop 1 bytes.now }
+    ensures shorter { length result.now ≤ length bytes.now }
+{
+    match bytes {
+        [] => bytes,
+        [_, behind @ ..] => behind,
+    }
+}
+
+/// What is behind the quote that closes a string, behind its first quote.
+pub fn skip_string(bytes: &[u8]) -> Option<&[u8]>
+    ensures rest { option_map (λ r. r.now) result ≡ past_quote bytes.now }
+    ensures shorter { IfSome result (λ r. length r.now ≤ length bytes.now) }
+{
+    let mut rest = bytes;
+    while let [first, behind @ ..] = rest {
+        if *first == b'"' {
+            return Some(behind);
+        }
+        rest = if *first == b'\\' {
+            skip_one(behind)
+        } else {
+            behind
+        };
+    }
+    None
+}
+
+/// What is behind one or more spaces.
+pub fn skip_gap(bytes: &[u8]) -> Option<&[u8]>
+    ensures rest { option_map (λ r. r.now) result ≡ past_gap bytes.now }
+    ensures shorter { IfSome result (λ r. length r.now < length bytes.now) }
+{
+    match bytes {
+        [b' ', rest @ ..] => Some(skip_spaces(rest)),
+        _ => None,
+    }
+}
+
+/// What is behind a keyword with spaces on both sides.
+pub fn skip_join<'a>(keyword: &[u8], bytes: &'a [u8]) -> Option<&'a [u8]>
+    ensures rest { option_map (λ r. r.now) result ≡ past_join keyword.now bytes.now }
+    ensures shorter { IfSome result (λ r. length r.now < length bytes.now) }
+{
+    let rest = skip_gap(bytes)?;
+    let (word, rest) = split_word(rest);
+    if is_keyword(keyword, word) {
+        skip_gap(rest)
+    } else {
+        None
+    }
+}

@@ -1,0 +1,30 @@
+//! The grammar of filters and of the paths in them (RFC 7644 sections 3.4.2.2 and 3.10): texts are read as typed trees and cut into
+//! tokens.
+#![tactic(auto)]
+
+mod attribute_paths;
+mod bytes;
+mod faults;
+mod laws;
+mod limits;
+mod literals;
+mod mentions;
+mod names;
+mod reading;
+mod string_literals;
+mod tokens;
+mod tree;
+mod types;
+mod written_paths;
+
+pub use attribute_paths::{attribute_path, lone_word};
+pub use faults::FilterFault;
+pub use laws::{filters_are_spelled, one_path_is_spelled, paths_are_spelled};
+pub use limits::LONGEST_TEXT;
+pub use mentions::{Named, knows_names, mentioned_names};
+pub use reading::read_filter;
+pub use string_literals::StringLiteral;
+pub use tokens::{Token, read_tokens};
+pub use tree::{Filter, Literal, Meant, Node, Operator, Path};
+pub use types::truth_of;
+pub use written_paths::{WrittenPath, written_path};

@@ -1,0 +1,83 @@
+//! The strings in a filter.
+ghost use Rattle.std.specs.Prelude.{◌≡◌, IfOk, IfOk};
+ghost use Rattle.scim_text.specs.Names.{folded};
+ghost use Rattle.scim_text.specs.MomentIn.{moment_in};
+
+use scim_cell::Text;
+use scim_text::{NoMemory, Reading, fold, read_moment};
+use std::alloc::Global;
+use std::marker::Model;
+
+/// The text that a JSON string in a filter stands for. It is folded, and read as a moment, once for all
+/// resources that it is compared with. Contracts see the text.
+pub struct StringLiteral {
+    text: Text,
+    folded: Text,
+    moment: Option<Reading>,
+}
+
+/// One call, wherever a literal is dropped, in place of a look at all that it has.
+impl Drop for StringLiteral {
+    fn drop(self) {
+        let StringLiteral {
+            text: _text,
+            folded: _folded,
+            moment: _moment,
+        } = self;
+    }
+}
+
+impl Model for StringLiteral {
+    ghost use Rattle.std.specs.Prelude.{List, ℕ};
+    ghost use Rattle.scim_filter_grammar.specs.code.Inside.{IsSoundLiteral};
+
+    ghost Value = { List ℕ };
+
+    ghost view = { λ s. s.text };
+
+    ghost invariant = { IsSoundLiteral };
+}
+
+/// The moment that a text spells, if it spells one.
+fn moment_of(text: &str) -> Option<Reading>
+    ensures { result ≡ moment_in text.now }
+{
+    read_moment(text).ok()
+}
+
+impl StringLiteral {
+    /// A string that stands for this text; NoMemory where none was to be had.
+    pub fn copy_of(alloc: Global, text: &str) -> Result<StringLiteral, NoMemory>
+        ensures { IfOk result (λ s. s ≡ text.now) }
+    {
+        let folded = Text::new(fold(alloc, text)?);
+        let moment = moment_of(text);
+        Ok(StringLiteral {
+            text: Text::copy_of(alloc, text)?,
+            folded,
+            moment,
+        })
+    }
+
+    /// The text.
+    pub fn as_str(&self) -> &str
+        ensures { result.now ≡ self.now }
+    {
+        self.text.as_str()
+    }
+
+    /// The text in full case folding, by which attributes that aren't `caseExact` are compared
+    /// (RFC 7643 section 2.2).
+    pub fn folded(&self) -> &str
+        ensures { result.now ≡ folded self.now }
+    {
+        self.folded.as_str()
+    }
+
+    /// The moment that the text spells, if it spells one (RFC 7643 section 2.3.5).
+    pub fn moment(&self) -> Option<Reading>
+        ensures { result ≡ moment_in self.now }
+    {
+        self.moment
+    }
+}

@@ -1,0 +1,119 @@
+//! The paths of changes as they are written (RFC 7644 section 3.5.2).
+ghost use Rattle.std.specs.Prelude.{◌≡◌, ◌≤◌, length, IfOk, IfSome, IsSomeAnd};
+ghost use Rattle.scim_filter_grammar.specs.Reading.{Gives};
+ghost use Rattle.scim_filter_grammar.specs.PathReading.{ended_at, sub_at, filtered_at, behind_names_at, written_at};
+ghost use Rattle.scim_filter_grammar.specs.WrittenPaths.{Written, IsWritten, written_of};
+ghost use Rattle.scim_filter_grammar.specs.Tree.{tree_of};
+ghost use Rattle.scim_filter_grammar.specs.Bytes.{is_space, behind};
+
+use crate::bytes::{skip_spaces, split_word};
+use crate::faults::ReadError;
+use crate::limits::LONGEST_TEXT;
+use crate::names::{name, path};
+use crate::reading::listed;
+use crate::tree::{Filter, Path, Scope};
+use scim_cell::Text;
+use scim_schema::Kind;
+use scim_text::{Failed, NoMemory};
+use std::alloc::Global;
+
+/// The path of a change as it is written.
+#[derive(Drop)]
+pub enum WrittenPath {
+    /// The path of an attribute or of a sub-attribute.
+    Plain(Path),
+    /// A filter that is a value path, and the name of a sub-attribute behind its bracket.
+    Filtered(Filter, Option<Text>),
+}
+
+/// The path, where nothing but spaces is left.
+#[tactic(auto, unfolding(crate::specs::PathReading::ended_at))]
+fn ended(path: WrittenPath, bytes: &[u8]) -> Result<WrittenPath, Failed<ReadError>>
+    ensures { Gives written_of result (ended_at (written_of path) bytes.now) }
+{
+    if !skip_spaces(bytes).is_empty() {
+        return Err(Failed::Because(ReadError::Syntax(bytes.len())));
+    }
+    Ok(path)
+}
+
+/// What stands behind the bracket that closes a value path.
+#[tactic(auto, unfolding(crate::specs::PathReading::sub_at))]
+fn with_sub_attribute(
+    alloc: Global,
+    filter: Filter,
+    bytes: &[u8],
+) -> Result<WrittenPath, Failed<ReadError>>
+    ensures { Gives written_of result (sub_at (tree_of filter) bytes.now) }
+{
+    let [b'.', rest @ ..] = bytes else {
+        return ended(WrittenPath::Filtered(filter, None), bytes);
+    };
+    let (word, rest) = split_word(rest);
+    let Some(sub_name) = name(word) else {
+        return Err(Failed::Because(ReadError::Syntax(bytes.len())));
+    };
+    let sub_name = Text::copy_of(alloc, sub_name)?;
+    ended(WrittenPath::Filtered(filter, Some(sub_name)), rest)
+}
+
+/// What stands behind a path and an open bracket.
+#[tactic(auto, unfolding(crate::specs::PathReading::filtered_at))]
+fn filtered(
+    alloc: Global,
+    kind: Kind,
+    path: Path,
+    bytes: &[u8],
+) -> Result<WrittenPath, Failed<ReadError>>
+    ensures { Gives written_of result (filtered_at 32 kind path bytes.now) }
+{
+    let (node, rest) = listed(alloc, 32, Scope::Attributes(kind), path, bytes)?;
+    with_sub_attribute(alloc, Filter::of(node), rest)
+}
+
+/// What stands behind a path.
+#[tactic(auto, unfolding(crate::specs::PathReading::behind_names_at))]
+fn behind_names(
+    alloc: Global,
+    kind: Kind,
+    path: Path,
+    bytes: &[u8],
+) -> Result<WrittenPath, Failed<ReadError>>
+    ensures { Gives written_of result (behind_names_at 32 kind path bytes.now) }
+{
+    match bytes {
+        [b'[', rest @ ..] => filtered(alloc, kind, path, rest),
+        _ => ended(WrittenPath::Plain(path), bytes),
+    }
+}
+
+#[tactic(auto, unfolding(crate::specs::PathReading::written_at))]
+fn written(alloc: Global, kind: Kind, bytes: &[u8]) -> Result<WrittenPath, Failed<ReadError>>
+    ensures { Gives written_of result (written_at 32 kind bytes.now) }
+{
+    let (word, behind) = split_word(bytes);
+    let path = path(alloc, Scope::Attributes(kind), word, bytes.len())?;
+    behind_names(alloc, kind, path, behind)
+}
+
+/// The path that a text spells, within 4,096 bytes and 32 open brackets: `path`, `path[filter]` or
+/// `path[filter].name`, with spaces round it; None where it spells none. The names between the brackets
+/// are those of sub-attributes. NoMemory where none was to be had.
+pub fn written_path(alloc: Global, kind: Kind, text: &str) -> Result<Option<WrittenPath>, NoMemory>
+    // What is read is spelled so.
+    ensures found { IfOk result (λ o. IfSome o (λ w. (length text.now ≤ LONGEST_TEXT) × IsWritten kind 32 text.now (written_of w))) }
+    // What is spelled within the limits is read so.
+    ensures only { (w : Written) → length text.now ≤ LONGEST_TEXT → IsWritten kind 32 text.now w
+        → IfOk result (λ o. IsSomeAnd o (λ p. written_of p ≡ w)) }
+{
+    let bytes = text.as_bytes();
+    if bytes.len() > LONGEST_TEXT {
+        return Ok(None);
+    }
+    match written(alloc, kind, skip_spaces(bytes)) {
+        Ok(path) => Ok(Some(path)),
+        Err(Failed::NoMemory) => Err(NoMemory),
+        Err(Failed::Because(ReadError::Syntax(_))) => Ok(None),
+        Err(Failed::Because(ReadError::TooDeep)) => Ok(None),
+    }
+}

@@ -1,2 +1,0 @@
-pub mod SameValues
-pub mod code

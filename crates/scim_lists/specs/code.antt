@@ -1,2 +1,0 @@
--- How same values are found.
-pub mod Keys

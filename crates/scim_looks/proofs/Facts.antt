@@ -1,6 +1,0 @@
--- What other crates may use of the proofs here.
-pub use Rattle.scim_looks.proofs.TiedLemmas.{tied, ids_apart}
-pub use Rattle.scim_looks.proofs.NameLemmas.{user_names}
-pub use Rattle.scim_looks.proofs.PlaceLemmas.{own, lower, upper, others, split, found, own_id, other_own, own_apart, others_all}
-pub use Rattle.scim_looks.proofs.OwnerLemmas.{contents, none_left}
-pub use Rattle.scim_looks.proofs.SpanLemmas.{rows_rise, drop-audit_rows, take-audit_rows}

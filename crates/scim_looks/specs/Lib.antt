@@ -1,4 +1,0 @@
-pub mod Stands
-pub mod Finding
-pub mod Auditing
-pub mod code

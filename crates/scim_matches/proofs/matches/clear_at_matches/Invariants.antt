@@ -1,8 +1,0 @@
-use Rattle.std.proofs.Common.{◌≡◌}
-use Rattle.std.specs.Prelude.{map}
-use Rattle.scim_filter.specs.Tree.{tree_of}
-use Rattle.scim_matches.specs.Matches.{cleared_at_match}
-use Rattle.scim_matches.proofs.matches.clear_at_matches.Given as goal
-
-abbrev pub invariant-loop-value : goal.invariant-loop-value
-invariant-loop-value l = l.left.items ≡ map (cleared_at_match (tree_of l.matching) l.sub_attribute) l.yielded

@@ -1,7 +1,0 @@
-use Rattle.std.proofs.Common.{◌≡◌}
-use Rattle.std.specs.Prelude.{map}
-use Rattle.scim_matches.specs.Matches.{kept}
-use Rattle.scim_matches.proofs.positions.keep.Given as goal
-
-abbrev pub invariant-loop-value : goal.invariant-loop-value
-invariant-loop-value l = l.positions.items ≡ map kept l.yielded

@@ -1,5 +1,0 @@
-use Rattle.scim_operations.proofs.TargetLemmas.{targets_are_named}
-use Rattle.scim_operations.proofs.laws.targets_are_named.Goals as goal
-
-pub returns : goal.returns
-returns c = targets_are_named

@@ -1,5 +1,0 @@
-use Rattle.scim_patch.proofs.LawLemmas.{patching_rests_on_its_units}
-use Rattle.scim_patch.proofs.laws.patching_rests_on_its_units.Goals as goal
-
-pub returns : goal.returns
-returns c = patching_rests_on_its_units

@@ -1,4 +1,0 @@
-pub mod Kept
-pub mod Laws
-pub mod Patch
-pub mod code

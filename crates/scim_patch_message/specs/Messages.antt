@@ -1,0 +1,136 @@
+-- What a PATCH message asks (RFC 7644 section 3.5.2).
+use Rattle.std.specs.Prelude.{ℕ, Bool, true, false, List, [], ◌∷◌, map, length, nat_lt, codes, find, Option, None, Some, option_map, option_and_then, Result, Ok, Err, if◌then◌else◌}
+use Rattle.std.specs.List.{list_any}
+use Rattle.serde_json.specs.Data.{Data, Items, Members}
+use Rattle.serde_json.specs.Find.{as_str, as_array, as_object}
+use Rattle.scim_schema.specs.declared.Kind.{Kind}
+use Rattle.scim_text.specs.Names.{is_same_name}
+use Rattle.scim_filter_grammar.specs.declared.tree.Path.{Path as FilterPath}
+use Rattle.scim_filter_grammar.specs.declared.tree.Meant.{Meant}
+use Rattle.scim_filter_grammar.specs.declared.tree.Meant.TheVariants as meant
+use Rattle.scim_filter_grammar.specs.Spelled.{path_in}
+use Rattle.scim_path.specs.declared.faults.PathFault.{PathFault}
+use Rattle.scim_path.specs.Paths.{PathTarget}
+use Rattle.scim_body.specs.BodyNames.{value_named, is_twice, items_list}
+use Rattle.scim_body.specs.BodyValues.{present, given_named}
+use Rattle.scim_patch_steps.specs.Patch.{Step, Pathless, Patch}
+use Rattle.scim_patch_message.specs.declared.operations.Operation.{Operation}
+use Rattle.scim_patch_message.specs.declared.operations.Operation.TheVariants.{Add, Replace, Remove}
+use Rattle.scim_patch_message.specs.declared.faults.PatchFault.{PatchFault}
+use Rattle.scim_patch_message.specs.declared.faults.PatchFault.TheVariants.{Syntax, Path, Value}
+use Rattle.scim_patch_message.specs.Targets.{target_in}
+use Rattle.scim_patch_message.specs.Readings.{Read, joined, each_member}
+use Rattle.scim_patch_message.specs.PathSteps.{target_steps, is_fixed_target}
+
+-- ---- without a path: each key of the value is a path of its own
+
+-- whether a path is one of an attribute that the kind hasn't
+abbrev pub is_nothing : Option Meant → Bool
+is_nothing (Some meant.Nothing) = true
+is_nothing _ = false
+
+-- whether a key is such a path, as `schemas` is
+abbrev pub names_nothing : Kind → List ℕ → Bool
+names_nothing kind key = is_nothing (option_map (λ (p : FilterPath). p.meant) (path_in kind key))
+
+-- what is readOnly is ignored, and so is a key that names nothing; any other has to be a path
+abbrev pub key_steps : Kind → Operation → List ℕ → Data → Result PathTarget PathFault → Read
+key_steps kind op key d (Ok target) = if is_fixed_target kind target then Ok [] else target_steps kind op target (present (Some d))
+key_steps kind op key d (Err f) = if names_nothing kind key then Ok [] else Err Path
+
+abbrev pub member_steps : Kind → Operation → List ℕ → Data → Read
+member_steps kind op key d = key_steps kind op key d (target_in kind key)
+
+abbrev pub object_steps : Kind → Operation → Option Members → Read
+object_steps kind op None = Err Value
+object_steps kind op (Some ms) = each_member (member_steps kind op) ms
+
+-- a remove without a path has no target
+abbrev pub pathless_steps : Kind → Operation → Option Data → Read
+pathless_steps kind Remove v = Ok (Pathless ∷ [])
+pathless_steps kind Add v = object_steps kind Add (option_and_then as_object v)
+pathless_steps kind Replace v = object_steps kind Replace (option_and_then as_object v)
+
+-- ---- one operation
+
+-- add and replace need a value, be it null
+abbrev pub valued_steps : Kind → Operation → PathTarget → Option Data → Read
+valued_steps kind Remove target v = target_steps kind Remove target (present v)
+valued_steps kind Add target None = Err Value
+valued_steps kind Add target (Some d) = target_steps kind Add target (present (Some d))
+valued_steps kind Replace target None = Err Value
+valued_steps kind Replace target (Some d) = target_steps kind Replace target (present (Some d))
+
+-- where the path names nothing, the value isn't looked at
+abbrev pub pathed_steps : Kind → Operation → Option Data → Result PathTarget PathFault → Read
+pathed_steps kind op v (Err f) = Err Path
+pathed_steps kind op v (Ok target) = valued_steps kind op target v
+
+abbrev pub text_steps : Kind → Operation → Option Data → Option (List ℕ) → Read
+text_steps kind op v None = Err Path
+text_steps kind op v (Some text) = pathed_steps kind op v (target_in kind text)
+
+-- by the path, of which null and `[]` are none
+abbrev pub path_steps : Kind → Operation → Option Data → Option Data → Read
+path_steps kind op v None = pathless_steps kind op v
+path_steps kind op v (Some path) = text_steps kind op v (as_str path)
+
+-- the operation of a name, in any ASCII case
+abbrev pub operation_name : Operation → List ℕ
+operation_name Add = codes "add"
+operation_name Replace = codes "replace"
+operation_name Remove = codes "remove"
+
+abbrev pub operation_named : List ℕ → Option Operation
+operation_named name = find (λ op. is_same_name (operation_name op) name) (Add ∷ Replace ∷ Remove ∷ [])
+
+abbrev pub named_steps : Kind → Members → Option Operation → Read
+named_steps kind ms None = Err Syntax
+named_steps kind ms (Some op) = path_steps kind op (value_named (codes "value") ms) (given_named (codes "path") ms)
+
+-- whether `op`, `path` or `value` is there in two spellings
+abbrev pub keys_clash : Members → Bool
+keys_clash ms = list_any (λ key. is_twice key ms) (codes "op" ∷ codes "path" ∷ codes "value" ∷ [])
+
+abbrev pub member_operation : Members → Option Operation
+member_operation ms = option_and_then operation_named (option_and_then as_str (value_named (codes "op") ms))
+
+abbrev pub object_operation : Kind → Option Members → Read
+object_operation kind None = Err Syntax
+object_operation kind (Some ms) = if keys_clash ms then Err Syntax else named_steps kind ms (member_operation ms)
+
+-- what one operation asks
+unfoldable pub operation_steps : Kind → Data → Read
+operation_steps kind d = object_operation kind (as_object d)
+
+-- ---- the message
+
+-- at most 1,000 operations
+abbrev pub if_few : List Data → Read
+if_few ds = if nat_lt 1000 (length ds) then Err Value else Ok []
+
+abbrev pub list_steps : Kind → List Data → Read
+list_steps kind [] = Err Syntax
+list_steps kind (d ∷ ds) = joined (if_few (d ∷ ds) ∷ map (operation_steps kind) (d ∷ ds))
+
+abbrev pub items_steps : Kind → Option Items → Read
+items_steps kind None = Err Syntax
+items_steps kind (Some items) = list_steps kind (items_list items)
+
+-- its object has `Operations`, in any ASCII case but in one spelling: a list that isn't empty
+abbrev pub object_message : Kind → Option Members → Read
+object_message kind None = Err Syntax
+object_message kind (Some ms) =
+    if is_twice (codes "Operations") ms then Err Syntax else items_steps kind (option_and_then as_array (value_named (codes "Operations") ms))
+
+-- the steps of a message with this JSON value, if it has one
+unfoldable pub message_steps : Kind → Option Data → Read
+message_steps kind d = object_message kind (option_and_then as_object d)
+
+-- what is to be answered of a text with this JSON value, if it has one: the patch of these steps, or their fault
+abbrev pub patch_of_steps : Kind → Read → Result Patch PatchFault
+patch_of_steps kind (Ok steps) = Ok (record { kind = kind; steps = steps })
+patch_of_steps kind (Err f) = Err f
+
+abbrev pub patch_in : Kind → Option Data → Result Patch PatchFault
+patch_in kind d = patch_of_steps kind (message_steps kind d)

@@ -1,0 +1,241 @@
+-- The steps that an operation asks for at what a path names (RFC 7644 section 3.5.2).
+use Rattle.std.specs.Prelude.{ℕ, Bool, true, false, List, [], ◌∷◌, map, Option, None, Some, option_map, Result, Ok, Err, if◌then◌else◌}
+use Rattle.std.specs.List.{flat_map}
+use Rattle.serde_json.specs.Data.{Data, Members}
+use Rattle.serde_json.specs.Find.{as_object}
+use Rattle.scim_schema.specs.declared.Kind.{Kind}
+use Rattle.scim_schema.specs.declared.Attribute.{Attribute}
+use Rattle.scim_schema.specs.declared.SubAttribute.{SubAttribute}
+use Rattle.scim_schema.specs.declared.SubAttribute.TheVariants as sub_attribute
+use Rattle.scim_schema.specs.declared.Unit.{Unit as AttributeUnit}
+use Rattle.scim_schema.specs.declared.schemas.Schema.{Schema}
+use Rattle.scim_schema.specs.declared.json_keys.JsonShape.{JsonShape}
+use Rattle.scim_schema.specs.declared.json_keys.JsonShape.TheVariants.{Simple, Complex, MultiValued}
+use Rattle.scim_schema.specs.Characteristics.{is_multi_valued}
+use Rattle.scim_schema.specs.JsonKeys.{shape_of}
+use Rattle.scim_schema.specs.Lookup.{attribute_named_in}
+use Rattle.scim_schema.specs.Mutability.{is_read_only, is_fixed}
+use Rattle.scim_schema.specs.Table.{attributes}
+use Rattle.scim_schema.specs.Units.{simple, leaf_at, whole, unit_of, units_of}
+use Rattle.scim_schema.specs.Schemas.{schema_of, is_same_schema}
+use Rattle.scim_cell.specs.declared.atoms.Atom.{Atom}
+use Rattle.scim_cell.specs.declared.atoms.Atom.TheVariants.{Text}
+use Rattle.scim_cell.specs.declared.rows.Field.{Field}
+use Rattle.scim_cell.specs.Rows.{Row, atom_in}
+use Rattle.scim_filter_grammar.specs.Tree.{Tree}
+use Rattle.scim_body.specs.BodyNames.{value_clashes, values_clash}
+use Rattle.scim_body.specs.BodyValues.{present, field_with, fields_of, listed_values}
+use Rattle.scim_body.specs.Bodies.{Given, field_given, shaped_given}
+use Rattle.scim_path.specs.Paths.{PathTarget, OfExtension, OfAttribute, OfSubAttribute, OfValues}
+use Rattle.scim_patch_steps.specs.Changes.{Change, Keep, KeepMatches, KeepSubAttribute, Append, Replace as ReplaceAll, Clear, RemoveListed, AddToMatches, ReplaceMatches, RemoveMatches, AddAtMatches, SetAtMatches, ClearAtMatches, SetEverywhere, ClearEverywhere}
+use Rattle.scim_patch_steps.specs.Patch.{Step, Of}
+use Rattle.scim_patch_message.specs.declared.operations.Operation.{Operation}
+use Rattle.scim_patch_message.specs.declared.operations.Operation.TheVariants.{Add, Replace, Remove}
+use Rattle.scim_patch_message.specs.declared.faults.PatchFault.TheVariants.{Value}
+use Rattle.scim_patch_message.specs.Readings.{Read, joined, each_member, value_read}
+
+-- In all that follows the value is None where none is given: null and `[]` count so (RFC 7643 section 2.5).
+-- To replace by nothing is to remove, and to add nothing changes nothing.
+
+-- one step
+abbrev pub one : AttributeUnit → Change → List Step
+one u change = Of u change ∷ []
+
+-- ---- a whole attribute
+
+-- without a value: a unit is kept or cleared; one that is readOnly is left out
+abbrev pub nothing_given : Operation → Change
+nothing_given Add = Keep
+nothing_given Replace = Clear
+nothing_given Remove = Clear
+
+abbrev pub unit_emptied : Kind → Operation → AttributeUnit → Read
+unit_emptied kind op u = if is_fixed kind u then Ok [] else Ok (one u (nothing_given op))
+
+abbrev pub sub_attribute_emptied_at : Kind → Operation → Attribute → SubAttribute → Read
+sub_attribute_emptied_at kind op a b = unit_emptied kind op (unit_of (leaf_at a b))
+
+-- each unit of an attribute, in the order of the table
+abbrev pub emptied : Kind → Operation → Attribute → Read
+emptied kind op a = joined (map (unit_emptied kind op) (units_of a))
+
+-- an attribute that is readOnly: its value isn't read, and the step is refused later; of a complex one all sub-attributes are left out
+abbrev pub fixed_steps : Attribute → JsonShape → List Step
+fixed_steps a Simple = one (whole a) Keep
+fixed_steps a Complex = []
+fixed_steps a MultiValued = one (whole a) Keep
+
+-- a unit with one value is set to what is given for it, be it added or replaced
+abbrev pub set_to : Given → Step
+set_to g = Of g.unit (ReplaceAll g.values)
+
+abbrev pub set_units : Kind → Attribute → Data → Option (List Step)
+set_units kind a d = option_map (map set_to) (shaped_given kind a (shape_of a) d)
+
+-- the texts of the `value`s of values
+abbrev pub text_in : Option Atom → List (List ℕ)
+text_in (Some (Text t)) = t ∷ []
+text_in _ = []
+
+abbrev pub value_text : Attribute → Row → List (List ℕ)
+value_text a r = text_in (atom_in (leaf_at a sub_attribute.Value) r.fields)
+
+-- values are added to those of a multi-valued attribute, or take their place; of a remove they list which values go, by their `value`
+abbrev pub listed_change : Operation → Attribute → List Row → Change
+listed_change Remove a vs = RemoveListed (flat_map (value_text a) vs)
+listed_change Add a vs = Append vs
+listed_change Replace a vs = ReplaceAll vs
+
+-- a value of the attribute, with keys of their own
+abbrev pub value_read_of : Attribute → Data → Option (List Step) → Read
+value_read_of a d steps = value_read (values_clash a d) steps
+
+abbrev pub listed_steps : Kind → Operation → Attribute → Data → Option (List Step)
+listed_steps kind op a d = option_map (λ vs. one (whole a) (listed_change op a vs)) (listed_values kind a d)
+
+-- the value of a remove counts only for a multi-valued attribute
+abbrev pub single_steps : Kind → Operation → Attribute → Data → Read
+single_steps kind Remove a d = emptied kind Remove a
+single_steps kind Add a d = value_read_of a d (set_units kind a d)
+single_steps kind Replace a d = value_read_of a d (set_units kind a d)
+
+abbrev pub given_steps : Kind → Operation → Attribute → Data → Read
+given_steps kind op a d = if is_multi_valued a then value_read_of a d (listed_steps kind op a d) else single_steps kind op a d
+
+abbrev pub writable_steps : Kind → Operation → Attribute → Option Data → Read
+writable_steps kind op a None = emptied kind op a
+writable_steps kind op a (Some d) = given_steps kind op a d
+
+unfoldable pub attribute_steps : Kind → Operation → Attribute → Option Data → Read
+attribute_steps kind op a v = if is_read_only kind (simple a) then Ok (fixed_steps a (shape_of a)) else writable_steps kind op a v
+
+-- ---- a sub-attribute, of one value or of each
+
+abbrev pub sub_attribute_kept : Attribute → SubAttribute → Change
+sub_attribute_kept a b = if is_multi_valued a then KeepSubAttribute b else Keep
+
+abbrev pub sub_attribute_cleared : Attribute → SubAttribute → Change
+sub_attribute_cleared a b = if is_multi_valued a then ClearEverywhere b else Clear
+
+abbrev pub sub_attribute_set : Kind → Attribute → Field → Step
+sub_attribute_set kind a f = if is_multi_valued a then Of (whole a) (SetEverywhere f) else set_to (field_given kind f)
+
+abbrev pub sub_attribute_emptied : Operation → Attribute → SubAttribute → Change
+sub_attribute_emptied Add a b = sub_attribute_kept a b
+sub_attribute_emptied Replace a b = sub_attribute_cleared a b
+sub_attribute_emptied Remove a b = sub_attribute_cleared a b
+
+abbrev pub sub_attribute_given : Kind → Operation → Attribute → SubAttribute → Data → Read
+sub_attribute_given kind Remove a b d = Ok (one (unit_of (leaf_at a b)) (sub_attribute_cleared a b))
+sub_attribute_given kind Add a b d = value_read false (option_map (map (sub_attribute_set kind a)) (field_with kind a b d))
+sub_attribute_given kind Replace a b d = value_read false (option_map (map (sub_attribute_set kind a)) (field_with kind a b d))
+
+abbrev pub writable_sub_attribute_steps : Kind → Operation → Attribute → SubAttribute → Option Data → Read
+writable_sub_attribute_steps kind op a b None = Ok (one (unit_of (leaf_at a b)) (sub_attribute_emptied op a b))
+writable_sub_attribute_steps kind op a b (Some d) = sub_attribute_given kind op a b d
+
+unfoldable pub sub_attribute_steps : Kind → Operation → Attribute → SubAttribute → Option Data → Read
+sub_attribute_steps kind op a b v =
+    if is_read_only kind (leaf_at a b) then Ok (one (unit_of (leaf_at a b)) (sub_attribute_kept a b)) else writable_sub_attribute_steps kind op a b v
+
+-- ---- the values that a filter chooses
+
+abbrev pub matches_emptied : Operation → Tree → Change
+matches_emptied Add t = KeepMatches t
+matches_emptied Replace t = RemoveMatches t
+matches_emptied Remove t = RemoveMatches t
+
+-- one value for them: its sub-attributes over theirs, or in their place
+abbrev pub matches_change : Bool → Tree → List Field → Change
+matches_change false t fs = AddToMatches t fs
+matches_change true t fs = ReplaceMatches t fs
+
+abbrev pub matches_set : Kind → Bool → Attribute → Tree → Data → Read
+matches_set kind replaces a t d = value_read (value_clashes a d) (option_map (λ fs. one (whole a) (matches_change replaces t fs)) (fields_of kind a d))
+
+abbrev pub matches_given : Kind → Operation → Attribute → Tree → Data → Read
+matches_given kind Add a t d = matches_set kind false a t d
+matches_given kind Replace a t d = matches_set kind true a t d
+matches_given kind Remove a t d = Ok (one (whole a) (RemoveMatches t))
+
+abbrev pub writable_matches_steps : Kind → Operation → Attribute → Tree → Option Data → Read
+writable_matches_steps kind op a t None = Ok (one (whole a) (matches_emptied op t))
+writable_matches_steps kind op a t (Some d) = matches_given kind op a t d
+
+unfoldable pub matches_steps : Kind → Operation → Attribute → Tree → Option Data → Read
+matches_steps kind op a t v = if is_read_only kind (simple a) then Ok (one (whole a) Keep) else writable_matches_steps kind op a t v
+
+-- ---- and a sub-attribute of these
+
+abbrev pub at_matches_emptied : Operation → Tree → SubAttribute → Change
+at_matches_emptied Add t b = KeepSubAttribute b
+at_matches_emptied Replace t b = ClearAtMatches t b
+at_matches_emptied Remove t b = ClearAtMatches t b
+
+abbrev pub at_matches_change : Bool → Tree → Field → Change
+at_matches_change false t f = AddAtMatches t f
+at_matches_change true t f = SetAtMatches t f
+
+abbrev pub at_matches_set : Kind → Bool → Attribute → Tree → SubAttribute → Data → Read
+at_matches_set kind replaces a t b d = value_read false (option_map (map (λ f. Of (whole a) (at_matches_change replaces t f))) (field_with kind a b d))
+
+abbrev pub at_matches_given : Kind → Operation → Attribute → Tree → SubAttribute → Data → Read
+at_matches_given kind Add a t b d = at_matches_set kind false a t b d
+at_matches_given kind Replace a t b d = at_matches_set kind true a t b d
+at_matches_given kind Remove a t b d = Ok (one (whole a) (ClearAtMatches t b))
+
+abbrev pub writable_at_matches_steps : Kind → Operation → Attribute → Tree → SubAttribute → Option Data → Read
+writable_at_matches_steps kind op a t b None = Ok (one (whole a) (at_matches_emptied op t b))
+writable_at_matches_steps kind op a t b (Some d) = at_matches_given kind op a t b d
+
+unfoldable pub at_matches_steps : Kind → Operation → Attribute → Tree → SubAttribute → Option Data → Read
+at_matches_steps kind op a t b v = if is_read_only kind (leaf_at a b) then Ok (one (whole a) (KeepSubAttribute b)) else writable_at_matches_steps kind op a t b v
+
+-- ---- an extension
+
+-- each attribute of the extension, in the order of the table
+abbrev pub own_emptied : Kind → Operation → Schema → Attribute → Read
+own_emptied kind op s a = if is_same_schema (schema_of kind a) s then attribute_steps kind op a None else Ok []
+
+abbrev pub extension_emptied : Kind → Operation → Schema → Read
+extension_emptied kind op s = joined (map (own_emptied kind op s) (attributes kind))
+
+-- a key of its object that names one of its attributes; others are ignored
+abbrev pub attribute_or_none : Kind → Operation → Option Attribute → Data → Read
+attribute_or_none kind op None d = Ok []
+attribute_or_none kind op (Some a) d = attribute_steps kind op a (present (Some d))
+
+abbrev pub own_member : Kind → Operation → Schema → List ℕ → Data → Read
+own_member kind op s key d = attribute_or_none kind op (attribute_named_in kind s key) d
+
+abbrev pub extension_object : Kind → Operation → Schema → Option Members → Read
+extension_object kind op s None = Err Value
+extension_object kind op s (Some ms) = each_member (own_member kind op s) ms
+
+abbrev pub extension_given : Kind → Operation → Schema → Data → Read
+extension_given kind Remove s d = extension_emptied kind Remove s
+extension_given kind Add s d = extension_object kind Add s (as_object d)
+extension_given kind Replace s d = extension_object kind Replace s (as_object d)
+
+unfoldable pub extension_steps : Kind → Operation → Schema → Option Data → Read
+extension_steps kind op s None = extension_emptied kind op s
+extension_steps kind op s (Some d) = extension_given kind op s d
+
+-- ---- whatever a path names
+
+abbrev pub values_steps : Kind → Operation → Attribute → Tree → Option SubAttribute → Option Data → Read
+values_steps kind op a t None v = matches_steps kind op a t v
+values_steps kind op a t (Some b) v = at_matches_steps kind op a t b v
+
+abbrev pub target_steps : Kind → Operation → PathTarget → Option Data → Read
+target_steps kind op (OfExtension s) v = extension_steps kind op s v
+target_steps kind op (OfAttribute a) v = attribute_steps kind op a v
+target_steps kind op (OfSubAttribute a b) v = sub_attribute_steps kind op a b v
+target_steps kind op (OfValues a t sub) v = values_steps kind op a t sub v
+
+-- whether it is readOnly as a whole
+abbrev pub is_fixed_target : Kind → PathTarget → Bool
+is_fixed_target kind (OfExtension s) = false
+is_fixed_target kind (OfAttribute a) = is_read_only kind (simple a)
+is_fixed_target kind (OfSubAttribute a b) = is_read_only kind (leaf_at a b)
+is_fixed_target kind (OfValues a t sub) = is_read_only kind (simple a)

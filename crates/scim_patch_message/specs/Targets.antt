@@ -1,0 +1,34 @@
+-- What a text names as the path of a change, as a function of the text (RFC 7644 section 3.5.2).
+use Rattle.std.specs.Prelude.{ℕ, nat_le, List, length, Option, None, Some, Result, Ok, Err, if◌then◌else◌}
+use Rattle.std.specs.Result.{result_ok}
+use Rattle.scim_schema.specs.declared.Kind.{Kind}
+use Rattle.scim_schema.specs.declared.schemas.Schema.{Schema}
+use Rattle.scim_filter_grammar.specs.declared.limits.TheConstants.{LONGEST_TEXT}
+use Rattle.scim_filter_grammar.specs.Bytes.{is_space, behind}
+use Rattle.scim_filter_grammar.specs.WrittenPaths.{Written}
+use Rattle.scim_filter_grammar.specs.PathReading.{written_at}
+use Rattle.scim_path.specs.declared.faults.PathFault.{PathFault}
+use Rattle.scim_path.specs.declared.faults.PathFault.TheVariants as fault
+use Rattle.scim_path.specs.Paths.{PathTarget, OfExtension, extension_named, written_target, Names}
+
+-- the path that a text spells within 4,096 bytes and 32 open brackets, if it spells one
+abbrev pub written_in : Kind → List ℕ → Option Written
+written_in kind text = if nat_le (length text) LONGEST_TEXT then result_ok (written_at 32 kind (behind is_space text)) else None
+
+-- what a text names that spells this path; one that spells none is no path
+abbrev pub spelled_target : Option Written → Result PathTarget PathFault
+spelled_target None = Err fault.Syntax
+spelled_target (Some w) = written_target w
+
+-- all of an extension, where its URN stands alone in the text
+abbrev pub target_with : Option Schema → Option Written → Result PathTarget PathFault
+target_with (Some schema) w = Ok (OfExtension schema)
+target_with None w = spelled_target w
+
+-- what a text names, or why it names nothing
+unfoldable pub target_in : Kind → List ℕ → Result PathTarget PathFault
+target_in kind text = target_with (extension_named kind text) (written_in kind text)
+
+-- this is what the grammar says
+abbrev pub TargetsAreNamed : Type 0
+TargetsAreNamed = (kind : Kind) (text : List ℕ) → Names kind text (target_in kind text)

@@ -1,0 +1,21 @@
+-- What the reader of a message has read so far.
+use Rattle.std.specs.Prelude.{List, map, Option, None, Some, Result, Ok, Err}
+use Rattle.scim_patch_steps.specs.declared.patches.Step.{Step as KeptStep}
+use Rattle.scim_patch_steps.specs.Patch.{Patch}
+use Rattle.scim_patch_steps.specs.Kept.{Kept, step_of, patch_of}
+use Rattle.scim_patch_message.specs.declared.faults.PatchFault.{PatchFault}
+use Rattle.scim_patch_message.specs.declared.readings.Reading.{Reading}
+use Rattle.scim_patch_message.specs.Readings.{Read}
+
+-- the fault that was found, or else the steps
+abbrev pub steps_or_fault : List KeptStep → Option PatchFault → Read
+steps_or_fault steps None = Ok (map step_of steps)
+steps_or_fault steps (Some f) = Err f
+
+abbrev pub read_of : Reading → Read
+read_of r = steps_or_fault r.steps.items r.fault
+
+-- what is answered: a patch, without how its steps are kept, or the fault
+abbrev pub answered : Result Kept PatchFault → Result Patch PatchFault
+answered (Ok p) = Ok (patch_of p)
+answered (Err f) = Err f

@@ -1,0 +1,343 @@
+//! Reading the message of a PATCH (RFC 7644 section 3.5.2).
+ghost use Rattle.std.specs.Prelude.{◌≡◌, OnOk, IfOk, Some, None, option_map, option_and_then, map};
+ghost use Rattle.serde_json.specs.Find.{as_array, as_object, as_str};
+ghost use Rattle.serde_json.specs.Read.{read};
+ghost use Rattle.scim_body.specs.View.{view, items_view, members_view};
+ghost use Rattle.scim_text.specs.Failures.{UnlessMemory};
+ghost use Rattle.scim_body.specs.BodyNames.{items_list};
+ghost use Rattle.scim_path.specs.Paths.{path_target};
+ghost use Rattle.scim_patch_message.specs.Messages as spec;
+ghost use Rattle.scim_patch_message.specs.Readings.{both, joined, each_member};
+ghost use Rattle.scim_patch_message.specs.code.Inside.{read_of, answered};
+
+use crate::faults::PatchFault;
+use crate::operations::Operation;
+use crate::readings::Reading;
+use crate::targets::{is_fixed_path, present, push_target, target_of};
+use json::Scratch;
+use scim_body::{Member, NotJson, Tree, given_named, is_twice, value_named};
+use scim_filter_grammar::{Meant, attribute_path};
+use scim_patch_steps::Patch;
+use scim_path::Path;
+use scim_schema::Kind;
+use scim_text::{Failed, NoMemory};
+use std::alloc::Global;
+
+/// How many operations a message may have.
+const MOST_OPERATIONS: usize = 1000;
+
+/// Whether a key is the path of an attribute that the kind hasn't.
+fn names_nothing(kind: Kind, key: &str) -> bool
+    ensures { result ≡ spec.names_nothing kind key.now }
+{
+    match attribute_path(kind, key) {
+        Some(Meant::Nothing) => true,
+        _ => false,
+    }
+}
+
+/// A member of the value of an operation without a path: its key is a path of its own. NoMemory where none was to be
+/// had.
+fn push_member(
+    alloc: Global,
+    kind: Kind,
+    operation: Operation,
+    key: &str,
+    value: &Tree<'_>,
+    reading: &mut Reading,
+) -> Result<(), NoMemory>
+    ensures { OnOk result (read_of reading.new ≡ both (read_of reading.old)
+        (spec.member_steps kind operation key.now (view value.now))) }
+{
+    match target_of(alloc, kind, key) {
+        Ok(path) => {
+            if is_fixed_path(kind, &path) {
+                return Ok(());
+            }
+            push_target(alloc, kind, operation, path, present(value), reading)
+        }
+        Err(Failed::Because(_)) => {
+            if !names_nothing(kind, key) {
+                reading.refuse(PatchFault::Path);
+            }
+            Ok(())
+        }
+        Err(Failed::NoMemory) => Err(NoMemory),
+    }
+}
+
+/// The members of that value, in byte order. NoMemory where none was to be had.
+fn push_members(
+    alloc: Global,
+    kind: Kind,
+    operation: Operation,
+    members: &[Member<'_>],
+    reading: &mut Reading,
+) -> Result<(), NoMemory>
+    ensures { OnOk result (read_of reading.new ≡ both (read_of reading.old)
+        (each_member (spec.member_steps kind operation) (members_view members.now))) }
+{
+    for member in members {
+        push_member(alloc, kind, operation, member.0, &member.1, reading)?;
+    }
+    Ok(())
+}
+
+/// An operation without a path. NoMemory where none was to be had.
+fn push_pathless(
+    alloc: Global,
+    kind: Kind,
+    operation: Operation,
+    value: Option<&Tree<'_>>,
+    reading: &mut Reading,
+) -> Result<(), NoMemory>
+    ensures { OnOk result (read_of reading.new ≡ both (read_of reading.old)
+        (spec.pathless_steps kind operation (option_map (λ v. view v.now) value.entry))) }
+{
+    if operation == Operation::Remove {
+        return reading.push_pathless();
+    }
+    match value.and_then(Tree::as_object) {
+        Some(members) => push_members(alloc, kind, operation, members, reading),
+        None => {
+            reading.refuse(PatchFault::Value);
+            Ok(())
+        }
+    }
+}
+
+/// An operation at what a path names: add and replace need a value. NoMemory where none was to be had.
+fn push_valued(
+    alloc: Global,
+    kind: Kind,
+    operation: Operation,
+    path: Path,
+    value: Option<&Tree<'_>>,
+    reading: &mut Reading,
+) -> Result<(), NoMemory>
+    ensures { OnOk result (read_of reading.new ≡ both (read_of reading.old)
+        (spec.valued_steps kind operation (path_target path) (option_map (λ v. view v.now) value.entry))) }
+{
+    match value {
+        Some(value) => push_target(alloc, kind, operation, path, present(value), reading),
+        None => {
+            if operation == Operation::Remove {
+                return push_target(alloc, kind, operation, path, None, reading);
+            }
+            reading.refuse(PatchFault::Value);
+            Ok(())
+        }
+    }
+}
+
+/// An operation with the text of a path. NoMemory where none was to be had.
+fn push_text(
+    alloc: Global,
+    kind: Kind,
+    operation: Operation,
+    text: &str,
+    value: Option<&Tree<'_>>,
+    reading: &mut Reading,
+) -> Result<(), NoMemory>
+    ensures { OnOk result (read_of reading.new ≡ both (read_of reading.old)
+        (spec.text_steps kind operation (option_map (λ v. view v.now) value.entry) (Some text.now))) }
+{
+    match target_of(alloc, kind, text) {
+        Ok(path) => push_valued(alloc, kind, operation, path, value, reading),
+        Err(Failed::Because(_)) => {
+            reading.refuse(PatchFault::Path);
+            Ok(())
+        }
+        Err(Failed::NoMemory) => Err(NoMemory),
+    }
+}
+
+/// An operation of this name. NoMemory where none was to be had.
+fn push_named(
+    alloc: Global,
+    kind: Kind,
+    operation: Operation,
+    members: &[Member<'_>],
+    reading: &mut Reading,
+) -> Result<(), NoMemory>
+    ensures { OnOk result (read_of reading.new ≡ both (read_of reading.old)
+        (spec.named_steps kind (members_view members.now) (Some operation))) }
+{
+    let value = value_named(members, "value");
+    let Some(path) = given_named(members, "path") else {
+        return push_pathless(alloc, kind, operation, value, reading);
+    };
+    match path.as_str() {
+        Some(text) => push_text(alloc, kind, operation, text, value, reading),
+        None => {
+            reading.refuse(PatchFault::Path);
+            Ok(())
+        }
+    }
+}
+
+/// Whether a key of an operation is there in two spellings.
+fn keys_clash(members: &[Member<'_>]) -> bool
+    ensures { result ≡ spec.keys_clash (members_view members.now) }
+{
+    is_twice(members, "op") || is_twice(members, "path") || is_twice(members, "value")
+}
+
+/// What an operation does, where it tells.
+fn operation_of(members: &[Member<'_>]) -> Option<Operation>
+    ensures { result ≡ spec.member_operation (members_view members.now) }
+{
+    let name = value_named(members, "op").and_then(Tree::as_str)?;
+    Operation::named(name)
+}
+
+/// The operation of an object. NoMemory where none was to be had.
+fn push_object(
+    alloc: Global,
+    kind: Kind,
+    members: &[Member<'_>],
+    reading: &mut Reading,
+) -> Result<(), NoMemory>
+    ensures { OnOk result (read_of reading.new ≡ both (read_of reading.old)
+        (spec.object_operation kind (Some (members_view members.now)))) }
+{
+    if keys_clash(members) {
+        reading.refuse(PatchFault::Syntax);
+        return Ok(());
+    }
+    match operation_of(members) {
+        Some(operation) => push_named(alloc, kind, operation, members, reading),
+        None => {
+            reading.refuse(PatchFault::Syntax);
+            Ok(())
+        }
+    }
+}
+
+/// One operation. NoMemory where none was to be had.
+#[tactic(auto, unfolding(crate::specs::Messages::operation_steps))]
+fn push_operation(
+    alloc: Global,
+    kind: Kind,
+    item: &Tree<'_>,
+    reading: &mut Reading,
+) -> Result<(), NoMemory>
+    ensures { OnOk result (read_of reading.new ≡ both (read_of reading.old) (spec.operation_steps kind (view item.now))) }
+{
+    match item.as_object() {
+        Some(members) => push_object(alloc, kind, members, reading),
+        None => {
+            reading.refuse(PatchFault::Syntax);
+            Ok(())
+        }
+    }
+}
+
+/// All operations, in their order. NoMemory where none was to be had.
+fn push_operations(
+    alloc: Global,
+    kind: Kind,
+    items: &[Tree<'_>],
+    reading: &mut Reading,
+) -> Result<(), NoMemory>
+    ensures { OnOk result (read_of reading.new ≡ both (read_of reading.old)
+        (joined (map (spec.operation_steps kind) (items_list (items_view items.now))))) }
+{
+    for item in items {
+        push_operation(alloc, kind, item, reading)?;
+    }
+    Ok(())
+}
+
+/// Too many operations are refused.
+fn refuse_many(items: &[Tree<'_>], reading: &mut Reading)
+    ensures { read_of reading.new ≡ both (read_of reading.old) (spec.if_few (items_list (items_view items.now))) }
+{
+    if items.len() > MOST_OPERATIONS {
+        reading.refuse(PatchFault::Value);
+    }
+}
+
+/// The operations of a message: a list that isn't empty. NoMemory where none was to be had.
+fn push_list(
+    alloc: Global,
+    kind: Kind,
+    items: &[Tree<'_>],
+    reading: &mut Reading,
+) -> Result<(), NoMemory>
+    ensures { OnOk result (read_of reading.new ≡ both (read_of reading.old)
+        (spec.list_steps kind (items_list (items_view items.now)))) }
+{
+    if items.is_empty() {
+        reading.refuse(PatchFault::Syntax);
+        return Ok(());
+    }
+    refuse_many(items, reading);
+    push_operations(alloc, kind, items, reading)
+}
+
+/// What a message's object asks. NoMemory where none was to be had.
+fn push_message(
+    alloc: Global,
+    kind: Kind,
+    members: &[Member<'_>],
+    reading: &mut Reading,
+) -> Result<(), NoMemory>
+    ensures { OnOk result (read_of reading.new ≡ both (read_of reading.old)
+        (spec.object_message kind (Some (members_view members.now)))) }
+{
+    if is_twice(members, "Operations") {
+        reading.refuse(PatchFault::Syntax);
+        return Ok(());
+    }
+    match value_named(members, "Operations").and_then(Tree::as_array) {
+        Some(items) => push_list(alloc, kind, items, reading),
+        None => {
+            reading.refuse(PatchFault::Syntax);
+            Ok(())
+        }
+    }
+}
+
+/// What has been read of a text. NoMemory where none was to be had.
+#[tactic(auto, unfolding(crate::specs::Messages::message_steps))]
+fn reading_of(alloc: Global, kind: Kind, text: &str) -> Result<Reading, NoMemory>
+    ensures { IfOk result (λ r. read_of r ≡ spec.message_steps kind (read text.now)) }
+{
+    let mut reading = Reading::new(alloc);
+    let mut scratch = Scratch::new(alloc);
+    let tree = match Tree::read(alloc, text, &mut scratch) {
+        Ok(tree) => tree,
+        Err(Failed::Because(NotJson)) => {
+            reading.refuse(PatchFault::Syntax);
+            return Ok(reading);
+        }
+        Err(Failed::NoMemory) => return Err(NoMemory),
+    };
+    match tree.as_object() {
+        Some(members) => push_message(alloc, kind, members, &mut reading)?,
+        None => reading.refuse(PatchFault::Syntax),
+    }
+    Ok(reading)
+}
+
+/// The patch that a message asks of a resource of the kind (RFC 7644 section 3.5.2): the steps of its operations, in
+/// their order. Keys of the message and of its operations, and `op`, are read in any ASCII case, values as `read_body`
+/// reads them. An operation without a path stands for a step for each key of its value, each a path of its own; those
+/// that are readOnly and those that name nothing are ignored. The URN of an extension stands for each attribute in the
+/// value, a single complex attribute for each of its sub-attributes. To replace by null or `[]` is to remove, and to add
+/// them changes nothing. At what is readOnly no value is read: the patch can't be applied.
+///
+/// Faults are looked for in the whole message. Syntax where it is no JSON object with a list of operations, where an
+/// operation is none, and where two keys of one object that differ are one name; else Path where a path is none, or
+/// names what the kind hasn't; else Value where a value is missing, of another type, over a limit or an empty `userName`,
+/// and where there are over 1,000 operations. NoMemory where none was to be had.
+pub fn read_patch(alloc: Global, kind: Kind, text: &str) -> Result<Patch, Failed<PatchFault>>
+    ensures { UnlessMemory (λ r. answered r ≡ spec.patch_in kind (read text.now)) result }
+{
+    let Reading { steps, fault } = reading_of(alloc, kind, text)?;
+    match fault {
+        Some(fault) => Err(Failed::Because(fault)),
+        None => Ok(Patch::new(kind, steps)),
+    }
+}

@@ -1,0 +1,31 @@
+//! The operations of a PATCH.
+ghost use Rattle.std.specs.Prelude.{◌≡◌};
+ghost use Rattle.scim_patch_message.specs.Messages as spec;
+
+use scim_text::same_name;
+
+/// What is to be done at a path (RFC 7644 section 3.5.2).
+#[derive(Clone, Copy, PartialEq, Eq)]
+pub enum Operation {
+    Add,
+    Replace,
+    Remove,
+}
+
+impl Operation {
+    /// The operation of a name, in any ASCII case.
+    pub(crate) fn named(name: &str) -> Option<Operation>
+        ensures { result ≡ spec.operation_named name.now }
+    {
+        if same_name("add", name) {
+            return Some(Operation::Add);
+        }
+        if same_name("replace", name) {
+            return Some(Operation::Replace);
+        }
+        if same_name("remove", name) {
+            return Some(Operation::Remove);
+        }
+        None
+    }
+}

@@ -1,0 +1,221 @@
+//! The steps that an operation asks for at what a path names (RFC 7644 section 3.5.2). A value is None where none
+//! is given.
+ghost use Rattle.std.specs.Prelude.{◌≡◌, ◌∷◌, [], IfOk, OnOk, Ok, map, option_map};
+ghost use Rattle.std.specs.List.{flat_map};
+ghost use Rattle.scim_body.specs.View.{view};
+ghost use Rattle.scim_schema.specs.JsonKeys.{shape_of as shape_in};
+ghost use Rattle.scim_patch_steps.specs.Changes.{change_of};
+ghost use Rattle.scim_patch_message.specs.PathSteps as spec;
+ghost use Rattle.scim_patch_message.specs.Readings.{both, joined};
+ghost use Rattle.scim_patch_message.specs.code.Inside.{read_of};
+
+use crate::faults::PatchFault;
+use crate::operations::Operation;
+use crate::readings::Reading;
+use scim_body::{Tree, WrongValue, read_listed, read_units, values_clash};
+use scim_cell::{Atom, Row, Text};
+use scim_schema::{Attribute, JsonShape, Kind, Leaf, Mutability, SubAttribute, Unit, is_multi_valued, is_read_only, mutability_of, shape_of, sub_attributes, unit_of};
+use scim_patch_steps::Change;
+use scim_text::{Failed, NoMemory, push};
+use std::alloc::Global;
+
+/// A unit without a value: it is kept or cleared; one that is readOnly is left out. NoMemory where none was to
+/// be had.
+fn push_unit_emptied(
+    kind: Kind,
+    operation: Operation,
+    unit: Unit,
+    reading: &mut Reading,
+) -> Result<(), NoMemory>
+    ensures { OnOk result (read_of reading.new ≡ both (read_of reading.old) (spec.unit_emptied kind operation unit)) }
+{
+    if mutability_of(kind, unit) == Mutability::ReadOnly {
+        return Ok(());
+    }
+    match operation {
+        Operation::Add => reading.push(unit, Change::Keep),
+        Operation::Replace | Operation::Remove => reading.push(unit, Change::Clear),
+    }
+}
+
+/// Each sub-attribute of an attribute that isn't multi-valued without a value. NoMemory where none was to be had.
+fn push_sub_attributes_emptied(
+    kind: Kind,
+    operation: Operation,
+    attribute: Attribute,
+    sub_attributes: &[SubAttribute],
+    reading: &mut Reading,
+) -> Result<(), NoMemory>
+    ensures { OnOk result (read_of reading.new ≡ both (read_of reading.old)
+        (joined (map (spec.sub_attribute_emptied_at kind operation attribute) sub_attributes.now))) }
+{
+    for sub_attribute in sub_attributes {
+        push_unit_emptied(
+            kind,
+            operation,
+            unit_of(Leaf::of(attribute, *sub_attribute)),
+            reading,
+        )?;
+    }
+    Ok(())
+}
+
+/// Each unit of an attribute without a value, in the order of the table. NoMemory where none was to be had.
+fn push_emptied(
+    kind: Kind,
+    operation: Operation,
+    attribute: Attribute,
+    reading: &mut Reading,
+) -> Result<(), NoMemory>
+    ensures { OnOk result (read_of reading.new ≡ both (read_of reading.old) (spec.emptied kind operation attribute)) }
+{
+    if is_multi_valued(attribute) {
+        return push_unit_emptied(kind, operation, Unit::whole(attribute), reading);
+    }
+    let own = sub_attributes(attribute);
+    if own.is_empty() {
+        return push_unit_emptied(kind, operation, unit_of(Leaf::simple(attribute)), reading);
+    }
+    push_sub_attributes_emptied(kind, operation, attribute, own, reading)
+}
+
+/// An attribute that is readOnly. NoMemory where none was to be had.
+fn push_fixed(attribute: Attribute, reading: &mut Reading) -> Result<(), NoMemory>
+    ensures { OnOk result (read_of reading.new ≡ both (read_of reading.old) (Ok (spec.fixed_steps attribute (shape_in attribute)))) }
+{
+    match shape_of(attribute) {
+        JsonShape::Complex => Ok(()),
+        JsonShape::Simple | JsonShape::MultiValued => {
+            reading.push(Unit::whole(attribute), Change::Keep)
+        }
+    }
+}
+
+/// A single-valued attribute is set to a value. NoMemory where none was to be had.
+fn push_set(
+    alloc: Global,
+    kind: Kind,
+    attribute: Attribute,
+    value: &Tree<'_>,
+    reading: &mut Reading,
+) -> Result<(), NoMemory>
+    ensures { OnOk result (read_of reading.new ≡ both (read_of reading.old)
+        (spec.value_read_of attribute (view value.now) (spec.set_units kind attribute (view value.now)))) }
+{
+    if values_clash(value, attribute) {
+        reading.refuse(PatchFault::Syntax);
+        return Ok(());
+    }
+    match read_units(alloc, value, kind, attribute) {
+        Ok(given) => reading.set_units(given),
+        Err(Failed::Because(WrongValue)) => {
+            reading.refuse(PatchFault::Value);
+            Ok(())
+        }
+        Err(Failed::NoMemory) => Err(NoMemory),
+    }
+}
+
+/// The texts of the `value`s of values. NoMemory where none was to be had.
+fn value_texts(alloc: Global, attribute: Attribute, values: &[Row]) -> Result<Vec<Text>, NoMemory>
+    ensures { IfOk result (λ v. v.items ≡ flat_map (spec.value_text attribute) values.now) }
+{
+    let leaf = Leaf::of(attribute, SubAttribute::Value);
+    let mut texts = Vec::new(alloc);
+    for value in values {
+        if let Some(Atom::Text(text)) = value.get(leaf) {
+            push(&mut texts, text.try_copy(alloc)?)?;
+        }
+    }
+    Ok(texts)
+}
+
+/// What is done with values that are given for a multi-valued attribute. NoMemory where none was to be had.
+fn listed_change(
+    alloc: Global,
+    operation: Operation,
+    attribute: Attribute,
+    values: Vec<Row>,
+) -> Result<Change, NoMemory>
+    ensures { IfOk result (λ c. change_of c ≡ spec.listed_change operation attribute values.items) }
+{
+    Ok(match operation {
+        Operation::Add => Change::Append(values),
+        Operation::Replace => Change::Replace(values),
+        Operation::Remove => {
+            Change::RemoveListed(value_texts(alloc, attribute, values.as_slice())?)
+        }
+    })
+}
+
+/// A multi-valued attribute and values. NoMemory where none was to be had.
+fn push_listed(
+    alloc: Global,
+    kind: Kind,
+    operation: Operation,
+    attribute: Attribute,
+    value: &Tree<'_>,
+    reading: &mut Reading,
+) -> Result<(), NoMemory>
+    ensures { OnOk result (read_of reading.new ≡ both (read_of reading.old)
+        (spec.value_read_of attribute (view value.now) (spec.listed_steps kind operation attribute (view value.now)))) }
+{
+    if values_clash(value, attribute) {
+        reading.refuse(PatchFault::Syntax);
+        return Ok(());
+    }
+    match read_listed(alloc, value, kind, attribute) {
+        Ok(values) => {
+            let change = listed_change(alloc, operation, attribute, values)?;
+            reading.push(Unit::whole(attribute), change)
+        }
+        Err(Failed::Because(WrongValue)) => {
+            reading.refuse(PatchFault::Value);
+            Ok(())
+        }
+        Err(Failed::NoMemory) => Err(NoMemory),
+    }
+}
+
+/// An attribute that isn't readOnly, and a value. NoMemory where none was to be had.
+fn push_given(
+    alloc: Global,
+    kind: Kind,
+    operation: Operation,
+    attribute: Attribute,
+    value: &Tree<'_>,
+    reading: &mut Reading,
+) -> Result<(), NoMemory>
+    ensures { OnOk result (read_of reading.new ≡ both (read_of reading.old)
+        (spec.given_steps kind operation attribute (view value.now))) }
+{
+    if is_multi_valued(attribute) {
+        return push_listed(alloc, kind, operation, attribute, value, reading);
+    }
+    match operation {
+        Operation::Remove => push_emptied(kind, operation, attribute, reading),
+        Operation::Add | Operation::Replace => push_set(alloc, kind, attribute, value, reading),
+    }
+}
+
+/// An attribute. NoMemory where none was to be had.
+#[tactic(auto, unfolding(crate::specs::PathSteps::attribute_steps))]
+pub(crate) fn push_attribute(
+    alloc: Global,
+    kind: Kind,
+    operation: Operation,
+    attribute: Attribute,
+    value: Option<&Tree<'_>>,
+    reading: &mut Reading,
+) -> Result<(), NoMemory>
+    ensures { OnOk result (read_of reading.new ≡ both (read_of reading.old)
+        (spec.attribute_steps kind operation attribute (option_map (λ v. view v.now) value.entry))) }
+{
+    if is_read_only(kind, Leaf::simple(attribute)) {
+        return push_fixed(attribute, reading);
+    }
+    match value {
+        Some(value) => push_given(alloc, kind, operation, attribute, value, reading),
+        None => push_emptied(kind, operation, attribute, reading),
+    }
+}

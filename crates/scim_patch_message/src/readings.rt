@@ -1,0 +1,84 @@
+//! What has been read of a message so far.
+ghost use Rattle.std.specs.Prelude.{◌≡◌, ◌∷◌, [], map, Ok, Err, OnOk, option_map};
+ghost use Rattle.scim_body.specs.Bodies.{Given};
+ghost use Rattle.scim_body.specs.code.Given.{units_given};
+ghost use Rattle.scim_patch_steps.specs.Kept.{step_of};
+ghost use Rattle.scim_patch_message.specs.PathSteps.{set_to};
+ghost use Rattle.scim_patch_message.specs.Readings.{both, first_of};
+ghost use Rattle.scim_patch_message.specs.code.Inside.{read_of};
+
+use crate::faults::PatchFault;
+use scim_body::UnitGiven;
+use scim_patch_steps::{Change, Step};
+use scim_schema::Unit;
+use scim_text::{NoMemory, push};
+use std::alloc::Global;
+
+/// The steps that were read, and the fault that counts first of those that were found.
+#[derive(Drop)]
+pub(crate) struct Reading {
+    pub(crate) steps: Vec<Step>,
+    pub(crate) fault: Option<PatchFault>,
+}
+
+impl PatchFault {
+    /// The one of two faults that counts first.
+    fn or_before(self, other: PatchFault) -> PatchFault
+        ensures { result ≡ first_of self other }
+    {
+        match (self, other) {
+            (PatchFault::Syntax, _) | (_, PatchFault::Syntax) => PatchFault::Syntax,
+            (PatchFault::Path, _) | (_, PatchFault::Path) => PatchFault::Path,
+            (PatchFault::Value, PatchFault::Value) => PatchFault::Value,
+        }
+    }
+}
+
+impl Reading {
+    /// Nothing so far.
+    pub(crate) fn new(alloc: Global) -> Reading
+        ensures { read_of result ≡ Ok [] }
+    {
+        Reading {
+            steps: Vec::new(alloc),
+            fault: None,
+        }
+    }
+
+    /// A fault was found.
+    pub(crate) fn refuse(&mut self, fault: PatchFault)
+        ensures { read_of self.new ≡ both (read_of self.old) (Err fault) }
+    {
+        self.fault = match self.fault {
+            None => Some(fault),
+            Some(found) => Some(found.or_before(fault)),
+        };
+    }
+
+    /// A step was read: a change of a unit. NoMemory where none was to be had.
+    pub(crate) fn push(&mut self, unit: Unit, change: Change) -> Result<(), NoMemory>
+        ensures { OnOk result (read_of self.new ≡ both (read_of self.old) (Ok (step_of (Step.Of unit change) ∷ []))) }
+    {
+        push(&mut self.steps, Step::Of(unit, change))?;
+        Ok(())
+    }
+
+    /// A remove without a path was read. NoMemory where none was to be had.
+    pub(crate) fn push_pathless(&mut self) -> Result<(), NoMemory>
+        ensures { OnOk result (read_of self.new ≡ both (read_of self.old) (Ok (step_of Step.Pathless ∷ []))) }
+    {
+        push(&mut self.steps, Step::Pathless)?;
+        Ok(())
+    }
+
+    /// Units that are set to what is given for them. NoMemory where none was to be had.
+    pub(crate) fn set_units(&mut self, given: Vec<UnitGiven>) -> Result<(), NoMemory>
+        ensures { OnOk result (read_of self.new ≡ both (read_of self.old) (Ok (map set_to (units_given given.items)))) }
+    {
+        for one in given {
+            let UnitGiven { unit, values } = one;
+            self.push(unit, Change::Replace(values))?;
+        }
+        Ok(())
+    }
+}

@@ -1,0 +1,237 @@
+//! The steps that an operation asks for at a sub-attribute, and at the values that a filter chooses (RFC 7644
+//! section 3.5.2). A value is None where none is given.
+ghost use Rattle.std.specs.Prelude.{◌≡◌, OnOk, Ok, option_map};
+ghost use Rattle.scim_body.specs.View.{view};
+ghost use Rattle.scim_filter_grammar.specs.Tree.{tree_of};
+ghost use Rattle.scim_patch_steps.specs.Changes.{change_of};
+ghost use Rattle.scim_patch_message.specs.PathSteps as spec;
+ghost use Rattle.scim_patch_message.specs.Readings.{both};
+ghost use Rattle.scim_patch_message.specs.code.Inside.{read_of};
+
+use crate::faults::PatchFault;
+use crate::operations::Operation;
+use crate::readings::Reading;
+use scim_body::{Tree, WrongValue, field_given, read_field, read_fields, value_clashes};
+use scim_filter_grammar::Filter;
+use scim_schema::{Attribute, Kind, Leaf, SubAttribute, Unit, is_multi_valued, is_read_only, unit_of};
+use scim_patch_steps::Change;
+use scim_text::{Failed, NoMemory};
+use std::alloc::Global;
+
+/// A sub-attribute to which nothing is added.
+fn sub_attribute_kept(attribute: Attribute, sub_attribute: SubAttribute) -> Change
+    ensures { change_of result ≡ spec.sub_attribute_kept attribute sub_attribute }
+{
+    if is_multi_valued(attribute) {
+        Change::KeepSubAttribute(sub_attribute)
+    } else {
+        Change::Keep
+    }
+}
+
+/// A sub-attribute that is removed.
+fn sub_attribute_cleared(attribute: Attribute, sub_attribute: SubAttribute) -> Change
+    ensures { change_of result ≡ spec.sub_attribute_cleared attribute sub_attribute }
+{
+    if is_multi_valued(attribute) {
+        Change::ClearEverywhere(sub_attribute)
+    } else {
+        Change::Clear
+    }
+}
+
+/// A sub-attribute is set to a value, in each value of a multi-valued attribute. NoMemory where none was to be had.
+fn push_sub_attribute_set(
+    alloc: Global,
+    kind: Kind,
+    attribute: Attribute,
+    sub_attribute: SubAttribute,
+    value: &Tree<'_>,
+    reading: &mut Reading,
+) -> Result<(), NoMemory>
+    ensures { OnOk result (read_of reading.new ≡ both (read_of reading.old)
+        (spec.sub_attribute_given kind Operation.Add attribute sub_attribute (view value.now))) }
+{
+    let field = match read_field(alloc, value, kind, attribute, sub_attribute) {
+        Ok(field) => field,
+        Err(Failed::Because(WrongValue)) => {
+            reading.refuse(PatchFault::Value);
+            return Ok(());
+        }
+        Err(Failed::NoMemory) => return Err(NoMemory),
+    };
+    if is_multi_valued(attribute) {
+        return reading.push(Unit::whole(attribute), Change::SetEverywhere(field));
+    }
+    let given = field_given(alloc, kind, field)?;
+    reading.push(given.unit, Change::Replace(given.values))
+}
+
+/// A sub-attribute. NoMemory where none was to be had.
+#[tactic(auto, unfolding(crate::specs::PathSteps::sub_attribute_steps))]
+pub(crate) fn push_sub_attribute(
+    alloc: Global,
+    kind: Kind,
+    operation: Operation,
+    attribute: Attribute,
+    sub_attribute: SubAttribute,
+    value: Option<&Tree<'_>>,
+    reading: &mut Reading,
+) -> Result<(), NoMemory>
+    ensures { OnOk result (read_of reading.new ≡ both (read_of reading.old)
+        (spec.sub_attribute_steps kind operation attribute sub_attribute (option_map (λ v. view v.now) value.entry))) }
+{
+    let leaf = Leaf::of(attribute, sub_attribute);
+    let unit = unit_of(leaf);
+    if is_read_only(kind, leaf) {
+        return reading.push(unit, sub_attribute_kept(attribute, sub_attribute));
+    }
+    match (operation, value) {
+        (Operation::Add | Operation::Replace, Some(value)) => {
+            push_sub_attribute_set(alloc, kind, attribute, sub_attribute, value, reading)
+        }
+        (Operation::Add, None) => reading.push(unit, sub_attribute_kept(attribute, sub_attribute)),
+        (Operation::Remove, _) | (Operation::Replace, None) => {
+            reading.push(unit, sub_attribute_cleared(attribute, sub_attribute))
+        }
+    }
+}
+
+/// Matches and one value for them: a list is none. NoMemory where none was to be had.
+fn push_matches_given(
+    alloc: Global,
+    kind: Kind,
+    replaces: bool,
+    attribute: Attribute,
+    filter: Filter,
+    value: &Tree<'_>,
+    reading: &mut Reading,
+) -> Result<(), NoMemory>
+    ensures { OnOk result (read_of reading.new ≡ both (read_of reading.old)
+        (spec.matches_set kind replaces attribute (tree_of filter) (view value.now))) }
+{
+    if value_clashes(value, attribute) {
+        reading.refuse(PatchFault::Syntax);
+        return Ok(());
+    }
+    match read_fields(alloc, value, kind, attribute) {
+        Ok(fields) if replaces => {
+            reading.push(
+                Unit::whole(attribute),
+                Change::ReplaceMatches(filter, fields),
+            )
+        }
+        Ok(fields) => reading.push(Unit::whole(attribute), Change::AddToMatches(filter, fields)),
+        Err(Failed::Because(WrongValue)) => {
+            reading.refuse(PatchFault::Value);
+            Ok(())
+        }
+        Err(Failed::NoMemory) => Err(NoMemory),
+    }
+}
+
+/// The values of a multi-valued attribute that a filter chooses. NoMemory where none was to be had.
+#[tactic(auto, unfolding(crate::specs::PathSteps::matches_steps))]
+pub(crate) fn push_matches(
+    alloc: Global,
+    kind: Kind,
+    operation: Operation,
+    attribute: Attribute,
+    filter: Filter,
+    value: Option<&Tree<'_>>,
+    reading: &mut Reading,
+) -> Result<(), NoMemory>
+    ensures { OnOk result (read_of reading.new ≡ both (read_of reading.old)
+        (spec.matches_steps kind operation attribute (tree_of filter) (option_map (λ v. view v.now) value.entry))) }
+{
+    let unit = Unit::whole(attribute);
+    if is_read_only(kind, Leaf::simple(attribute)) {
+        return reading.push(unit, Change::Keep);
+    }
+    match (operation, value) {
+        (Operation::Add, Some(value)) => {
+            push_matches_given(alloc, kind, false, attribute, filter, value, reading)
+        }
+        (Operation::Replace, Some(value)) => {
+            push_matches_given(alloc, kind, true, attribute, filter, value, reading)
+        }
+        (Operation::Add, None) => reading.push(unit, Change::KeepMatches(filter)),
+        (Operation::Remove, _) | (Operation::Replace, None) => {
+            reading.push(unit, Change::RemoveMatches(filter))
+        }
+    }
+}
+
+/// A sub-attribute of matches and a value for it. NoMemory where none was to be had.
+fn push_at_matches_given(
+    alloc: Global,
+    kind: Kind,
+    replaces: bool,
+    attribute: Attribute,
+    filter: Filter,
+    sub_attribute: SubAttribute,
+    value: &Tree<'_>,
+    reading: &mut Reading,
+) -> Result<(), NoMemory>
+    ensures { OnOk result (read_of reading.new ≡ both (read_of reading.old)
+        (spec.at_matches_set kind replaces attribute (tree_of filter) sub_attribute (view value.now))) }
+{
+    match read_field(alloc, value, kind, attribute, sub_attribute) {
+        Ok(field) if replaces => {
+            reading.push(Unit::whole(attribute), Change::SetAtMatches(filter, field))
+        }
+        Ok(field) => reading.push(Unit::whole(attribute), Change::AddAtMatches(filter, field)),
+        Err(Failed::Because(WrongValue)) => {
+            reading.refuse(PatchFault::Value);
+            Ok(())
+        }
+        Err(Failed::NoMemory) => Err(NoMemory),
+    }
+}
+
+/// A sub-attribute of the values that a filter chooses. NoMemory where none was to be had.
+#[tactic(auto, unfolding(crate::specs::PathSteps::at_matches_steps))]
+pub(crate) fn push_at_matches(
+    alloc: Global,
+    kind: Kind,
+    operation: Operation,
+    attribute: Attribute,
+    filter: Filter,
+    sub_attribute: SubAttribute,
+    value: Option<&Tree<'_>>,
+    reading: &mut Reading,
+) -> Result<(), NoMemory>
+    ensures { OnOk result (read_of reading.new ≡ both (read_of reading.old)
+        (spec.at_matches_steps kind operation attribute (tree_of filter) sub_attribute (option_map (λ v. view v.now) value.entry))) }
+{
+    let unit = Unit::whole(attribute);
+    if is_read_only(kind, Leaf::of(attribute, sub_attribute)) {
+        return reading.push(unit, Change::KeepSubAttribute(sub_attribute));
+    }
+    match (operation, value) {
+        (Operation::Add, Some(value)) => push_at_matches_given(
+            alloc,
+            kind,
+            false,
+            attribute,
+            filter,
+            sub_attribute,
+            value,
+            reading,
+        ),
+        (Operation::Replace, Some(value)) => push_at_matches_given(
+            alloc,
+            kind,
+            true,
+            attribute,
+            filter,
+            sub_attribute,
+            value,
+            reading,
+        ),
+        (Operation::Add, None) => reading.push(unit, Change::KeepSubAttribute(sub_attribute)),
+        (Operation::Remove, _) | (Operation::Replace, None) => {
+            reading.push(unit, Change::ClearAtMatches(filter, sub_attribute))
+        }
+    }
+}

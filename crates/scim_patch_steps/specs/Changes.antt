@@ -1,0 +1,44 @@
+-- What a step does to the values of its unit, without where its filter lies in memory.
+use Rattle.std.specs.Prelude.{ℕ, List}
+use Rattle.scim_schema.specs.declared.SubAttribute.{SubAttribute}
+use Rattle.scim_cell.specs.declared.rows.Field.{Field}
+use Rattle.scim_cell.specs.Rows.{Row}
+use Rattle.scim_filter_grammar.specs.Tree.{Tree, tree_of}
+use Rattle.scim_patch_steps.specs.declared.changes.Change.{Change as KeptChange}
+use Rattle.scim_patch_steps.specs.declared.changes.Change.TheVariants as kept
+
+-- what is done to the values of a unit: a path of one form, and an operation (RFC 7644 section 3.5.2); the trees are those of value paths
+pub data Change : Type 0 where
+  Keep : Change
+  KeepMatches : Tree → Change
+  KeepSubAttribute : SubAttribute → Change
+  Append : List Row → Change
+  Replace : List Row → Change
+  Clear : Change
+  RemoveListed : List (List ℕ) → Change
+  AddToMatches : Tree → List Field → Change
+  ReplaceMatches : Tree → List Field → Change
+  RemoveMatches : Tree → Change
+  AddAtMatches : Tree → Field → Change
+  SetAtMatches : Tree → Field → Change
+  ClearAtMatches : Tree → SubAttribute → Change
+  SetEverywhere : Field → Change
+  ClearEverywhere : SubAttribute → Change
+
+-- a change that the code keeps
+abbrev pub change_of : KeptChange → Change
+change_of kept.Keep = Keep
+change_of (kept.KeepMatches filter) = KeepMatches (tree_of filter)
+change_of (kept.KeepSubAttribute b) = KeepSubAttribute b
+change_of (kept.Append values) = Append values.items
+change_of (kept.Replace values) = Replace values.items
+change_of kept.Clear = Clear
+change_of (kept.RemoveListed texts) = RemoveListed texts.items
+change_of (kept.AddToMatches filter fields) = AddToMatches (tree_of filter) fields.items
+change_of (kept.ReplaceMatches filter fields) = ReplaceMatches (tree_of filter) fields.items
+change_of (kept.RemoveMatches filter) = RemoveMatches (tree_of filter)
+change_of (kept.AddAtMatches filter field) = AddAtMatches (tree_of filter) field
+change_of (kept.SetAtMatches filter field) = SetAtMatches (tree_of filter) field
+change_of (kept.ClearAtMatches filter b) = ClearAtMatches (tree_of filter) b
+change_of (kept.SetEverywhere field) = SetEverywhere field
+change_of (kept.ClearEverywhere b) = ClearEverywhere b

@@ -1,0 +1,21 @@
+-- What the outcome of a patch rests on.
+use Rattle.std.specs.Prelude.{◌≡◌, ℕ, Bool, List, Result, Ok, Err}
+use Rattle.scim_schema.specs.declared.Unit.{Unit as AttributeUnit}
+use Rattle.scim_cell.specs.Content.{Content}
+use Rattle.scim_value.specs.Resource.{IsResource}
+use Rattle.scim_patch_steps.specs.declared.steps.StepFault.{StepFault}
+use Rattle.scim_change.specs.Laws.{AgreeAt, IsLeft}
+use Rattle.scim_patch_steps.specs.Patch.{Patch, IsPatch, touched, applied}
+
+-- two outcomes are alike: both are refused for the same fault; or both changed or neither, and both have the same values of the units, and keep all others of their own
+abbrev pub AreAlike : List AttributeUnit → ℕ → Content → Content → Result (Content × Bool) StepFault → Result (Content × Bool) StepFault → Type 0
+AreAlike us moment a b (Err e) (Err f) = e ≡ f
+AreAlike us moment a b (Ok x) (Ok y) = (x.1 ≡ y.1) × AgreeAt us x.0 y.0 × IsLeft us x.1 moment a x.0 × IsLeft us y.1 moment b y.0
+AreAlike us moment a b _ _ = ⊥
+
+-- what becomes of a resource at the units that a patch is about rests on what it has there: from two resources that agree there come alike outcomes, and `meta.lastModified` moves in both or in neither
+abbrev pub PatchingRestsOnItsUnits : Type 0
+PatchingRestsOnItsUnits =
+    (p : Patch) (moment : ℕ) (a b : Content)
+    → IsPatch p → IsResource a → IsResource b → a.kind ≡ p.kind → b.kind ≡ p.kind → AgreeAt (touched p) a b
+    → AreAlike (touched p) moment a b (applied p moment a) (applied p moment b)

@@ -1,0 +1,154 @@
+//! What becomes of a resource that is patched: its steps, one after another.
+ghost use Rattle.std.specs.Prelude.{◌≡◌, List, ℕ, Ok, IfOk, map, filter, All};
+ghost use Rattle.std.specs.Ordering.{is_lt, is_gt};
+ghost use Rattle.scim_text.specs.Failures.{UnlessMemory};
+ghost use Rattle.scim_cell.specs.Place.{unit_cmp};
+ghost use Rattle.scim_cell.specs.Rows.{rows, values};
+ghost use Rattle.scim_value.specs.Resource.{HasBase};
+ghost use Rattle.scim_patch_steps.specs.Changes.{change_of};
+ghost use Rattle.scim_patch_steps.specs.Steps.{after, rows_answered};
+ghost use Rattle.scim_patch_steps.specs.Patch as spec;
+ghost use Rattle.scim_patch_steps.specs.Kept.{outcome, patch_of, step_of};
+ghost use Rattle.scim_patch_steps.specs.code.Outcomes.{rows_left};
+
+use crate::patches::{Patch, Step};
+use crate::touched::{before_of, is_changed};
+use scim_cell::{Row, compare_units};
+use scim_change::{Changed, modified_at};
+use scim_schema::{Kind, Unit};
+use crate::changes::Change;
+use crate::steps::{StepFault, values_after};
+use scim_text::{Failed, Moment, NoMemory, push};
+use scim_value::{Part, Resource};
+use std::alloc::Global;
+use std::cmp::Ordering;
+
+/// Rows apart: those of the units before one, its own, and those of the units behind it.
+#[derive(Drop)]
+struct Apart {
+    before: Vec<Row>,
+    own: Vec<Row>,
+    behind: Vec<Row>,
+}
+
+/// The rows apart. NoMemory where none was to be had.
+fn parted(alloc: Global, rows: Vec<Row>, unit: Unit) -> Result<Apart, NoMemory>
+    ensures before { IfOk result (λ a. a.before.items ≡ filter (λ r. is_lt (unit_cmp r.unit unit)) rows.items) }
+    ensures own { IfOk result (λ a. a.own.items ≡ values unit rows.items) }
+    ensures behind { IfOk result (λ a. a.behind.items ≡ filter (λ r. is_gt (unit_cmp r.unit unit)) rows.items) }
+{
+    let mut before = Vec::new(alloc);
+    let mut own = Vec::new(alloc);
+    let mut behind = Vec::new(alloc);
+    for row in rows {
+        match compare_units(row.unit(), unit) {
+            Ordering::Less => push(&mut before, row)?,
+            Ordering::Equal => push(&mut own, row)?,
+            Ordering::Greater => push(&mut behind, row)?,
+        }
+    }
+    Ok(Apart {
+        before,
+        own,
+        behind,
+    })
+}
+
+/// The rows with what a change leaves of the values of the unit.
+///
+/// Errors: as `values_after`; the rows are dropped then.
+fn changed_rows(
+    alloc: Global,
+    kind: Kind,
+    unit: Unit,
+    change: &Change,
+    rows: Vec<Row>,
+) -> Result<Vec<Row>, Failed<StepFault>>
+    ensures { UnlessMemory (λ r. rows_answered r
+        ≡ spec.with_outcome unit rows.items (after kind unit (change_of change.now) (values unit rows.items))) result }
+{
+    let Apart {
+        mut before,
+        own,
+        mut behind,
+    } = parted(alloc, rows, unit)?;
+    let mut own = values_after(alloc, kind, unit, change, own)?;
+    before.append(&mut own)?;
+    before.append(&mut behind)?;
+    Ok(before)
+}
+
+/// The resource after a step.
+///
+/// Errors: as `apply`; the resource is dropped then.
+fn stepped(alloc: Global, resource: Resource, step: &Step) -> Result<Resource, Failed<StepFault>>
+    requires { spec.IsStep resource.kind (step_of step.now) }
+    ensures rows { UnlessMemory (λ r. rows_left r ≡ spec.stepped resource.kind (step_of step.now) (rows resource)) result }
+    ensures kind { IfOk result (λ r. r.kind ≡ resource.kind) }
+    ensures id { IfOk result (λ r. r.id ≡ resource.id) }
+    ensures base { (base : List ℕ) → HasBase base resource → IfOk result (HasBase base) }
+{
+    let Step::Of(unit, change) = step else {
+        return Err(Failed::Because(StepFault::NoTarget));
+    };
+    let (kind, id, rows) = resource.into_part().into_parts();
+    let rows = changed_rows(alloc, kind, *unit, change, rows)?;
+    Ok(Resource::of_whole(Part::of_rows(kind, id, rows)))
+}
+
+/// The resource after steps, one after another.
+///
+/// Errors: as `apply`; the resource is dropped then.
+fn all_stepped(
+    alloc: Global,
+    resource: Resource,
+    steps: &[Step],
+) -> Result<Resource, Failed<StepFault>>
+    requires { All (spec.IsStep resource.kind) (map step_of steps.now) }
+    ensures rows { UnlessMemory (λ r. rows_left r
+        ≡ spec.all_stepped resource.kind (map step_of steps.now) (Ok (rows resource))) result }
+    ensures kind { IfOk result (λ r. r.kind ≡ resource.kind) }
+    ensures id { IfOk result (λ r. r.id ≡ resource.id) }
+    ensures base { (base : List ℕ) → HasBase base resource → IfOk result (HasBase base) }
+{
+    let mut resource = resource;
+    for step in steps {
+        resource = stepped(alloc, resource, step)?;
+    }
+    Ok(resource)
+}
+
+/// The resource after the steps of a patch, one after another, last modified at the moment (RFC 7644 section 3.5.2).
+/// Where its values are the same afterwards, and no step writes what isn't kept, it is as it was, `meta.lastModified`
+/// too.
+///
+/// The patch is of the resource's kind. The fault is that of the first step that is refused, as [`values_after`] tells;
+/// a remove without a path is NoTarget. NoMemory where none was to be had. The resource is dropped then: nothing of it
+/// is changed in whatever it was copied from.
+///
+/// Values are moved. Those of the units that the steps are about are copied as well, unless the patch is one step that
+/// only takes values away, or puts some behind them of which none is the primary one.
+pub fn apply(
+    alloc: Global,
+    resource: Resource,
+    patch: &Patch,
+    moment: Moment,
+) -> Result<Changed, Failed<StepFault>>
+    requires { patch.now.kind ≡ resource.kind }
+    ensures outcome { UnlessMemory (λ r. outcome r ≡ spec.applied (patch_of patch.now) moment resource) result }
+    ensures base { (base : List ℕ) → HasBase base resource → IfOk result (λ c. HasBase base c.resource) }
+{
+    let before = before_of(alloc, patch, resource.part())?;
+    let resource = all_stepped(alloc, resource, patch.steps())?;
+    if !is_changed(&before, patch, resource.part()) {
+        return Ok(Changed {
+            resource,
+            changed: false,
+        });
+    }
+    let part = modified_at(alloc, resource.into_part(), moment)?;
+    Ok(Changed {
+        resource: Resource::of_whole(part),
+        changed: true,
+    })
+}

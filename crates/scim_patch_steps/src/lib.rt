@@ -1,0 +1,18 @@
+//! What clients ask to be changed of a resource, step by step (RFC 7644 section 3.5.2).
+#![tactic(auto)]
+
+mod applying;
+mod changes;
+mod laws;
+mod patches;
+mod permission;
+mod settling;
+mod steps;
+mod table;
+mod touched;
+
+pub use applying::apply;
+pub use changes::Change;
+pub use laws::patching_rests_on_its_units;
+pub use patches::{Patch, Step};
+pub use steps::{StepFault, values_after};

@@ -1,0 +1,102 @@
+//! Which changes no client may make, whatever the policy says (RFC 7643 section 2.2).
+ghost use Rattle.std.specs.Prelude.{◌≡◌, IfOk};
+ghost use Rattle.scim_patch_steps.specs.Changes.{change_of};
+ghost use Rattle.scim_filter_grammar.specs.Tree.{tree_of};
+ghost use Rattle.std.specs.Prelude.{◌&&◌};
+ghost use Rattle.scim_cell.specs.SameValues.{is_members};
+ghost use Rattle.scim_patch_values.specs.Matches as matches;
+ghost use Rattle.scim_patch_steps.specs.Steps as spec;
+
+use crate::changes::Change;
+use scim_cell::Row;
+use scim_filter_grammar::Filter;
+use scim_patch_values::is_any_match;
+use scim_schema::{Attribute, Kind, Leaf, Mutability, Unit, characteristics_of, mutability_of};
+use scim_text::NoMemory;
+use std::alloc::Global;
+
+/// Whether what stands at the leaf in a value that is there can't be changed.
+fn is_unchangeable(kind: Kind, leaf: Leaf) -> bool
+    ensures { result ≡ spec.is_unchangeable kind leaf }
+{
+    let mutability = characteristics_of(kind, leaf).mutability;
+    mutability == Mutability::Immutable || mutability == Mutability::ReadOnly
+}
+
+/// Whether the kind requires the unit.
+fn is_required(kind: Kind, unit: Unit) -> bool
+    ensures { result ≡ spec.is_required kind unit }
+{
+    let leaf = Leaf {
+        attribute: unit.attribute,
+        sub_attribute: unit.sub_attribute,
+    };
+    characteristics_of(kind, leaf).required
+}
+
+/// Whether a member that is there would be changed: all of it is immutable (RFC 7643 section 4.2). NoMemory where
+/// none was to be had.
+fn changes_member(
+    alloc: Global,
+    unit: Unit,
+    filter: &Filter,
+    values: &[Row],
+) -> Result<bool, NoMemory>
+    ensures { IfOk result (λ b. b ≡ (is_members unit.attribute && matches.is_any_match (tree_of filter.now) values.now)) }
+{
+    if unit.attribute != Attribute::Members {
+        return Ok(false);
+    }
+    is_any_match(alloc, filter, values)
+}
+
+/// Whether the change is barred: what is required would be taken away, a sub-attribute be changed that can't, or a
+/// member that is there be changed. NoMemory where none was to be had.
+fn is_barred(
+    alloc: Global,
+    kind: Kind,
+    unit: Unit,
+    change: &Change,
+    values: &[Row],
+) -> Result<bool, NoMemory>
+    ensures { IfOk result (λ b. b ≡ spec.is_barred kind unit (change_of change.now) values.now) }
+{
+    match change {
+        Change::Clear => Ok(is_required(kind, unit)),
+        Change::KeepMatches(filter) | Change::AddToMatches(filter, _) => {
+            changes_member(alloc, unit, filter, values)
+        }
+        Change::AddAtMatches(_, field)
+        | Change::SetAtMatches(_, field)
+        | Change::SetEverywhere(field) => Ok(is_unchangeable(kind, field.leaf)),
+        Change::KeepSubAttribute(sub_attribute)
+        | Change::ClearAtMatches(_, sub_attribute)
+        | Change::ClearEverywhere(sub_attribute) => Ok(is_unchangeable(
+            kind,
+            Leaf::of(unit.attribute, *sub_attribute),
+        )),
+        Change::Keep
+        | Change::Append(_)
+        | Change::Replace(_)
+        | Change::RemoveListed(_)
+        | Change::ReplaceMatches(_, _)
+        | Change::RemoveMatches(_) => Ok(false),
+    }
+}
+
+/// Whether no client may make the change: the unit is readOnly, or the change is barred. NoMemory where none was to be
+/// had.
+pub(crate) fn is_forbidden(
+    alloc: Global,
+    kind: Kind,
+    unit: Unit,
+    change: &Change,
+    values: &[Row],
+) -> Result<bool, NoMemory>
+    ensures { IfOk result (λ b. b ≡ spec.is_forbidden kind unit (change_of change.now) values.now) }
+{
+    if mutability_of(kind, unit) == Mutability::ReadOnly {
+        return Ok(true);
+    }
+    is_barred(alloc, kind, unit, change, values)
+}

@@ -1,0 +1,114 @@
+//! What is left of the values after a step: those with fields, checked, with one primary at most that the step chose.
+ghost use Rattle.std.specs.Prelude.{◌≡◌, Some, IfOk, map, filter, count_by};
+ghost use Rattle.std.specs.List.{list_any};
+ghost use Rattle.scim_text.specs.Failures.{UnlessMemory};
+ghost use Rattle.scim_cell.specs.Rows.{has_fields};
+ghost use Rattle.scim_cell.specs.SameValues as lists;
+ghost use Rattle.scim_patch_values.specs.declared.positions.Position.{Position};
+ghost use Rattle.scim_patch_steps.specs.Steps as spec;
+ghost use Rattle.scim_patch_steps.specs.Steps.{rows_answered};
+
+use crate::steps::StepFault;
+use scim_cell::{MOST_VALUES, Row, is_nameless};
+use scim_patch_values::{Position, demoted};
+use scim_schema::Attribute;
+use scim_text::{Failed, NoMemory, push};
+use std::alloc::Global;
+
+/// Whether the value has a field.
+fn has_fields(value: &Row) -> bool
+    ensures { result ≡ has_fields value.now }
+{
+    match value.fields() {
+        [] => false,
+        [_, ..] => true,
+    }
+}
+
+/// The positions without those whose value has no field. NoMemory where none was to be had.
+fn close_up(alloc: Global, positions: Vec<Position>) -> Result<Vec<Position>, NoMemory>
+    ensures { IfOk result (λ v. v.items ≡ filter (λ (p : Position). has_fields p.value) positions.items) }
+{
+    let mut left = Vec::with_capacity(alloc, positions.len())?;
+    for position in positions {
+        if has_fields(&position.value) {
+            push(&mut left, position)?;
+        }
+    }
+    Ok(left)
+}
+
+/// How many values the step chose.
+fn count_chosen(positions: &[Position]) -> usize
+    ensures { result ≡ count_by (λ (p : Position). p.chosen) positions.now }
+{
+    positions.iter().filter(|position| position.chosen).count()
+}
+
+/// Whether a member has no `value`.
+fn any_nameless(attribute: Attribute, positions: &[Position]) -> bool
+    ensures { result ≡ list_any (λ (p : Position). lists.is_nameless attribute p.value) positions.now }
+{
+    positions
+        .iter()
+        .any(|position| is_nameless(attribute, &position.value))
+}
+
+/// Whether the values are refused: two are chosen as the primary one, a member has no `value`, or there are too many.
+fn are_refused(attribute: Attribute, positions: &[Position]) -> bool
+    ensures { result ≡ spec.are_refused attribute positions.now }
+{
+    count_chosen(positions) > 1
+        || any_nameless(attribute, positions)
+        || positions.len() > MOST_VALUES
+}
+
+/// The values, of which those that the step didn't choose aren't primary. NoMemory where none was to be had.
+fn demote_others(alloc: Global, positions: Vec<Position>) -> Result<Vec<Row>, NoMemory>
+    ensures { IfOk result (λ v. v.items ≡ map spec.beside_chosen positions.items) }
+{
+    let mut values = Vec::with_capacity(alloc, positions.len())?;
+    for position in positions {
+        let Position { value, chosen } = position;
+        let value = if chosen {
+            value
+        } else {
+            demoted(alloc, value)?
+        };
+        push(&mut values, value)?;
+    }
+    Ok(values)
+}
+
+/// The values. NoMemory where none was to be had.
+fn values_of(alloc: Global, positions: Vec<Position>) -> Result<Vec<Row>, NoMemory>
+    ensures { IfOk result (λ v. v.items ≡ map (λ (p : Position). p.value) positions.items) }
+{
+    let mut values = Vec::with_capacity(alloc, positions.len())?;
+    for position in positions {
+        push(&mut values, position.value)?;
+    }
+    Ok(values)
+}
+
+/// What is left of the values.
+///
+/// Value where two are chosen as the primary one, a member has no `value`, or there are too many. NoMemory where none
+/// was to be had.
+pub(crate) fn settle(
+    alloc: Global,
+    attribute: Attribute,
+    positions: Vec<Position>,
+) -> Result<Vec<Row>, Failed<StepFault>>
+    ensures { UnlessMemory (λ r. rows_answered r ≡ spec.settled attribute (Some positions.items)) result }
+{
+    let positions = close_up(alloc, positions)?;
+    if are_refused(attribute, positions.as_slice()) {
+        return Err(Failed::Because(StepFault::Value));
+    }
+    if count_chosen(positions.as_slice()) == 1 {
+        Ok(demote_others(alloc, positions)?)
+    } else {
+        Ok(values_of(alloc, positions)?)
+    }
+}

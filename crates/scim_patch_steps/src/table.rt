@@ -1,0 +1,126 @@
+//! The table of paths and operations.
+ghost use Rattle.std.specs.Prelude.{◌≡◌, Some, IfOk, map};
+ghost use Rattle.scim_cell.specs.SameValues as lists;
+ghost use Rattle.scim_filter_grammar.specs.Tree.{tree_of};
+ghost use Rattle.scim_patch_values.specs.Found.{Is};
+ghost use Rattle.scim_patch_values.specs.Matches as matches;
+ghost use Rattle.scim_patch_steps.specs.Changes.{ReplaceMatches, change_of};
+ghost use Rattle.scim_patch_steps.specs.Table as spec;
+
+use crate::changes::Change;
+use scim_cell::{Field, Row, with_values};
+use scim_filter_grammar::Filter;
+use scim_patch_values::{Position, add_at_matches, clear_at_matches, clear_everywhere, given_primary, is_any_match, keep, mark, remove_listed, remove_matches, replace_matches, set_at_matches, set_everywhere, value_of};
+use scim_schema::{Leaf, Unit};
+use scim_text::NoMemory;
+use scim_value::copy_rows;
+use std::alloc::Global;
+use std::slice;
+
+/// What a step makes of the values of its unit; None where its path has no target. NoMemory where none was to be had.
+pub(crate) fn row(
+    alloc: Global,
+    unit: Unit,
+    change: &Change,
+    values: Vec<Row>,
+) -> Result<Option<Vec<Position>>, NoMemory>
+    ensures { IfOk result (λ o. Is o (spec.row unit (change_of change.now) values.items)) }
+{
+    match change {
+        Change::Keep | Change::KeepMatches(_) | Change::KeepSubAttribute(_) => {
+            Ok(Some(keep(alloc, values)?))
+        }
+        Change::Append(given) => append(alloc, unit, given.as_slice(), values),
+        Change::Replace(given) => append(alloc, unit, given.as_slice(), Vec::new(alloc)),
+        Change::Clear => Ok(Some(Vec::new(alloc))),
+        Change::RemoveListed(texts) => {
+            let left = remove_listed(alloc, texts.as_slice(), values)?;
+            Ok(Some(keep(alloc, left)?))
+        }
+        Change::AddToMatches(filter, given) => {
+            add_at_matches(alloc, unit, filter, given.as_slice(), values)
+        }
+        Change::ReplaceMatches(filter, given) => {
+            replace_at_matches(alloc, unit, filter, given.as_slice(), values)
+        }
+        Change::RemoveMatches(filter) => {
+            let left = remove_matches(alloc, filter, values)?;
+            Ok(Some(keep(alloc, left)?))
+        }
+        Change::AddAtMatches(filter, field) => {
+            add_at_matches(alloc, unit, filter, slice::from_ref(field), values)
+        }
+        Change::SetAtMatches(filter, field) => {
+            replace_field_at_matches(alloc, filter, slice::from_ref(field), values)
+        }
+        Change::ClearAtMatches(filter, sub_attribute) => {
+            let left = clear_at_matches(alloc, filter, *sub_attribute, values)?;
+            Ok(Some(keep(alloc, left)?))
+        }
+        Change::SetEverywhere(field) => Ok(Some(set_everywhere(
+            alloc,
+            unit,
+            slice::from_ref(field),
+            values,
+        )?)),
+        Change::ClearEverywhere(sub_attribute) => {
+            let leaf = Leaf::of(unit.attribute, *sub_attribute);
+            let left = clear_everywhere(alloc, leaf, values)?;
+            Ok(Some(keep(alloc, left)?))
+        }
+    }
+}
+
+/// The given values behind those that are there, each once; a value that is the same as a given primary one is chosen.
+/// NoMemory where none was to be had.
+fn append(
+    alloc: Global,
+    unit: Unit,
+    given: &[Row],
+    values: Vec<Row>,
+) -> Result<Option<Vec<Position>>, NoMemory>
+    ensures { IfOk result (λ o. Is o (Some (map (matches.marked unit.attribute (matches.given_primary unit.attribute given.now))
+        (lists.with_values unit.attribute values.items given.now)))) }
+{
+    let primary = given_primary(alloc, unit.attribute, given)?;
+    let copies = copy_rows(alloc, given)?;
+    let all = with_values(alloc, unit.attribute, values, copies)?;
+    Ok(Some(mark(alloc, unit.attribute, primary.as_slice(), all)?))
+}
+
+/// The values, with one of the given fields in place of each match, each once; None without a match. NoMemory where
+/// none was to be had.
+fn replace_at_matches(
+    alloc: Global,
+    unit: Unit,
+    filter: &Filter,
+    given: &[Field],
+    values: Vec<Row>,
+) -> Result<Option<Vec<Position>>, NoMemory>
+    ensures { IfOk result (λ o. Is o (spec.row unit (ReplaceMatches (tree_of filter.now) given.now) values.items)) }
+{
+    if !is_any_match(alloc, filter, values.as_slice())? {
+        return Ok(None);
+    }
+    let value = value_of(alloc, unit, given)?;
+    let primary = given_primary(alloc, unit.attribute, slice::from_ref(&value))?;
+    let replaced = replace_matches(alloc, filter, &value, values)?;
+    let all = with_values(alloc, unit.attribute, Vec::new(alloc), replaced)?;
+    Ok(Some(mark(alloc, unit.attribute, primary.as_slice(), all)?))
+}
+
+/// The values, with the given field over that of each match; None without a match. NoMemory where none was to be had.
+fn replace_field_at_matches(
+    alloc: Global,
+    filter: &Filter,
+    given: &[Field],
+    values: Vec<Row>,
+) -> Result<Option<Vec<Position>>, NoMemory>
+    ensures { IfOk result (λ o. Is o (spec.at_matches (tree_of filter.now) values.items
+        (map (matches.set_at_match (tree_of filter.now) given.now) values.items))) }
+{
+    if !is_any_match(alloc, filter, values.as_slice())? {
+        return Ok(None);
+    }
+    Ok(Some(set_at_matches(alloc, filter, given, values)?))
+}

@@ -1,0 +1,184 @@
+//! The units that a patch is about, and whether their values are others afterwards.
+ghost use Rattle.std.specs.Prelude.{◌≡◌, AllPairs, IfOk, map, filter};
+ghost use Rattle.std.specs.List.{flat_map, list_any};
+ghost use Rattle.scim_cell.specs.Rows.{Precedes, is_primary, rows};
+ghost use Rattle.scim_patch_steps.specs.Changes.{change_of};
+ghost use Rattle.scim_patch_steps.specs.Patch as spec;
+ghost use Rattle.scim_patch_steps.specs.Kept.{patch_of, step_of};
+ghost use Rattle.scim_patch_steps.specs.code.Lengths as lengths;
+ghost use Rattle.scim_patch_steps.specs.code.Before.{IsBefore, IsInOrder, tells};
+ghost use Rattle.scim_patch_steps.specs.code.Touched.{is_about, is_other, rows_about};
+
+use crate::patches::{Patch, Step};
+use scim_cell::Row;
+use scim_schema::{Kind, Mutability, Unit, mutability_of};
+use crate::changes::Change;
+use scim_text::{NoMemory, push};
+use scim_value::{Part, values_among};
+use std::alloc::Global;
+
+/// What is kept of a resource, to tell afterwards whether its values are others.
+#[derive(Drop)]
+pub(crate) enum Before {
+    /// How many values the one unit had that the patch is about: their number tells it.
+    Number(Unit, usize),
+    /// Copies of the rows of the units that the patch is about.
+    Rows(Vec<Row>),
+}
+
+impl Patch {
+    /// The units that the steps are about, in the order of the steps. NoMemory where none was to be had.
+    pub fn touched(&self, alloc: Global) -> Result<Vec<Unit>, NoMemory>
+        ensures { IfOk result (λ v. v.items ≡ spec.touched (patch_of self.now)) }
+    {
+        units_of(alloc, self.steps())
+    }
+}
+
+/// The units that steps are about. NoMemory where none was to be had.
+fn units_of(alloc: Global, steps: &[Step]) -> Result<Vec<Unit>, NoMemory>
+    ensures { IfOk result (λ v. v.items ≡ flat_map spec.units_in (map step_of steps.now)) }
+{
+    let mut units = Vec::new(alloc);
+    for step in steps {
+        if let Step::Of(unit, _) = step {
+            push(&mut units, *unit)?;
+        }
+    }
+    Ok(units)
+}
+
+/// Whether the unit is one of these.
+fn is_one_of(units: &[Unit], unit: Unit) -> bool
+    ensures { result ≡ is_about units.now unit }
+{
+    units.iter().any(|other| unit == *other)
+}
+
+/// Copies of the rows of these units. NoMemory where none was to be had.
+fn rows_of(alloc: Global, units: &[Unit], rows: &[Row]) -> Result<Vec<Row>, NoMemory>
+    ensures { IfOk result (λ v. v.items ≡ rows_about units.now rows.now) }
+{
+    let mut copies = Vec::new(alloc);
+    for row in rows {
+        if is_one_of(units, row.unit()) {
+            push(&mut copies, row.try_copy(alloc)?)?;
+        }
+    }
+    Ok(copies)
+}
+
+/// Copies of the rows that a part has of the units that the patch is about. NoMemory where none was to be had.
+fn touched_rows(alloc: Global, patch: &Patch, part: &Part) -> Result<Vec<Row>, NoMemory>
+    ensures rows { IfOk result (λ v. v.items ≡ rows_about (spec.touched (patch_of patch.now)) (rows part.now)) }
+    ensures sorted { IfOk result (λ v. AllPairs (λ r s. Precedes r.unit s.unit) v.items) }
+{
+    let units = patch.touched(alloc)?;
+    rows_of(alloc, units.as_slice(), part.rows())
+}
+
+/// What is kept of a part: of one step that only takes values away, or puts some behind them of which none is the
+/// primary one, the number of values, and else the rows themselves. NoMemory where none was to be had.
+pub(crate) fn before_of(alloc: Global, patch: &Patch, part: &Part) -> Result<Before, NoMemory>
+    ensures { IfOk result (IsBefore (patch_of patch.now) (rows part.now)) }
+{
+    match unit_told_by_length(patch.steps()) {
+        Some(unit) => Ok(Before::Number(unit, part.values(unit).len())),
+        None => Ok(Before::Rows(touched_rows(alloc, patch, part)?)),
+    }
+}
+
+/// Whether the change writes: each does but an add of nothing.
+fn writes(change: &Change) -> bool
+    ensures { result ≡ spec.writes (change_of change.now) }
+{
+    match change {
+        Change::Keep => false,
+        _ => true,
+    }
+}
+
+/// Whether a step writes what isn't kept.
+fn is_unseen_writing(kind: Kind, step: &Step) -> bool
+    ensures { result ≡ spec.is_unseen_writing kind (step_of step.now) }
+{
+    match step {
+        Step::Pathless => false,
+        Step::Of(unit, change) => {
+            mutability_of(kind, *unit) == Mutability::WriteOnly && writes(change)
+        }
+    }
+}
+
+/// Whether one of the steps does.
+fn is_any_unseen_writing(kind: Kind, steps: &[Step]) -> bool
+    ensures { result ≡ list_any (spec.is_unseen_writing kind) (map step_of steps.now) }
+{
+    for step in steps {
+        if is_unseen_writing(kind, step) {
+            return true;
+        }
+    }
+    false
+}
+
+/// Whether a unit that one of the steps is about has other values in the part than among these rows.
+fn is_any_other(steps: &[Step], before: &[Row], part: &Part) -> bool
+    requires { AllPairs (λ r s. Precedes r.unit s.unit) before.now }
+    ensures { result ≡ list_any (is_other before.now (rows part.now)) (flat_map spec.units_in (map step_of steps.now)) }
+{
+    for step in steps {
+        if let Step::Of(unit, _) = step {
+            if values_among(before, *unit) != part.values(*unit) {
+                return true;
+            }
+        }
+    }
+    false
+}
+
+/// Whether one of the values is the primary one.
+fn has_primary(values: &[Row]) -> bool
+    ensures { result ≡ list_any is_primary values.now }
+{
+    values.iter().any(|value| value.is_primary())
+}
+
+/// Whether the number of values after the change tells whether they are others: the change only takes values away, or
+/// puts some behind them of which none is the primary one.
+fn is_told_by_length(change: &Change) -> bool
+    ensures { result ≡ lengths.is_told_by_length (change_of change.now) }
+{
+    match change {
+        Change::Keep
+        | Change::KeepMatches(_)
+        | Change::KeepSubAttribute(_)
+        | Change::Clear
+        | Change::RemoveListed(_)
+        | Change::RemoveMatches(_) => true,
+        Change::Append(given) => !has_primary(given.as_slice()),
+        _ => false,
+    }
+}
+
+/// The unit of the one step, where the number of its values tells whether they are others afterwards.
+fn unit_told_by_length(steps: &[Step]) -> Option<Unit>
+    ensures { result ≡ lengths.unit_told_among (map step_of steps.now) }
+{
+    match steps {
+        [Step::Of(unit, change)] if is_told_by_length(change) => Some(*unit),
+        _ => None,
+    }
+}
+
+/// Whether the patch changed something, where this was kept of what it was applied to, and the part is what came of it.
+pub(crate) fn is_changed(before: &Before, patch: &Patch, part: &Part) -> bool
+    requires { IsInOrder before.now }
+    ensures { result ≡ tells (patch_of patch.now) (rows part.now) before.now }
+{
+    let is_other = match before {
+        Before::Number(unit, number) => part.values(*unit).len() != *number,
+        Before::Rows(before) => is_any_other(patch.steps(), before.as_slice(), part),
+    };
+    is_any_unseen_writing(patch.kind(), patch.steps()) || is_other
+}

@@ -1,0 +1,96 @@
+//! A sub-attribute of each value of an attribute.
+ghost use Rattle.std.specs.Prelude.{◌≡◌, IfOk, map};
+ghost use Rattle.scim_cell.specs.Rows.{is_primary};
+ghost use Rattle.scim_patch_values.specs.Fields.{row_without};
+ghost use Rattle.scim_patch_values.specs.Matches as spec;
+
+use crate::fields::{row_over, row_without};
+use crate::positions::Position;
+use scim_cell::{Atom, Field, Row};
+use scim_schema::{Leaf, SubAttribute, Unit};
+use scim_text::{NoMemory, push};
+use std::alloc::Global;
+
+/// A value of the unit with copies of these fields, in their order. NoMemory where none was to be had.
+pub fn value_of(alloc: Global, unit: Unit, fields: &[Field]) -> Result<Row, NoMemory>
+    ensures { IfOk result (λ r. r ≡ spec.value_of unit fields.now) }
+{
+    let mut copies = Vec::with_capacity(alloc, fields.len())?;
+    for field in fields {
+        push(&mut copies, field.try_copy(alloc)?)?;
+    }
+    Ok(Row::new(unit, copies))
+}
+
+/// A value that the step made.
+pub(crate) fn made(value: Row) -> Position
+    ensures { result ≡ spec.made value }
+{
+    let chosen = value.is_primary();
+    Position { value, chosen }
+}
+
+/// The given fields over those of each value, which is chosen where they say that it is primary; where there is no
+/// value, one is made of them. NoMemory where none was to be had; the values are dropped then.
+pub fn set_everywhere(
+    alloc: Global,
+    unit: Unit,
+    given: &[Field],
+    values: Vec<Row>,
+) -> Result<Vec<Position>, NoMemory>
+    ensures { IfOk result (λ v. v.items ≡ spec.set_everywhere unit given.now values.items) }
+{
+    if values.is_empty() {
+        let value = value_of(alloc, unit, given)?;
+        let mut positions = Vec::with_capacity(alloc, 1)?;
+        push(&mut positions, made(value))?;
+        return Ok(positions);
+    }
+    set_each(alloc, given, values)
+}
+
+/// The given fields over those of each value. NoMemory where none was to be had.
+fn set_each(alloc: Global, given: &[Field], values: Vec<Row>) -> Result<Vec<Position>, NoMemory>
+    ensures { IfOk result (λ v. v.items ≡ map (spec.set_over given.now) values.items) }
+{
+    let mut positions = Vec::with_capacity(alloc, values.len())?;
+    for value in values {
+        push(&mut positions, set_over(alloc, given, value)?)?;
+    }
+    Ok(positions)
+}
+
+/// The value with copies of the given fields over its own, chosen where they say that it is primary. NoMemory where
+/// none was to be had.
+pub(crate) fn set_over(alloc: Global, given: &[Field], value: Row) -> Result<Position, NoMemory>
+    ensures { IfOk result (λ p. p ≡ spec.set_over given.now value) }
+{
+    let chosen = says_primary(value.unit(), given);
+    let value = row_over(alloc, given, value)?;
+    Ok(Position { value, chosen })
+}
+
+/// Whether a value of the unit with these fields is marked as the primary one.
+fn says_primary(unit: Unit, fields: &[Field]) -> bool
+    ensures { result ≡ is_primary (spec.value_of unit fields.now) }
+{
+    let leaf = Leaf::of(unit.attribute, SubAttribute::Primary);
+    for field in fields {
+        if field.leaf == leaf {
+            return field.atom == Atom::Truth(true);
+        }
+    }
+    false
+}
+
+/// The values without the field of a leaf. One that has no other field stays, without fields. NoMemory where none was
+/// to be had; the values are dropped then.
+pub fn clear_everywhere(alloc: Global, leaf: Leaf, values: Vec<Row>) -> Result<Vec<Row>, NoMemory>
+    ensures { IfOk result (λ v. v.items ≡ map (row_without leaf) values.items) }
+{
+    let mut left = Vec::with_capacity(alloc, values.len())?;
+    for value in values {
+        push(&mut left, row_without(leaf, value))?;
+    }
+    Ok(left)
+}

@@ -1,0 +1,149 @@
+//! The rules of a policy, each in a sentence.
+ghost use Rattle.std.specs.Prelude.{◌≡◌, IfOk, map, string_bytes};
+ghost use Rattle.scim_schema.specs.Names.{op_name};
+ghost use Rattle.scim_policy_sentences.specs.Lists.{listed as listed_words};
+ghost use Rattle.scim_policy_sentences.specs.Sentences as spec;
+ghost use Rattle.scim_policy_sentences.specs.Targets.{target_on as target_of};
+ghost use Rattle.std.specs.Option.{option_copied};
+
+use crate::lists::{joined, listed};
+use crate::targets::filter_text;
+use scim_audit::leaf_path;
+use scim_explain::{effect_word, rule_line};
+use scim_policy::{ClientName, Policy, PolicyPath, Rule, Target};
+use scim_schema::{Kind, Leaf, Op};
+use scim_text::{NoMemory, push};
+use std::alloc::Global;
+
+/// The rules of the policy in lines, each with a line feed at its end: `rule N: `, and whether it allows or
+/// denies whom to do what, and with what of which resources, as `rule 3: allow mail to read User: id and
+/// emails`, and `rule 2: deny mail to read User where userType eq "Contractor": everything`.
+///
+/// The only error is [`NoMemory`].
+pub fn rule_sentences(alloc: Global, policy: &Policy) -> Result<String, NoMemory>
+    ensures { IfOk result (λ text. string_bytes text ≡ spec.rule_sentences policy.now) }
+{
+    let rules = policy.rules();
+    let mut text = String::new(alloc);
+    for (index, rule) in rules.iter().enumerate() {
+        let line = sentence_line(alloc, index + 1, rule)?;
+        text.push_str(line.as_str())?;
+    }
+    Ok(text)
+}
+
+/// The line of a rule.
+fn sentence_line(alloc: Global, number: usize, rule: &Rule) -> Result<String, NoMemory>
+    ensures { IfOk result (λ line. string_bytes line ≡ spec.sentence_line number rule.now) }
+{
+    let sentence = sentence(alloc, rule)?;
+    rule_line(alloc, number, sentence.as_str())
+}
+
+/// What a rule says.
+fn sentence(alloc: Global, rule: &Rule) -> Result<String, NoMemory>
+    ensures { IfOk result (λ text. string_bytes text ≡ spec.sentence rule.now) }
+{
+    let effect = effect_word(rule.allows());
+    let clients = clients_text(alloc, rule.clients())?;
+    let ops = ops_text(alloc, rule.ops())?;
+    let kinds = kinds_text(alloc, rule)?;
+    Ok(format!(in alloc; "{effect} {clients} to {ops} {kinds}")?)
+}
+
+/// The clients that a rule is for.
+fn clients_text(alloc: Global, clients: &[ClientName]) -> Result<String, NoMemory>
+    ensures { IfOk result (λ text. string_bytes text ≡ listed_words (map spec.client_word clients.now)) }
+{
+    let mut words = Vec::new(alloc);
+    for client in clients {
+        push(&mut words, String::from_str(alloc, client_word(client))?)?;
+    }
+    listed(alloc, words.as_slice())
+}
+
+/// The words for whom a rule is for.
+fn client_word(client: &ClientName) -> &str
+    ensures { result.now ≡ spec.client_word client.now }
+{
+    match client {
+        ClientName::Everyone => "any client",
+        ClientName::Named(name) => name.as_str(),
+    }
+}
+
+/// The operations that a rule is for.
+fn ops_text(alloc: Global, ops: &[Op]) -> Result<String, NoMemory>
+    ensures { IfOk result (λ text. string_bytes text ≡ listed_words (map op_name ops.now)) }
+{
+    let mut words = Vec::new(alloc);
+    for op in ops {
+        push(&mut words, String::from_str(alloc, op.name())?)?;
+    }
+    listed(alloc, words.as_slice())
+}
+
+/// What a rule covers of each of its kinds.
+fn kinds_text(alloc: Global, rule: &Rule) -> Result<String, NoMemory>
+    ensures { IfOk result (λ text. string_bytes text ≡ spec.kind_clauses rule.now) }
+{
+    let kinds = rule.kinds();
+    let mut clauses = Vec::new(alloc);
+    for kind in kinds {
+        push(&mut clauses, kind_clause(alloc, rule, *kind)?)?;
+    }
+    joined(alloc, clauses.as_slice(), "; ", "; ")
+}
+
+/// What a rule covers of resources of a kind.
+fn kind_clause(alloc: Global, rule: &Rule, kind: Kind) -> Result<String, NoMemory>
+    ensures { IfOk result (λ text. string_bytes text ≡ spec.kind_clause rule.now kind) }
+{
+    let target = target_words(alloc, rule, kind)?;
+    let paths = paths_text(alloc, rule.paths_on(kind))?;
+    Ok([kind.name(), target.as_str(), ": ", paths.as_str()].concat(alloc)?)
+}
+
+/// What is said of a rule's target on resources of a kind, where it has one.
+fn target_words(alloc: Global, rule: &Rule, kind: Kind) -> Result<String, NoMemory>
+    ensures { IfOk result (λ text. string_bytes text ≡ spec.target_words rule.now kind) }
+{
+    match target_on(rule.targets(), kind) {
+        Some(target) => {
+            let filter = filter_text(alloc, target.filter())?;
+            Ok([" where ", filter.as_str()].concat(alloc)?)
+        }
+        None => Ok(String::new(alloc)),
+    }
+}
+
+/// The target on resources of a kind.
+fn target_on(targets: &[Target], kind: Kind) -> Option<&Target>
+    ensures { option_copied result ≡ target_of kind targets.now }
+{
+    targets.iter().find(|target| kind == target.kind())
+}
+
+/// What paths cover.
+fn paths_text(alloc: Global, paths: &[PolicyPath]) -> Result<String, NoMemory>
+    ensures { IfOk result (λ text. string_bytes text ≡ listed_words (map spec.path_word paths.now)) }
+{
+    let mut words = Vec::new(alloc);
+    for path in paths {
+        push(&mut words, path_word(alloc, *path)?)?;
+    }
+    listed(alloc, words.as_slice())
+}
+
+/// The word for what a path covers.
+fn path_word(alloc: Global, path: PolicyPath) -> Result<String, NoMemory>
+    ensures { IfOk result (λ text. string_bytes text ≡ spec.path_word path) }
+{
+    match path {
+        PolicyPath::Everything => Ok(String::from_str(alloc, "everything")?),
+        PolicyPath::Attribute(attribute) => leaf_path(alloc, Leaf::simple(attribute)),
+        PolicyPath::SubAttribute(attribute, sub_attribute) => {
+            leaf_path(alloc, Leaf::of(attribute, sub_attribute))
+        }
+    }
+}

@@ -1,0 +1,33 @@
+//! What clients find.
+ghost use Rattle.std.specs.Prelude.{IfOk};
+ghost use Rattle.scim_view.specs.View.{viewer_of};
+ghost use Rattle.scim_view.specs.Groups.{views};
+ghost use Rattle.scim_query.specs.ClientSearches as spec;
+
+use crate::queries::{Page, Query, search};
+use crate::shown_pages::shown_page;
+use scim_text::NoMemory;
+use scim_value::Resource;
+use scim_view::Viewer;
+use std::alloc::Global;
+
+/// The page that the client's query asks for of resources of one kind: of those that the client sees, each
+/// as it may see it, its groups among them (which are of `groups`, by id). The filter, the order and the
+/// total are told by that alone, so a client learns nothing by them that it may not read. Each item is
+/// shown as the query wants it. NoMemory where none was to be had.
+///
+/// The policy is asked once about each resource and each group.
+pub fn search_view(
+    alloc: Global,
+    viewer: &Viewer<'_>,
+    groups: &[Resource],
+    resources: &[Resource],
+    query: &Query,
+) -> Result<Page, NoMemory>
+    ensures { IfOk result (λ page. spec.IsShownPage
+        (views (viewer_of viewer.now) groups.now resources.now) query.now page) }
+{
+    let view = viewer.views(alloc, groups, resources)?;
+    let found = search(alloc, view.as_slice(), query)?;
+    shown_page(alloc, found, &query.wanted)
+}

@@ -1,8 +1,0 @@
-use Rattle.std.proofs.Common.{map, take}
-use Rattle.scim_hub.specs.Halls.{recorded_of}
-use Rattle.scim_replay.specs.EventFiles.{AreEventLines}
-use Rattle.scim_replay.proofs.event_files.events_of_lines.Given as goal
-
--- the lines so far tell the events so far
-abbrev pub invariant-loop-index : goal.invariant-loop-index
-invariant-loop-index l = AreEventLines (map (λ x. x.now) (take l.index l.lines)) (map recorded_of l.events.items)

@@ -1,4 +1,0 @@
-pub mod EventFiles
-pub mod Outputs
-pub mod Replays
-pub mod code

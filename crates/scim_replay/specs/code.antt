@@ -1,3 +1,0 @@
--- How the functions of the replay end.
-pub mod Exits
-pub mod Findings

@@ -1,7 +1,0 @@
-use Rattle.std.proofs.Common.{◌≡◌, map, take, string_bytes}
-use Rattle.scim_sentences.specs.Sentences as spec
-use Rattle.scim_sentences.proofs.sentences.paths_text.Given as goal
-
--- the words so far are those of the paths before this one
-abbrev pub invariant-loop-path : goal.invariant-loop-path
-invariant-loop-path l = map string_bytes l.words.items ≡ map spec.path_word (take l.path-index l.paths)

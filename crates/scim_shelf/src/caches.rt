@@ -1,0 +1,172 @@
+//! A shelf that keeps the resources of the shelf below it in memory.
+ghost use Rattle.std.specs.Prelude.{◌≡◌, IsTrue, ◌↔◌, OnOk, OnErr};
+ghost use Rattle.std.specs.Borrow.{Lends, sem};
+ghost use Rattle.scim_shelf.specs.contracts.caches.CachedShelf.{the_row};
+ghost use Rattle.scim_shelf.specs.Stores.{Store, CanKeep, changed};
+ghost use Rattle.scim_shelf.specs.Shelves.{OnlyReads};
+ghost use Rattle.scim_shelf.specs.Caches.{AreThose, HasKeyed, IsFilled};
+
+use scim_audit::AuditRow;
+use scim_cell::Id;
+use scim_schema::Kind;
+use crate::changes::Change;
+use crate::collections::Collection;
+use crate::shelf::{Shelf, Visitor};
+use crate::faults::ShelfFault;
+use crate::copies::collection_of;
+use scim_text::Failed;
+use scim_value::{Resource, UniqueName};
+use std::alloc::Global;
+
+/// A shelf whose resources are kept in memory too, where they are read.
+///
+/// It stands for the store of the shelf below it. Once it is filled, what it is asked of the resources is answered from
+/// memory. A change is committed below first, and then made in memory; where that wants memory, the resources in memory
+/// are given up and the commit stands: the shelf below is read again, until it is filled anew. A commit that finds no
+/// memory for a copy of its change answers so, before anything is changed. Rows of the audit are kept below alone.
+///
+/// What others write below it isn't seen: it is honest only while nobody else does.
+#[derive(Drop)]
+pub struct CachedShelf<S> {
+    /// None where the shelf below is read.
+    resources: Option<Collection>,
+    lower: S,
+}
+
+impl<S: Shelf> CachedShelf<S> {
+    /// The shelf over another, with no resources in memory yet.
+    pub fn over(lower: S) -> CachedShelf<S>
+        ensures lower { result.lower ≡ lower }
+        ensures stands { (store : Store) → S.stands lower store → ⟦<CachedShelf<S> as Shelf>⟧.stands result store }
+    {
+        CachedShelf {
+            resources: None,
+            lower,
+        }
+    }
+
+    /// Reads the resources of the shelf below into memory, of which no two have one id or share a unique name
+    /// (RFC 7643 sections 2.2 and 3.1).
+    ///
+    /// Fails by Device where the shelf below did, or where memory was wanting. Then what is in memory is as it was: with
+    /// nothing there, the shelf below is read, so a caller may go on where memory alone was wanting.
+    pub fn fill(&mut self, alloc: Global) -> Result<(), Failed<ShelfFault>>
+        ensures filled { OnOk result (IsFilled self.new) }
+        ensures kept { OnErr result (self.new.resources ≡ self.old.resources) }
+        ensures read { OnlyReads (HasKeyed ⟦<CachedShelf<S> as Shelf>⟧.stands) ⟦<CachedShelf<S> as Shelf>⟧.is_honest ⟦<CachedShelf<S> as Shelf>⟧.failures self.old self.new result }
+    {
+        let resources = collection_of(alloc, &mut self.lower)?;
+        self.resources = Some(resources);
+        Ok(())
+    }
+
+    /// Whether the resources are in memory.
+    pub fn is_filled(&self) -> bool
+        ensures { IsTrue result ↔ IsFilled self.now }
+    {
+        self.resources.is_some()
+    }
+
+    /// The shelf below, to be asked for what it alone has, as the rows of its audit. Whoever changes its resources by this is one of those
+    /// others whose writing isn't seen.
+    pub fn lower_mut(&mut self) -> &mut S
+        ensures* writes_back { sem 𝓛 (Lends (the_row S.row) S.row self.entry result (λ lower. record self.old { lower = lower })) }
+        ensures shows { result.now ≡ self.old.lower }
+    {
+        &mut self.lower
+    }
+
+    /// The shelf below, which has all that was committed.
+    pub fn into_lower(self) -> S
+        ensures { result ≡ self.lower }
+    {
+        let CachedShelf { lower, .. } = self;
+        lower
+    }
+}
+
+/// The resources in memory after a change; None where memory was wanting for it.
+fn follow(alloc: Global, resources: Option<Collection>, change: Change) -> Option<Collection>
+    ensures { (store : Store) → AreThose store.resources resources → CanKeep store change → AreThose (changed change store.resources) result }
+{
+    let mut resources = resources?;
+    match resources.make(alloc, change) {
+        Ok(()) => Some(resources),
+        Err(_) => None,
+    }
+}
+
+impl<S: Shelf> Shelf for CachedShelf<S> {
+    ghost stands = { λ shelf store. S.stands shelf.lower store × (S.is_honest shelf.lower → AreThose store.resources shelf.resources) };
+
+    ghost is_honest = { λ shelf. S.is_honest shelf.lower };
+
+    ghost failures = { λ shelf. S.failures shelf.lower };
+
+    fn by_id(
+        &mut self,
+        alloc: Global,
+        kind: Kind,
+        id: Id,
+    ) -> Result<Option<Resource>, Failed<ShelfFault>> {
+        match &self.resources {
+            Some(resources) => Ok(resources.resource_at(alloc, kind, id)?),
+            None => self.lower.by_id(alloc, kind, id),
+        }
+    }
+
+    fn name_owner(
+        &mut self,
+        alloc: Global,
+        name: &UniqueName,
+    ) -> Result<Option<Resource>, Failed<ShelfFault>> {
+        match &self.resources {
+            Some(resources) => Ok(resources.name_owner(alloc, name)?),
+            None => self.lower.name_owner(alloc, name),
+        }
+    }
+
+    fn groups_with<V: Visitor>(
+        &mut self,
+        alloc: Global,
+        value: &str,
+        visitor: &mut V,
+    ) -> Result<(), Failed<ShelfFault>> {
+        match &self.resources {
+            Some(resources) => Ok(resources.show_groups_with(alloc, value, visitor)?),
+            None => self.lower.groups_with(alloc, value, visitor),
+        }
+    }
+
+    fn each<V: Visitor>(
+        &mut self,
+        alloc: Global,
+        kind: Kind,
+        visitor: &mut V,
+    ) -> Result<(), Failed<ShelfFault>> {
+        match &self.resources {
+            Some(resources) => Ok(resources.show(alloc, kind, visitor)?),
+            None => self.lower.each(alloc, kind, visitor),
+        }
+    }
+
+    fn commit(
+        &mut self,
+        alloc: Global,
+        change: Change,
+        row: AuditRow,
+    ) -> Result<(), Failed<ShelfFault>> {
+        let Some(resources) = &self.resources else {
+            return self.lower.commit(alloc, change, row);
+        };
+        let copy = change.try_copy(alloc)?;
+        let old = resources.old_of(&change);
+        self.lower.commit_over(alloc, old, change, row)?;
+        self.resources = follow(alloc, self.resources.take(), copy);
+        Ok(())
+    }
+
+    fn failures(&self) -> u64 {
+        self.lower.failures()
+    }
+}

@@ -1,0 +1,7 @@
+-- What other crates may use of the proofs here.
+pub use Rattle.scim_store_rows.proofs.TiedLemmas.{tied, ids_apart}
+pub use Rattle.scim_store_rows.proofs.NameLemmas.{user_names}
+pub use Rattle.scim_store_rows.proofs.PlaceLemmas.{own, lower, upper, others, split, found, own_id, other_own, own_apart, others_all}
+pub use Rattle.scim_store_rows.proofs.OwnerLemmas.{contents, none_left}
+pub use Rattle.scim_store_rows.proofs.SpanLemmas.{rows_rise, drop-audit_rows, take-audit_rows}
+pub use Rattle.scim_store_rows.proofs.ReadLemmas.{length-audit_rows}

@@ -1,0 +1,12 @@
+pub mod TiedLemmas
+pub mod NameLemmas
+pub mod PlaceLemmas
+pub mod FindLemmas
+pub mod LookLemmas
+pub mod OwnerLemmas
+pub mod GroupLemmas
+pub mod WalkLemmas
+pub mod SpanLemmas
+pub mod Facts
+pub mod BackLemmas
+pub mod ReadLemmas

@@ -1,0 +1,40 @@
+-- What the looks ahead of a change tell.
+use Rattle.std.proofs.Common.{ℕ, List, [], ◌∷◌, codes, filter, Option, IsTrue, refl}
+use Rattle.sqlite.specs.declared.types.Value.TheVariants.{Text}
+use Rattle.sqlite.specs.Order.{Row}
+use Rattle.sqlite.specs.Term.{col}
+use Rattle.sqlite.specs.Query.{Query}
+use Rattle.sqlite.specs.Listing.{understood}
+use Rattle.sqlite.specs.State.{State}
+use Rattle.sqlite_tied.specs.Compute.{everything}
+use Rattle.scim_store_tables.specs.Lists.{Lists, has_text, triple}
+use Rattle.scim_store_tables.specs.Reading.{Rests, Holds, Finds, IsTextOfFirst}
+use Rattle.scim_store_tables.specs.code.Asks.{IsAsk}
+use Rattle.scim_store_tables.specs.code.Queries.{one_table, is_column}
+use Rattle.scim_store_tables.proofs.AnswerLemmas.{answered_columns, found_first, unchanged_rests}
+use Rattle.scim_store_tables.proofs.ReadLemmas.{Answered}
+use Rattle.scim_store_tables.proofs.TestLemmas.{passes_text}
+
+-- ---- the resource of an id
+
+abbrev pub old_text : List ℕ
+old_text = codes "SELECT document FROM resource WHERE id = ?1"
+
+abbrev pub old_query : Query
+old_query = one_table 2 (is_column 1 0 ∷ []) (col 1 3 ∷ []) []
+
+pub asks_old : IsAsk old_text old_query
+unfolding understood everything
+asks_old = record { names = codes "document" ∷ []; command = refl; plain = (refl, refl); unlisted = refl }
+
+module _ (old new : State) (rows : List Row) (opened : IsTrue old.is_open) where
+  pub old_rests : (id : List ℕ) → Answered old_text (Text id ∷ []) old new rows → (lists : Lists) → Holds old lists → Rests old new
+  old_rests id answers lists holds = unchanged_rests old new (answers old_query asks_old (holds opened).schema).unchanged
+
+  pub old_found : (id : List ℕ) (found : Option (List ℕ)) → Answered old_text (Text id ∷ []) old new rows → IsTextOfFirst 0 rows found
+      → (lists : Lists) → Holds old lists → Finds 2 (filter (has_text 0 id) lists.resources) old new found
+  old_found id found answers first lists holds =
+      let are = holds opened in
+      let it = answers old_query asks_old are.schema in
+      found_first 2 _ rows found old new it.unchanged
+      (answered_columns 2 (is_column 1 0 ∷ []) (col 1 3 ∷ []) [] old.now.trees (Text id ∷ []) rows lists.resources triple (has_text 0 id) _ (passes_text 2 id []) (λ r. refl) are.resources.same it.answer) first

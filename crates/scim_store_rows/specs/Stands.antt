@@ -1,0 +1,70 @@
+-- What the tables stand for.
+use Rattle.std.specs.Prelude.{◌≡◌, ◌≢◌, ℕ, Bool, nat_eq, List, map, All, AllPairs}
+use Rattle.std.specs.List.{flat_map, list_any}
+use Rattle.std.specs.Cmp.Lexicographic.{pointwise}
+use Rattle.sqlite.specs.Order.{Row}
+use Rattle.sqlite.specs.Effect.{Database}
+use Rattle.scim_schema.specs.Names.{attribute_name}
+use Rattle.scim_cell.specs.Content.{Content}
+use Rattle.scim_cell.specs.Ids.{id_text}
+use Rattle.scim_value.specs.Members.{lists_value}
+use Rattle.scim_value.specs.Uniqueness.{Name, unique_names}
+use Rattle.scim_json.specs.Stored.{IsDocumentText}
+use Rattle.scim_audit.specs.declared.rows.AuditRow.{AuditRow}
+use Rattle.scim_shelf.specs.Stores.{Store, AreKeyed}
+use Rattle.scim_store_tables.specs.Lists.{Lists, Are, resource_values, name_values, member_values}
+use Rattle.scim_store_rows.specs.Audit.{kind_number, audit_rows}
+
+-- a resource, with the text of its document and the values that it lists among its members
+pub record Entry : Type 0 where
+  pub content : Content
+  pub document : List ℕ
+  pub members : List (List ℕ)
+
+-- whether a value is among these
+abbrev pub is_among : List ℕ → List (List ℕ) → Bool
+is_among value values = list_any (pointwise nat_eq value) values
+
+-- these are the values that a resource lists among its members, each once (RFC 7643 section 4.2)
+pub record AreMembers (c : Content) (values : List (List ℕ)) : Type 0 where
+  pub once : AllPairs (λ v w. v ≢ w) values
+  pub listed : (value : List ℕ) → is_among value values ≡ lists_value value c
+
+-- the document reads as the resource, and the values are those that it lists
+pub record IsEntry (base : List ℕ) (e : Entry) : Type 0 where
+  pub document : IsDocumentText base e.document e.content
+  pub members : AreMembers e.content e.members
+
+-- the row of a resource
+abbrev pub resource_row : Entry → Row
+resource_row e = resource_values (id_text e.content.id) (kind_number e.content.kind) e.document
+
+-- the row of a unique name of the resource with an id: its attribute, and the text by which it is known
+abbrev pub name_row : List ℕ → Name → Row
+name_row id n = name_values (attribute_name n.leaf.attribute) n.text (id_text id)
+
+-- the rows of all its unique names
+abbrev pub name_rows : Entry → List Row
+name_rows e = map (name_row e.content.id) (unique_names e.content)
+
+-- the row of a value that the group with an id lists
+abbrev pub member_row : List ℕ → List ℕ → Row
+member_row id value = member_values value (id_text id)
+
+-- the rows of all values that it lists
+abbrev pub member_rows : Entry → List Row
+member_rows e = map (member_row e.content.id) e.members
+
+-- all rows of these resources, and of the audit
+abbrev pub lists_of : List Entry → List AuditRow → Lists
+lists_of entries audit = record { resources = map resource_row entries; taken = flat_map name_rows entries; member = flat_map member_rows entries; audit = audit_rows 1 audit }
+
+-- The database stands for a store of resources below the base. It has the five tables and nothing else. `resource` has a row for each resource,
+-- whose document reads as it; `taken` has one for each unique name of each; `member` has one for each value that a group lists; and `audit` has
+-- those of the store's audit, numbered from 1. The store's resources are in order of id, and no two share a unique name.
+pub record StandsFor (base : List ℕ) (db : Database) (store : Store) : Type 0 where
+  pub entries : List Entry
+  pub resources : map (λ e. e.content) entries ≡ store.resources
+  pub sound : All (IsEntry base) entries
+  pub keyed : AreKeyed store.resources
+  pub tables : Are db (lists_of entries store.audit)

@@ -1,0 +1,130 @@
+//! The rows of the audit as columns.
+ghost use Rattle.std.specs.Prelude.{◌≡◌, ◌≤◌, IfOk, option_map};
+ghost use Rattle.std.specs.Option.{option_copied};
+ghost use Rattle.scim_cell.specs.Ids.{id_text};
+ghost use Rattle.scim_audit.specs.Rows as rows;
+ghost use Rattle.scim_store_tables.specs.Audit.{audit_values, last_number};
+ghost use Rattle.scim_store_rows.specs.Audit as spec;
+
+use scim_audit::{AuditRow, Decided, Refusal, leaf_path};
+use scim_cell::{Id, Text};
+use scim_schema::{Kind, Leaf, Op};
+use scim_store_tables::AuditColumns;
+use scim_text::NoMemory;
+use std::alloc::Global;
+
+/// The texts of a row of the audit, which its columns lend.
+#[derive(Drop)]
+pub struct AuditTexts {
+    id: Option<Text>,
+    leaf: Option<Text>,
+}
+
+/// The text of an id, where there is one. NoMemory where none was to be had.
+fn id_of(alloc: Global, id: Option<Id>) -> Result<Option<Text>, NoMemory>
+    ensures { IfOk result (λ text. text ≡ option_map id_text id) }
+{
+    match id {
+        Some(id) => Ok(Some(id.text(alloc)?)),
+        None => Ok(None),
+    }
+}
+
+/// The path of a leaf, where there is one. NoMemory where none was to be had.
+fn leaf_of(alloc: Global, leaf: Option<Leaf>) -> Result<Option<Text>, NoMemory>
+    ensures { IfOk result (λ text. text ≡ option_map rows.leaf_path leaf) }
+{
+    match leaf {
+        Some(leaf) => Ok(Some(Text::new(leaf_path(alloc, leaf)?))),
+        None => Ok(None),
+    }
+}
+
+impl AuditTexts {
+    /// The texts of a row.
+    ///
+    /// The only error is [`NoMemory`].
+    pub fn of(alloc: Global, row: &AuditRow) -> Result<AuditTexts, NoMemory>
+        ensures { IfOk result (λ texts. spec.AreTexts texts row.now) }
+    {
+        let id = id_of(alloc, row.id)?;
+        let leaf = leaf_of(alloc, row.leaf)?;
+        Ok(AuditTexts { id, leaf })
+    }
+}
+
+/// The place of a kind among all kinds, from 0.
+pub fn kind_number(kind: Kind) -> u32
+    ensures { result ≡ spec.kind_number kind }
+{
+    match kind {
+        Kind::User => 0,
+        Kind::Group => 1,
+    }
+}
+
+/// The place of an operation among all of them, from 0.
+fn op_number(op: Op) -> u32
+    ensures { result ≡ spec.op_number op }
+{
+    match op {
+        Op::Read => 0,
+        Op::Create => 1,
+        Op::Modify => 2,
+        Op::Delete => 3,
+    }
+}
+
+/// The place of what was decided among all that may be, from 0.
+fn decided_number(decided: Decided) -> u32
+    ensures { result ≡ spec.decided_number decided }
+{
+    match decided {
+        Decided::Allow => 0,
+        Decided::Deny => 1,
+        Decided::Hidden => 2,
+        Decided::Absent => 3,
+        Decided::Refused => 4,
+    }
+}
+
+/// The place of a refusal among all of them, from 0.
+fn refusal_number(refusal: Option<Refusal>) -> Option<u32>
+    ensures { result ≡ option_map spec.refusal_number refusal }
+{
+    match refusal {
+        Some(refusal) => Some(u32::from(refusal.number()) - 1),
+        None => None,
+    }
+}
+
+/// The text, where there is one.
+fn text_in(text: &Option<Text>) -> Option<&str>
+    ensures { option_copied result ≡ text.now }
+{
+    match text {
+        Some(text) => Some(text.as_str()),
+        None => None,
+    }
+}
+
+/// The columns of a row of the audit with its number. The texts are the row's.
+pub fn columns_of<'a>(number: u64, row: &'a AuditRow, texts: &'a AuditTexts) -> AuditColumns<'a>
+    requires { spec.AreTexts texts.now row.now }
+    ensures values { audit_values result ≡ spec.audit_row number row.now }
+    ensures number { result.number ≡ number }
+    ensures moment { result.moment ≤ last_number }
+{
+    AuditColumns {
+        number,
+        moment: row.moment.seconds(),
+        client: row.client.as_str(),
+        op: op_number(row.op),
+        kind: kind_number(row.kind),
+        id: text_in(&texts.id),
+        decided: decided_number(row.decided),
+        rule: row.rule,
+        leaf: text_in(&texts.leaf),
+        refusal: refusal_number(row.refusal),
+    }
+}

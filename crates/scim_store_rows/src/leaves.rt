@@ -1,0 +1,86 @@
+//! Leaves by their paths.
+ghost use Rattle.std.specs.Prelude.{◌≡◌, find, bytes_eq};
+ghost use Rattle.scim_schema.specs.Names.{attribute_name, sub_attribute_name};
+ghost use Rattle.scim_audit.specs.Rows as rows;
+ghost use Rattle.scim_store_rows.specs.AuditBack.{ReadsBack, Any};
+ghost use Rattle.scim_store_rows.specs.code.Places as places;
+
+use scim_schema::{Attribute, Kind, Leaf, SubAttribute, attributes};
+
+/// The sub-attributes of all attributes.
+#[tactic(auto, unfolding(crate::specs::code::Places::all_sub_attributes))]
+fn all_sub_attributes() -> &'static [SubAttribute]
+    ensures { result.now ≡ places.all_sub_attributes }
+{
+    &[
+        SubAttribute::Formatted,
+        SubAttribute::FamilyName,
+        SubAttribute::GivenName,
+        SubAttribute::MiddleName,
+        SubAttribute::HonorificPrefix,
+        SubAttribute::HonorificSuffix,
+        SubAttribute::Value,
+        SubAttribute::Reference,
+        SubAttribute::Display,
+        SubAttribute::TypeName,
+        SubAttribute::Primary,
+        SubAttribute::StreetAddress,
+        SubAttribute::Locality,
+        SubAttribute::Region,
+        SubAttribute::PostalCode,
+        SubAttribute::Country,
+        SubAttribute::DisplayName,
+        SubAttribute::ResourceType,
+        SubAttribute::Created,
+        SubAttribute::LastModified,
+        SubAttribute::Location,
+    ]
+}
+
+/// The first of these attributes with this name. Case counts.
+fn attribute_in(attributes: &[Attribute], name: &str) -> Option<Attribute>
+    ensures { result ≡ find (λ a. bytes_eq (attribute_name a) name.now) attributes.now }
+{
+    attributes.iter().copied().find(|a| a.name() == name)
+}
+
+/// The attribute with this name, whichever kind has it.
+fn attribute_of(name: &str) -> Option<Attribute>
+    ensures { ReadsBack Any attribute_name name.now result }
+{
+    match attribute_in(attributes(Kind::User), name) {
+        Some(attribute) => Some(attribute),
+        None => attribute_in(attributes(Kind::Group), name),
+    }
+}
+
+/// The first of these sub-attributes with this name. Case counts.
+fn sub_attribute_in(sub_attributes: &[SubAttribute], name: &str) -> Option<SubAttribute>
+    ensures { result ≡ find (λ s. bytes_eq (sub_attribute_name s) name.now) sub_attributes.now }
+{
+    sub_attributes.iter().copied().find(|s| s.name() == name)
+}
+
+/// The sub-attribute with this name, whichever attribute has it.
+fn sub_attribute_of(name: &str) -> Option<SubAttribute>
+    ensures { ReadsBack Any sub_attribute_name name.now result }
+{
+    sub_attribute_in(all_sub_attributes(), name)
+}
+
+/// The leaf with this path, as `userName` or `emails.value`: what [`scim_audit::leaf_path`] prints, and nothing else,
+/// is read, also where no kind has the leaf.
+pub fn leaf_of_path(path: &str) -> Option<Leaf>
+    ensures { ReadsBack Any rows.leaf_path path.now result }
+{
+    match path.split_once('.') {
+        Some((name, sub_name)) => Some(Leaf {
+            attribute: attribute_of(name)?,
+            sub_attribute: Some(sub_attribute_of(sub_name)?),
+        }),
+        None => Some(Leaf {
+            attribute: attribute_of(path)?,
+            sub_attribute: None,
+        }),
+    }
+}

@@ -1,0 +1,17 @@
+use Rattle.std.proofs.Common.{option_map, string_bytes, subst}
+use Rattle.sqlite.specs.Held.{state}
+use Rattle.scim_store_tables.specs.Reading.{IsTextOfFirst}
+use Rattle.scim_store_tables.proofs.StepLemmas.{if_then}
+use Rattle.scim_store_tables.proofs.ReadLemmas.{document_found, document_rests}
+use Rattle.scim_store_tables.proofs.asking.find_resource.Goals as goal
+
+pub returns-clause-found : goal.returns-clause-found
+returns-clause-found g c clean =
+    if_then c.first_text.result _ _ (λ found first lists holds.
+    document_found (state g.S.Store c.args.conn.now) (state g.S.Store c.ask.new.conn) c.in_ok-rows.rows.items (c.in_ok-rows.ensures.was_open clean) c.args.id.now c.args.kind (option_map string_bytes found)
+    (λ q is has. rw (c.params-to_sql.ensures, c.params-to_sql-2.ensures) at (c.in_ok-rows.ensures.read clean q is has)) (subst (λ xs. IsTextOfFirst 0 xs (option_map string_bytes found)) c.as_slice.ensures.value first) lists holds) c.first_text.ensures
+
+pub returns-clause-rests : goal.returns-clause-rests
+returns-clause-rests g c clean lists holds =
+    document_rests (state g.S.Store c.args.conn.now) (state g.S.Store c.ask.new.conn) c.in_ok-rows.rows.items (c.in_ok-rows.ensures.was_open clean) c.args.id.now c.args.kind
+    (λ q is has. rw (c.params-to_sql.ensures, c.params-to_sql-2.ensures) at (c.in_ok-rows.ensures.read clean q is has)) lists holds

@@ -1,0 +1,44 @@
+-- A text as a query on one of the five tables, and its answer.
+use Rattle.std.specs.Prelude.{◌≡◌, ◌≤◌, ℕ, false, IsTrue, List, [], Result, Ok, Err, IfOk, OnOk, OnErr}
+use Rattle.std.specs.Global.{Vec}
+use Rattle.sqlite.specs.declared.error.Error.{Error}
+use Rattle.sqlite.specs.Command.{Command}
+use Rattle.sqlite.specs.Command.TheVariants.{Select, Nothing}
+use Rattle.sqlite.specs.Given.{IsPlain}
+use Rattle.sqlite.specs.Listing.{understood, reads_listing}
+use Rattle.sqlite.specs.Order.{Row}
+use Rattle.sqlite.specs.Program.{overlay}
+use Rattle.sqlite.specs.Query.{Query, IsAnswer}
+use Rattle.sqlite.specs.State.{State, HasCleanDisk, IsUnchanged}
+use Rattle.sqlite.specs.View.{doubt}
+use Rattle.sqlite_resolve.specs.declared.compiled.Compiled.{Compiled}
+use Rattle.sqlite_resolve.specs.declared.error.CompileError.{CompileError}
+use Rattle.scim_store_tables.specs.Tables.{store_schema}
+use Rattle.scim_store_tables.specs.Reading.{Rests, Spares}
+
+-- the command that a text means, if it means one
+abbrev pub asked : Result Compiled CompileError → Command
+asked (Ok c) = c.command
+asked (Err e) = Nothing
+
+-- in the schema of the five tables the text is this query
+pub record IsAsk (text : List ℕ) (q : Query) : Type 0 where
+  pub names : List (List ℕ)
+  pub command : asked (understood store_schema text) ≡ Select (record { lets = []; body = q }) names
+  pub plain : IsPlain (understood store_schema text)
+  pub unlisted : reads_listing store_schema text ≡ false
+
+-- the rows answer the query, and nothing is changed
+pub record IsAnswered (q : Query) (params : Row) (old new : State) (rows : List Row) : Type 0 where
+  pub unchanged : IsUnchanged old new
+  pub answer : IsAnswer q (overlay old.now.trees []) params rows
+
+-- What is left where the rows of a text were asked for: no transaction is begun. Where the text is a query on the five tables, a crash leaves no more than before, and
+-- the rows are its answer. After an error the connection is shut, or as it was or as the last commit left it.
+pub record IsAsked (text : List ℕ) (params : Row) (old new : State) (result : Result (Vec Row) Error) : Type 0 where
+  pub mode : old.in_transaction ≡ false → new.in_transaction ≡ false
+  pub clean : doubt old.is_clean ≤ doubt new.is_clean
+  pub spares : (q : Query) → IsAsk text q → Spares old new
+  pub was_open : HasCleanDisk new → OnOk result (IsTrue old.is_open)
+  pub read : HasCleanDisk new → IfOk result (λ rows. (q : Query) → IsAsk text q → old.now.schema ≡ store_schema → IsAnswered q params old new rows.items)
+  pub rests : HasCleanDisk new → OnErr result (Rests old new)

@@ -1,0 +1,133 @@
+//! The queries on the tables. None changes anything, but one that fails within a transaction may roll it back.
+
+ghost use Rattle.std.specs.Prelude.{◌≡◌, ◌≤◌, [], ◌∷◌, false, map, filter, string_bytes, option_map, IfOk, OnErr};
+ghost use Rattle.sqlite.specs.State.{HasCleanDisk};
+ghost use Rattle.sqlite.specs.View.{doubt};
+ghost use Rattle.sqlite.specs.Held.{state};
+ghost use Rattle.sqlite.specs.Values.{bound};
+ghost use Rattle.scim_store_tables.specs.Lists.{Lists, has_text, has_texts};
+ghost use Rattle.scim_store_tables.specs.Reading.{Rests, HasTables, Holds, Tells, Finds, IsTextOfFirst, shown, group_alone, is_resource, is_between};
+ghost use Rattle.scim_store_tables.specs.code.Asks.{IsAsked};
+ghost use Rattle.scim_store_tables.specs.code.Told.{OnlyAsks, AreRows, AreKeys};
+
+use crate::queries::{Table, keys_query, rows_query};
+use sqlite::types::ValueRef;
+use sqlite::{Alter, Connection, Error, Row, params};
+
+/// All rows of a query. The error is the one that the database gave; the connection is then shut, or as it was or as the
+/// last commit left it.
+pub fn ask<S: Alter>(
+    conn: &mut Connection<S>,
+    sql: &str,
+    params: &[ValueRef<'_>],
+) -> Result<Vec<Row>, Error>
+    ensures { IsAsked sql.now (bound params.now) (state S.Store conn.old) (state S.Store conn.new) result }
+{
+    conn.query_all(sql, params)
+}
+
+/// The text of the first row, if there is a row. The error is that of a first column that is no text, or that no memory
+/// was to be had.
+pub fn first_text(rows: &[Row]) -> Result<Option<String>, Error>
+    ensures { IfOk result (λ found. IsTextOfFirst 0 rows.now (option_map string_bytes found)) }
+{
+    match rows {
+        [] => Ok(None),
+        [row, ..] => {
+            let text: String = row.get(0)?;
+            Ok(Some(text))
+        }
+    }
+}
+
+/// The document of the resource with an id and a kind; None where there is no such resource. The error is the one that
+/// the database gave; the connection is then shut, or as it was or as the last commit left it.
+pub fn find_resource<S: Alter>(
+    conn: &mut Connection<S>,
+    id: &str,
+    kind: u32,
+) -> Result<Option<String>, Error>
+    ensures mode { conn.old.in_transaction ≡ false → conn.new.in_transaction ≡ false }
+    ensures clean { doubt (state S.Store conn.old).is_clean ≤ doubt (state S.Store conn.new).is_clean }
+    ensures found { HasCleanDisk (state S.Store conn.new) → IfOk result (λ found. (lists : Lists) → Holds (state S.Store conn.old) lists
+        → Finds 2 (filter (is_resource id.now kind) lists.resources) (state S.Store conn.old) (state S.Store conn.new) (option_map string_bytes found)) }
+    ensures rests { HasCleanDisk (state S.Store conn.new) → (lists : Lists) → Holds (state S.Store conn.old) lists → Rests (state S.Store conn.old) (state S.Store conn.new) }
+{
+    let rows = ask(
+        conn,
+        "SELECT document FROM resource WHERE id = ?1 AND kind = ?2",
+        params![id, kind],
+    )?;
+    first_text(rows.as_slice())
+}
+
+/// The id of the owner of a unique name; None where nobody has it. The error is the one that the database gave; the
+/// connection is then shut, or as it was or as the last commit left it.
+pub fn find_owner<S: Alter>(
+    conn: &mut Connection<S>,
+    attribute: &str,
+    folded: &str,
+) -> Result<Option<String>, Error>
+    ensures mode { conn.old.in_transaction ≡ false → conn.new.in_transaction ≡ false }
+    ensures clean { doubt (state S.Store conn.old).is_clean ≤ doubt (state S.Store conn.new).is_clean }
+    ensures found { HasCleanDisk (state S.Store conn.new) → IfOk result (λ found. (lists : Lists) → Holds (state S.Store conn.old) lists
+        → Finds 2 (filter (has_texts attribute.now folded.now) lists.taken) (state S.Store conn.old) (state S.Store conn.new) (option_map string_bytes found)) }
+    ensures rests { HasCleanDisk (state S.Store conn.new) → (lists : Lists) → Holds (state S.Store conn.old) lists → Rests (state S.Store conn.old) (state S.Store conn.new) }
+{
+    let rows = ask(
+        conn,
+        "SELECT id FROM taken WHERE attribute = ?1 AND folded = ?2",
+        params![attribute, folded],
+    )?;
+    first_text(rows.as_slice())
+}
+
+/// All rows of a table, in order, whatever they are. The error is the one that the database gave.
+pub(crate) fn read_rows<S: Alter>(conn: &mut Connection<S>, table: Table) -> Result<Vec<Row>, Error>
+    ensures { OnlyAsks (λ db rows. AreRows table db rows.items) (state S.Store conn.old) (state S.Store conn.new) result }
+{
+    ask(conn, rows_query(table), &[])
+}
+
+/// The keys of a table, in order. Where they rise, none comes twice. The error is the one that the database gave.
+pub(crate) fn read_keys<S: Alter>(conn: &mut Connection<S>, table: Table) -> Result<Vec<Row>, Error>
+    ensures { OnlyAsks (λ db keys. AreKeys table db keys.items) (state S.Store conn.old) (state S.Store conn.new) result }
+{
+    ask(conn, keys_query(table), &[])
+}
+
+/// The ids of the groups that have a member of the value, in order. The error is the one that the database gave; the
+/// connection is then shut, or as it was or as the last commit left it.
+pub fn read_groups<S: Alter>(conn: &mut Connection<S>, value: &str) -> Result<Vec<Row>, Error>
+    ensures mode { conn.old.in_transaction ≡ false → conn.new.in_transaction ≡ false }
+    ensures clean { doubt (state S.Store conn.old).is_clean ≤ doubt (state S.Store conn.new).is_clean }
+    ensures read { HasCleanDisk (state S.Store conn.new) → IfOk result (λ rows. (lists : Lists) → Holds (state S.Store conn.old) lists
+        → Tells (0 ∷ []) (map group_alone (filter (has_text 0 value.now) lists.member)) (state S.Store conn.old) (state S.Store conn.new) rows.items) }
+    ensures rests { HasCleanDisk (state S.Store conn.new) → OnErr result (Rests (state S.Store conn.old) (state S.Store conn.new)) }
+{
+    ask(
+        conn,
+        "SELECT group_id FROM member WHERE value = ?1 ORDER BY group_id",
+        params![value],
+    )
+}
+
+/// The rows of the audit that are numbered from the first number on and before the end, in order, whatever they are.
+/// The error is the one that the database gave; the connection is then shut, or as it was or as the last commit left it.
+pub fn read_audit_between<S: Alter>(
+    conn: &mut Connection<S>,
+    first: i64,
+    end: i64,
+) -> Result<Vec<Row>, Error>
+    ensures mode { conn.old.in_transaction ≡ false → conn.new.in_transaction ≡ false }
+    ensures clean { doubt (state S.Store conn.old).is_clean ≤ doubt (state S.Store conn.new).is_clean }
+    ensures read { HasCleanDisk (state S.Store conn.new) → IfOk result (λ rows. HasTables (state S.Store conn.old)
+        → Tells (0 ∷ []) (filter (is_between first end) (shown (state S.Store conn.old).now).audit) (state S.Store conn.old) (state S.Store conn.new) rows.items) }
+    ensures rests { HasCleanDisk (state S.Store conn.new) → OnErr result (Rests (state S.Store conn.old) (state S.Store conn.new)) }
+{
+    ask(
+        conn,
+        "SELECT number, moment, client, op, kind, id, decided, rule, leaf, refusal FROM audit WHERE number >= ?1 AND number < ?2 ORDER BY number",
+        params![first, end],
+    )
+}

@@ -1,0 +1,94 @@
+//! The rows of the audit.
+
+ghost use Rattle.std.specs.Prelude.{◌≡◌, ◌≤◌, ◌∷◌, pos};
+ghost use Rattle.sqlite.specs.State.{Survives};
+ghost use Rattle.sqlite.specs.Held.{state};
+ghost use Rattle.scim_store_tables.specs.Lists.{Lists, Are};
+ghost use Rattle.scim_store_tables.specs.Audit.{last_number, audit_values};
+ghost use Rattle.scim_store_tables.specs.Steps.{Goes, Keeps};
+
+use sqlite::{Alter, Error, Transaction, params};
+
+/// The columns of a row of the audit. What is None is NULL in the table.
+#[derive(Clone, Copy)]
+pub struct AuditColumns<'a> {
+    /// The number of the row, which is its key.
+    pub number: u64,
+    /// When it was decided, in seconds.
+    pub moment: u64,
+    /// The name of the client.
+    pub client: &'a str,
+    /// The operation, as a number.
+    pub op: u32,
+    /// The kind of the resource, as a number.
+    pub kind: u32,
+    /// The id of the resource.
+    pub id: Option<&'a str>,
+    /// What was decided, as a number.
+    pub decided: u32,
+    /// The place of the rule that decided.
+    pub rule: Option<u32>,
+    /// The leaf that decided.
+    pub leaf: Option<&'a str>,
+    /// The refusal, as a number.
+    pub refusal: Option<u32>,
+}
+
+/// A number as SQL takes it.
+fn sql_number(number: u64) -> i64
+    requires { number ≤ last_number }
+    ensures { result ≡ pos number }
+{
+    number as i64
+}
+
+/// Puts in a row of the audit, with its numbers as SQL takes them.
+fn insert_columns<S: Alter>(
+    tx: &mut Transaction<'_, S>,
+    number: i64,
+    moment: i64,
+    columns: &AuditColumns<'_>,
+) -> Result<usize, Error>
+    requires number { number ≡ pos columns.now.number }
+    requires moment { moment ≡ pos columns.now.moment }
+    ensures same_reference { tx.new.conn.ghost_name ≡ tx.old.conn.ghost_name }
+    ensures went { Goes (state S.Store tx.old.conn.now) (state S.Store tx.new.conn.now) result (λ old new.
+        (lists : Lists) → Are old lists → Are new (record lists { audit = audit_values columns.now ∷ lists.audit })) }
+    ensures kept { Keeps (state S.Store tx.old.conn.now) (state S.Store tx.new.conn.now) }
+    ensures survives { Survives (state S.Store tx.old.conn.now) (state S.Store tx.new.conn.now) (λ _. ⊥) }
+{
+    tx.execute(
+        "INSERT INTO audit (number, moment, client, op, kind, id, decided, rule, leaf, refusal) VALUES (?1, ?2, ?3, ?4, ?5, ?6, ?7, ?8, ?9, ?10)",
+        params![
+            number,
+            moment,
+            columns.client,
+            columns.op,
+            columns.kind,
+            columns.id,
+            columns.decided,
+            columns.rule,
+            columns.leaf,
+            columns.refusal
+        ],
+    )
+}
+
+/// Puts in a row of the audit. The error is a constraint where a row has its number, or the database's own: a want of
+/// memory, or what the disk did. Then nothing is committed, and the transaction is to be dropped.
+pub fn insert_audit<S: Alter>(
+    tx: &mut Transaction<'_, S>,
+    columns: &AuditColumns<'_>,
+) -> Result<usize, Error>
+    requires number { columns.now.number ≤ last_number }
+    requires moment { columns.now.moment ≤ last_number }
+    ensures same_reference { tx.new.conn.ghost_name ≡ tx.old.conn.ghost_name }
+    ensures went { Goes (state S.Store tx.old.conn.now) (state S.Store tx.new.conn.now) result (λ old new.
+        (lists : Lists) → Are old lists → Are new (record lists { audit = audit_values columns.now ∷ lists.audit })) }
+    ensures kept { Keeps (state S.Store tx.old.conn.now) (state S.Store tx.new.conn.now) }
+    ensures survives { Survives (state S.Store tx.old.conn.now) (state S.Store tx.new.conn.now) (λ _. ⊥) }
+{
+    let number = sql_number(columns.number);
+    let moment = sql_number(columns.moment);
+    insert_columns(tx, number, moment, columns)
+}

@@ -1,0 +1,84 @@
+//! What the names of its tables tell of a database: whether it is empty, and what it is where it isn't ours.
+
+ghost use Rattle.std.specs.Prelude.{◌≡◌, ◌≢◌, false, true, IsTrue};
+ghost use Rattle.sqlite.specs.Held.{state};
+ghost use Rattle.scim_store_tables.specs.Tables.{no_schema};
+ghost use Rattle.scim_store_tables.specs.Whole as spec;
+ghost use Rattle.scim_store_tables.specs.Whole.{IsByNames};
+
+use crate::tables::Reading;
+use sqlite::{Alter, Connection};
+use sqlite_schema::names::same_name;
+use sqlite_schema::schema::Schema;
+
+/// Whether a schema has a table of the name, whatever the case of ASCII letters.
+fn has_table(schema: &Schema, name: &str) -> bool
+    ensures { result ≡ spec.has_table schema.now name.now }
+{
+    schema
+        .tables
+        .as_slice()
+        .iter()
+        .any(|table| same_name(table.name.as_slice(), name.as_bytes()))
+}
+
+/// Whether it has each of our tables beside `setting`.
+fn has_others(schema: &Schema) -> bool
+    ensures { result ≡ spec.has_others schema.now }
+{
+    has_table(schema, "resource")
+        && has_table(schema, "taken")
+        && has_table(schema, "member")
+        && has_table(schema, "audit")
+}
+
+/// Whether it has one of them.
+fn has_another(schema: &Schema) -> bool
+    ensures { result ≡ spec.has_another schema.now }
+{
+    has_table(schema, "resource")
+        || has_table(schema, "taken")
+        || has_table(schema, "member")
+        || has_table(schema, "audit")
+}
+
+/// Whether a schema that isn't that of version 1 is taken for one of another version: it has all five names, or one of
+/// the four where it has no `setting`. A table that SQL here doesn't understand counts as none.
+fn is_of_other_version(schema: &Schema) -> bool
+    ensures { result ≡ spec.is_of_other_version schema.now }
+{
+    if has_table(schema, "setting") {
+        has_others(schema)
+    } else {
+        has_another(schema)
+    }
+}
+
+/// Whether a schema has no table, index or view.
+fn is_no_schema(schema: &Schema) -> bool
+    ensures yes { IsTrue result → schema.now ≡ no_schema }
+    ensures no { result ≡ false → schema.now ≢ no_schema }
+{
+    schema.tables.is_empty() && schema.indexes.is_empty() && schema.views.is_empty()
+}
+
+/// What the names of its tables tell of a database whose schema isn't that of version 1.
+pub(crate) fn reading_by_names(schema: &Schema) -> Reading
+    ensures { IsByNames schema.now result }
+{
+    if is_no_schema(schema) {
+        Reading::Empty
+    } else if is_of_other_version(schema) {
+        Reading::WrongVersion
+    } else {
+        Reading::Foreign
+    }
+}
+
+/// Whether a database has no table, index or view. No row is read.
+pub fn is_empty_database<S: Alter>(conn: &Connection<S>) -> bool
+    ensures yes { IsTrue result → (state S.Store conn.now).now.schema ≡ no_schema }
+    ensures no { result ≡ false → (state S.Store conn.now).now.schema ≢ no_schema }
+{
+    is_no_schema(conn.schema())
+}

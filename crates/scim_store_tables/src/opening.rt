@@ -1,0 +1,98 @@
+//! The tables in an empty database.
+
+ghost use Rattle.std.specs.Prelude.{◌≡◌, false, OnOk, OnErr};
+ghost use Rattle.sqlite.specs.State.{HasCleanDisk, Survives};
+ghost use Rattle.sqlite.specs.Held.{state};
+ghost use Rattle.scim_store_tables.specs.Lists.{Are, no_rows};
+ghost use Rattle.scim_store_tables.specs.Tables.{no_schema};
+ghost use Rattle.scim_store_tables.specs.Steps.{Makes, Became, Undoes, Leaves};
+ghost use Rattle.scim_store_tables.specs.Opening.{MakesTables};
+ghost use Rattle.scim_store_tables.specs.code.Opening as spec;
+ghost use Rattle.scim_store_tables.specs.code.Opening.{IsBefore, IsBehind};
+ghost use Rattle.scim_store_tables.specs.declared.queries.Table.TheVariants.{Setting, Taken, Audit};
+
+use crate::queries::Table;
+use sqlite::{Alter, Connection, Error, Transaction};
+
+/// The text that makes a table.
+fn creation(table: Table) -> &'static str
+    ensures { result.now ≡ spec.creation table }
+{
+    match table {
+        Table::Setting => "CREATE TABLE setting (name TEXT PRIMARY KEY, number INTEGER NOT NULL)",
+        Table::Resource => {
+            "CREATE TABLE resource (id TEXT PRIMARY KEY, kind INTEGER NOT NULL, document TEXT NOT NULL)"
+        }
+        Table::Taken => {
+            "CREATE TABLE taken (attribute TEXT, folded TEXT, id TEXT, PRIMARY KEY (attribute, folded))"
+        }
+        Table::Member => {
+            "CREATE TABLE member (value TEXT, group_id TEXT, PRIMARY KEY (value, group_id))"
+        }
+        Table::Audit => {
+            "CREATE TABLE audit (number INTEGER PRIMARY KEY, moment INTEGER, client TEXT, op INTEGER, kind INTEGER, id TEXT, decided INTEGER, rule INTEGER, leaf TEXT, refusal INTEGER)"
+        }
+    }
+}
+
+/// Makes a table behind those that come before it.
+fn create_table<S: Alter>(tx: &mut Transaction<'_, S>, table: Table) -> Result<usize, Error>
+    ensures same_reference { tx.new.conn.ghost_name ≡ tx.old.conn.ghost_name }
+    ensures made { Makes (IsBefore table) (IsBehind table) (state S.Store tx.old.conn.now) (state S.Store tx.new.conn.now) result }
+{
+    tx.execute(creation(table), &[])
+}
+
+/// Notes the version of the tables.
+fn insert_version<S: Alter>(tx: &mut Transaction<'_, S>) -> Result<usize, Error>
+    ensures same_reference { tx.new.conn.ghost_name ≡ tx.old.conn.ghost_name }
+    ensures made { Makes (IsBehind Audit) (λ db. Are db no_rows) (state S.Store tx.old.conn.now) (state S.Store tx.new.conn.now) result }
+{
+    tx.execute(
+        "INSERT INTO setting (name, number) VALUES ('version', 1)",
+        &[],
+    )
+}
+
+/// Makes the first three tables.
+fn create_first<S: Alter>(tx: &mut Transaction<'_, S>) -> Result<usize, Error>
+    ensures same_reference { tx.new.conn.ghost_name ≡ tx.old.conn.ghost_name }
+    ensures made { Makes (IsBefore Setting) (IsBehind Taken) (state S.Store tx.old.conn.now) (state S.Store tx.new.conn.now) result }
+{
+    create_table(tx, Table::Setting)?;
+    create_table(tx, Table::Resource)?;
+    create_table(tx, Table::Taken)
+}
+
+/// Makes the five tables inside a transaction, in a database that has no table, index or view, and notes in `setting` that
+/// they are those of version 1.
+///
+/// It answers how many rows it wrote, as the database counts them. The error is the one that the database gave, as where a
+/// table of one of the names is there, or where the disk or the memory failed. Then nothing is committed, and the
+/// transaction may have been rolled back, so it is to be dropped.
+pub fn make_tables<S: Alter>(tx: &mut Transaction<'_, S>) -> Result<usize, Error>
+    ensures same_reference { tx.new.conn.ghost_name ≡ tx.old.conn.ghost_name }
+    ensures made { Makes (λ db. db.schema ≡ no_schema) (λ db. Are db no_rows) (state S.Store tx.old.conn.now) (state S.Store tx.new.conn.now) result }
+{
+    create_first(tx)?;
+    create_table(tx, Table::Member)?;
+    create_table(tx, Table::Audit)?;
+    insert_version(tx)
+}
+
+/// Makes the five tables in a database that has no table, index or view, and notes in `setting` that they are those of
+/// version 1, all in one transaction. The error is the one that the database gave, as where a table of one of the names
+/// is there, or where the disk or the memory failed; then nothing is changed, or the connection is shut.
+pub fn create_tables<S: Alter>(conn: &mut Connection<S>) -> Result<(), Error>
+    requires { conn.old.in_transaction ≡ false }
+    ensures idle { conn.new.in_transaction ≡ false }
+    ensures made { HasCleanDisk (state S.Store conn.new) → OnOk result (Became (state S.Store conn.old) (state S.Store conn.new) MakesTables) }
+    ensures undone { HasCleanDisk (state S.Store conn.new) → OnErr result (Undoes (state S.Store conn.old) (state S.Store conn.new)) }
+
+    // A crash leaves what it could leave before, or the tables.
+    ensures crash { Survives (state S.Store conn.old) (state S.Store conn.new) (Leaves MakesTables (state S.Store conn.old).now) }
+{
+    let mut tx = conn.transaction();
+    make_tables(&mut tx)?;
+    tx.commit()
+}

@@ -1,0 +1,138 @@
+//! The statements that write resources, unique names and members, each inside a transaction.
+//!
+//! Each answers how many rows it wrote, as the database counts them. Its error is the one that the database gave: a
+//! constraint where the key is in the table, or a want of memory, or what the disk did. Then nothing is committed, and
+//! the transaction may have been rolled back, so it is to be dropped.
+
+ghost use Rattle.std.specs.Prelude.{◌≡◌, ◌∷◌, ◌++◌, length, filter, replicate};
+ghost use Rattle.sqlite.specs.State.{Survives};
+ghost use Rattle.sqlite.specs.Held.{state};
+ghost use Rattle.scim_store_tables.specs.Lists.{Lists, Are, without, has_text, has_texts, resource_values, name_values, member_values};
+ghost use Rattle.scim_store_tables.specs.Steps.{Goes, GoesBy, Keeps};
+
+use sqlite::{Alter, Error, Transaction, params};
+
+/// Puts in the row of a resource. The error is a constraint where a row has its id, or the database's own.
+pub fn insert_resource<S: Alter>(
+    tx: &mut Transaction<'_, S>,
+    id: &str,
+    kind: u32,
+    document: &str,
+) -> Result<usize, Error>
+    ensures same_reference { tx.new.conn.ghost_name ≡ tx.old.conn.ghost_name }
+    ensures went { Goes (state S.Store tx.old.conn.now) (state S.Store tx.new.conn.now) result (λ old new.
+        (lists : Lists) → Are old lists → Are new (record lists { resources = resource_values id.now kind document.now ∷ lists.resources })) }
+    ensures kept { Keeps (state S.Store tx.old.conn.now) (state S.Store tx.new.conn.now) }
+    ensures survives { Survives (state S.Store tx.old.conn.now) (state S.Store tx.new.conn.now) (λ _. ⊥) }
+{
+    tx.execute(
+        "INSERT INTO resource (id, kind, document) VALUES (?1, ?2, ?3)",
+        params![id, kind, document],
+    )
+}
+
+/// Gives the resource with an id, if there is one, this kind and document in place of its own. It answers how many rows
+/// have the id. The error is the database's own.
+pub fn update_resource<S: Alter>(
+    tx: &mut Transaction<'_, S>,
+    id: &str,
+    kind: u32,
+    document: &str,
+) -> Result<usize, Error>
+    ensures same_reference { tx.new.conn.ghost_name ≡ tx.old.conn.ghost_name }
+    ensures went { GoesBy (state S.Store tx.old.conn.now) (state S.Store tx.new.conn.now) result (λ count old new. (lists : Lists) → Are old lists
+        → (count ≡ length (filter (has_text 0 id.now) lists.resources))
+        × Are new (record lists { resources = replicate count (resource_values id.now kind document.now) ++ without (has_text 0 id.now) lists.resources })) }
+    ensures kept { Keeps (state S.Store tx.old.conn.now) (state S.Store tx.new.conn.now) }
+    ensures survives { Survives (state S.Store tx.old.conn.now) (state S.Store tx.new.conn.now) (λ _. ⊥) }
+{
+    tx.execute(
+        "UPDATE resource SET kind = ?2, document = ?3 WHERE id = ?1",
+        params![id, kind, document],
+    )
+}
+
+/// Takes out the row of the resource with an id, if there is one. The error is the database's own.
+pub fn delete_resource<S: Alter>(tx: &mut Transaction<'_, S>, id: &str) -> Result<usize, Error>
+    ensures same_reference { tx.new.conn.ghost_name ≡ tx.old.conn.ghost_name }
+    ensures went { Goes (state S.Store tx.old.conn.now) (state S.Store tx.new.conn.now) result (λ old new.
+        (lists : Lists) → Are old lists → Are new (record lists { resources = without (has_text 0 id.now) lists.resources })) }
+    ensures kept { Keeps (state S.Store tx.old.conn.now) (state S.Store tx.new.conn.now) }
+    ensures survives { Survives (state S.Store tx.old.conn.now) (state S.Store tx.new.conn.now) (λ _. ⊥) }
+{
+    tx.execute("DELETE FROM resource WHERE id = ?1", params![id])
+}
+
+/// Puts in a unique name with the id of its owner. The error is a constraint where a row has this name, or the
+/// database's own.
+pub fn insert_name<S: Alter>(
+    tx: &mut Transaction<'_, S>,
+    attribute: &str,
+    folded: &str,
+    id: &str,
+) -> Result<usize, Error>
+    ensures same_reference { tx.new.conn.ghost_name ≡ tx.old.conn.ghost_name }
+    ensures went { Goes (state S.Store tx.old.conn.now) (state S.Store tx.new.conn.now) result (λ old new.
+        (lists : Lists) → Are old lists → Are new (record lists { taken = name_values attribute.now folded.now id.now ∷ lists.taken })) }
+    ensures kept { Keeps (state S.Store tx.old.conn.now) (state S.Store tx.new.conn.now) }
+    ensures survives { Survives (state S.Store tx.old.conn.now) (state S.Store tx.new.conn.now) (λ _. ⊥) }
+{
+    tx.execute(
+        "INSERT INTO taken (attribute, folded, id) VALUES (?1, ?2, ?3)",
+        params![attribute, folded, id],
+    )
+}
+
+/// Takes out a unique name, if it is there. The error is the database's own.
+pub fn delete_name<S: Alter>(
+    tx: &mut Transaction<'_, S>,
+    attribute: &str,
+    folded: &str,
+) -> Result<usize, Error>
+    ensures same_reference { tx.new.conn.ghost_name ≡ tx.old.conn.ghost_name }
+    ensures went { Goes (state S.Store tx.old.conn.now) (state S.Store tx.new.conn.now) result (λ old new.
+        (lists : Lists) → Are old lists → Are new (record lists { taken = without (has_texts attribute.now folded.now) lists.taken })) }
+    ensures kept { Keeps (state S.Store tx.old.conn.now) (state S.Store tx.new.conn.now) }
+    ensures survives { Survives (state S.Store tx.old.conn.now) (state S.Store tx.new.conn.now) (λ _. ⊥) }
+{
+    tx.execute(
+        "DELETE FROM taken WHERE attribute = ?1 AND folded = ?2",
+        params![attribute, folded],
+    )
+}
+
+/// Puts in a member of a group. The error is a constraint where a row has this value and group, or the database's own.
+pub fn insert_member<S: Alter>(
+    tx: &mut Transaction<'_, S>,
+    value: &str,
+    group_id: &str,
+) -> Result<usize, Error>
+    ensures same_reference { tx.new.conn.ghost_name ≡ tx.old.conn.ghost_name }
+    ensures went { Goes (state S.Store tx.old.conn.now) (state S.Store tx.new.conn.now) result (λ old new.
+        (lists : Lists) → Are old lists → Are new (record lists { member = member_values value.now group_id.now ∷ lists.member })) }
+    ensures kept { Keeps (state S.Store tx.old.conn.now) (state S.Store tx.new.conn.now) }
+    ensures survives { Survives (state S.Store tx.old.conn.now) (state S.Store tx.new.conn.now) (λ _. ⊥) }
+{
+    tx.execute(
+        "INSERT INTO member (value, group_id) VALUES (?1, ?2)",
+        params![value, group_id],
+    )
+}
+
+/// Takes out a member of a group, if it is there. The error is the database's own.
+pub fn delete_member<S: Alter>(
+    tx: &mut Transaction<'_, S>,
+    value: &str,
+    group_id: &str,
+) -> Result<usize, Error>
+    ensures same_reference { tx.new.conn.ghost_name ≡ tx.old.conn.ghost_name }
+    ensures went { Goes (state S.Store tx.old.conn.now) (state S.Store tx.new.conn.now) result (λ old new.
+        (lists : Lists) → Are old lists → Are new (record lists { member = without (has_texts value.now group_id.now) lists.member })) }
+    ensures kept { Keeps (state S.Store tx.old.conn.now) (state S.Store tx.new.conn.now) }
+    ensures survives { Survives (state S.Store tx.old.conn.now) (state S.Store tx.new.conn.now) (λ _. ⊥) }
+{
+    tx.execute(
+        "DELETE FROM member WHERE value = ?1 AND group_id = ?2",
+        params![value, group_id],
+    )
+}

@@ -1,3 +1,0 @@
-mod NumberLemmas
-pub mod Views
-mod ReadingLemmas

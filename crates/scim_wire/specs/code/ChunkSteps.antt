@@ -1,0 +1,36 @@
+-- Where the bytes of a chunked body end, and what is kept of them there.
+use Rattle.std.specs.Prelude.{◌≡◌, ℕ, ◌+◌, ◌<◌, ◌≤◌, ◌↔◌, List, [], ◌∷◌, ◌++◌, length}
+use Rattle.httparse.specs.Ascii.{carriage_return}
+use Rattle.scim_wire.specs.declared.trailers.TrailerPart.{TrailerPart}
+use Rattle.scim_wire.specs.declared.chunked.Place.{Place}
+use Rattle.scim_wire.specs.declared.chunked.Place.TheVariants.{Line, Data, Return, Trailers}
+use Rattle.scim_wire.specs.Fronts.{IsFrontOf}
+use Rattle.scim_wire.specs.Chunked.{IsLine, IsLineOf, AreTrailers, HasChunks, most_content}
+use Rattle.scim_wire.specs.code.Trailers.{IsRest, GoesOn}
+
+-- the bytes end in the data of a chunk, of which so much is left, and what has come after it
+pub record IsInData (bytes body : List ℕ) (left : ℕ) (after : List ℕ) : Type 0 where
+  pub before : List ℕ
+  pub line : List ℕ
+  pub now_held : List ℕ
+  pub chunks : HasChunks bytes before (line ++ (now_held ++ after))
+  pub holds : body ≡ before ++ now_held
+  pub is_line : IsLineOf (length now_held + left) line
+  pub some : 0 < length now_held + left
+  pub within : length before + (length now_held + left) ≤ most_content
+
+-- the bytes end in trailers, and what is kept tells what may follow
+pub record IsInTrailers (bytes body : List ℕ) (part : TrailerPart) : Type 0 where
+  pub line : List ℕ
+  pub text : List ℕ
+  pub chunks : HasChunks bytes body (line ++ text)
+  pub is_line : IsLineOf 0 line
+  pub rest : (more : List ℕ) → AreTrailers (text ++ more) ↔ IsRest part more
+  pub goes_on : GoesOn part
+
+-- the bytes end at this place, and have given this content and this line
+abbrev pub StandsAt : Place → List ℕ → List ℕ → List ℕ → Type 0
+StandsAt Line body line bytes = HasChunks bytes body line × IsFrontOf IsLine line
+StandsAt (Data left) body line bytes = IsInData bytes body left []
+StandsAt Return body line bytes = IsInData bytes body 0 (carriage_return ∷ [])
+StandsAt (Trailers part) body line bytes = IsInTrailers bytes body part
