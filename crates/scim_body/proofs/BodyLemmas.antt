@@ -7,7 +7,7 @@ use Rattle.serde_json.specs.Data.{array}
 use Rattle.scim_body.specs.View.{items_view}
 use Rattle.scim_body.specs.declared.trees.Tree.{Tree}
 use Rattle.scim_body.specs.BodyValues.{is_absent, collected}
-use Rattle.scim_body.specs.code.Given.{after}
+use Rattle.scim_body.specs.Given.{after}
 
 -- an array counts as none exactly where it has no item
 pub absent_items : (vs : List Tree) → (length vs == 0) ≡ is_absent (array (items_view vs))

@@ -4,3 +4,4 @@ pub mod Drafts
 pub mod Bodies
 pub mod code
 pub mod View
+pub mod Given

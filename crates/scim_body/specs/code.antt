@@ -1,3 +1,2 @@
 -- How drafts are kept, and what was read of the values of a body.
-pub mod Given
 pub mod Inside

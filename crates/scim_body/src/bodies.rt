@@ -10,7 +10,7 @@ ghost use Rattle.scim_body.specs.BodyValues.{collected, values_of};
 ghost use Rattle.scim_body.specs.Bodies as spec;
 ghost use Rattle.scim_body.specs.Bodies.{GivesDraft};
 ghost use Rattle.scim_body.specs.Drafts as drafts;
-ghost use Rattle.scim_body.specs.code.Given.{AreOfBody, with_given, unit_given, units_given, members_or_none};
+ghost use Rattle.scim_body.specs.Given.{AreOfBody, with_given, unit_given, units_given, members_or_none};
 
 use crate::clashes::body_clashes;
 use crate::drafts::{Draft, UseFor};

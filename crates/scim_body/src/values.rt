@@ -7,7 +7,7 @@ ghost use Rattle.scim_body.specs.BodyNames.{items_list};
 ghost use Rattle.scim_cell.specs.Rows.{is_primary};
 ghost use Rattle.scim_cell.specs.SameValues.{is_nameless};
 ghost use Rattle.scim_body.specs.BodyValues as spec;
-ghost use Rattle.scim_body.specs.code.Given.{after};
+ghost use Rattle.scim_body.specs.Given.{after};
 
 use crate::members::{given_named, is_absent};
 use scim_cell::{Atom, Field, MOST_VALUES, Row, is_nameless, sub_attributes_by_place, with_values};

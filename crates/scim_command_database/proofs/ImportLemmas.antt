@@ -12,7 +12,7 @@ use Rattle.scim_cell.specs.Content.{Content}
 use Rattle.scim_cell.specs.Kinds.{is_of}
 use Rattle.scim_value.specs.Uniqueness.{AreApart}
 use Rattle.scim_json.specs.Stored.{IsResourceBelow}
-use Rattle.scim_shelf.proofs.StoreLemmas.{pairs_head, pairs_tail, apart_back}
+use Rattle.scim_shelf.proofs.Facts.{pairs_head, pairs_tail, apart_back}
 use Rattle.scim_command_database.specs.Exports.{users_and_groups, ExportsAreImported}
 use Rattle.scim_command_database.proofs.SpacedLemmas.{documents_read}
 

@@ -7,9 +7,9 @@ use Rattle.std.proofs.lemmas.List.Sorted.{All-permutation, IsPermutation-refl, I
 use Rattle.scim_cell.specs.Content.{Content}
 use Rattle.scim_value.specs.Uniqueness.{AreApart}
 use Rattle.scim_shelf.specs.Stores.{Store, IsNewStore, keep}
-use Rattle.scim_shelf.specs.code.Collections.{AreLeft}
-use Rattle.scim_shelf.proofs.StoreLemmas.{pairs_head, pairs_tail, keyed_nil, keep_keyed}
-use Rattle.scim_shelf.proofs.LeftLemmas.{last_kept}
+use Rattle.scim_shelf.specs.Indexed.{AreLeft}
+use Rattle.scim_shelf.proofs.Facts.{pairs_head, pairs_tail, keyed_nil, keep_keyed}
+use Rattle.scim_shelf.proofs.Facts.{last_kept}
 
 pub new_store : (cs : List Content) → AllPairs AreApart cs → (store : Store) × IsNewStore cs store
 new_store [] pairs = (record { resources = []; audit = [] }, record { members = IsPermutation-refl []; keyed = keyed_nil; no_rows = refl })

@@ -20,9 +20,9 @@ use Rattle.scim_cell.specs.Content.{Content}
 use Rattle.scim_json.specs.PartData.{stored_data}
 use Rattle.scim_json.specs.Stored.{stored_text}
 use Rattle.scim_json.specs.Documents.{documents_and}
-use Rattle.scim_json.specs.code.Tokens.{value_tokens}
-use Rattle.scim_json.proofs.Ascending.{IsKept, AreKept, AreKept-item, IsKept-array}
-use Rattle.scim_json.proofs.Kept.{data_of-IsKept}
+use Rattle.scim_json.specs.Tokens.{value_tokens}
+use Rattle.scim_json.proofs.Facts.{IsKept, AreKept, AreKept-item, IsKept-array}
+use Rattle.scim_json.proofs.Facts.{data_of-IsKept}
 use Rattle.scim_command_database.specs.Exports.{documents_text}
 
 -- ---- the lexemes of tokens, whatever stands behind them

@@ -7,7 +7,7 @@ ghost use Rattle.scim_body.specs.View.{view, items_view, members_view};
 ghost use Rattle.scim_text.specs.Failures.{UnlessMemory};
 ghost use Rattle.scim_body.specs.BodyNames.{items_list, listed};
 ghost use Rattle.scim_body.specs.BodyValues.{collected, given_named};
-ghost use Rattle.scim_body.specs.code.Given.{after};
+ghost use Rattle.scim_body.specs.Given.{after};
 ghost use Rattle.scim_exchange.specs.Refused.{Tells};
 ghost use Rattle.scim_exchange.specs.Searches.{IsQuery, sought, sought_of};
 ghost use Rattle.scim_exchange.specs.SearchBodies as spec;

@@ -4,3 +4,4 @@ pub mod EventLemmas
 pub mod ExchangeLemmas
 pub mod RunLemmas
 pub mod StreamLemmas
+pub mod Facts

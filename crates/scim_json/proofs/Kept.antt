@@ -27,7 +27,7 @@ use Rattle.scim_schema.specs.declared.json_keys.JsonShape.TheVariants.{Simple, C
 use Rattle.scim_schema.specs.JsonKeys.{key_text, keys, extension_keys, ordered_sub_attributes, shape_of}
 use Rattle.scim_json.specs.PartData.{atom_data, field_data, value_data, sub_data, shaped_data, attribute_data, urn_data, has_extension, schemas_data, extension_data, key_data, data_of, stored_data}
 use Rattle.scim_json.specs.Laws.{KeptReadsBack}
-use Rattle.scim_json.specs.code.Tokens.{value_tokens}
+use Rattle.scim_json.specs.Tokens.{value_tokens}
 use Rattle.scim_json.proofs.Ascending.{IsKept, IfKept, AreKept-item, AreKept-items, IsKept-array, IfKept-array_of, IsKept-object, IfKept-object_of, deeper}
 use Rattle.scim_schema.proofs.Facts.{part_keys, extension_attributes, sub_attributes}
 

@@ -1,3 +1,4 @@
+pub mod Shapes
 pub mod Facts
 pub mod AddedTokens
 pub mod Adding

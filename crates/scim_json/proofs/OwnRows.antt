@@ -19,7 +19,7 @@ use Rattle.scim_schema.specs.declared.json_keys.JsonShape.TheVariants.{Simple, C
 use Rattle.scim_schema.specs.JsonKeys.{shape_of, ordered_sub_attributes}
 use Rattle.scim_json.specs.PartData.{members_where, object_of, items_of, array_of, atom_data, value_data, simple_data, sub_data, complex_data, shaped_data, attribute_data}
 use Rattle.scim_json.proofs.Adding.{members_where-absent}
-use Rattle.scim_json.proofs.Facts.{fits}
+use Rattle.scim_json.proofs.Shapes.{fits}
 use Rattle.scim_json.proofs.ShapeLemmas.{shape_fits}
 
 -- what stands at a leaf is in a row of its attribute

@@ -32,7 +32,7 @@ use Rattle.scim_schema.specs.declared.json_keys.JsonShape.{JsonShape}
 use Rattle.scim_schema.specs.declared.json_keys.JsonShape.TheVariants.{Simple, Complex, MultiValued}
 use Rattle.scim_schema.specs.JsonKeys.{shape_of, ordered_sub_attributes}
 use Rattle.scim_json.specs.PartData.{has_extension}
-use Rattle.scim_json.proofs.Facts.{fits}
+use Rattle.scim_json.proofs.Shapes.{fits}
 use Rattle.scim_json.proofs.FoundValues.{all_written, shaped_cells}
 
 -- ---- the tables, by computation

@@ -5,3 +5,4 @@ pub mod ListData
 pub mod PartData
 pub mod Stored
 pub mod code
+pub mod Tokens

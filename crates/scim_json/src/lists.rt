@@ -4,7 +4,7 @@ ghost use Rattle.json.specs.Token.{begin_array};
 ghost use Rattle.serde_json.specs.Written.{compact_text};
 ghost use Rattle.scim_json.specs.PartData.{part_data, items_of, array_of};
 ghost use Rattle.scim_json.specs.ListData as spec;
-ghost use Rattle.scim_json.specs.code.Tokens.{Adds, value_tokens, member_tokens, members_tokens, items_tokens};
+ghost use Rattle.scim_json.specs.Tokens.{Adds, value_tokens, member_tokens, members_tokens, items_tokens};
 
 use crate::writing::write_part;
 use json::Writer;

@@ -12,7 +12,7 @@ ghost use Rattle.scim_schema.specs.JsonKeys.{key_text};
 ghost use Rattle.scim_json.specs.PartData as spec;
 ghost use Rattle.scim_json.specs.PartData.{members_where, items_of};
 ghost use Rattle.scim_json.specs.Stored.{stored_text};
-ghost use Rattle.scim_json.specs.code.Tokens.{Adds, value_tokens, member_tokens, members_tokens, items_tokens};
+ghost use Rattle.scim_json.specs.Tokens.{Adds, value_tokens, member_tokens, members_tokens, items_tokens};
 
 use json::Writer;
 use scim_cell::{Atom, Row, compare_units};

@@ -15,7 +15,7 @@ use Rattle.scim_text.specs.declared.memory.Failed.{Failed}
 use Rattle.scim_text.specs.declared.memory.Failed.TheVariants.{Because, NoMemory}
 use Rattle.scim_text.specs.Failures.{UnlessMemory}
 use Rattle.scim_path.specs.declared.paths.Path.{Path}
-use Rattle.scim_path.specs.code.Results.{target_read}
+use Rattle.scim_path.specs.Results.{target_read}
 use Rattle.scim_path.specs.declared.faults.PathFault.{PathFault}
 use Rattle.scim_path.specs.declared.faults.PathFault.TheVariants.{Syntax}
 use Rattle.scim_path.specs.Paths.{PathTarget, OfExtension, extension_named, Reads, spelled, unspelled, Names, TextsNameOneThing}

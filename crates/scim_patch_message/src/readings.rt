@@ -1,7 +1,7 @@
 //! What has been read of a message so far.
 ghost use Rattle.std.specs.Prelude.{◌≡◌, ◌∷◌, [], map, Ok, Err, OnOk, option_map};
 ghost use Rattle.scim_body.specs.Bodies.{Given};
-ghost use Rattle.scim_body.specs.code.Given.{units_given};
+ghost use Rattle.scim_body.specs.Given.{units_given};
 ghost use Rattle.scim_patch_steps.specs.Kept.{step_of};
 ghost use Rattle.scim_patch_message.specs.PathSteps.{set_to};
 ghost use Rattle.scim_patch_message.specs.Readings.{both, first_of};

@@ -4,7 +4,7 @@ ghost use Rattle.scim_body.specs.View.{view, members_view};
 ghost use Rattle.scim_text.specs.Failures.{UnlessMemory};
 ghost use Rattle.scim_body.specs.BodyValues as values;
 ghost use Rattle.scim_path.specs.Paths.{path_target};
-ghost use Rattle.scim_path.specs.code.Results.{target_read};
+ghost use Rattle.scim_path.specs.Results.{target_read};
 ghost use Rattle.scim_patch_message.specs.PathSteps as spec;
 ghost use Rattle.scim_patch_message.specs.Readings.{both, joined, each_member};
 ghost use Rattle.scim_patch_message.specs.Targets.{target_in};

@@ -1,2 +1,2 @@
 pub mod Paths
-pub mod code
+pub mod Results

@@ -4,7 +4,7 @@ ghost use Rattle.scim_text.specs.Failures.{UnlessMemory};
 ghost use Rattle.scim_filter_grammar.specs.Tree.{Tree, tree_of};
 ghost use Rattle.scim_filter_grammar.specs.WrittenPaths.{Filtered, written_of};
 ghost use Rattle.scim_path.specs.Paths as spec;
-ghost use Rattle.scim_path.specs.code.Results.{target_read, values_read, chosen_read, filtered_read, parts_read};
+ghost use Rattle.scim_path.specs.Results.{target_read, values_read, chosen_read, filtered_read, parts_read};
 
 use crate::faults::PathFault;
 use crate::paths::{Path, ValuePath};

@@ -21,7 +21,7 @@ use Rattle.scim_cell.specs.Equality.{is_same_id}
 use Rattle.scim_cell.specs.Kinds.{is_of, of_kind}
 use Rattle.scim_value.specs.Uniqueness.{Name, unique_names}
 use Rattle.scim_shelf.specs.Stores.{AreKeyed, AreOf, HasPlace, is_at, has_name, is_taken, below, above, without}
-use Rattle.scim_shelf.specs.code.Collections.{has_id, has_in}
+use Rattle.scim_shelf.specs.Indexed.{has_id, has_in}
 use Rattle.scim_shelf.proofs.PlaceLemmas.{AreAbove, by_order, above_lower, without_less, without_equal, without_greater}
 use Rattle.scim_shelf.proofs.StoreLemmas.{keyed_above, keyed_apart, keyed_tail, ids_differ}
 use Rattle.scim_shelf.proofs.NameLemmas.{by_bool, is_same_name-Decides, found_by_id, found_unnamed, is_eq-Equal, named_without, none_at, not_at}

@@ -9,7 +9,7 @@ use Rattle.std.proofs.lemmas.Map.Lookups.{exact_bytes}
 use Rattle.scim_cell.specs.Content.{Content}
 use Rattle.scim_cell.specs.Order.{id_cmp}
 use Rattle.scim_shelf.specs.Stores.{AreKeyed, keep, without}
-use Rattle.scim_shelf.specs.code.Collections.{has_id, keyed}
+use Rattle.scim_shelf.specs.Indexed.{has_id, keyed}
 use Rattle.scim_shelf.proofs.PlaceLemmas.{AreAbove, by_order, above_lower, keep_less, keep_equal, keep_greater, without_less, without_equal, without_greater}
 use Rattle.scim_shelf.proofs.StoreLemmas.{keyed_above, keyed_tail}
 

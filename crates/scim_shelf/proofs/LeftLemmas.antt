@@ -12,7 +12,7 @@ use Rattle.std.proofs.lemmas.Map.Lookups.{exact_bytes}
 use Rattle.scim_cell.specs.Content.{Content}
 use Rattle.scim_value.specs.Uniqueness.{AreApart}
 use Rattle.scim_shelf.specs.Stores.{AreKeyed, HasPlace, below, above, keep, without}
-use Rattle.scim_shelf.specs.code.Collections.{AreLeft}
+use Rattle.scim_shelf.specs.Indexed.{AreLeft}
 use Rattle.scim_shelf.proofs.PlaceLemmas.{by_order, without_less, without_greater}
 use Rattle.scim_shelf.proofs.StoreLemmas.{All-both, All-keep, pairs_head, pairs_tail, keyed_above, keyed_tail}
 

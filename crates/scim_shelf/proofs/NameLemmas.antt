@@ -20,7 +20,7 @@ use Rattle.scim_schema.specs.declared.Kind.{Kind}
 use Rattle.std.proofs.lemmas.Map.Text.{is_eq-slice_cmp}
 use Rattle.scim_value.specs.Uniqueness.{Name, unique_names, AreApart}
 use Rattle.scim_shelf.specs.Stores.{AreKeyed, is_at, is_same_name, has_name, of_id, below, above, keep, without}
-use Rattle.scim_shelf.specs.code.Collections.{has_id, has_in, only_of}
+use Rattle.scim_shelf.specs.Indexed.{has_id, has_in, only_of}
 use Rattle.scim_shelf.proofs.PlaceLemmas.{AreAbove, by_order, above_lower, without_less, without_equal, without_greater}
 use Rattle.scim_shelf.proofs.StoreLemmas.{All-both, ids_differ, keyed_above, keyed_apart, keyed_tail}
 

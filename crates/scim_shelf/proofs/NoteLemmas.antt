@@ -11,7 +11,7 @@ use Rattle.std.proofs.lemmas.List.{take-append-drop}
 use Rattle.std.proofs.lemmas.List.Folds.{list_any-append}
 use Rattle.std.proofs.lemmas.Map.Text.{hash_map_updates_text, is_eq-slice_cmp}
 use Rattle.scim_shelf.specs.declared.members.Holders.{Holders}
-use Rattle.scim_shelf.specs.code.Members.{is_same, has_in, is_one_of}
+use Rattle.scim_shelf.specs.Members.{is_same, has_in, is_one_of}
 use Rattle.scim_shelf.proofs.NameLemmas.{by_bool}
 
 -- the notes, by value

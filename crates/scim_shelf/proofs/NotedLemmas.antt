@@ -11,8 +11,8 @@ use Rattle.scim_cell.specs.Content.{Content}
 use Rattle.scim_cell.specs.Order.{id_cmp}
 use Rattle.scim_shelf.specs.declared.members.Members.{Members as Kept}
 use Rattle.scim_shelf.specs.Stores.{AreKeyed, is_group_with, keep, without}
-use Rattle.scim_shelf.specs.code.Members.{is_same, is_noted, is_one_of, is_group_in, IsUnnoted, HasSameNotes}
-use Rattle.scim_shelf.specs.code.Collections.{has_id}
+use Rattle.scim_shelf.specs.Members.{is_same, is_noted, is_one_of, is_group_in, IsUnnoted, HasSameNotes}
+use Rattle.scim_shelf.specs.Indexed.{has_id}
 use Rattle.scim_shelf.proofs.PlaceLemmas.{AreAbove, by_order, above_lower, keep_less, keep_equal, keep_greater, without_less, without_equal, without_greater}
 use Rattle.scim_shelf.proofs.StoreLemmas.{keyed_above, keyed_tail}
 use Rattle.scim_shelf.proofs.NameLemmas.{by_bool, is_eq-Equal, none_above}

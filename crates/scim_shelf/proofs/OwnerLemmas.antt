@@ -7,8 +7,8 @@ use Rattle.scim_cell.specs.Content.{Content}
 use Rattle.scim_value.specs.declared.uniqueness.UniqueName.{UniqueName}
 use Rattle.scim_value.specs.Uniqueness.{Name, name_of, unique_names}
 use Rattle.scim_shelf.specs.Stores.{is_same_name, has_name}
-use Rattle.scim_shelf.specs.code.Owners.{is_alike, is_among}
-use Rattle.scim_shelf.specs.code.Collections.{names_of, has_in}
+use Rattle.scim_shelf.specs.Owners.{is_alike, is_among}
+use Rattle.scim_shelf.specs.Indexed.{names_of, has_in}
 use Rattle.scim_shelf.proofs.NameLemmas.{by_bool, is_same_name-flips}
 
 alike_same : (n q : UniqueName) → is_alike n q ≡ is_same_name (name_of n) (name_of q)

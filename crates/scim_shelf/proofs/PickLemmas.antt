@@ -18,8 +18,8 @@ use Rattle.scim_shelf.specs.declared.collections.Collection.{Collection}
 use Rattle.scim_shelf.specs.declared.members.Holders.{Holders}
 use Rattle.scim_shelf.specs.declared.members.Holders.TheVariants.{One, Several}
 use Rattle.scim_shelf.specs.Collections.{IsCollection}
-use Rattle.scim_shelf.specs.code.Members.{is_same, holders_at, has_in, is_group_in}
-use Rattle.scim_shelf.specs.code.Collections.{has_id, before, picked}
+use Rattle.scim_shelf.specs.Members.{is_same, holders_at, has_in, is_group_in}
+use Rattle.scim_shelf.specs.Indexed.{has_id, before, picked}
 use Rattle.scim_shelf.proofs.PlaceLemmas.{AreAbove, by_order, reversed, above_lower}
 use Rattle.scim_shelf.proofs.StoreLemmas.{All-both, keyed_above, keyed_tail}
 use Rattle.scim_shelf.proofs.NameLemmas.{by_bool, none_above}

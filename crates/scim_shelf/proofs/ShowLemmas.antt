@@ -8,7 +8,7 @@ use Rattle.std.proofs.lemmas.List.{map_push}
 use Rattle.std.proofs.lemmas.List.Elements.{filter-append}
 use denote.Ref.{Bor}
 use Rattle.scim_cell.specs.Content.{Content}
-use Rattle.scim_shelf.specs.code.Collections.{keyed}
+use Rattle.scim_shelf.specs.Indexed.{keyed}
 
 pub values_keyed : (cs : List Content) → values_of (map keyed cs) ≡ cs
 values_keyed [] = refl

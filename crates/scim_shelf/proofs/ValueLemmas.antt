@@ -9,7 +9,7 @@ use Rattle.scim_cell.specs.declared.atoms.Atom.{Atom}
 use Rattle.scim_cell.specs.declared.atoms.Atom.TheVariants.{Text, Truth, Moment}
 use Rattle.scim_cell.specs.Rows.{Row}
 use Rattle.scim_value.specs.Members.{is_text}
-use Rattle.scim_shelf.specs.code.Members.{is_found, is_one_of, value_in, is_value_of}
+use Rattle.scim_shelf.specs.Members.{is_found, is_one_of, value_in, is_value_of}
 
 -- the values of members with one more, of which the value was found, if it has one
 pub value_more : (v : List ℕ) (members : List Row) (k : ℕ) (member : Row) (found : Option (List ℕ)) → k < length members → member ≡ get_or members k member

@@ -6,9 +6,9 @@ use Rattle.scim_value.specs.declared.uniqueness.UniqueName.{UniqueName}
 use Rattle.scim_value.specs.Uniqueness.{name_of}
 use Rattle.scim_shelf.specs.declared.collections.Collection.{Collection}
 use Rattle.scim_shelf.specs.Stores.{AreKeyed, has_name}
-use Rattle.scim_shelf.specs.code.Collections.{has_id, keyed}
-use Rattle.scim_shelf.specs.code.Owners.{owner}
-use Rattle.scim_shelf.specs.code.Members.{is_noted, is_group_in}
+use Rattle.scim_shelf.specs.Indexed.{has_id, keyed}
+use Rattle.scim_shelf.specs.Owners.{owner}
+use Rattle.scim_shelf.specs.Members.{is_noted, is_group_in}
 
 -- the collection has just these resources, by id, knows which of them has each unique name, and has a note of a group under each
 -- value that it lists, and no others

@@ -1,4 +1,1 @@
-pub mod Owners
-pub mod Members
-pub mod Collections
 pub mod Copies

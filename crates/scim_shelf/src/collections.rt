@@ -12,8 +12,8 @@ ghost use Rattle.scim_cell.specs.Kinds.{of_kind};
 ghost use Rattle.scim_value.specs.Uniqueness.{name_of, AreApart};
 ghost use Rattle.scim_shelf.specs.Stores.{Store, HasPlace, CanKeep, IsOld, is_at, has_name, is_group_with, changed, keep, without};
 ghost use Rattle.scim_shelf.specs.Collections.{IsCollection};
-ghost use Rattle.scim_shelf.specs.code.Collections.{has_id, only_of, names_of, before};
-ghost use Rattle.scim_shelf.specs.code.Members.{is_same, is_noted, is_one_of, is_value_of, is_group_in, IsUnnoted, HasSameNotes};
+ghost use Rattle.scim_shelf.specs.Indexed.{has_id, only_of, names_of, before};
+ghost use Rattle.scim_shelf.specs.Members.{is_same, is_noted, is_one_of, is_value_of, is_group_in, IsUnnoted, HasSameNotes};
 
 use crate::changes::Change;
 use crate::groups::{members_beyond, noted_members, values_beyond};

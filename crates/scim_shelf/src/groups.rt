@@ -3,7 +3,7 @@ ghost use Rattle.std.specs.Prelude.{◌≡◌, ◌&&◌, ◌||◌, not, ℕ, ◌
 ghost use Rattle.std.specs.Option.{option_copied};
 ghost use Rattle.scim_value.specs.Members.{is_text};
 ghost use Rattle.scim_shelf.specs.Stores.{is_group_with};
-ghost use Rattle.scim_shelf.specs.code.Members.{is_found, is_one_of, is_in, is_value_of, value_in};
+ghost use Rattle.scim_shelf.specs.Members.{is_found, is_one_of, is_in, is_value_of, value_in};
 
 use scim_cell::{Atom, Row, Text};
 use scim_schema::{Attribute, Kind, Leaf, SubAttribute, Unit};

@@ -6,7 +6,7 @@ ghost use Rattle.std.specs.Cmp.Lexicographic.{slice_cmp, pointwise};
 ghost use Rattle.std.specs.Option.{option_copied};
 ghost use Rattle.scim_value.specs.Members.{is_text};
 ghost use Rattle.scim_shelf.specs.Stores.{is_group_with};
-ghost use Rattle.scim_shelf.specs.code.Members.{is_same, is_holder, holders_at, is_noted, is_one_of, is_value_of, value_in, IsUnnoted, HasSameNotes};
+ghost use Rattle.scim_shelf.specs.Members.{is_same, is_holder, holders_at, is_noted, is_one_of, is_value_of, value_in, IsUnnoted, HasSameNotes};
 
 use crate::groups::{noted_members, value_of};
 use scim_cell::{Id, Row, Text};

@@ -1,7 +1,7 @@
 //! Who has which unique name.
 ghost use Rattle.std.specs.Prelude.{◌≡◌, ◌≤◌, OnOk, None, Some, cond, vec_len};
 ghost use Rattle.scim_value.specs.declared.uniqueness.UniqueName.{UniqueName};
-ghost use Rattle.scim_shelf.specs.code.Owners.{owner, room, is_among};
+ghost use Rattle.scim_shelf.specs.Owners.{owner, room, is_among};
 
 use scim_cell::Id;
 use scim_text::NoMemory;

@@ -4,7 +4,7 @@ use Rattle.std.proofs.lemmas.List.Elements.{All-nil}
 use Rattle.sqlite.specs.Effect.{Database}
 use Rattle.sqlite.specs.State.{State}
 use Rattle.sqlite.specs.Tree.{Trees}
-use Rattle.scim_shelf.proofs.StoreLemmas.{keyed_nil}
+use Rattle.scim_shelf.proofs.Facts.{keyed_nil}
 use Rattle.scim_store_tables.specs.Lists.{Are, no_rows}
 use Rattle.scim_store_tables.specs.Opening.{MakesTables}
 use Rattle.scim_store_tables.specs.Steps.{Became, Leaves}

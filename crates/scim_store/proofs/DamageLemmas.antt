@@ -13,7 +13,7 @@ use Rattle.scim_cell.specs.Ids.{id_text}
 use Rattle.scim_store_rows.specs.Audit.{kind_number}
 use Rattle.scim_json.specs.PartData.{stored_data}
 use Rattle.scim_json.specs.Stored.{IsDocumentText}
-use Rattle.scim_json.proofs.Back.{documents_are_apart}
+use Rattle.scim_json.proofs.Facts.{documents_are_apart}
 use Rattle.std.specs.Prelude.{nat_eq}
 use Rattle.std.proofs.lemmas.Bool.Decides.{nat_tests, Decides-int_eq}
 use Rattle.std.specs.Ordering.{int_eq, nat_cmp, is_eq, ordering_reverse}
@@ -23,7 +23,7 @@ use Rattle.std.proofs.lemmas.Cmp.{nat_list_cmp_total}
 use Rattle.std.proofs.lemmas.Map.Text.{is_eq-slice_cmp}
 use Rattle.std.proofs.lemmas.Map.Keys.{sorted_head, sorted_tail}
 use Rattle.std.proofs.lemmas.Map.Lookups.{exact_bytes}
-use Rattle.scim_shelf.proofs.NameLemmas.{by_bool}
+use Rattle.scim_shelf.proofs.Facts.{by_bool}
 use Rattle.scim_store_rows.specs.Stands.{is_among}
 use Rattle.std.specs.List.{AllByRecursion}
 use Rattle.std.specs.List.Sorted.{IsStrictlySortedBy}
@@ -32,7 +32,7 @@ use Rattle.std.specs.Cmp.Lexicographic.{slice_cmp}
 use Rattle.scim_store.proofs.ValueLemmas.{texts_of}
 use denote.Ref.{Bor}
 use Rattle.scim_store.specs.code.Damage.{pair_of, triple_of, is_pair, is_triple, is_number, is_row, text_in, IsRowOf, HasRows, AreOfOne}
-use Rattle.scim_store_tables.proofs.TestLemmas.{text_of}
+use Rattle.scim_store_tables.proofs.Facts.{text_of}
 use Rattle.scim_store_rows.proofs.Facts.{tied}
 
 -- ---- rows of two or three texts

@@ -20,7 +20,7 @@ use Rattle.sqlite.specs.Order.{Row}
 use Rattle.scim_schema.proofs.Facts.{and_first}
 use Rattle.scim_cell.specs.Ids.{IsId, id_text}
 use Rattle.scim_cell.proofs.Facts.{id_text-injective}
-use Rattle.scim_shelf.proofs.PlaceLemmas.{by_order}
+use Rattle.scim_shelf.proofs.Facts.{by_order}
 use Rattle.scim_store_tables.specs.Lists.{has_text, has_texts}
 use Rattle.scim_store_rows.specs.Stands.{Entry, is_among, resource_row, member_row}
 use Rattle.scim_store_rows.proofs.Facts.{tied, ids_apart}

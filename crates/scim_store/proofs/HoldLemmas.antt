@@ -24,7 +24,7 @@ use Rattle.sqlite.specs.declared.types.Value.TheVariants.{Text}
 use Rattle.sqlite.specs.Order.{Row, column, value_cmp}
 use Rattle.sqlite_value.proofs.OrderLemmas.{value_cmp_total, value_cmp-Text}
 use Rattle.scim_cell.specs.Ids.{id_text}
-use Rattle.scim_shelf.proofs.StoreLemmas.{keyed_nil, ids_differ}
+use Rattle.scim_shelf.proofs.Facts.{keyed_nil, ids_differ}
 use Rattle.scim_store_tables.specs.Reading.{DoNotFall, columns_cmp, owner_first, group_first}
 use Rattle.scim_value.specs.Uniqueness.{Name, unique_names}
 use Rattle.scim_store.specs.Damage.{Tables, AreThoseOf, HoldsAt, rows_at}

@@ -21,7 +21,7 @@ use Rattle.scim_cell.proofs.Facts.{IsIdText-id_text, slice_cmp-id_text}
 use Rattle.std.proofs.lemmas.List.{take_more}
 use Rattle.std.proofs.lemmas.List.Folds.{list_any-append}
 use Rattle.scim_store_tables.specs.Lists.{is_text}
-use Rattle.scim_store_tables.proofs.TestLemmas.{text_of}
+use Rattle.scim_store_tables.proofs.Facts.{text_of}
 use Rattle.scim_store.specs.Owners.{is_of, HasOwner, is_owner}
 
 -- what may stand in the text of an id is ASCII: a hyphen, or a digit

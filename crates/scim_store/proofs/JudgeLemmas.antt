@@ -22,7 +22,7 @@ use Rattle.scim_schema.specs.Units.{simple}
 use Rattle.scim_cell.specs.Content.{Content}
 use Rattle.scim_cell.specs.Ids.{IsId, id_text}
 use Rattle.scim_shelf.specs.Stores.{AreKeyed}
-use Rattle.scim_shelf.proofs.StoreLemmas.{keyed_nil, keyed_apart, keyed_tail}
+use Rattle.scim_shelf.proofs.Facts.{keyed_nil, keyed_apart, keyed_tail}
 use Rattle.scim_store_tables.specs.Reading.{owner_first, group_first}
 use Rattle.scim_value.specs.Uniqueness.{Name, AreApart, unique_names}
 use Rattle.scim_store.specs.Owners.{is_of, HasOwner, is_owner}

@@ -25,8 +25,8 @@ use Rattle.scim_value.specs.declared.uniqueness.UniqueName.{UniqueName}
 use Rattle.scim_value.specs.Resource.{first_at}
 use Rattle.scim_value.specs.Uniqueness.{Name, name_of, name_at, unique_names, AreApart}
 use Rattle.scim_shelf.specs.Stores.{is_same_name}
-use Rattle.scim_shelf.proofs.NameLemmas.{by_bool, is_same_name-Decides, is_same_name-flips}
-use Rattle.scim_shelf.specs.code.Owners.{is_among}
+use Rattle.scim_shelf.proofs.Facts.{by_bool, is_same_name-Decides, is_same_name-flips}
+use Rattle.scim_shelf.specs.Owners.{is_among}
 use Rattle.scim_store_tables.specs.Lists.{has_texts}
 use Rattle.scim_store_rows.specs.Stands.{Entry, name_row, name_rows}
 use Rattle.scim_store_rows.proofs.Facts.{tied, user_names}

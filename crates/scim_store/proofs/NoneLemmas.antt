@@ -4,7 +4,7 @@ use Rattle.sqlite.specs.Effect.{Database}
 use Rattle.sqlite.specs.State.{State}
 use Rattle.scim_store_tables.specs.Whole.{Is, AreNone, IsUntouched}
 use Rattle.scim_store_tables.specs.declared.tables.Reading.TheVariants.{WrongVersion, Foreign}
-use Rattle.scim_store_tables.proofs.WholeLemmas.{other_none, foreign_none}
+use Rattle.scim_store_tables.proofs.Facts.{other_none, foreign_none}
 use Rattle.scim_store_rows.specs.Stands.{lists_of}
 use Rattle.scim_store.specs.Committing.{StandForNone, Stays}
 

@@ -12,7 +12,7 @@ use Rattle.sqlite.specs.Order.{Row}
 use Rattle.scim_cell.specs.Ids.{IsId, id_text}
 use Rattle.scim_cell.proofs.Facts.{slice_cmp-id_text}
 use Rattle.scim_shelf.specs.Stores.{AreKeyed}
-use Rattle.scim_shelf.proofs.StoreLemmas.{keyed_nil, keyed_cons}
+use Rattle.scim_shelf.proofs.Facts.{keyed_nil, keyed_cons}
 use Rattle.scim_store_tables.specs.Reading.{owner_first, group_first}
 use Rattle.scim_value.specs.Uniqueness.{AreApart, unique_names}
 use Rattle.scim_store.specs.Owners.{is_of}

@@ -22,7 +22,7 @@ use Rattle.scim_audit.specs.declared.rows.AuditRow.{AuditRow}
 use Rattle.scim_shelf.specs.declared.changes.Change.{Change}
 use Rattle.scim_shelf.specs.declared.changes.Change.TheVariants.{Nothing, Keep, Remove}
 use Rattle.scim_shelf.specs.Stores.{Store, AreKeyed, CanKeep, below, above, after, of_id}
-use Rattle.scim_shelf.proofs.StoreLemmas.{keep_keyed, without_keyed}
+use Rattle.scim_shelf.proofs.Facts.{keep_keyed, without_keyed}
 use Rattle.scim_store_tables.specs.Lists.{Lists, Are, has_text, resource_values}
 use Rattle.scim_store_tables.specs.Audit.{audit_values}
 use Rattle.scim_store_tables.specs.declared.audit.AuditColumns.{AuditColumns}

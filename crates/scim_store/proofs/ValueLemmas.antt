@@ -13,8 +13,8 @@ use Rattle.std.proofs.lemmas.Map.Keys.{sorted_head, sorted_tail}
 use Rattle.std.proofs.lemmas.Map.Text.{is_eq-slice_cmp}
 use denote.Ref.{Bor}
 use Rattle.sqlite_trees.proofs.ListLemmas.{filter-map}
-use Rattle.scim_shelf.specs.code.Members.{is_in}
-use Rattle.scim_shelf.proofs.StoreLemmas.{ids_differ}
+use Rattle.scim_shelf.specs.Members.{is_in}
+use Rattle.scim_shelf.proofs.Facts.{ids_differ}
 use Rattle.scim_store_rows.specs.Stands.{is_among}
 use Rattle.scim_store.proofs.EntryLemmas.{staying, among_staying}
 

@@ -21,14 +21,14 @@ use Rattle.sqlite_value.proofs.OrderLemmas.{value_cmp_total}
 use Rattle.scim_cell.specs.Ids.{IsId, id_text}
 use Rattle.scim_cell.proofs.Facts.{id_text-injective}
 use Rattle.scim_shelf.specs.Stores.{AreKeyed}
-use Rattle.scim_shelf.proofs.PlaceLemmas.{AreAbove}
-use Rattle.scim_shelf.proofs.StoreLemmas.{keyed_nil, keyed_cons, ids_differ}
+use Rattle.scim_shelf.proofs.Facts.{AreAbove}
+use Rattle.scim_shelf.proofs.Facts.{keyed_nil, keyed_cons, ids_differ}
 use Rattle.scim_store_tables.specs.Reading.{owner_first, group_first}
 use Rattle.scim_value.specs.Uniqueness.{Name, AreApart, unique_names}
 use Rattle.scim_store.specs.Owners.{is_of}
 use Rattle.scim_store.specs.Damage.{Tables, AreThoseOf, AreSound, HoldsAt, rows_at, AreOwned, is_shared}
 use Rattle.scim_store_rows.specs.Stands.{Entry, IsEntry, resource_row, name_row, name_rows, member_rows}
-use Rattle.scim_store_tables.proofs.TestLemmas.{text_of}
+use Rattle.scim_store_tables.proofs.Facts.{text_of}
 use Rattle.scim_store.proofs.IdTextLemmas.{same_owner}
 use Rattle.scim_store_rows.proofs.Facts.{contents}
 use Rattle.scim_store.proofs.SoundLemmas.{sound_id}

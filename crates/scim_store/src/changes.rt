@@ -6,7 +6,7 @@ ghost use Rattle.scim_cell.specs.Content.{Content};
 ghost use Rattle.scim_value.specs.Members.{is_text, lists_value};
 ghost use Rattle.scim_value.specs.Resource.{HasBase};
 ghost use Rattle.scim_value.specs.Uniqueness.{name_of};
-ghost use Rattle.scim_shelf.specs.code.Members.{is_found, is_in, value_in};
+ghost use Rattle.scim_shelf.specs.Members.{is_found, is_in, value_in};
 ghost use Rattle.scim_shelf.specs.Stores.{IsOld};
 ghost use Rattle.scim_store_rows.specs.Stands.{is_among};
 ghost use Rattle.scim_store.specs.Edits as spec;

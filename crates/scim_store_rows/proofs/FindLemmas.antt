@@ -25,9 +25,9 @@ use Rattle.scim_cell.specs.Ids.{IsId, id_text}
 use Rattle.scim_cell.specs.Kinds.{is_of}
 use Rattle.serde_json.specs.Data.{Data}
 use Rattle.scim_json.specs.PartData.{stored_data}
-use Rattle.scim_json.proofs.Back.{documents_are_apart}
+use Rattle.scim_json.proofs.Facts.{documents_are_apart}
 use Rattle.scim_shelf.specs.Stores.{Store, AreKeyed, is_at, of_id}
-use Rattle.scim_shelf.proofs.NameLemmas.{by_bool}
+use Rattle.scim_shelf.proofs.Facts.{by_bool}
 use Rattle.scim_store_tables.specs.Lists.{Lists, has_text}
 use Rattle.scim_store_tables.specs.Reading.{Rests, Holds, Finds, IsTextOfFirst, is_resource}
 use Rattle.scim_store_tables.specs.Lists.{no_rows}

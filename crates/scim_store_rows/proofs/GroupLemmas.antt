@@ -30,14 +30,14 @@ use Rattle.scim_cell.specs.Order.{id_cmp}
 use Rattle.scim_cell.proofs.Facts.{id_text-injective, slice_cmp-id_text}
 use Rattle.scim_value.specs.Members.{lists_value}
 use Rattle.scim_shelf.specs.Stores.{Store, AreKeyed, is_at, is_group_with}
-use Rattle.scim_shelf.specs.code.Collections.{has_id, only_of}
-use Rattle.scim_shelf.proofs.NameLemmas.{by_bool, found_at}
-use Rattle.scim_shelf.proofs.PlaceLemmas.{reversed}
-use Rattle.scim_shelf.proofs.StoreLemmas.{All-both, keyed_above, keyed_tail}
+use Rattle.scim_shelf.specs.Indexed.{has_id, only_of}
+use Rattle.scim_shelf.proofs.Facts.{by_bool, found_at}
+use Rattle.scim_shelf.proofs.Facts.{reversed}
+use Rattle.scim_shelf.proofs.Facts.{All-both, keyed_above, keyed_tail}
 use Rattle.scim_store_rows.proofs.OwnerLemmas.{contents, found_all, found_passes, sound_ids}
 use Rattle.scim_store_tables.specs.Lists.{Lists, has_text, no_rows}
 use Rattle.scim_store_tables.specs.Reading.{Rests, Holds, Tells, group_alone, columns_cmp}
-use Rattle.scim_store_tables.proofs.OrderLemmas.{told_rising}
+use Rattle.scim_store_tables.proofs.Facts.{told_rising}
 use Rattle.scim_store_rows.specs.Stands.{Entry, IsEntry, is_among, member_row, member_rows, lists_of}
 use Rattle.scim_store_rows.specs.Finding.{StandsIn, FindsById, FindsGroups}
 use Rattle.scim_store_rows.specs.code.Finding.{AreGroups, IsGroupOf, id_value}

@@ -9,11 +9,11 @@ use Rattle.sqlite.specs.State.{State}
 use Rattle.sqlite_tied.specs.Compute.{everything}
 use Rattle.scim_store_tables.specs.Lists.{Lists, has_text, triple}
 use Rattle.scim_store_tables.specs.Reading.{Rests, Holds, Finds, IsTextOfFirst}
-use Rattle.scim_store_tables.specs.code.Asks.{IsAsk}
-use Rattle.scim_store_tables.specs.code.Queries.{one_table, is_column}
-use Rattle.scim_store_tables.proofs.AnswerLemmas.{answered_columns, found_first, unchanged_rests}
-use Rattle.scim_store_tables.proofs.ReadLemmas.{Answered}
-use Rattle.scim_store_tables.proofs.TestLemmas.{passes_text}
+use Rattle.scim_store_tables.specs.Asks.{IsAsk}
+use Rattle.scim_store_tables.specs.Queries.{one_table, is_column}
+use Rattle.scim_store_tables.proofs.Facts.{answered_columns, found_first, unchanged_rests}
+use Rattle.scim_store_tables.proofs.Facts.{Answered}
+use Rattle.scim_store_tables.proofs.Facts.{passes_text}
 
 -- ---- the resource of an id
 

@@ -28,9 +28,9 @@ use Rattle.scim_cell.specs.Ids.{IsId, id_text}
 use Rattle.scim_cell.proofs.Facts.{id_text-injective}
 use Rattle.scim_value.specs.Uniqueness.{Name, unique_names}
 use Rattle.scim_shelf.specs.Stores.{Store, AreKeyed, is_same_name, has_name}
-use Rattle.scim_shelf.specs.code.Collections.{has_id, has_in, only_of}
-use Rattle.scim_shelf.proofs.NameLemmas.{by_bool, is_same_name-Decides, found_unnamed, found_by_id, found_at}
-use Rattle.scim_shelf.proofs.StoreLemmas.{keyed_apart, keyed_tail}
+use Rattle.scim_shelf.specs.Indexed.{has_id, has_in, only_of}
+use Rattle.scim_shelf.proofs.Facts.{by_bool, is_same_name-Decides, found_unnamed, found_by_id, found_at}
+use Rattle.scim_shelf.proofs.Facts.{keyed_apart, keyed_tail}
 use Rattle.scim_store_tables.specs.Lists.{Lists, has_texts, no_rows}
 use Rattle.scim_store_tables.specs.Reading.{Holds, Finds, IsTextOfFirst}
 use Rattle.scim_store_rows.specs.Stands.{Entry, IsEntry, name_row, name_rows, lists_of}

@@ -15,9 +15,9 @@ use Rattle.scim_cell.specs.Content.{Content}
 use Rattle.scim_cell.specs.Equality.{is_same_id}
 use Rattle.scim_value.specs.Uniqueness.{AreApart}
 use Rattle.scim_shelf.specs.Stores.{AreKeyed, of_id}
-use Rattle.scim_shelf.proofs.PlaceLemmas.{by_order}
-use Rattle.scim_shelf.proofs.StoreLemmas.{keyed_apart, keyed_tail, apart_back}
-use Rattle.scim_shelf.proofs.NameLemmas.{by_bool}
+use Rattle.scim_shelf.proofs.Facts.{by_order}
+use Rattle.scim_shelf.proofs.Facts.{keyed_apart, keyed_tail, apart_back}
+use Rattle.scim_shelf.proofs.Facts.{by_bool}
 use Rattle.scim_store_rows.specs.Stands.{Entry}
 
 -- how the id of a resource compares to an id

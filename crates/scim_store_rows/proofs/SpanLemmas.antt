@@ -20,10 +20,10 @@ use Rattle.sqlite_trees.proofs.ListLemmas.{IsPermutation-filter}
 use Rattle.scim_shelf.specs.Stores.{Store}
 use Rattle.scim_store_tables.specs.Audit.{last_number}
 use Rattle.scim_store_tables.specs.Reading.{Tells, HasTables, shown, columns_cmp, is_between}
-use Rattle.scim_store_tables.proofs.OrderLemmas.{told_rising}
+use Rattle.scim_store_tables.proofs.Facts.{told_rising}
 use Rattle.scim_store_rows.specs.Audit.{audit_row, audit_rows}
 use Rattle.scim_store_rows.specs.Auditing.{TellsRows}
-use Rattle.scim_store_rows.proofs.Facts.{length-audit_rows}
+use Rattle.scim_store_rows.proofs.ReadLemmas.{length-audit_rows}
 use Rattle.scim_store_rows.specs.Finding.{StandsIn}
 use Rattle.scim_store_rows.specs.code.Spans.{IsSpan}
 

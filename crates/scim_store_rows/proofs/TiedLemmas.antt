@@ -6,7 +6,7 @@ use Rattle.std.proofs.lemmas.Cmp.{tied_itself, nat_list_cmp_total}
 use Rattle.std.proofs.lemmas.Map.Lookups.{exact_bytes}
 use Rattle.scim_cell.specs.Ids.{IsId, id_text}
 use Rattle.scim_cell.proofs.Facts.{id_text-injective}
-use Rattle.scim_shelf.proofs.PlaceLemmas.{by_order}
+use Rattle.scim_shelf.proofs.Facts.{by_order}
 
 -- a text is the same as itself
 pub tied : (t : List ℕ) → is_eq (slice_cmp nat_cmp t t) ≡ true

@@ -29,10 +29,10 @@ use Rattle.scim_cell.specs.Kinds.{is_of, of_kind}
 use Rattle.scim_shelf.specs.Stores.{Store}
 use Rattle.scim_store_tables.specs.Lists.{triple}
 use Rattle.scim_store_tables.specs.Reading.{HasTables, Tells}
-use Rattle.scim_store_tables.proofs.AskLemmas.{resources_text, asks_resources}
-use Rattle.scim_store_tables.proofs.AnswerLemmas.{shown_open, answered}
-use Rattle.scim_store_tables.proofs.ReadLemmas.{resources_told}
-use Rattle.scim_store_tables.proofs.OrderLemmas.{told_rising}
+use Rattle.scim_store_tables.proofs.Facts.{resources_text, asks_resources}
+use Rattle.scim_store_tables.proofs.Facts.{shown_open, answered}
+use Rattle.scim_store_tables.proofs.Facts.{resources_told}
+use Rattle.scim_store_tables.proofs.Facts.{told_rising}
 use Rattle.scim_store_rows.specs.Stands.{Entry, IsEntry, resource_row}
 use Rattle.scim_store_rows.specs.Finding.{StandsIn, Reads, Shows}
 use Rattle.scim_store_rows.proofs.OwnerLemmas.{contents}

@@ -22,8 +22,8 @@ use Rattle.sqlite.proofs.StateLemmas.{survives_weaker}
 use Rattle.sqlite_value.specs.declared.keys.Key.{Key}
 use Rattle.scim_store_tables.specs.Tables.{store_schema}
 use Rattle.scim_store_tables.specs.Reading.{Rests, Spares, Finds, IsTextOfFirst}
-use Rattle.scim_store_tables.specs.code.Asks.{asked, IsAsk, IsAnswered}
-use Rattle.scim_store_tables.specs.code.Queries.{one_table}
+use Rattle.scim_store_tables.specs.Asks.{asked, IsAsk, IsAnswered}
+use Rattle.scim_store_tables.specs.Queries.{one_table}
 use Rattle.scim_store_tables.proofs.QueryLemmas.{selected, passes, no_lets}
 
 -- ---- a query that fails changes nothing, or the transaction is undone

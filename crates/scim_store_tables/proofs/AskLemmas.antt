@@ -4,8 +4,8 @@ use Rattle.sqlite.specs.Term.{col}
 use Rattle.sqlite.specs.Query.{Query}
 use Rattle.sqlite.specs.Listing.{understood}
 use Rattle.sqlite_tied.specs.Compute.{everything}
-use Rattle.scim_store_tables.specs.code.Asks.{IsAsk}
-use Rattle.scim_store_tables.specs.code.Queries.{one_table, is_column, up, rows_query, keys_query}
+use Rattle.scim_store_tables.specs.Asks.{IsAsk}
+use Rattle.scim_store_tables.specs.Queries.{one_table, is_column, up, rows_query, keys_query}
 use Rattle.scim_store_tables.specs.declared.queries.Table.TheVariants.{Setting, Resource, Taken, Member, Audit}
 use Rattle.scim_store_tables.proofs.TextLemmas.{key_tests, resource_tests, between_tests}
 

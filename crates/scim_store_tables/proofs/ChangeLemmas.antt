@@ -34,7 +34,7 @@ use Rattle.sqlite.proofs.Callers.{runs_as, statement_of, one_step}
 use Rattle.scim_store_tables.specs.Tables.{store_schema}
 use Rattle.scim_store_tables.specs.Lists.{AreKeyed}
 use Rattle.scim_store_tables.specs.code.Changes.{Puts, Takes, Turns}
-use Rattle.scim_store_tables.specs.code.Queries.{one_table}
+use Rattle.scim_store_tables.specs.Queries.{one_table}
 use Rattle.scim_store_tables.proofs.QueryLemmas.{selected, passes, no_lets}
 use Rattle.scim_store_tables.proofs.RowidLemmas.{without_found}
 use Rattle.scim_store_tables.proofs.StatementLemmas.{IsInsert, IsUpdate, IsDelete}

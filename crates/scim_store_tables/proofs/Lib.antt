@@ -18,3 +18,4 @@ pub mod KeyLemmas
 pub mod RiseLemmas
 pub mod ToldLemmas
 pub mod WholeLemmas
+pub mod Facts

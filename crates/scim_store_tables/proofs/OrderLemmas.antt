@@ -20,7 +20,7 @@ use Rattle.sqlite.specs.Program.{overlay}
 use Rattle.sqlite.specs.Query.{Query, IsAnswer, Output, output, output_cmp}
 use Rattle.sqlite.specs.State.{State, IsUnchanged}
 use Rattle.scim_store_tables.specs.Reading.{columns_cmp, DoNotFall, Tells}
-use Rattle.scim_store_tables.specs.code.Queries.{one_table}
+use Rattle.scim_store_tables.specs.Queries.{one_table}
 use Rattle.scim_store_tables.proofs.QueryLemmas.{passes, outputs, no_lets}
 
 module _ {X : Type 0} (cmp : X → X → Ordering) (o : IsTotalOrder cmp) where

@@ -11,7 +11,7 @@ use Rattle.sqlite.specs.Query.{Query, end, IsAnswer, matches_as, output, Output}
 use Rattle.sqlite.specs.Term.{Term, holds, eval_all}
 use Rattle.sqlite.specs.Tree.{Trees}
 use Rattle.sqlite.specs.Program.{overlay}
-use Rattle.scim_store_tables.specs.code.Queries.{one_table}
+use Rattle.scim_store_tables.specs.Queries.{one_table}
 
 pick : (b : Bool) (x : List Row) → unwrap_or (cond b None None) x ≡ x
 pick true x = refl

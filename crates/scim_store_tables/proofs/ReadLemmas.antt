@@ -12,8 +12,8 @@ use Rattle.sqlite.specs.State.{State, IsUnchanged}
 use Rattle.scim_store_tables.specs.Tables.{store_schema}
 use Rattle.scim_store_tables.specs.Lists.{Lists, has_text, has_texts, pair, triple, entry}
 use Rattle.scim_store_tables.specs.Reading.{columns_cmp, group_alone, Rests, HasTables, Holds, Tells, Finds, IsTextOfFirst, shown, owner_first, group_first, is_resource, is_between}
-use Rattle.scim_store_tables.specs.code.Asks.{IsAsk, IsAnswered}
-use Rattle.scim_store_tables.specs.code.Queries.{is_column, up, tree_of, rows_query, keys_query}
+use Rattle.scim_store_tables.specs.Asks.{IsAsk, IsAnswered}
+use Rattle.scim_store_tables.specs.Queries.{is_column, up, tree_of, rows_query, keys_query}
 use Rattle.scim_store_tables.specs.code.Keys.{key_alone}
 use Rattle.scim_store_tables.specs.code.Told.{AreRows, AreKeys}
 use Rattle.scim_store_tables.specs.Whole.{AreInOrder}

@@ -6,7 +6,7 @@ use Rattle.sqlite.specs.Term.{Term, col}
 use Rattle.sqlite.specs.Listing.{understood}
 use Rattle.sqlite.proofs.Callers.{IsPlain, command_of}
 use Rattle.scim_store_tables.specs.Tables.{store_schema}
-use Rattle.scim_store_tables.specs.code.Queries.{one_table}
+use Rattle.scim_store_tables.specs.Queries.{one_table}
 
 -- a text of SQL that puts one row into a table
 pub record IsInsert (text : List ℕ) (place : ℕ) (terms : List Term) (width : ℕ) : Type 0 where

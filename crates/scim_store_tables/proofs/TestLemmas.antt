@@ -17,7 +17,7 @@ use Rattle.sqlite.specs.Effect.{Database}
 use Rattle.scim_store_tables.specs.Lists.{is_text, has_texts, triple, entry}
 use Rattle.scim_store_tables.specs.Reading.{is_resource, is_between}
 use Rattle.scim_store_tables.specs.code.Changes.{Takes}
-use Rattle.scim_store_tables.specs.code.Queries.{is_column}
+use Rattle.scim_store_tables.specs.Queries.{is_column}
 use Rattle.scim_store_tables.proofs.QueryLemmas.{passes}
 use Rattle.scim_store_tables.proofs.TextLemmas.{key_tests, resource_tests, between_tests}
 

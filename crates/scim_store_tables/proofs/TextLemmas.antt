@@ -8,7 +8,7 @@ use Rattle.sqlite_sql.specs.declared.ops.CompareOp.TheVariants.{Eq, Ge, Lt}
 use Rattle.sqlite_sql.specs.declared.ops.UnaryOp.TheVariants.{ToNumeric}
 use Rattle.sqlite.specs.Listing.{understood}
 use Rattle.sqlite_tied.specs.Compute.{everything}
-use Rattle.scim_store_tables.specs.code.Queries.{is_column}
+use Rattle.scim_store_tables.specs.Queries.{is_column}
 use Rattle.scim_store_tables.proofs.StatementLemmas.{IsInsert, IsUpdate, IsDelete}
 
 abbrev pub insert_resource_text : List ℕ

@@ -9,7 +9,7 @@ use Rattle.sqlite.specs.State.{State, IsUnchanged, HasCleanDisk}
 use Rattle.sqlite.proofs.StateLemmas.{survives_then}
 use Rattle.scim_store_tables.specs.Tables.{store_schema}
 use Rattle.scim_store_tables.specs.Reading.{Rests, HasTables, Spares}
-use Rattle.scim_store_tables.specs.code.Asks.{IsAsk, IsAnswered, IsAsked}
+use Rattle.scim_store_tables.specs.Asks.{IsAsk, IsAnswered, IsAsked}
 use Rattle.scim_store_tables.specs.code.Told.{OnlyAsks}
 use Rattle.scim_store_tables.proofs.AnswerLemmas.{unchanged_rests}
 use Rattle.scim_store_tables.proofs.StepLemmas.{if_then, both_then, any_err}

@@ -13,7 +13,7 @@ use Rattle.sqlite.specs.State.{State, ExecutesInside}
 use Rattle.scim_store_tables.specs.Tables.{resource_table, taken_table, member_table}
 use Rattle.scim_store_tables.specs.Lists.{Lists, Are, without, has_text, has_texts, pair, triple, resource_values, name_values, member_values}
 use Rattle.scim_store_tables.specs.code.Changes.{Turns}
-use Rattle.scim_store_tables.specs.code.Queries.{is_column}
+use Rattle.scim_store_tables.specs.Queries.{is_column}
 use Rattle.scim_store_tables.proofs.TextLemmas.{insert_resource_text, inserts_resource, update_resource_text, updates_resource, resource_columns, delete_resource_text, deletes_resource, insert_name_text, inserts_name, delete_name_text, deletes_name, insert_member_text, inserts_member, delete_member_text, deletes_member, three_terms, two_terms, key_tests}
 use Rattle.scim_store_tables.proofs.ChangeLemmas.{cast_null, cast_int, inserted, updated, deleted, inside, inside_by}
 use Rattle.scim_store_tables.proofs.TestLemmas.{text_of, passes_text, passes_texts, takes_same}

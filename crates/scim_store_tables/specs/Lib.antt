@@ -6,3 +6,5 @@ pub mod Opening
 pub mod Reading
 pub mod Whole
 pub mod code
+pub mod Asks
+pub mod Queries

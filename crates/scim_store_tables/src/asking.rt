@@ -7,7 +7,7 @@ ghost use Rattle.sqlite.specs.Held.{state};
 ghost use Rattle.sqlite.specs.Values.{bound};
 ghost use Rattle.scim_store_tables.specs.Lists.{Lists, has_text, has_texts};
 ghost use Rattle.scim_store_tables.specs.Reading.{Rests, HasTables, Holds, Tells, Finds, IsTextOfFirst, shown, group_alone, is_resource, is_between};
-ghost use Rattle.scim_store_tables.specs.code.Asks.{IsAsked};
+ghost use Rattle.scim_store_tables.specs.Asks.{IsAsked};
 ghost use Rattle.scim_store_tables.specs.code.Told.{OnlyAsks, AreRows, AreKeys};
 
 use crate::queries::{Table, keys_query, rows_query};

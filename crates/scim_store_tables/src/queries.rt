@@ -1,7 +1,7 @@
 //! The tables one by one, and the texts of the queries on a whole table.
 
-ghost use Rattle.scim_store_tables.specs.code.Queries as spec;
-ghost use Rattle.scim_store_tables.specs.code.Asks.{IsAsk};
+ghost use Rattle.scim_store_tables.specs.Queries as spec;
+ghost use Rattle.scim_store_tables.specs.Asks.{IsAsk};
 
 /// One of the five tables.
 #[derive(Clone, Copy)]

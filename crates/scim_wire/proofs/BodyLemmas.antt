@@ -3,7 +3,7 @@ use Rattle.std.proofs.Common.{◌≡◌, ℕ, List, [], ◌∷◌, ◌++◌, len
 use Rattle.std.proofs.lemmas.List.{length-append, append_assoc}
 use Rattle.scim_audit.specs.declared.refusals.Refusal.{Refusal}
 use Rattle.scim_wire.specs.Chunked.{IsChunkedPart}
-use Rattle.scim_wire.proofs.Facts as chunked
+use Rattle.scim_wire.proofs.ChunkLawLemmas as chunked
 use Rattle.scim_wire.specs.declared.framings.Framing.{Framing}
 use Rattle.scim_wire.specs.declared.framings.Framing.TheVariants.{Sized, Chunked}
 use Rattle.scim_wire.specs.Bodies.{IsBody, IsBodyPart, IsBadBody, refusal_of}

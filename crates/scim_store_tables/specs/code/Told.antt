@@ -10,7 +10,7 @@ use Rattle.scim_store_tables.specs.Lists.{AreKeyed}
 use Rattle.scim_store_tables.specs.Reading.{Rests, Spares, HasTables, shown, shown_settings, owner_first, group_first}
 use Rattle.scim_store_tables.specs.Whole.{AreInOrder}
 use Rattle.scim_store_tables.specs.code.Keys.{key_alone, AreRising}
-use Rattle.scim_store_tables.specs.code.Queries.{tree_of}
+use Rattle.scim_store_tables.specs.Queries.{tree_of}
 
 -- What a call that only asks leaves: it begins no transaction, and a crash leaves no more than before. Under the five tables nothing is changed, and it tells this of
 -- the database, or after an error the connection is shut, or as it was or as the last commit left it.

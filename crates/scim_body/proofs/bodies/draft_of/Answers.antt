@@ -4,7 +4,7 @@ use Rattle.scim_body.specs.declared.drafts.UseFor.{UseFor}
 use Rattle.scim_body.specs.declared.drafts.UseFor.TheVariants.{Creating}
 use Rattle.scim_body.specs.contracts.drafts.UseFor.{the_type as the_use}
 use Rattle.scim_body.specs.Drafts.{lacks_required}
-use Rattle.scim_body.specs.code.Given.{units_given}
+use Rattle.scim_body.specs.Given.{units_given}
 use Rattle.scim_body.proofs.DraftLemmas.{draft_with}
 use Rattle.scim_body.proofs.bodies.draft_of.Goals as goal
 use Rattle.scim_body.proofs.bodies.draft_of.Goals.{else-eq-via-then-eq+else-lacks_required, else-eq-via-else-eq}

@@ -1,6 +1,6 @@
 use Rattle.std.proofs.Common.{◌≡◌, ◌++◌, map}
 use Rattle.scim_body.specs.Bodies.{field_given}
-use Rattle.scim_body.specs.code.Given.{units_given}
+use Rattle.scim_body.specs.Given.{units_given}
 use Rattle.scim_body.proofs.bodies.push_fields.Given as goal
 
 -- the fields so far are pushed

@@ -3,7 +3,7 @@ use Rattle.scim_body.specs.View.{members_view}
 use Rattle.scim_schema.specs.Table.{attributes}
 use Rattle.scim_body.specs.BodyValues.{collected}
 use Rattle.scim_body.specs.Bodies.{all_given, given_of}
-use Rattle.scim_body.specs.code.Given.{units_given}
+use Rattle.scim_body.specs.Given.{units_given}
 use Rattle.scim_body.proofs.BodyLemmas.{read_first}
 use Rattle.scim_body.proofs.bodies.read_all.Goals as goal
 

@@ -1,7 +1,7 @@
 use Rattle.std.proofs.Common.{◌∙◌}
 use Rattle.scim_body.specs.View.{members_view}
 use Rattle.scim_body.specs.Bodies.{given_of}
-use Rattle.scim_body.specs.code.Given.{units_given}
+use Rattle.scim_body.specs.Given.{units_given}
 use Rattle.scim_body.proofs.BodyLemmas.{collected_at}
 use Rattle.scim_body.proofs.bodies.read_attributes.Goals as goal
 

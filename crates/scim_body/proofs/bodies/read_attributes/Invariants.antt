@@ -2,7 +2,7 @@ use Rattle.std.proofs.Common.{◌≡◌, drop}
 use Rattle.scim_body.specs.View.{members_view}
 use Rattle.scim_body.specs.BodyValues.{collected}
 use Rattle.scim_body.specs.Bodies.{given_of}
-use Rattle.scim_body.specs.code.Given.{with_given}
+use Rattle.scim_body.specs.Given.{with_given}
 use Rattle.scim_body.proofs.bodies.read_attributes.Given as goal
 
 -- what is read and what the attributes that are left give make the whole

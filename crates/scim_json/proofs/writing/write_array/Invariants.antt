@@ -1,7 +1,7 @@
 use Rattle.std.proofs.Common.{◌≡◌, ◌++◌, drop, ◌∷◌}
 use Rattle.json.specs.Token.{begin_array}
 use Rattle.scim_json.specs.PartData.{items_of, value_data}
-use Rattle.scim_json.specs.code.Tokens.{items_tokens}
+use Rattle.scim_json.specs.Tokens.{items_tokens}
 use Rattle.scim_json.proofs.writing.write_array.Given as goal
 
 -- what is written and the items that are left make the whole

@@ -2,7 +2,7 @@ use Rattle.std.proofs.Common.{◌≡◌, ◌++◌, drop}
 use Rattle.scim_schema.specs.Names.{attribute_name}
 use Rattle.scim_cell.specs.Rows.{rows}
 use Rattle.scim_json.specs.PartData.{members_where, attribute_data}
-use Rattle.scim_json.specs.code.Tokens.{members_tokens}
+use Rattle.scim_json.specs.Tokens.{members_tokens}
 use Rattle.scim_json.proofs.writing.write_attributes.Given as goal
 
 -- what is written and the members that are left make the whole

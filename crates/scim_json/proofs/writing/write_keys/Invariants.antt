@@ -1,7 +1,7 @@
 use Rattle.std.proofs.Common.{◌≡◌, ◌++◌, drop}
 use Rattle.scim_schema.specs.JsonKeys.{key_text}
 use Rattle.scim_json.specs.PartData.{members_where, key_data}
-use Rattle.scim_json.specs.code.Tokens.{members_tokens}
+use Rattle.scim_json.specs.Tokens.{members_tokens}
 use Rattle.scim_json.proofs.writing.write_keys.Given as goal
 
 -- what is written and the members that are left make the whole

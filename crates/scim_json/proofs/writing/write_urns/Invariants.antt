@@ -1,7 +1,7 @@
 use Rattle.std.proofs.Common.{◌≡◌, ◌++◌, drop, filter}
 use Rattle.scim_cell.specs.Rows.{rows}
 use Rattle.scim_json.specs.PartData.{items_of, urn_data, has_extension, schemas_data}
-use Rattle.scim_json.specs.code.Tokens.{items_tokens, value_tokens}
+use Rattle.scim_json.specs.Tokens.{items_tokens, value_tokens}
 use Rattle.scim_json.proofs.writing.write_urns.Given as goal
 
 -- what is written and the items that are left make the whole

@@ -8,7 +8,7 @@ use Rattle.scim_hub.specs.Events.{Seen, Hears, Runs}
 use Rattle.scim_hub.specs.Halls.{recorded_of}
 use Rattle.scim_serve.specs.declared.peers.Incident.{Incident}
 use Rattle.scim_serve.specs.Peers.{told_by}
-use Rattle.scim_hub.proofs.RunLemmas.{runs_more}
+use Rattle.scim_hub.proofs.Facts.{runs_more}
 use Rattle.scim_serve.proofs.EventLemmas.{nothing_told}
 use Rattle.scim_serve.proofs.LevelLemmas.{level_first, level_same, level_kept, level_more, level_fronts}
 use Rattle.scim_serve.specs.Serving.{due}

@@ -1,5 +1,5 @@
 use Rattle.std.proofs.Common.{sym, ◌∙◌, ◌||◌, ◌-◌, length, take, drop}
-use Rattle.scim_shelf.specs.code.Members.{is_value_of}
+use Rattle.scim_shelf.specs.Members.{is_value_of}
 use Rattle.scim_shelf.proofs.ValueLemmas.{beyond_shared}
 use Rattle.scim_shelf.proofs.groups.members_beyond.Goals as goal
 

@@ -1,5 +1,5 @@
 use Rattle.std.proofs.Common.{◌≡◌, ◌≤◌, ◌-◌, ℕ, List, length, take}
-use Rattle.scim_shelf.specs.code.Members.{is_value_of}
+use Rattle.scim_shelf.specs.Members.{is_value_of}
 use Rattle.scim_shelf.proofs.groups.shared_members.Given as goal
 
 -- the members so far have the same values in both

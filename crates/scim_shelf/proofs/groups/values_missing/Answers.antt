@@ -1,7 +1,7 @@
 use Rattle.std.proofs.Common.{◌≡◌, sym, ◌∙◌, ap, ℕ, ◌<◌, List, ◌++◌, ◌∷◌, [], Bool, false, true, ◌&&◌, not, length, take, arith}
 use Rattle.std.specs.Prelude.{None, Some}
 use Rattle.scim_shelf.specs.Stores.{is_group_with}
-use Rattle.scim_shelf.specs.code.Members.{is_one_of, is_value_of}
+use Rattle.scim_shelf.specs.Members.{is_one_of, is_value_of}
 use Rattle.scim_shelf.proofs.ValueLemmas.{value_more, taken_more, taken_same, or_false}
 use Rattle.scim_shelf.proofs.groups.values_missing.Goals as goal
 use Rattle.scim_shelf.proofs.groups.values_missing.Goals.{in-Some+then-not-contains+in_ok-copy_of+in_ok-push, in-Some+else-not-contains, in_default}

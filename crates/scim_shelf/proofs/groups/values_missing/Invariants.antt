@@ -1,6 +1,6 @@
 use Rattle.std.proofs.Common.{◌≡◌, ℕ, List, take, ◌&&◌, not}
 use Rattle.scim_shelf.specs.Stores.{is_group_with}
-use Rattle.scim_shelf.specs.code.Members.{is_one_of, is_value_of}
+use Rattle.scim_shelf.specs.Members.{is_one_of, is_value_of}
 use Rattle.scim_shelf.proofs.groups.values_missing.Given as goal
 
 -- those of the members so far

@@ -2,7 +2,7 @@ use Rattle.std.proofs.Common.{sym, ◌∙◌, ap, ◌<◌, true, cond, length, t
 use Rattle.std.specs.Prelude.{None, Some}
 use Rattle.std.specs.Cmp.Lexicographic.{nat_list_eq_equiv}
 use Rattle.std.proofs.lemmas.Map.Text.{is_eq-slice_cmp}
-use Rattle.scim_shelf.specs.code.Members.{is_in, is_value_of, is_found}
+use Rattle.scim_shelf.specs.Members.{is_in, is_value_of, is_found}
 use Rattle.scim_shelf.proofs.ValueLemmas.{value_more, or_cond, or_false}
 use Rattle.scim_shelf.proofs.groups.values_of.Goals as goal
 use Rattle.scim_shelf.proofs.groups.values_of.Goals.{in-Some+in_ok-insert, in_default}

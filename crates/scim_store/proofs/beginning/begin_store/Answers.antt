@@ -2,7 +2,7 @@ use Rattle.sqlite.specs.Held.{state}
 use Rattle.sqlite.proofs.StateLemmas.{survives_weaker}
 use Rattle.scim_store_tables.specs.Opening.{MakesTables}
 use Rattle.scim_store_tables.specs.Steps.{Leaves}
-use Rattle.scim_store_tables.proofs.StepLemmas.{goes_then}
+use Rattle.scim_store_tables.proofs.Facts.{goes_then}
 use Rattle.scim_store.specs.Beginning.{Begins}
 use Rattle.scim_store.proofs.BeginLemmas.{became_begun, leaves_begun}
 use Rattle.scim_store.proofs.beginning.begin_store.Goals as goal

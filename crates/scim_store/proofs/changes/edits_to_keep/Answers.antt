@@ -1,7 +1,7 @@
 use Rattle.std.proofs.Common.{◌≡◌, ◌∙◌, rules, ap, Some, string_bytes, option_map}
 use Rattle.scim_value.specs.Resource.{IsResource}
 use Rattle.scim_store.specs.declared.edits.Edits.{Edits}
-use Rattle.scim_store_tables.proofs.StepLemmas.{if_both}
+use Rattle.scim_store_tables.proofs.Facts.{if_both}
 use Rattle.scim_store.proofs.changes.edits_to_keep.Goals as goal
 
 pub returns : goal.returns

@@ -2,7 +2,7 @@ use Rattle.std.proofs.Common.{rules, ◌∙◌, ap, not, map}
 use Rattle.std.proofs.lemmas.Fn.{filter_same}
 use Rattle.scim_value.specs.declared.uniqueness.UniqueName.{UniqueName}
 use Rattle.scim_value.specs.Uniqueness.{name_of}
-use Rattle.scim_shelf.specs.code.Owners.{is_among}
+use Rattle.scim_shelf.specs.Owners.{is_among}
 use Rattle.scim_store.specs.Edits.{names_beyond}
 use Rattle.scim_store.proofs.NameLemmas.{beyond_named}
 use Rattle.scim_store.proofs.changes.names_beyond.Goals as goal

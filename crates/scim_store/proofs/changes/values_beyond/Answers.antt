@@ -4,7 +4,7 @@ use Rattle.std.specs.Ordering.{nat_cmp}
 use Rattle.std.specs.Cmp.Lexicographic.{slice_cmp}
 use Rattle.std.specs.List.Sorted.{IsStrictlySortedBy}
 use Rattle.std.proofs.lemmas.List.{append-nil}
-use Rattle.scim_shelf.specs.code.Members.{is_in}
+use Rattle.scim_shelf.specs.Members.{is_in}
 use Rattle.scim_store_rows.specs.Stands.{is_among}
 use Rattle.scim_store.proofs.ValueLemmas.{texts_of, beyond_listed, once_each}
 use Rattle.scim_store.proofs.changes.values_beyond.Goals as goal

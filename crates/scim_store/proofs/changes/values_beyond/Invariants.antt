@@ -1,5 +1,5 @@
 use Rattle.std.proofs.Common.{◌≡◌, ◌++◌, filter, not}
-use Rattle.scim_shelf.specs.code.Members.{is_in}
+use Rattle.scim_shelf.specs.Members.{is_in}
 use Rattle.scim_store.proofs.ValueLemmas.{texts_of}
 use Rattle.scim_store.proofs.changes.values_beyond.Given as goal
 

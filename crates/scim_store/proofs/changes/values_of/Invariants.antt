@@ -1,5 +1,5 @@
 use Rattle.std.proofs.Common.{◌≡◌, ℕ, List, take}
-use Rattle.scim_shelf.specs.code.Members.{is_in, is_value_of}
+use Rattle.scim_shelf.specs.Members.{is_in, is_value_of}
 use Rattle.scim_store.proofs.changes.values_of.Given as goal
 
 -- the values of the members so far

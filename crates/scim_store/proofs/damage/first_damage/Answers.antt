@@ -9,7 +9,7 @@ use Rattle.std.specs.Map.Iter.{deref}
 use Rattle.std.proofs.lemmas.List.{append-nil, append_assoc}
 use Rattle.std.proofs.lemmas.List.Elements.{All-nil, All-cons, All-append, All-weaker}
 use Rattle.std.proofs.lemmas.Map.Iter.{rest_all}
-use Rattle.scim_shelf.proofs.NameLemmas.{by_bool}
+use Rattle.scim_shelf.proofs.Facts.{by_bool}
 use Rattle.scim_cell.specs.Ids.{IsId}
 use Rattle.scim_store.specs.Damage.{AreOrdered, HoldsAt}
 use Rattle.scim_store.proofs.LeastLemmas.{among_all, below_least}

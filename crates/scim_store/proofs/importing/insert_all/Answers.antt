@@ -2,7 +2,7 @@ use Rattle.std.proofs.Common.{◌≡◌, ◌∙◌, refl, sym, subst, take, arit
 use Rattle.std.proofs.lemmas.List.{take_all}
 use Rattle.sqlite.specs.Held.{state}
 use Rattle.scim_value.specs.Resource.{HasBase}
-use Rattle.scim_store_tables.proofs.StepLemmas.{loops_more}
+use Rattle.scim_store_tables.proofs.Facts.{loops_more}
 use Rattle.scim_store.proofs.ImportLemmas.{hold_none, hold_next}
 use Rattle.scim_store.proofs.importing.insert_all.Goals as goal
 

@@ -1,5 +1,5 @@
 use Rattle.std.proofs.Common.{arith}
-use Rattle.scim_store_tables.proofs.StepLemmas.{goes_then}
+use Rattle.scim_store_tables.proofs.Facts.{goes_then}
 use Rattle.scim_store.proofs.importing.make_store.Goals as goal
 
 pub returns-clause-went : goal.returns-clause-went

@@ -4,7 +4,7 @@ use Rattle.std.proofs.lemmas.List.{take_all}
 use Rattle.sqlite.specs.Held.{state}
 use Rattle.sqlite.specs.Order.{Row}
 use Rattle.scim_store_tables.specs.Lists.{Are, has_texts}
-use Rattle.scim_store_tables.proofs.StepLemmas.{loops_more}
+use Rattle.scim_store_tables.proofs.Facts.{loops_more}
 use Rattle.scim_store.proofs.RowLemmas.{without_none, without_more}
 use Rattle.scim_store.proofs.writing.delete_members.Goals as goal
 

@@ -6,7 +6,7 @@ use Rattle.sqlite.specs.Order.{Row}
 use Rattle.scim_schema.specs.Names.{attribute_name}
 use Rattle.scim_value.specs.declared.uniqueness.UniqueName.{UniqueName}
 use Rattle.scim_store_tables.specs.Lists.{Are, has_texts}
-use Rattle.scim_store_tables.proofs.StepLemmas.{loops_more}
+use Rattle.scim_store_tables.proofs.Facts.{loops_more}
 use Rattle.scim_store.proofs.RowLemmas.{without_none, without_more}
 use Rattle.scim_store.proofs.writing.delete_names.Goals as goal
 

@@ -1,7 +1,7 @@
 use Rattle.std.proofs.Common.{arith}
 use Rattle.sqlite.specs.Held.{state}
 use Rattle.sqlite.specs.State.{HasCleanDisk}
-use Rattle.scim_store_tables.proofs.StepLemmas.{goes_then}
+use Rattle.scim_store_tables.proofs.Facts.{goes_then}
 use Rattle.scim_store.proofs.writing.edit_rows.Goals as goal
 
 pub returns-clause-went : goal.returns-clause-went

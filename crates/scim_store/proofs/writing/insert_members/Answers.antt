@@ -4,7 +4,7 @@ use Rattle.std.proofs.lemmas.List.{take_all}
 use Rattle.std.proofs.lemmas.List.Sorted.{IsPermutation-refl}
 use Rattle.sqlite.specs.Held.{state}
 use Rattle.scim_store_tables.specs.Lists.{member_values}
-use Rattle.scim_store_tables.proofs.StepLemmas.{loops_more}
+use Rattle.scim_store_tables.proofs.Facts.{loops_more}
 use Rattle.scim_store.proofs.RowLemmas.{more_rows, reordered}
 use Rattle.scim_store.proofs.writing.insert_members.Goals as goal
 

@@ -6,7 +6,7 @@ use Rattle.sqlite.specs.Held.{state}
 use Rattle.scim_schema.specs.Names.{attribute_name}
 use Rattle.scim_value.specs.declared.uniqueness.UniqueName.{UniqueName}
 use Rattle.scim_store_tables.specs.Lists.{name_values}
-use Rattle.scim_store_tables.proofs.StepLemmas.{loops_more}
+use Rattle.scim_store_tables.proofs.Facts.{loops_more}
 use Rattle.scim_store.proofs.RowLemmas.{more_rows, reordered}
 use Rattle.scim_store.proofs.writing.insert_names.Goals as goal
 

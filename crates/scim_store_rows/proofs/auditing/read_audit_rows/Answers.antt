@@ -3,7 +3,7 @@ use Rattle.std.specs.Prelude.{FitsSigned}
 use Rattle.std.proofs.lemmas.Int.{to_z-of_z}
 use Rattle.sqlite.specs.Held.{state}
 use Rattle.scim_store_tables.specs.Audit.{last_number}
-use Rattle.scim_store_tables.proofs.StepLemmas.{both_then}
+use Rattle.scim_store_tables.proofs.Facts.{both_then}
 use Rattle.scim_store_rows.proofs.SpanLemmas.{TellsBetween, tells_rows, fits}
 use Rattle.scim_store_rows.proofs.auditing.read_audit_rows.Goals as goal
 

@@ -1,6 +1,6 @@
 use Rattle.std.proofs.Common.{option_map, string_bytes}
 use Rattle.sqlite.specs.Held.{state}
-use Rattle.scim_store_tables.proofs.StepLemmas.{if_then}
+use Rattle.scim_store_tables.proofs.Facts.{if_then}
 use Rattle.scim_store_rows.proofs.FindLemmas.{finds_by_id, rests_where}
 use Rattle.scim_store_rows.proofs.finding.find_by_id.Goals as goal
 

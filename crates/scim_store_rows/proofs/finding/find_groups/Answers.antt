@@ -1,7 +1,7 @@
 use Rattle.std.proofs.Common.{rules, arith, ◌+◌, ◌≡◌, ◌∙◌, ◌++◌, ◌∷◌, [], take, sym, ap}
 use Rattle.std.proofs.lemmas.List.{take_all, take_more}
 use Rattle.sqlite.specs.Held.{state}
-use Rattle.scim_store_tables.proofs.AnswerLemmas.{unchanged_rests}
+use Rattle.scim_store_tables.proofs.Facts.{unchanged_rests}
 use Rattle.scim_store_rows.proofs.FindLemmas.{stands_still, rests_then}
 use Rattle.scim_store_rows.proofs.GroupLemmas.{groups_none, groups_more}
 use Rattle.scim_store_rows.proofs.finding.find_groups.Goals as goal

@@ -1,6 +1,6 @@
 use Rattle.std.proofs.Common.{arith}
 use Rattle.sqlite.specs.Held.{state}
-use Rattle.scim_store_tables.proofs.StepLemmas.{if_then}
+use Rattle.scim_store_tables.proofs.Facts.{if_then}
 use Rattle.scim_store_rows.proofs.GroupLemmas.{finds_groups, groups_rest}
 use Rattle.scim_store_rows.proofs.finding.find_groups_with.Goals as goal
 

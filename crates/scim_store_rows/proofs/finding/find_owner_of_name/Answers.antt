@@ -1,7 +1,7 @@
 use Rattle.std.proofs.Common.{arith}
 use Rattle.sqlite.specs.Held.{state}
 use Rattle.scim_value.specs.Uniqueness.{name_of}
-use Rattle.scim_store_tables.proofs.StepLemmas.{if_then}
+use Rattle.scim_store_tables.proofs.Facts.{if_then}
 use Rattle.scim_store_rows.proofs.OwnerLemmas.{finds_owner}
 use Rattle.scim_store_rows.proofs.finding.find_owner_of_name.Goals as goal
 

@@ -1,7 +1,7 @@
 use Rattle.std.proofs.Common.{option_map, string_bytes, subst}
 use Rattle.sqlite.specs.Held.{state}
 use Rattle.scim_store_tables.specs.Reading.{IsTextOfFirst}
-use Rattle.scim_store_tables.proofs.StepLemmas.{if_then}
+use Rattle.scim_store_tables.proofs.Facts.{if_then}
 use Rattle.scim_store_rows.proofs.LookLemmas.{old_query, asks_old, old_found, old_rests}
 use Rattle.scim_store_rows.proofs.looking.find_document.Goals as goal
 

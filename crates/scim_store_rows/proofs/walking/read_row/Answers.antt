@@ -1,7 +1,7 @@
 use Rattle.std.proofs.Common.{rules, ◌≡◌, pos, string_bytes, sym, ap, ◌∙◌}
 use Rattle.sqlite.specs.declared.types.Value.TheVariants.{Int, Text}
 use Rattle.sqlite.specs.Order.{Row, column}
-use Rattle.scim_store_tables.proofs.StepLemmas.{if_then}
+use Rattle.scim_store_tables.proofs.Facts.{if_then}
 use Rattle.scim_store_rows.specs.Audit.{kind_number}
 use Rattle.scim_store_rows.proofs.WalkLemmas.{row_read}
 use Rattle.scim_store_rows.proofs.walking.read_row.Goals as goal

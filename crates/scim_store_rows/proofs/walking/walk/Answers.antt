@@ -3,8 +3,8 @@ use Rattle.sqlite.specs.State.{HasCleanDisk}
 use Rattle.sqlite.specs.Held.{state}
 use Rattle.sqlite.specs.Given.{row_if, IsRefused}
 use Rattle.sqlite.proofs.Callers.{unchanged_then}
-use Rattle.scim_store_tables.proofs.AskLemmas.{resources_text}
-use Rattle.scim_store_tables.proofs.AnswerLemmas.{failed_rests, unchanged_rests}
+use Rattle.scim_store_tables.proofs.Facts.{resources_text}
+use Rattle.scim_store_tables.proofs.Facts.{failed_rests, unchanged_rests}
 use Rattle.scim_store_rows.proofs.FindLemmas.{rests_then}
 use Rattle.scim_store_rows.proofs.WalkLemmas.{took_none, took_more, took_all, begun_here, stands_tables}
 use Rattle.scim_store_rows.proofs.walking.walk.Goals as goal

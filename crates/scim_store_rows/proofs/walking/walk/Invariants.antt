@@ -5,7 +5,7 @@ use Rattle.sqlite.specs.View.{doubt}
 use Rattle.sqlite.specs.Held.{state}
 use Rattle.sqlite.specs.Given.{HasGiven}
 use Rattle.scim_shelf.specs.Stores.{Store}
-use Rattle.scim_store_tables.proofs.AskLemmas.{resources_text}
+use Rattle.scim_store_tables.proofs.Facts.{resources_text}
 use Rattle.scim_store_rows.specs.Finding.{StandsIn}
 use Rattle.scim_store_rows.proofs.WalkLemmas.{TookRows}
 use Rattle.scim_store_rows.proofs.walking.walk.Given as goal

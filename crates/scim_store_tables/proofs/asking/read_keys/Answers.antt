@@ -1,5 +1,5 @@
 use Rattle.sqlite.specs.Held.{state}
-use Rattle.scim_store_tables.specs.code.Queries.{keys_query}
+use Rattle.scim_store_tables.specs.Queries.{keys_query}
 use Rattle.scim_store_tables.specs.code.Told.{AreKeys}
 use Rattle.scim_store_tables.proofs.ReadLemmas.{table_keys_told}
 use Rattle.scim_store_tables.proofs.ToldLemmas.{asked_told}

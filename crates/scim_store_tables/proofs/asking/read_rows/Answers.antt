@@ -1,5 +1,5 @@
 use Rattle.sqlite.specs.Held.{state}
-use Rattle.scim_store_tables.specs.code.Queries.{rows_query}
+use Rattle.scim_store_tables.specs.Queries.{rows_query}
 use Rattle.scim_store_tables.specs.code.Told.{AreRows}
 use Rattle.scim_store_tables.proofs.ReadLemmas.{rows_told}
 use Rattle.scim_store_tables.proofs.ToldLemmas.{asked_told}

@@ -1,5 +1,5 @@
 use Rattle.std.proofs.Common.{◌≡◌, map, Ok}
-use Rattle.scim_body.specs.code.Given.{units_given}
+use Rattle.scim_body.specs.Given.{units_given}
 use Rattle.scim_patch_message.specs.PathSteps.{set_to}
 use Rattle.scim_patch_message.specs.Readings.{both}
 use Rattle.scim_patch_message.specs.code.Inside.{read_of}

@@ -1,5 +1,5 @@
 use Rattle.std.proofs.Common.{◌≡◌, ◌∙◌, ◌&&◌, true, false, cond, List, ℕ}
-use Rattle.scim_shelf.specs.code.Members.{is_same, is_noted, is_one_of}
+use Rattle.scim_shelf.specs.Members.{is_same, is_noted, is_one_of}
 use Rattle.scim_shelf.proofs.NotedLemmas.{taken_back}
 use Rattle.scim_shelf.proofs.collections.Collection.insert.Goals as goal
 

@@ -8,9 +8,9 @@ use Rattle.scim_shelf.specs.declared.owners.Owners.{Owners}
 use Rattle.scim_value.specs.declared.uniqueness.UniqueName.{UniqueName}
 use Rattle.scim_value.specs.Uniqueness.{name_of}
 use Rattle.scim_shelf.specs.Stores.{has_name}
-use Rattle.scim_shelf.specs.code.Owners.{owner, is_among}
-use Rattle.scim_shelf.specs.code.Collections.{has_id, has_in}
-use Rattle.scim_shelf.specs.code.Members.{is_same, is_noted, is_one_of}
+use Rattle.scim_shelf.specs.Owners.{owner, is_among}
+use Rattle.scim_shelf.specs.Indexed.{has_id, has_in}
+use Rattle.scim_shelf.specs.Members.{is_same, is_noted, is_one_of}
 use Rattle.scim_shelf.proofs.StoreLemmas.{keep_keyed}
 use Rattle.scim_shelf.proofs.CollectionLemmas.{insert_keyed}
 use Rattle.scim_shelf.proofs.NameLemmas.{owner_keep}

@@ -1,7 +1,7 @@
 use Rattle.std.proofs.Common.{◌++◌, ◌∷◌, [], List, subst}
 use Rattle.scim_cell.specs.Content.{Content}
 use Rattle.scim_shelf.specs.Stores.{keep}
-use Rattle.scim_shelf.specs.code.Collections.{AreLeft}
+use Rattle.scim_shelf.specs.Indexed.{AreLeft}
 use Rattle.scim_shelf.proofs.LeftLemmas.{all_left, last_place, last_kept}
 use Rattle.scim_shelf.proofs.collections.Collection.of.Goals as goal
 

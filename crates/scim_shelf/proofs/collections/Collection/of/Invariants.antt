@@ -1,7 +1,7 @@
 use Rattle.std.proofs.Common.{List, vec_len}
 use Rattle.scim_cell.specs.Content.{Content}
 use Rattle.scim_shelf.specs.Collections.{IsCollection}
-use Rattle.scim_shelf.specs.code.Collections.{AreLeft}
+use Rattle.scim_shelf.specs.Indexed.{AreLeft}
 use Rattle.scim_shelf.proofs.collections.Collection.of.Given as goal
 
 -- the others have been kept

@@ -9,10 +9,10 @@ use Rattle.scim_value.specs.declared.uniqueness.UniqueName.{UniqueName}
 use Rattle.scim_value.specs.Uniqueness.{name_of}
 use Rattle.scim_shelf.specs.declared.collections.Collection.{Collection}
 use Rattle.scim_shelf.specs.Stores.{without}
-use Rattle.scim_shelf.specs.code.Owners.{owner, is_among}
-use Rattle.scim_shelf.specs.code.Members.{is_same, is_noted, is_group_in}
+use Rattle.scim_shelf.specs.Owners.{owner, is_among}
+use Rattle.scim_shelf.specs.Members.{is_same, is_noted, is_group_in}
 use Rattle.scim_shelf.specs.Collections.{IsCollection}
-use Rattle.scim_shelf.specs.code.Collections.{has_id, has_in, names_of}
+use Rattle.scim_shelf.specs.Indexed.{has_id, has_in, names_of}
 use Rattle.scim_shelf.proofs.StoreLemmas.{without_keyed}
 use Rattle.scim_shelf.proofs.CollectionLemmas.{lookup_keyed, remove_keyed}
 use Rattle.scim_shelf.proofs.NameLemmas.{owner_without}

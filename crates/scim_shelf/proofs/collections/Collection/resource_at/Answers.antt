@@ -1,7 +1,7 @@
 use Rattle.std.proofs.Common.{rules, ◌∙◌, ap, List}
 use Rattle.scim_cell.specs.Content.{Content}
 use Rattle.scim_shelf.specs.Collections.{IsCollection}
-use Rattle.scim_shelf.specs.code.Collections.{only_of}
+use Rattle.scim_shelf.specs.Indexed.{only_of}
 use Rattle.scim_shelf.proofs.NameLemmas.{found_at}
 use Rattle.scim_shelf.proofs.collections.Collection.resource_at.Goals as goal
 

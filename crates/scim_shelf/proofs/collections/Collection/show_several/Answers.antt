@@ -5,7 +5,7 @@ use Rattle.std.proofs.lemmas.List.{map_push}
 use Rattle.std.proofs.lemmas.Map.Iter.{iter_end}
 use denote.Ref.{Bor}
 use Rattle.scim_cell.specs.Content.{Content}
-use Rattle.scim_shelf.specs.code.Collections.{has_id, before, picked}
+use Rattle.scim_shelf.specs.Indexed.{has_id, before, picked}
 use Rattle.scim_shelf.proofs.PickLemmas.{folds_both, picked_all, picked_push}
 use Rattle.scim_shelf.proofs.collections.Collection.show_several.Goals as goal
 

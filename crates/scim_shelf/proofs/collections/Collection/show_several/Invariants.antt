@@ -2,7 +2,7 @@ use Rattle.std.proofs.Common.{List, map}
 use Rattle.std.specs.List.{FoldsTo}
 use Rattle.scim_cell.specs.Content.{Content}
 use Rattle.scim_shelf.specs.Collections.{IsCollection}
-use Rattle.scim_shelf.specs.code.Collections.{picked}
+use Rattle.scim_shelf.specs.Indexed.{picked}
 use Rattle.scim_shelf.proofs.collections.Collection.show_several.Given as goal
 
 -- the visitor has taken the resources with the ids so far

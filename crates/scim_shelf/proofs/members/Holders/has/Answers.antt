@@ -1,6 +1,6 @@
 use Rattle.std.proofs.Common.{◌∙◌, ap, sym}
 use Rattle.std.proofs.lemmas.Map.Text.{is_eq-slice_cmp}
-use Rattle.scim_shelf.specs.code.Members.{is_holder}
+use Rattle.scim_shelf.specs.Members.{is_holder}
 use Rattle.scim_shelf.proofs.members.Holders.has.Goals as goal
 
 pub returns-in-One : goal.returns-in-One

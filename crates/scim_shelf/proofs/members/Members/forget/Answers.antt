@@ -1,7 +1,7 @@
 use Rattle.std.proofs.Common.{rules, ◌≡◌, sym, ◌∙◌, ap, cond, true, false}
 use Rattle.std.specs.Prelude.{Option, Some}
 use Rattle.scim_shelf.specs.declared.members.Holders.{Holders}
-use Rattle.scim_shelf.specs.code.Members.{is_same, has_in}
+use Rattle.scim_shelf.specs.Members.{is_same, has_in}
 use Rattle.scim_shelf.proofs.NoteLemmas.{is_there, one_changed, last_gone}
 use Rattle.scim_shelf.proofs.members.Members.forget.Goals as goal
 

@@ -1,5 +1,5 @@
 use Rattle.std.proofs.Common.{◌≡◌, ℕ, List, ◌&&◌, false, cond, take}
-use Rattle.scim_shelf.specs.code.Members.{is_same, is_noted, is_value_of}
+use Rattle.scim_shelf.specs.Members.{is_same, is_noted, is_value_of}
 use Rattle.scim_shelf.proofs.members.Members.forget_group.Given as goal
 
 -- the id is noted under no value of the members so far

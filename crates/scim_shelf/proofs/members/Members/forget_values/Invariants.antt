@@ -1,5 +1,5 @@
 use Rattle.std.proofs.Common.{◌≡◌, ℕ, List, ◌&&◌, false, cond, take}
-use Rattle.scim_shelf.specs.code.Members.{is_same, is_noted, is_one_of}
+use Rattle.scim_shelf.specs.Members.{is_same, is_noted, is_one_of}
 use Rattle.scim_shelf.proofs.members.Members.forget_values.Given as goal
 
 -- the id is noted under none of the values so far

@@ -6,7 +6,7 @@ use Rattle.std.specs.HashMap.{UpdatesBy}
 use Rattle.std.proofs.lemmas.Result.{on_ok_weaker, on_err_weaker}
 use Rattle.scim_shelf.specs.declared.members.Holders.{Holders}
 use Rattle.scim_shelf.specs.declared.members.Holders.TheVariants.{One}
-use Rattle.scim_shelf.specs.code.Members.{is_same, has_in}
+use Rattle.scim_shelf.specs.Members.{is_same, has_in}
 use Rattle.scim_shelf.proofs.NoteLemmas.{ChangesAt, is_there, one_changed, none_changed, same_alone}
 use Rattle.scim_shelf.proofs.members.Members.note.Goals as goal
 

@@ -1,5 +1,5 @@
 use Rattle.std.proofs.Common.{◌∙◌}
-use Rattle.scim_shelf.specs.code.Members.{is_same, is_noted}
+use Rattle.scim_shelf.specs.Members.{is_same, is_noted}
 use Rattle.scim_shelf.proofs.NoteLemmas.{others_stay}
 use Rattle.scim_shelf.proofs.members.Members.note_each.Goals as goal
 

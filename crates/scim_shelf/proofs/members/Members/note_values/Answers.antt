@@ -1,5 +1,5 @@
 use Rattle.std.proofs.Common.{rules}
-use Rattle.scim_shelf.specs.code.Members.{IsUnnoted}
+use Rattle.scim_shelf.specs.Members.{IsUnnoted}
 use Rattle.scim_shelf.proofs.NotedLemmas.{taken_back}
 use Rattle.scim_shelf.proofs.members.Members.note_values.Goals as goal
 

@@ -1,6 +1,6 @@
 use Rattle.std.proofs.Common.{◌≡◌, sym, ◌∙◌, ap, ℕ, ◌<◌, List, ◌++◌, ◌∷◌, [], Bool, false, true, ◌&&◌, not, length, take, arith}
 use Rattle.std.specs.Prelude.{None, Some}
-use Rattle.scim_shelf.specs.code.Members.{is_noted, is_one_of, is_value_of}
+use Rattle.scim_shelf.specs.Members.{is_noted, is_one_of, is_value_of}
 use Rattle.scim_shelf.proofs.ValueLemmas.{value_more, taken_more, taken_same, or_false}
 use Rattle.scim_shelf.proofs.members.Members.values_unnoted.Goals as goal
 use Rattle.scim_shelf.proofs.members.Members.values_unnoted.Goals.{in-Some+then-not-has+in_ok-copy_of+in_ok-push, in-Some+else-not-has, in_default}

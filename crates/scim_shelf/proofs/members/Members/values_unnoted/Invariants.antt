@@ -1,5 +1,5 @@
 use Rattle.std.proofs.Common.{◌≡◌, ℕ, List, take, ◌&&◌, not}
-use Rattle.scim_shelf.specs.code.Members.{is_noted, is_one_of, is_value_of}
+use Rattle.scim_shelf.specs.Members.{is_noted, is_one_of, is_value_of}
 use Rattle.scim_shelf.proofs.members.Members.values_unnoted.Given as goal
 
 -- those of the members so far

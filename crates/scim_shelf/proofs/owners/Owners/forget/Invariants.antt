@@ -1,6 +1,6 @@
 use Rattle.std.proofs.Common.{◌≡◌, ◌≤◌, None, cond, take}
 use Rattle.scim_value.specs.declared.uniqueness.UniqueName.{UniqueName}
-use Rattle.scim_shelf.specs.code.Owners.{owner, room, is_among}
+use Rattle.scim_shelf.specs.Owners.{owner, room, is_among}
 use Rattle.scim_shelf.proofs.owners.Owners.forget.Given as goal
 
 -- the names so far have no owner

@@ -1,7 +1,7 @@
 use Rattle.std.proofs.Common.{◌∙◌, ap, arith, sym, cond, ◌<◌, List, ℕ}
 use Rattle.std.specs.Prelude.{Option, Some}
 use Rattle.scim_value.specs.declared.uniqueness.UniqueName.{UniqueName}
-use Rattle.scim_shelf.specs.code.Owners.{owner, room, is_among}
+use Rattle.scim_shelf.specs.Owners.{owner, room, is_among}
 use Rattle.scim_shelf.proofs.OwnerLemmas.{at_ok, noted_more}
 use Rattle.scim_shelf.proofs.owners.Owners.note.Goals as goal
 

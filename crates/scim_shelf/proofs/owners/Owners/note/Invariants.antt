@@ -1,6 +1,6 @@
 use Rattle.std.proofs.Common.{◌≡◌, ◌≤◌, Some, cond, vec_len}
 use Rattle.scim_value.specs.declared.uniqueness.UniqueName.{UniqueName}
-use Rattle.scim_shelf.specs.code.Owners.{owner, room, is_among}
+use Rattle.scim_shelf.specs.Owners.{owner, room, is_among}
 use Rattle.scim_shelf.proofs.owners.Owners.note.Given as goal
 
 -- when those that are left are noted, all are
