@@ -2,11 +2,14 @@
 use crate::policy_calls::policy;
 use crate::view_calls::{viewer, wanted};
 use case_filters::filter_of;
-use case_values::{Case, CaseFault, between, joined, named, parts_of, push_all, resources_of, said, shown, spaced_text};
-use scim_query::{Page, Pager, Query, read_sort_by, search, search_view};
+use case_values::{
+    Case, CaseFault, between, joined, named, parts_of, push_all, resources_of, said, shown,
+    spaced_text,
+};
 use scim_filter_grammar::Filter;
 use scim_json::to_json;
 use scim_policy::Policy;
+use scim_query::{Page, Pager, Query, read_sort_by, search, search_view};
 use scim_samples::{atom_text, leaf_text, read_leaf, sample_groups};
 use scim_schema::Leaf;
 use scim_value::{Part, Resource};

@@ -1,7 +1,6 @@
 //! What a refusal is answered with.
 use case_values::{Case, CaseFault, joined, push_all, refusal_of, shown};
 use scim_audit::Refusal;
-use scim_exchange::status_of_refusal;
 use std::alloc::Global;
 
 /// The number of a refusal, its status, its keyword where it has one, and what else the reply says.
@@ -15,7 +14,7 @@ pub fn refusal_call(case: &Case<'_>) -> Result<String, CaseFault> {
 
 fn number_and_status(alloc: Global, refusal: Refusal) -> Result<String, CaseFault> {
     let number = shown(alloc, &refusal.number())?;
-    let status = shown(alloc, &status_of_refusal(refusal))?;
+    let status = shown(alloc, &refusal.status())?;
     joined(alloc, &["F", number.as_str(), " ", status.as_str()])
 }
 

@@ -8,40 +8,11 @@ use scim_cell::{Id, Text};
 use scim_text::read_printed_moment;
 use std::alloc::Global;
 
-/// All refusals.
-const REFUSALS: [Refusal; 24] = [
-    Refusal::BadHead,
-    Refusal::TooLarge,
-    Refusal::BadFraming,
-    Refusal::UnknownCoding,
-    Refusal::NoRoute,
-    Refusal::NotSupported,
-    Refusal::BadMethod(Methods::Collection),
+/// The refusals of a method beside that which [`Refusal::all`] has.
+const OTHER_METHODS: [Refusal; 3] = [
     Refusal::BadMethod(Methods::Search),
     Refusal::BadMethod(Methods::Resource),
     Refusal::BadMethod(Methods::Discovery),
-    Refusal::NoToken,
-    Refusal::Syntax,
-    Refusal::Filter,
-    Refusal::Path,
-    Refusal::MessageValue,
-    Refusal::NotFound,
-    Refusal::Denied,
-    Refusal::Mutability,
-    Refusal::NoTarget,
-    Refusal::ResultValue,
-    Refusal::Taken,
-    Refusal::Widens,
-    Refusal::IdInUse,
-    Refusal::Store,
-];
-
-const DECIDED: [Decided; 5] = [
-    Decided::Allow,
-    Decided::Deny,
-    Decided::Hidden,
-    Decided::Absent,
-    Decided::Refused,
 ];
 
 /// A call of `scim_audit`.
@@ -74,12 +45,26 @@ pub fn answer(case: &Case<'_>, call: &str) -> Option<Result<String, CaseFault>> 
 /// The refusal that `refusal` names, as `NotFound` or `BadMethod(Search)`.
 pub fn refusal_of(case: &Case<'_>) -> Result<Refusal, CaseFault> {
     let name = case.text("refusal")?;
-    for refusal in REFUSALS.iter() {
-        if is_named(case.alloc, *refusal, name)? {
-            return Ok(*refusal);
+    if let Some(refusal) = refusal_named(case.alloc, Refusal::all(), name)? {
+        return Ok(refusal);
+    }
+    let Some(refusal) = refusal_named(case.alloc, &OTHER_METHODS, name)? else {
+        return Err(CaseFault::Missing("refusal"));
+    };
+    Ok(refusal)
+}
+
+fn refusal_named(
+    alloc: Global,
+    refusals: &[Refusal],
+    name: &str,
+) -> Result<Option<Refusal>, CaseFault> {
+    for refusal in refusals {
+        if is_named(alloc, *refusal, name)? {
+            return Ok(Some(*refusal));
         }
     }
-    Err(CaseFault::Missing("refusal"))
+    Ok(None)
 }
 
 fn is_named(alloc: Global, refusal: Refusal, name: &str) -> Result<bool, CaseFault> {
@@ -98,7 +83,7 @@ fn leaf_path_call(case: &Case<'_>) -> Result<String, CaseFault> {
 /// What `decided` names; `Allow` where it isn't given.
 fn decided(case: &Case<'_>) -> Result<Decided, CaseFault> {
     let name = case.text_or("decided", "Allow");
-    for decided in DECIDED.iter() {
+    for decided in Decided::all() {
         if decided.name() == name {
             return Ok(*decided);
         }

@@ -1,8 +1,9 @@
 -- Refusals: their numbers, and what is answered (RFC 7644 section 3.12).
-use Rattle.std.specs.Prelude.{ℕ, Bool, true, false, List, ◌++◌, codes, Option, None, Some}
+use Rattle.std.specs.Prelude.{ℕ, Bool, true, false, List, [], ◌∷◌, ◌++◌, codes, Option, None, Some}
 use Rattle.http.specs.StatusCode.{code_digits}
 use Rattle.scim_audit.specs.declared.refusals.Refusal.{Refusal}
 use Rattle.scim_audit.specs.declared.refusals.Refusal.TheVariants.{BadHead, TooLarge, BadFraming, UnknownCoding, NoRoute, NotSupported, BadMethod, NoToken, Syntax, Filter, Path, MessageValue, NotFound, Denied, Mutability, NoTarget, ResultValue, Taken, Widens, IdInUse, Store}
+use Rattle.scim_audit.specs.declared.methods.Methods.TheVariants.{Collection}
 use Rattle.scim_audit.specs.Methods.{allow_text}
 
 -- the number of a refusal, in the order in which they are looked for
@@ -28,6 +29,10 @@ number_of Taken = 18
 number_of Widens = 19
 number_of IdInUse = 20
 number_of Store = 21
+
+-- one refusal for each number, in order; that of a method that an endpoint lacks names the methods of a collection
+unfoldable pub refusals : List Refusal
+refusals = BadHead ∷ TooLarge ∷ BadFraming ∷ UnknownCoding ∷ NoRoute ∷ NotSupported ∷ BadMethod Collection ∷ NoToken ∷ Syntax ∷ Filter ∷ Path ∷ MessageValue ∷ NotFound ∷ Denied ∷ Mutability ∷ NoTarget ∷ ResultValue ∷ Taken ∷ Widens ∷ IdInUse ∷ Store ∷ []
 
 -- the status code of the reply (RFC 9110 section 15, RFC 7644 table 8)
 abbrev pub status_of : Refusal → ℕ

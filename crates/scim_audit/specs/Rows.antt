@@ -13,6 +13,10 @@ use Rattle.scim_audit.specs.declared.rows.Decided.TheVariants.{Allow, Deny, Hidd
 use Rattle.scim_audit.specs.declared.rows.AuditRow.{AuditRow}
 use Rattle.scim_audit.specs.Refusals.{number_of}
 
+-- all decisions
+unfoldable pub decisions : List Decided
+decisions = Allow ∷ Deny ∷ Hidden ∷ Absent ∷ Refused ∷ []
+
 -- the word for what was decided
 abbrev pub decided_name : Decided → List ℕ
 decided_name Allow = codes "Allow"

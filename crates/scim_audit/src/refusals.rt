@@ -77,6 +77,36 @@ macro_rules! error_message {
 }
 
 impl Refusal {
+    /// Returns one refusal for each number, in order. [`Refusal::BadMethod`] stands there with the methods of a collection.
+    #[tactic(auto, unfolding(crate::specs::Refusals::refusals))]
+    pub fn all() -> &'static [Refusal]
+        ensures { result.now ≡ spec.refusals }
+    {
+        &[
+            Refusal::BadHead,
+            Refusal::TooLarge,
+            Refusal::BadFraming,
+            Refusal::UnknownCoding,
+            Refusal::NoRoute,
+            Refusal::NotSupported,
+            Refusal::BadMethod(Methods::Collection),
+            Refusal::NoToken,
+            Refusal::Syntax,
+            Refusal::Filter,
+            Refusal::Path,
+            Refusal::MessageValue,
+            Refusal::NotFound,
+            Refusal::Denied,
+            Refusal::Mutability,
+            Refusal::NoTarget,
+            Refusal::ResultValue,
+            Refusal::Taken,
+            Refusal::Widens,
+            Refusal::IdInUse,
+            Refusal::Store,
+        ]
+    }
+
     /// The number of this refusal, from 1, by which the audit names it.
     pub fn number(self) -> u8
         ensures { result ≡ spec.number_of self }
@@ -103,6 +133,32 @@ impl Refusal {
             Refusal::Widens => 19,
             Refusal::IdInUse => 20,
             Refusal::Store => 21,
+        }
+    }
+
+    /// Returns the status code of the reply (RFC 9110 section 15, RFC 7644 table 8).
+    pub fn status(self) -> u16
+        ensures { result ≡ spec.status_of self }
+    {
+        match self {
+            Refusal::BadHead
+            | Refusal::BadFraming
+            | Refusal::Syntax
+            | Refusal::Filter
+            | Refusal::Path
+            | Refusal::MessageValue
+            | Refusal::Mutability
+            | Refusal::NoTarget
+            | Refusal::ResultValue => 400,
+            Refusal::TooLarge => 413,
+            Refusal::UnknownCoding | Refusal::NotSupported => 501,
+            Refusal::NoRoute | Refusal::NotFound => 404,
+            Refusal::BadMethod(_) => 405,
+            Refusal::NoToken => 401,
+            Refusal::Denied | Refusal::Widens => 403,
+            Refusal::Taken => 409,
+            Refusal::IdInUse => 503,
+            Refusal::Store => 500,
         }
     }
 

@@ -24,6 +24,20 @@ pub enum Decided {
 }
 
 impl Decided {
+    /// Returns all decisions, in the order of their numbers in a database.
+    #[tactic(auto, unfolding(crate::specs::Rows::decisions))]
+    pub fn all() -> &'static [Decided]
+        ensures { result.now ≡ spec.decisions }
+    {
+        &[
+            Decided::Allow,
+            Decided::Deny,
+            Decided::Hidden,
+            Decided::Absent,
+            Decided::Refused,
+        ]
+    }
+
     /// The word for it, as lines of the audit have it.
     pub fn name(self) -> &'static str
         ensures { result.now ≡ spec.decided_name self }

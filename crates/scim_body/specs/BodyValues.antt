@@ -4,6 +4,7 @@ use Rattle.std.specs.List.{list_any, count_by}
 use denote.Enum.Bare.{sameb}
 use Rattle.serde_json.specs.Data.{Data, null, boolean, number, string, array, object, no_items, item, Members}
 use Rattle.serde_json.specs.Find.{as_array, as_object}
+use Rattle.scim_schema.specs.declared.limits.TheConstants.{LONGEST_VALUE, MOST_VALUES}
 use Rattle.scim_schema.specs.declared.Kind.{Kind}
 use Rattle.scim_schema.specs.declared.Attribute.{Attribute}
 use Rattle.scim_schema.specs.declared.SubAttribute.{SubAttribute}
@@ -73,7 +74,7 @@ truth_of (object ms) = None
 
 -- whether an atom is within the limit: a text has at most 65,536 bytes
 abbrev pub is_short : Atom → Bool
-is_short (Text t) = nat_le (length t) 65536
+is_short (Text t) = nat_le (length t) LONGEST_VALUE
 is_short (Truth b) = true
 is_short (Moment m) = true
 
@@ -129,7 +130,7 @@ value_of kind a d = if is_absent d then Some [] else option_map (value_with a) (
 
 -- whether the values are refused: two are primary, there are over 10,000, or a member has no `value`
 abbrev pub are_refused : Attribute → List Row → Bool
-are_refused a rs = nat_lt 1 (count_by is_primary rs) || nat_lt 10000 (length rs) || list_any (is_nameless a) rs
+are_refused a rs = nat_lt 1 (count_by is_primary rs) || nat_lt MOST_VALUES (length rs) || list_any (is_nameless a) rs
 
 abbrev pub checked : Attribute → List Row → Option (List Row)
 checked a rs = if are_refused a rs then None else Some rs

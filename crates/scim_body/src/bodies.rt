@@ -15,14 +15,17 @@ ghost use Rattle.scim_body.specs.Given.{AreOfBody, with_given, unit_given, units
 use crate::clashes::body_clashes;
 use crate::drafts::{Draft, UseFor};
 use crate::members::given_named;
+use crate::reading::NotJson;
 use crate::required::lacks_required;
+use crate::trees::{Member, Tree};
 use crate::values::{WrongValue, read_atom, read_fields, read_values};
 use json::Scratch;
 use scim_cell::{Atom, Field, Row};
-use scim_schema::{Attribute, JsonShape, Kind, Leaf, Schema, Unit, attributes, characteristics_of, extension_of, is_read_only, is_write_only, shape_of, unit_of};
+use scim_schema::{
+    Attribute, JsonShape, Kind, Leaf, Schema, Unit, attributes, characteristics_of, extension_of,
+    is_read_only, is_write_only, shape_of, unit_of,
+};
 use scim_text::{Failed, NoMemory, push};
-use crate::trees::{Member, Tree};
-use crate::reading::NotJson;
 use std::alloc::Global;
 use thiserror::Error;
 

@@ -5,8 +5,11 @@ ghost use Rattle.scim_body.specs.View.{view, items_view, members_view};
 ghost use Rattle.scim_body.specs.BodyNames as spec;
 
 use crate::members::{is_twice, value_named};
-use scim_schema::{Attribute, Kind, Leaf, Schema, attributes, extension_of, extensions, is_multi_valued, is_read_only, sub_attributes};
 use crate::trees::{Member, Tree};
+use scim_schema::{
+    Attribute, Kind, Leaf, Schema, attributes, extension_of, extensions, is_multi_valued,
+    is_read_only, sub_attributes,
+};
 
 /// Whether two keys name one sub-attribute of the attribute.
 fn sub_attributes_clash(members: &[Member<'_>], attribute: Attribute) -> bool

@@ -4,8 +4,8 @@ ghost use Rattle.scim_body.specs.View.{view, members_view};
 ghost use Rattle.scim_body.specs.BodyNames as spec;
 ghost use Rattle.scim_body.specs.BodyValues as values;
 
-use scim_text::same_name;
 use crate::trees::{Member, Tree};
+use scim_text::same_name;
 
 /// The value under a name; the first, where two keys are the name.
 pub fn value_named<'a, 'b>(members: &'a [Member<'b>], name: &str) -> Option<&'a Tree<'b>>

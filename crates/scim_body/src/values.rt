@@ -10,16 +10,16 @@ ghost use Rattle.scim_body.specs.BodyValues as spec;
 ghost use Rattle.scim_body.specs.Given.{after};
 
 use crate::members::{given_named, is_absent};
-use scim_cell::{Atom, Field, MOST_VALUES, Row, is_nameless, sub_attributes_by_place, with_values};
-use scim_json::atom_of;
-use scim_schema::{Attribute, AttributeType, Kind, Leaf, SubAttribute, Unit, characteristics_of, is_read_only, sub_attributes};
-use scim_text::{Failed, push, same_name};
 use crate::trees::{Member, Tree};
+use scim_cell::{Atom, Field, Row, is_nameless, sub_attributes_by_place, with_values};
+use scim_json::atom_of;
+use scim_schema::{
+    Attribute, AttributeType, Kind, LONGEST_VALUE, Leaf, MOST_VALUES, SubAttribute, Unit,
+    characteristics_of, is_read_only, sub_attributes,
+};
+use scim_text::{Failed, push, same_name};
 use std::alloc::Global;
 use std::slice;
-
-/// How many bytes a text may have.
-const LONGEST_TEXT: usize = 65_536;
 
 /// A value of a body is refused: it is of another type, or over a limit.
 #[derive(Clone, Copy, PartialEq, Eq)]
@@ -47,7 +47,7 @@ fn is_short(atom: &Atom) -> bool
     ensures { result ≡ spec.is_short atom.now }
 {
     match atom {
-        Atom::Text(text) => text.as_str().len() <= LONGEST_TEXT,
+        Atom::Text(text) => text.as_str().len() <= LONGEST_VALUE,
         Atom::Truth(_) | Atom::Moment(_) => true,
     }
 }

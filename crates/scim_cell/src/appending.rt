@@ -5,8 +5,8 @@ ghost use Rattle.scim_cell.specs.SameValues as spec;
 ghost use Rattle.scim_cell.specs.code.Keys.{key_of, Covers};
 
 use crate::keys::key;
-use crate::same_values::{has_same_among, is_same_value};
 use crate::rows::Row;
+use crate::same_values::{has_same_among, is_same_value};
 use scim_schema::Attribute;
 use scim_text::{NoMemory, push};
 use std::alloc::Global;

@@ -19,4 +19,4 @@ pub use ids::{Id, id_of, ids_ordered_as_texts, ids_read_back, uuid_of};
 pub use places::{Place, compare_units, sub_attributes_by_place};
 pub use row_checks::are_values;
 pub use rows::{Field, Row, RowTest};
-pub use same_values::{MOST_VALUES, is_nameless, is_same_value};
+pub use same_values::{is_nameless, is_same_value};

@@ -6,9 +6,6 @@ ghost use Rattle.scim_cell.specs.SameValues as spec;
 use crate::rows::Row;
 use scim_schema::{Attribute, Leaf, SubAttribute};
 
-/// How many values a multi-valued attribute may have.
-pub const MOST_VALUES: usize = 10_000;
-
 /// Whether two values of the attribute are the same: members with the same `value` (RFC 7643 section 4.2), other
 /// values with the same cells. Texts are compared as they are, case included.
 pub fn is_same_value(attribute: Attribute, a: &Row, b: &Row) -> bool

@@ -1,10 +1,10 @@
 //! `replay`, over the files that its options name.
-use crate::replays::{Recording, replay};
-use crate::token_files::read_tokens;
-use clap::ArgMatches;
 use crate::command_faults::CommandFault;
 use crate::files::{FileKind, read_file};
 use crate::replay_options::ReplayOptions;
+use crate::replays::{Recording, replay};
+use crate::token_files::read_tokens;
+use clap::ArgMatches;
 use scim_token::Tokens;
 use std::io::Write;
 use std::rt::Files;

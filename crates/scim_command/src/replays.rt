@@ -17,11 +17,11 @@ ghost use Rattle.scim_command.specs.Replays.{Replays, AreResultsOf};
 ghost use Rattle.scim_command.specs.code.ReplayExits.{IsHubOver, IsOfFiles, IsOfEvents, IsReplayFault};
 
 use crate::event_files::{FaultyLine, read_events};
+use crate::faults::{DatabaseFault, RunFault};
 use crate::outputs::results_text;
 use crate::recorded::events_of;
-use crate::token_files::read_tokens;
-use crate::faults::{DatabaseFault, RunFault};
 use crate::services::service_over;
+use crate::token_files::read_tokens;
 use crate::writing::write_or_fault;
 use scim_hub::{Hub, Recorded};
 use scim_policy_file::read_policy;

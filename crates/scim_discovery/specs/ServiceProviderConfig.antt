@@ -1,6 +1,7 @@
 -- What this server can do (RFC 7643 section 5).
 use Rattle.std.specs.Prelude.{Bool, true, false, codes}
 use Rattle.serde_json.specs.Data.{Data, boolean, number, unsigned, string, array, object, no_items, item, no_members, member}
+use Rattle.scim_schema.specs.declared.limits.TheConstants.{MOST_SHOWN}
 
 -- clients show who they are by bearer tokens (RFC 6750)
 abbrev pub bearer_tokens : Data
@@ -29,7 +30,7 @@ bulk = object
 
 -- filters are, and at most 200 resources are shown at once (RFC 7644 section 3.4.2)
 abbrev pub filter : Data
-filter = object (member (codes "maxResults") (number (unsigned 200)) (member (codes "supported") (boolean true) no_members))
+filter = object (member (codes "maxResults") (number (unsigned MOST_SHOWN)) (member (codes "supported") (boolean true) no_members))
 
 -- what this server can do
 unfoldable pub service_provider_config : Data

@@ -1,5 +1,6 @@
 -- In which order resources are listed, from which on, and how many (RFC 7644 sections 3.4.2.3 and 3.4.2.4).
 use Rattle.std.specs.Prelude.{ℕ, zero, suc, ℤ, pos, negsuc, min, Bool, true, false, List, codes, Option, None, Some, option_and_then, Result, Ok, Err, if◌then◌else◌}
+use Rattle.scim_schema.specs.declared.limits.TheConstants.{MOST_SHOWN, USUALLY_SHOWN}
 use Rattle.scim_schema.specs.declared.Kind.{Kind}
 use Rattle.scim_text.specs.Names.{is_same_name}
 use Rattle.scim_audit.specs.declared.refusals.Refusal.{Refusal}
@@ -25,8 +26,8 @@ first_shown (Some (negsuc n)) = 1
 
 -- how many are shown at most, by `count`: below 0 none, and never over 200; 100 where none is given (RFC 7644 section 3.4.2.4)
 abbrev pub most_shown : Option ℤ → ℕ
-most_shown None = 100
-most_shown (Some (pos n)) = min n 200
+most_shown None = USUALLY_SHOWN
+most_shown (Some (pos n)) = min n MOST_SHOWN
 most_shown (Some (negsuc n)) = 0
 
 -- all that, by the texts of `sortBy` and `sortOrder`, `startIndex` and `count`; a `sortBy` that names nothing is none

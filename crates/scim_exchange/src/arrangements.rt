@@ -6,14 +6,8 @@ ghost use Rattle.scim_exchange.specs.Arrangements as spec;
 
 use scim_audit::Refusal;
 use scim_query::read_sort_by;
-use scim_schema::{Kind, Leaf};
+use scim_schema::{Kind, Leaf, MOST_SHOWN, USUALLY_SHOWN};
 use scim_text::same_name;
-
-/// How many resources are shown where a search doesn't say.
-const COUNT_BY_DEFAULT: usize = 100;
-
-/// How many are shown at most, whatever it says.
-const MOST_SHOWN: i64 = 200;
 
 /// In which order resources are listed, from which on, and how many at most.
 #[derive(Clone, Copy)]
@@ -55,8 +49,8 @@ fn most_shown(count: Option<i64>) -> usize
     ensures { result ≡ spec.most_shown count }
 {
     match count {
-        Some(most) => most.clamp(0, MOST_SHOWN) as usize,
-        None => COUNT_BY_DEFAULT,
+        Some(most) => most.clamp(0, MOST_SHOWN as i64) as usize,
+        None => USUALLY_SHOWN,
     }
 }
 

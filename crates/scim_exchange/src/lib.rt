@@ -16,4 +16,4 @@ mod statuses;
 pub use answers::Answer;
 pub use asks::ask;
 pub use exchanges::{Arrival, answer};
-pub use statuses::{status_of, status_of_refusal};
+pub use statuses::status_of;

@@ -2,7 +2,7 @@
 ghost use Rattle.std.specs.Prelude.{◌≡◌, IfOk, string_bytes};
 ghost use Rattle.scim_exchange.specs.Replies as spec;
 
-use crate::statuses::{status_of, status_of_refusal};
+use crate::statuses::status_of;
 use scim_audit::Refusal;
 use scim_service::Reply;
 use scim_text::NoMemory;
@@ -18,7 +18,7 @@ pub(crate) fn refusal_text(alloc: Global, refusal: Refusal, close: bool) -> Resu
     ensures { IfOk result (λ t. string_bytes t ≡ spec.refusal_text refusal close) }
 {
     let reply = WireReply {
-        status: status_of_refusal(refusal),
+        status: refusal.status(),
         body: Some(refusal.body()),
         location: None,
         allow: refusal.allow(),

@@ -3,8 +3,8 @@
 ghost use Rattle.std.specs.Prelude.{◌≡◌, IfOk};
 ghost use Rattle.scim_filter.specs.Relation as spec;
 
-use scim_filter_grammar::{Literal, Operator, StringLiteral, truth_of};
 use scim_cell::{Atom, Text};
+use scim_filter_grammar::{Literal, Operator, StringLiteral, truth_of};
 use scim_text::{Moment, NoMemory, Reading, fold};
 use std::alloc::Global;
 use std::cmp::Ordering;

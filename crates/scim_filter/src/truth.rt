@@ -12,8 +12,8 @@ ghost use Rattle.scim_filter.specs.code.Looks.{admitted, looked};
 
 use crate::looks::{Look, NoTest};
 use crate::relation::atom_stands;
-use scim_filter_grammar::{Filter, Literal, Meant, Node, Operator};
 use scim_cell::{Row, RowTest};
+use scim_filter_grammar::{Filter, Literal, Meant, Node, Operator};
 use scim_schema::{Attribute, Leaf, is_case_exact, is_multi_valued};
 use scim_text::NoMemory;
 use scim_value::Part;

@@ -3,7 +3,7 @@ use Rattle.std.proofs.Common.{◌≡◌, ◌≤◌, ◌+◌, ℕ, suc, false, co
 use Rattle.std.specs.Prelude.{option_map, MatchOption}
 use Rattle.std.specs.Result.{result_ok}
 use Rattle.scim_schema.specs.declared.Kind.{Kind}
-use Rattle.scim_filter_grammar.specs.declared.limits.TheConstants.{LONGEST_TEXT}
+use Rattle.scim_schema.specs.declared.limits.TheConstants.{LONGEST_FILTER}
 use Rattle.scim_filter_grammar.specs.declared.tree.Meant.{Meant}
 use Rattle.scim_filter_grammar.specs.declared.tree.Path.{Path}
 use Rattle.scim_filter_grammar.specs.declared.tree.Scope.TheVariants.{Attributes, SubAttributes}
@@ -246,8 +246,8 @@ plain_again kind n bytes path h =
 -- what the one path names that a text spells within the limit, if it spells one
 abbrev pub NamesAlone : Kind → List ℕ → Option Meant → Type 0
 NamesAlone kind bytes m =
-    MatchOption m ((path : Path) → length bytes ≤ LONGEST_TEXT → ¬ (IsWritten kind 0 bytes (Plain path)))
-    (λ n. (path : Path) × (length bytes ≤ LONGEST_TEXT) × IsWritten kind 0 bytes (Plain path) × (path.meant ≡ n))
+    MatchOption m ((path : Path) → length bytes ≤ LONGEST_FILTER → ¬ (IsWritten kind 0 bytes (Plain path)))
+    (λ n. (path : Path) × (length bytes ≤ LONGEST_FILTER) × IsWritten kind 0 bytes (Plain path) × (path.meant ≡ n))
 
 -- where a text has one word alone, that word is the path
 pub lone_parts : (bytes w : List ℕ) → lone_word bytes ≡ Some w → (behind_word_in bytes ≡ []) × (word_in bytes ≡ w)
@@ -257,7 +257,7 @@ lone_parts bytes w e = at (behind_word_in bytes) refl e
     at [] h f = (h, cc)
     at (b ∷ bs) h f = absurd cc
 
-pub named_alone : (kind : Kind) (bytes w : List ℕ) → length bytes ≤ LONGEST_TEXT → lone_word bytes ≡ Some w → NamesAlone kind bytes (option_map (λ (path : Path). path.meant) (result_ok (path_of (Attributes kind) w)))
+pub named_alone : (kind : Kind) (bytes w : List ℕ) → length bytes ≤ LONGEST_FILTER → lone_word bytes ≡ Some w → NamesAlone kind bytes (option_map (λ (path : Path). path.meant) (result_ok (path_of (Attributes kind) w)))
 named_alone kind bytes w short is =
     let parts = lone_parts bytes w is in
     let at : (r : Result Path Fault) → path_of (Attributes kind) (word_in bytes) ≡ r → NamesAlone kind bytes (option_map (λ (path : Path). path.meant) (result_ok r)) =

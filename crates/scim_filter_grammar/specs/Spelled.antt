@@ -2,7 +2,7 @@
 use Rattle.std.specs.Prelude.{◌≡◌, ◌≤◌, ◌↔◌, ℕ, true, nat_le, List, length, Option, Some, None, option_and_then, if◌then◌else◌}
 use Rattle.std.specs.Result.{result_ok}
 use Rattle.scim_schema.specs.declared.Kind.{Kind}
-use Rattle.scim_filter_grammar.specs.declared.limits.TheConstants.{LONGEST_TEXT}
+use Rattle.scim_schema.specs.declared.limits.TheConstants.{LONGEST_FILTER}
 use Rattle.scim_filter_grammar.specs.declared.tree.Path.{Path}
 use Rattle.scim_filter_grammar.specs.declared.tree.Scope.TheVariants.{Attributes}
 use Rattle.scim_filter_grammar.specs.Bytes.{lone_word}
@@ -19,19 +19,19 @@ fitting (Some tree) = if fits tree then Some tree else None
 
 -- the filter that a text spells within the limits and types, if it spells one
 unfoldable pub filter_in : Kind → List ℕ → Option Tree
-filter_in kind text = if nat_le (length text) LONGEST_TEXT then fitting (result_ok (all_of (Attributes kind) text)) else None
+filter_in kind text = if nat_le (length text) LONGEST_FILTER then fitting (result_ok (all_of (Attributes kind) text)) else None
 
 -- the path of an attribute or a sub-attribute that a text spells within the limit, if it spells one (RFC 7644 section 3.10)
 unfoldable pub path_in : Kind → List ℕ → Option Path
-path_in kind text = if nat_le (length text) LONGEST_TEXT then option_and_then (λ word. result_ok (path_of (Attributes kind) word)) (lone_word text) else None
+path_in kind text = if nat_le (length text) LONGEST_FILTER then option_and_then (λ word. result_ok (path_of (Attributes kind) word)) (lone_word text) else None
 
 -- the filter that a text spells is what the grammar says
 abbrev pub FiltersAreSpelled : Type 0
-FiltersAreSpelled = (kind : Kind) (text : List ℕ) (tree : Tree) → (filter_in kind text ≡ Some tree) ↔ ((length text ≤ LONGEST_TEXT) × IsFilter kind 32 text tree × (fits tree ≡ true))
+FiltersAreSpelled = (kind : Kind) (text : List ℕ) (tree : Tree) → (filter_in kind text ≡ Some tree) ↔ ((length text ≤ LONGEST_FILTER) × IsFilter kind 32 text tree × (fits tree ≡ true))
 
 -- and so is the path of an attribute
 abbrev pub PathsAreSpelled : Type 0
-PathsAreSpelled = (kind : Kind) (text : List ℕ) (path : Path) → (path_in kind text ≡ Some path) ↔ ((length text ≤ LONGEST_TEXT) × IsWritten kind 0 text (Plain path))
+PathsAreSpelled = (kind : Kind) (text : List ℕ) (path : Path) → (path_in kind text ≡ Some path) ↔ ((length text ≤ LONGEST_FILTER) × IsWritten kind 0 text (Plain path))
 
 -- a text spells one path of a change at most, value paths too, however many brackets are open in it
 abbrev pub OnePathIsSpelled : Type 0

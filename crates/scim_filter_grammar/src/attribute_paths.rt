@@ -6,10 +6,9 @@ ghost use Rattle.scim_filter_grammar.specs.Spelled.{path_in};
 ghost use Rattle.scim_filter_grammar.specs.WrittenPaths.{IsWritten, Plain};
 
 use crate::bytes::{skip_spaces, split_word};
-use crate::limits::LONGEST_TEXT;
 use crate::names::meant;
 use crate::tree::{Meant, Scope};
-use scim_schema::Kind;
+use scim_schema::{Kind, LONGEST_FILTER};
 
 /// The one word of a text, without the spaces round it; None where there is not just one. A word has no
 /// space, no quote and no bracket.
@@ -24,12 +23,12 @@ pub fn lone_word(text: &str) -> Option<&[u8]>
 /// the attribute table of a kind; None where the text is no path, or has more than 4,096 bytes. It takes no
 /// memory.
 pub fn attribute_path(kind: Kind, text: &str) -> Option<Meant>
-    ensures spelled { MatchOption result ((path : Path) → length text.now ≤ LONGEST_TEXT → ¬ (IsWritten kind 0 text.now (Plain path)))
-        (λ m. (path : Path) × (length text.now ≤ LONGEST_TEXT) × IsWritten kind 0 text.now (Plain path) × (path.meant ≡ m)) }
+    ensures spelled { MatchOption result ((path : Path) → length text.now ≤ LONGEST_FILTER → ¬ (IsWritten kind 0 text.now (Plain path)))
+        (λ m. (path : Path) × (length text.now ≤ LONGEST_FILTER) × IsWritten kind 0 text.now (Plain path) × (path.meant ≡ m)) }
     // The same by the function that gives what a text spells.
     ensures same { result ≡ option_map (λ (path : Path). path.meant) (path_in kind text.now) }
 {
-    if text.len() > LONGEST_TEXT {
+    if text.len() > LONGEST_FILTER {
         return None;
     }
     let Some(word) = lone_word(text) else {

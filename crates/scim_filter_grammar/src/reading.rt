@@ -12,12 +12,11 @@ ghost use Rattle.scim_filter_grammar.specs.Reading.{Gives, operator_of, relation
 
 use crate::bytes::{is_keyword, skip_gap, skip_join, skip_spaces, split_word};
 use crate::faults::{FilterFault, ReadError};
-use crate::limits::LONGEST_TEXT;
 use crate::literals::literal;
 use crate::names::path;
 use crate::tree::{Filter, Node, Operator, Path, Scope};
 use crate::types::fits;
-use scim_schema::Kind;
+use scim_schema::{Kind, LONGEST_FILTER};
 use scim_text::Failed;
 use std::alloc::Global;
 
@@ -270,9 +269,9 @@ fn all(alloc: Global, scope: Scope, bytes: &[u8]) -> Result<Node, Failed<ReadErr
 #[tactic(auto, using(crate::proofs::NestingLemmas::all_deep))]
 pub fn read_filter(alloc: Global, kind: Kind, text: &str) -> Result<Filter, Failed<FilterFault>>
     // What is read is spelled so, and its values are of the types of what they are compared with.
-    ensures found { IfOk result (λ f. (length text.now ≤ LONGEST_TEXT) × IsFilter kind 32 text.now (tree_of f) × (fits (tree_of f) ≡ true)) }
+    ensures found { IfOk result (λ f. (length text.now ≤ LONGEST_FILTER) × IsFilter kind 32 text.now (tree_of f) × (fits (tree_of f) ≡ true)) }
     // What is spelled within the limits and types is read so, unless memory runs out.
-    ensures only { (tree : Tree) → length text.now ≤ LONGEST_TEXT → IsFilter kind 32 text.now tree → fits tree ≡ true
+    ensures only { (tree : Tree) → length text.now ≤ LONGEST_FILTER → IsFilter kind 32 text.now tree → fits tree ≡ true
         → MatchResult result (λ f. tree_of f ≡ tree) (λ e. e ≡ Failed.NoMemory) }
     // A fault comes only where its cause stands.
     ensures syntax { IfFault result (λ e. (at : ℕ) → e ≡ FilterFault.Syntax at
@@ -280,12 +279,12 @@ pub fn read_filter(alloc: Global, kind: Kind, text: &str) -> Result<Filter, Fail
     ensures wrong_type { IsErrOf result (Failed.Because FilterFault.WrongType) → (tree : Tree) × IsFilter kind 32 text.now tree × (fits tree ≡ false) }
     ensures too_deep { IsErrOf result (Failed.Because FilterFault.TooDeep) → (tree : Tree) → ¬ (IsFilter kind 32 text.now tree) }
     ensures nested { IsErrOf result (Failed.Because FilterFault.TooDeep) → IsDeeper 32 text.now }
-    ensures too_long { IsErrOf result (Failed.Because FilterFault.TooLong) → LONGEST_TEXT < length text.now }
+    ensures too_long { IsErrOf result (Failed.Because FilterFault.TooLong) → LONGEST_FILTER < length text.now }
     // The same by the function that gives what a text spells.
     ensures same { MatchResult result (λ f. filter_in kind text.now ≡ Some (tree_of f)) (λ e. (e ≡ Failed.NoMemory) ⊎ (filter_in kind text.now ≡ None)) }
 {
     let bytes = text.as_bytes();
-    if bytes.len() > LONGEST_TEXT {
+    if bytes.len() > LONGEST_FILTER {
         return Err(Failed::Because(FilterFault::TooLong));
     }
     match all(alloc, Scope::Attributes(kind), bytes) {

@@ -8,7 +8,7 @@ ghost use Rattle.scim_filter_grammar.specs.declared.faults.FilterFault.{FilterFa
 
 use crate::bytes::{skip_one, skip_string, split_word};
 use crate::faults::FilterFault;
-use crate::limits::LONGEST_TEXT;
+use scim_schema::LONGEST_FILTER;
 use scim_text::{Failed, push};
 use std::alloc::Global;
 
@@ -40,17 +40,17 @@ fn skip_token(first: u8, others: &[u8]) -> Option<&[u8]>
 /// bytes, and with `NoMemory`.
 pub fn read_tokens<'a>(alloc: Global, text: &'a str) -> Result<Vec<Token<'a>>, Failed<FilterFault>>
     // What is found are all tokens of the text, in order, each with the text of its span.
-    ensures found { IfOk result (λ v. (length text.now ≤ LONGEST_TEXT) × Tokens (length text.now) text.now (spans v.items)) }
+    ensures found { IfOk result (λ v. (length text.now ≤ LONGEST_FILTER) × Tokens (length text.now) text.now (spans v.items)) }
     ensures slices { IfOk result (λ v. All (IsSlice text.now) v.items) }
     // A text within the limit whose strings all close is refused for want of memory alone: `Syntax` says where
     // a string isn't closed, and then no list is that of its tokens.
     ensures syntax { IfFault result (λ e. (at : ℕ) → e ≡ FilterFault.Syntax at
         → (at < length text.now) × ((ts : List Span) → ¬ (Tokens (length text.now) text.now ts))) }
     ensures unclosed { IfFault result (λ e. (at : ℕ) → e ≡ FilterFault.Syntax at → Unclosed (length text.now) text.now at) }
-    ensures too_long { IsErrOf result (Failed.Because FilterFault.TooLong) → LONGEST_TEXT < length text.now }
+    ensures too_long { IsErrOf result (Failed.Because FilterFault.TooLong) → LONGEST_FILTER < length text.now }
     ensures no_other { IfFault result (λ e. (e ≢ FilterFault.WrongType) × (e ≢ FilterFault.TooDeep)) }
 {
-    if text.len() > LONGEST_TEXT {
+    if text.len() > LONGEST_FILTER {
         return Err(Failed::Because(FilterFault::TooLong));
     }
     let mut tokens = Vec::new(alloc);

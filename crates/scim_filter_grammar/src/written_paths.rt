@@ -8,12 +8,11 @@ ghost use Rattle.scim_filter_grammar.specs.Bytes.{is_space, behind};
 
 use crate::bytes::{skip_spaces, split_word};
 use crate::faults::ReadError;
-use crate::limits::LONGEST_TEXT;
 use crate::names::{name, path};
 use crate::reading::listed;
 use crate::tree::{Filter, Path, Scope};
 use scim_cell::Text;
-use scim_schema::Kind;
+use scim_schema::{Kind, LONGEST_FILTER};
 use scim_text::{Failed, NoMemory};
 use std::alloc::Global;
 
@@ -101,13 +100,13 @@ fn written(alloc: Global, kind: Kind, bytes: &[u8]) -> Result<WrittenPath, Faile
 /// are those of sub-attributes. NoMemory where none was to be had.
 pub fn written_path(alloc: Global, kind: Kind, text: &str) -> Result<Option<WrittenPath>, NoMemory>
     // What is read is spelled so.
-    ensures found { IfOk result (λ o. IfSome o (λ w. (length text.now ≤ LONGEST_TEXT) × IsWritten kind 32 text.now (written_of w))) }
+    ensures found { IfOk result (λ o. IfSome o (λ w. (length text.now ≤ LONGEST_FILTER) × IsWritten kind 32 text.now (written_of w))) }
     // What is spelled within the limits is read so.
-    ensures only { (w : Written) → length text.now ≤ LONGEST_TEXT → IsWritten kind 32 text.now w
+    ensures only { (w : Written) → length text.now ≤ LONGEST_FILTER → IsWritten kind 32 text.now w
         → IfOk result (λ o. IsSomeAnd o (λ p. written_of p ≡ w)) }
 {
     let bytes = text.as_bytes();
-    if bytes.len() > LONGEST_TEXT {
+    if bytes.len() > LONGEST_FILTER {
         return Ok(None);
     }
     match written(alloc, kind, skip_spaces(bytes)) {

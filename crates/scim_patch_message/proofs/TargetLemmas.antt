@@ -5,7 +5,7 @@ use Rattle.std.specs.Result.{result_ok}
 use Rattle.std.proofs.lemmas.Bool.{cases_Bool, leb-true, leb-false}
 use Rattle.scim_schema.specs.declared.Kind.{Kind}
 use Rattle.scim_schema.specs.declared.schemas.Schema.{Schema}
-use Rattle.scim_filter_grammar.specs.declared.limits.TheConstants.{LONGEST_TEXT}
+use Rattle.scim_schema.specs.declared.limits.TheConstants.{LONGEST_FILTER}
 use Rattle.scim_filter_grammar.specs.Bytes.{is_space, behind}
 use Rattle.scim_filter_grammar.specs.WrittenPaths.{Written, IsWritten}
 use Rattle.scim_filter_grammar.specs.Reading.{Fault}
@@ -22,17 +22,17 @@ use Rattle.scim_path.specs.Paths.{PathTarget, OfExtension, extension_named, Read
 use Rattle.scim_patch_message.specs.Targets.{written_in, spelled_target, target_with, target_in, TargetsAreNamed}
 
 -- a text that isn't too long is read so
-short_reads : (kind : Kind) (text : List ℕ) (r : Result Written Fault) → written_at 32 kind (behind is_space text) ≡ r → length text ≤ LONGEST_TEXT
+short_reads : (kind : Kind) (text : List ℕ) (r : Result Written Fault) → written_at 32 kind (behind is_space text) ≡ r → length text ≤ LONGEST_FILTER
     → Reads kind text (spelled_target (result_ok r))
 short_reads kind text (Ok w) e short = spelled w short (whole_takes kind text w e)
 short_reads kind text (Err f) e short = unspelled (λ w l h. not_written kind text f w e h)
 
 -- any text is
 reads : (kind : Kind) (text : List ℕ) → Reads kind text (spelled_target (written_in kind text))
-reads kind text = elim (cases_Bool (nat_le (length text) LONGEST_TEXT)) [
-  | inl t ↦ (let short : length text ≤ LONGEST_TEXT = leb-true (length text) LONGEST_TEXT t in
+reads kind text = elim (cases_Bool (nat_le (length text) LONGEST_FILTER)) [
+  | inl t ↦ (let short : length text ≤ LONGEST_FILTER = leb-true (length text) LONGEST_FILTER t in
       rw t (short_reads kind text (written_at 32 kind (behind is_space text)) refl short))
-  | inr f ↦ (let long = leb-false (length text) LONGEST_TEXT f in
+  | inr f ↦ (let long = leb-false (length text) LONGEST_FILTER f in
       rw f (unspelled (λ w short h. absurd (omega (arith, long, short)))))
 ]
 

@@ -3,6 +3,7 @@ use Rattle.std.specs.Prelude.{ℕ, Bool, true, false, List, [], ◌∷◌, map, 
 use Rattle.std.specs.List.{list_any}
 use Rattle.serde_json.specs.Data.{Data, Items, Members}
 use Rattle.serde_json.specs.Find.{as_str, as_array, as_object}
+use Rattle.scim_schema.specs.declared.limits.TheConstants.{MOST_OPERATIONS}
 use Rattle.scim_schema.specs.declared.Kind.{Kind}
 use Rattle.scim_text.specs.Names.{is_same_name}
 use Rattle.scim_filter_grammar.specs.declared.tree.Path.{Path as FilterPath}
@@ -107,7 +108,7 @@ operation_steps kind d = object_operation kind (as_object d)
 
 -- at most 1,000 operations
 abbrev pub if_few : List Data → Read
-if_few ds = if nat_lt 1000 (length ds) then Err Value else Ok []
+if_few ds = if nat_lt MOST_OPERATIONS (length ds) then Err Value else Ok []
 
 abbrev pub list_steps : Kind → List Data → Read
 list_steps kind [] = Err Syntax

@@ -3,7 +3,7 @@ use Rattle.std.specs.Prelude.{ℕ, nat_le, List, length, Option, None, Some, Res
 use Rattle.std.specs.Result.{result_ok}
 use Rattle.scim_schema.specs.declared.Kind.{Kind}
 use Rattle.scim_schema.specs.declared.schemas.Schema.{Schema}
-use Rattle.scim_filter_grammar.specs.declared.limits.TheConstants.{LONGEST_TEXT}
+use Rattle.scim_schema.specs.declared.limits.TheConstants.{LONGEST_FILTER}
 use Rattle.scim_filter_grammar.specs.Bytes.{is_space, behind}
 use Rattle.scim_filter_grammar.specs.WrittenPaths.{Written}
 use Rattle.scim_filter_grammar.specs.PathReading.{written_at}
@@ -13,7 +13,7 @@ use Rattle.scim_path.specs.Paths.{PathTarget, OfExtension, extension_named, writ
 
 -- the path that a text spells within 4,096 bytes and 32 open brackets, if it spells one
 abbrev pub written_in : Kind → List ℕ → Option Written
-written_in kind text = if nat_le (length text) LONGEST_TEXT then result_ok (written_at 32 kind (behind is_space text)) else None
+written_in kind text = if nat_le (length text) LONGEST_FILTER then result_ok (written_at 32 kind (behind is_space text)) else None
 
 -- what a text names that spells this path; one that spells none is no path
 abbrev pub spelled_target : Option Written → Result PathTarget PathFault

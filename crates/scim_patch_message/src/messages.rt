@@ -19,12 +19,9 @@ use scim_body::{Member, NotJson, Tree, given_named, is_twice, value_named};
 use scim_filter_grammar::{Meant, attribute_path};
 use scim_patch_steps::Patch;
 use scim_path::Path;
-use scim_schema::Kind;
+use scim_schema::{Kind, MOST_OPERATIONS};
 use scim_text::{Failed, NoMemory};
 use std::alloc::Global;
-
-/// How many operations a message may have.
-const MOST_OPERATIONS: usize = 1000;
 
 /// Whether a key is the path of an attribute that the kind hasn't.
 fn names_nothing(kind: Kind, key: &str) -> bool

@@ -17,7 +17,9 @@ use crate::readings::Reading;
 use crate::value_steps::{push_at_matches, push_matches, push_sub_attribute};
 use scim_body::{Member, Tree, is_absent};
 use scim_path::{Path, PathFault, ValuePath, read_path, texts_name_one_thing};
-use scim_schema::{Attribute, Kind, Leaf, Schema, attribute_named_in, attributes, is_read_only, schema_of};
+use scim_schema::{
+    Attribute, Kind, Leaf, Schema, attribute_named_in, attributes, is_read_only, schema_of,
+};
 use scim_text::{Failed, NoMemory};
 use std::alloc::Global;
 

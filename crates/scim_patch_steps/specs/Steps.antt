@@ -3,6 +3,7 @@ use Rattle.std.specs.Prelude.{◌≡◌, Bool, false, ◌&&◌, ◌||◌, ◌==�
 use Rattle.std.specs.List.{list_any, count_by}
 use Rattle.std.specs.Global.{Vec}
 use denote.Enum.Bare.{sameb}
+use Rattle.scim_schema.specs.declared.limits.TheConstants.{MOST_VALUES}
 use Rattle.scim_schema.specs.declared.Kind.{Kind}
 use Rattle.scim_schema.specs.declared.Attribute.{Attribute}
 use Rattle.scim_schema.specs.declared.Leaf.{Leaf}
@@ -66,7 +67,7 @@ gives_two_primary a _ = false
 -- two values are chosen as the primary one, a member has no `value`, or there are over 10,000 values
 abbrev pub are_refused : Attribute → List Position → Bool
 are_refused a ps =
-    nat_lt 1 (count_by (λ (p : Position). p.chosen) ps) || list_any (λ (p : Position). is_nameless a p.value) ps || nat_lt 10000 (length ps)
+    nat_lt 1 (count_by (λ (p : Position). p.chosen) ps) || list_any (λ (p : Position). is_nameless a p.value) ps || nat_lt MOST_VALUES (length ps)
 
 -- ---- which values are left
 

@@ -11,13 +11,13 @@ ghost use Rattle.scim_patch_steps.specs.Patch as spec;
 ghost use Rattle.scim_patch_steps.specs.Kept.{outcome, patch_of, step_of};
 ghost use Rattle.scim_patch_steps.specs.code.Outcomes.{rows_left};
 
+use crate::changes::Change;
 use crate::patches::{Patch, Step};
+use crate::steps::{StepFault, values_after};
 use crate::touched::{before_of, is_changed};
 use scim_cell::{Row, compare_units};
 use scim_change::{Changed, modified_at};
 use scim_schema::{Kind, Unit};
-use crate::changes::Change;
-use crate::steps::{StepFault, values_after};
 use scim_text::{Failed, Moment, NoMemory, push};
 use scim_value::{Part, Resource};
 use std::alloc::Global;

@@ -3,8 +3,8 @@ ghost use Rattle.std.specs.Prelude.{◌≡◌, map};
 ghost use Rattle.scim_patch_steps.specs.Patch as spec;
 ghost use Rattle.scim_patch_steps.specs.Kept.{patch_of, step_of};
 
-use scim_schema::{Kind, Unit};
 use crate::changes::Change;
+use scim_schema::{Kind, Unit};
 use std::marker::Model;
 
 /// One step of a patch (RFC 7644 section 3.5.2).

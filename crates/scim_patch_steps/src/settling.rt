@@ -9,9 +9,9 @@ ghost use Rattle.scim_patch_steps.specs.Steps as spec;
 ghost use Rattle.scim_patch_steps.specs.Steps.{rows_answered};
 
 use crate::steps::StepFault;
-use scim_cell::{MOST_VALUES, Row, is_nameless};
+use scim_cell::{Row, is_nameless};
 use scim_patch_values::{Position, demoted};
-use scim_schema::Attribute;
+use scim_schema::{Attribute, MOST_VALUES};
 use scim_text::{Failed, NoMemory, push};
 use std::alloc::Global;
 

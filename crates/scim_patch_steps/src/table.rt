@@ -10,7 +10,11 @@ ghost use Rattle.scim_patch_steps.specs.Table as spec;
 use crate::changes::Change;
 use scim_cell::{Field, Row, with_values};
 use scim_filter_grammar::Filter;
-use scim_patch_values::{Position, add_at_matches, clear_at_matches, clear_everywhere, given_primary, is_any_match, keep, mark, remove_listed, remove_matches, replace_matches, set_at_matches, set_everywhere, value_of};
+use scim_patch_values::{
+    Position, add_at_matches, clear_at_matches, clear_everywhere, given_primary, is_any_match,
+    keep, mark, remove_listed, remove_matches, replace_matches, set_at_matches, set_everywhere,
+    value_of,
+};
 use scim_schema::{Leaf, Unit};
 use scim_text::NoMemory;
 use scim_value::copy_rows;

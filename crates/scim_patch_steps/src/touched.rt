@@ -9,10 +9,10 @@ ghost use Rattle.scim_patch_steps.specs.code.Lengths as lengths;
 ghost use Rattle.scim_patch_steps.specs.code.Before.{IsBefore, IsInOrder, tells};
 ghost use Rattle.scim_patch_steps.specs.code.Touched.{is_about, is_other, rows_about};
 
+use crate::changes::Change;
 use crate::patches::{Patch, Step};
 use scim_cell::Row;
 use scim_schema::{Kind, Mutability, Unit, mutability_of};
-use crate::changes::Change;
 use scim_text::{NoMemory, push};
 use scim_value::{Part, values_among};
 use std::alloc::Global;

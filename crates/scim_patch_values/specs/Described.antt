@@ -2,6 +2,7 @@
 use Rattle.std.specs.Prelude.{ℕ, Bool, true, not, ◌&&◌, List, [], ◌∷◌, ◌++◌, Option, None, Some, option_map, option_and_then, length, nat_le, if◌then◌else◌}
 use Rattle.std.specs.List.{list_any}
 use denote.Enum.Bare.{sameb}
+use Rattle.scim_schema.specs.declared.limits.TheConstants.{LONGEST_VALUE}
 use Rattle.scim_schema.specs.declared.Attribute.{Attribute}
 use Rattle.scim_schema.specs.declared.SubAttribute.{SubAttribute}
 use Rattle.scim_schema.specs.declared.characteristics.AttributeType.{AttributeType}
@@ -23,7 +24,7 @@ use Rattle.scim_filter_grammar.specs.Types.{truth_in}
 
 -- a text that a resource may keep: it has at most 65,536 bytes
 abbrev pub text_atom : List ℕ → Option Atom
-text_atom t = if nat_le (length t) 65536 then Some (Text t) else None
+text_atom t = if nat_le (length t) LONGEST_VALUE then Some (Text t) else None
 
 -- the atom that a literal is at a leaf of this type: a text or a boolean; a boolean may be the text that names it
 abbrev pub atom_for : AttributeType → Literal → Option Atom

@@ -10,19 +10,17 @@ ghost use Rattle.scim_patch_values.specs.code.Gathered.{Gathers};
 use scim_cell::{Atom, Field, Text};
 use scim_filter_grammar::{Filter, Literal, Meant, Node, Operator, StringLiteral, truth_of};
 use scim_schema::{
-    Attribute, AttributeType, Leaf, SubAttribute, sub_attribute_characteristics, sub_attributes,
+    Attribute, AttributeType, LONGEST_VALUE, Leaf, SubAttribute, sub_attribute_characteristics,
+    sub_attributes,
 };
 use scim_text::{NoMemory, push};
 use std::alloc::Global;
-
-/// How many bytes a text of a resource may have.
-const LONGEST_TEXT: usize = 65_536;
 
 /// The text as an atom; None where it is too long for a resource. NoMemory where none was to be had.
 fn text_atom(alloc: Global, text: &StringLiteral) -> Result<Option<Atom>, NoMemory>
     ensures { IfOk result (λ o. o ≡ spec.text_atom text.now) }
 {
-    if text.as_str().len() > LONGEST_TEXT {
+    if text.as_str().len() > LONGEST_VALUE {
         return Ok(None);
     }
     Ok(Some(Atom::Text(Text::copy_of(alloc, text.as_str())?)))

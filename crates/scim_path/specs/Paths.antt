@@ -8,7 +8,7 @@ use Rattle.scim_schema.specs.declared.schemas.Schema.{Schema}
 use Rattle.scim_schema.specs.Characteristics.{is_multi_valued}
 use Rattle.scim_schema.specs.Schemas.{urn, extensions}
 use Rattle.scim_schema.specs.Lookup.{sub_attribute_named}
-use Rattle.scim_filter_grammar.specs.declared.limits.TheConstants.{LONGEST_TEXT}
+use Rattle.scim_schema.specs.declared.limits.TheConstants.{LONGEST_FILTER}
 use Rattle.scim_filter_grammar.specs.declared.tree.Meant.{Meant}
 use Rattle.scim_filter_grammar.specs.declared.tree.Meant.TheVariants as meant
 use Rattle.scim_filter_grammar.specs.Bytes.{is_word, lone_word}
@@ -38,7 +38,7 @@ path_target (path.Values v) = OfValues v.attribute (tree_of v.filter) v.sub_attr
 
 -- the extension of a kind whose URN stands alone in a text of at most 4,096 bytes
 abbrev pub extension_named : Kind → List ℕ → Option Schema
-extension_named kind text = if nat_le (length text) LONGEST_TEXT then option_and_then (λ word. find (λ s. is_word (urn s) word) (extensions kind)) (lone_word text) else None
+extension_named kind text = if nat_le (length text) LONGEST_FILTER then option_and_then (λ word. find (λ s. is_word (urn s) word) (extensions kind)) (lone_word text) else None
 
 -- what a path of names alone names
 abbrev pub names_target : Meant → Result PathTarget PathFault
@@ -76,8 +76,8 @@ written_target (Filtered _ sub) = Err Syntax
 -- what a text names or why it names nothing, where no extension's URN stands in it alone: what the path names that it
 -- spells within 4,096 bytes and 32 open brackets; where it spells none it is no path
 pub data Reads (kind : Kind) (text : List ℕ) : Result PathTarget PathFault → Type 0 where
-  spelled : (w : Written) → length text ≤ LONGEST_TEXT → IsWritten kind 32 text w → Reads kind text (written_target w)
-  unspelled : ((w : Written) → length text ≤ LONGEST_TEXT → ¬ (IsWritten kind 32 text w)) → Reads kind text (Err Syntax)
+  spelled : (w : Written) → length text ≤ LONGEST_FILTER → IsWritten kind 32 text w → Reads kind text (written_target w)
+  unspelled : ((w : Written) → length text ≤ LONGEST_FILTER → ¬ (IsWritten kind 32 text w)) → Reads kind text (Err Syntax)
 
 -- what a text names, or why it names nothing
 abbrev pub Names : Kind → List ℕ → Result PathTarget PathFault → Type 0

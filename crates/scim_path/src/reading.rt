@@ -9,9 +9,10 @@ ghost use Rattle.scim_path.specs.Results.{target_read, values_read, chosen_read,
 use crate::faults::PathFault;
 use crate::paths::{Path, ValuePath};
 use scim_cell::Text;
-use scim_filter_grammar::{Filter, LONGEST_TEXT, Meant, Node, WrittenPath, knows_names, lone_word, written_path};
+use scim_filter_grammar::{Filter, Meant, Node, WrittenPath, knows_names, lone_word, written_path};
 use scim_schema::{
-    Attribute, Kind, Schema, SubAttribute, extensions, is_multi_valued, sub_attribute_named,
+    Attribute, Kind, LONGEST_FILTER, Schema, SubAttribute, extensions, is_multi_valued,
+    sub_attribute_named,
 };
 use scim_text::Failed;
 use std::alloc::Global;
@@ -22,7 +23,7 @@ use std::alloc::Global;
 pub fn extension_named(kind: Kind, text: &str) -> Option<Schema>
     ensures { result ≡ spec.extension_named kind text.now }
 {
-    if text.len() > LONGEST_TEXT {
+    if text.len() > LONGEST_FILTER {
         return None;
     }
     let word = lone_word(text)?;

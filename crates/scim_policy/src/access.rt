@@ -1,5 +1,6 @@
 //! What a client may do with a resource that is there, and what a change of it would open.
 ghost use Rattle.std.specs.Prelude.{◌≡◌, ◌≤◌, ◌&&◌, None, find, is_some, length, not, IfOk, OnOk};
+ghost use Rattle.scim_schema.specs.declared.limits.TheConstants.{MOST_RULES};
 ghost use Rattle.scim_schema.specs.declared.Leaf.{Leaf};
 ghost use Rattle.scim_policy.specs.Access as spec;
 ghost use Rattle.scim_policy.specs.Access.{access, first};
@@ -158,7 +159,7 @@ impl Rights {
         resource: &Resource,
         rules: &[Rule],
     ) -> Result<(), NoMemory>
-        requires { length rules.now ≤ 1000 }
+        requires { length rules.now ≤ MOST_RULES }
         ensures read { OnOk result (Adds (λ l. by_rules client.now Op.Read resource.now l 1 rules.now)
             self.old.read self.new.read) }
         ensures modify { OnOk result (Adds (λ l. by_rules client.now Op.Modify resource.now l 1 rules.now)

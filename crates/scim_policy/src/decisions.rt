@@ -1,5 +1,6 @@
 //! What a policy decides.
 ghost use Rattle.std.specs.Prelude.{◌≡◌, ◌<◌, ◌≤◌, ℕ, length, None, Some, Option, is_some, IfOk, OnOk};
+ghost use Rattle.scim_schema.specs.declared.limits.TheConstants.{MOST_RULES};
 ghost use Rattle.scim_schema.specs.declared.Leaf.{Leaf};
 ghost use Rattle.scim_schema.specs.declared.SubAttribute.{SubAttribute};
 ghost use Rattle.scim_policy.specs.Decide as spec;
@@ -126,7 +127,7 @@ impl Decisions {
         resource: &Resource,
         rules: &[Rule],
     ) -> Result<(), NoMemory>
-        requires { length rules.now ≤ 1000 }
+        requires { length rules.now ≤ MOST_RULES }
         ensures { OnOk result ((l : Leaf) → table.decided self.new l ≡ or_else (table.decided self.old l)
             (walk.by_rules client.now op resource.now l 1 rules.now)) }
     {

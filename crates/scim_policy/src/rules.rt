@@ -1,5 +1,6 @@
 //! Rules and policies.
 ghost use Rattle.std.specs.Prelude.{◌≡◌, ◌≤◌, length};
+ghost use Rattle.scim_schema.specs.declared.limits.TheConstants.{MOST_RULES};
 ghost use Rattle.scim_filter_grammar.specs.Tree.{tree_of};
 ghost use Rattle.scim_policy.specs.Decide.{paths_on};
 ghost use Rattle.scim_policy.specs.Rules as spec;
@@ -271,7 +272,7 @@ impl Rule {
 impl Policy {
     /// The policy of these rules, at most 1,000.
     pub fn of(rules: Vec<Rule>) -> Policy
-        requires { length rules.items ≤ 1000 }
+        requires { length rules.items ≤ MOST_RULES }
         ensures { result ≡ rules.items }
     {
         Policy { rules }
@@ -287,7 +288,7 @@ impl Policy {
     /// The rules, in order of their numbers.
     pub fn rules(&self) -> &[Rule]
         ensures rules { result.now ≡ self.now }
-        ensures few { length self.now ≤ 1000 }
+        ensures few { length self.now ≤ MOST_RULES }
     {
         self.rules.as_slice()
     }

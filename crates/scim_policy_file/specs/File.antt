@@ -3,6 +3,7 @@ use Rattle.std.specs.Prelude.{ℕ, ◌+◌, Bool, true, ◌&&◌, ◌||◌, not,
 use Rattle.std.specs.List.{list_any}
 use Rattle.json.specs.Json.{Json, Items, no_items, item, Members, no_members, member, document}
 use Rattle.json.specs.Find.{get, as_bool, as_str, as_array, as_object, as_number}
+use Rattle.scim_schema.specs.declared.limits.TheConstants.{MOST_RULES}
 use Rattle.scim_schema.specs.Lookup.{is_same_text, kind_named, operation_named}
 use Rattle.scim_policy_file.specs.declared.faults.Cause.{Cause}
 use Rattle.scim_policy_file.specs.declared.faults.Cause.TheVariants as cause
@@ -148,7 +149,7 @@ file_parts d = option_and_then parts_in (object_of_only file_keys d)
 abbrev pub rules_or_fault : Parts → Says (List Rule)
 rules_or_fault p =
     if is_same_text p.version (codes "1")
-    then (if nat_lt 1000 (length p.rules) then Err (record { rule = 0; cause = TooManyRules }) else rules_from 1 p.rules)
+    then (if nat_lt MOST_RULES (length p.rules) then Err (record { rule = 0; cause = TooManyRules }) else rules_from 1 p.rules)
     else Err (record { rule = 0; cause = Version })
 
 abbrev pub parts_or_fault : Option Parts → Says (List Rule)

@@ -16,12 +16,9 @@ use crate::paths::{client_named, paths_named};
 use crate::targets::targets_for;
 use json::{Error, Scratch, Value};
 use scim_policy::{ClientName, Policy, Rule};
-use scim_schema::{Kind, Op};
+use scim_schema::{Kind, MOST_RULES, Op};
 use scim_text::{Failed, NoMemory, push};
 use std::alloc::Global;
-
-/// The most rules that a policy has.
-const MOST_RULES: usize = 1000;
 
 /// A word that isn't one.
 const NO_NAME: Failed<Cause> = Failed::Because(Cause::Name);
@@ -90,7 +87,7 @@ fn parse<'t>(
 /// The rules of a file as they stand there, or why the file is faulty.
 fn file_rules<'v, 't>(value: &'v Value<'t>) -> Result<&'v [Value<'t>], Cause>
     ensures rules { IfOk result (λ vs. spec.policy_in (value_view value.now) ≡ spec.rules_from 1 (map value_view vs.now)) }
-    ensures few { IfOk result (λ vs. length vs.now ≤ 1000) }
+    ensures few { IfOk result (λ vs. length vs.now ≤ MOST_RULES) }
     ensures faulty { IfErr result
         (λ cause. spec.policy_in (value_view value.now) ≡ Err (record { rule = 0; cause = cause })) }
 {
@@ -204,7 +201,7 @@ fn items_in<'v, 't>(value: &'v Value<'t>) -> Option<&'v [Value<'t>]>
 
 /// The rules that these values say.
 fn read_rules(alloc: Global, values: &[Value<'_>]) -> Result<Vec<Rule>, Failed<PolicyFault>>
-    requires { length values.now ≤ 1000 }
+    requires { length values.now ≤ MOST_RULES }
     ensures rules { IfOk result (λ v. spec.rules_from 1 (map value_view values.now) ≡ Ok v.items) }
     ensures count { IfOk result (λ v. length v.items ≡ length values.now) }
     ensures faulty { IfFault result (λ fault. spec.rules_from 1 (map value_view values.now) ≡ Err fault) }

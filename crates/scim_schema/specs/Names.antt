@@ -21,6 +21,10 @@ kinds = User ∷ Group ∷ []
 abbrev pub operations : List Op
 operations = Read ∷ Create ∷ Modify ∷ Delete ∷ []
 
+-- the sub-attributes of all attributes
+unfoldable pub all_sub_attributes : List SubAttribute
+all_sub_attributes = Formatted ∷ FamilyName ∷ GivenName ∷ MiddleName ∷ HonorificPrefix ∷ HonorificSuffix ∷ Value ∷ Reference ∷ Display ∷ TypeName ∷ Primary ∷ StreetAddress ∷ Locality ∷ Region ∷ PostalCode ∷ Country ∷ SubDisplayName ∷ ResourceType ∷ Created ∷ LastModified ∷ Location ∷ []
+
 -- the name of a resource type (RFC 7643 section 6)
 abbrev pub kind_name : Kind → List ℕ
 kind_name User = codes "User"

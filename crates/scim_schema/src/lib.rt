@@ -7,6 +7,7 @@
 mod characteristic_names;
 mod characteristics;
 mod json_keys;
+mod limits;
 mod lookup;
 mod names;
 mod places;
@@ -21,6 +22,10 @@ pub use characteristics::{
 pub use json_keys::{
     JsonForm, JsonKey, JsonShape, extension_keys, keys, keys_ascend, keys_have_all_attributes,
     ordered_sub_attributes, shape_of,
+};
+pub use limits::{
+    LONGEST_FILTER, LONGEST_VALUE, MAX_BODY, MOST_OPERATIONS, MOST_RULES, MOST_SHOWN, MOST_TOKENS,
+    MOST_VALUES, USUALLY_SHOWN,
 };
 pub use lookup::{attribute_named, attribute_named_in, sub_attribute_named};
 pub use places::unit_of;

@@ -105,6 +105,36 @@ impl Attribute {
 }
 
 impl SubAttribute {
+    /// The sub-attributes of all attributes.
+    #[tactic(auto, unfolding(crate::specs::Names::all_sub_attributes))]
+    pub fn all() -> &'static [SubAttribute]
+        ensures { result.now ≡ names.all_sub_attributes }
+    {
+        &[
+            SubAttribute::Formatted,
+            SubAttribute::FamilyName,
+            SubAttribute::GivenName,
+            SubAttribute::MiddleName,
+            SubAttribute::HonorificPrefix,
+            SubAttribute::HonorificSuffix,
+            SubAttribute::Value,
+            SubAttribute::Reference,
+            SubAttribute::Display,
+            SubAttribute::TypeName,
+            SubAttribute::Primary,
+            SubAttribute::StreetAddress,
+            SubAttribute::Locality,
+            SubAttribute::Region,
+            SubAttribute::PostalCode,
+            SubAttribute::Country,
+            SubAttribute::DisplayName,
+            SubAttribute::ResourceType,
+            SubAttribute::Created,
+            SubAttribute::LastModified,
+            SubAttribute::Location,
+        ]
+    }
+
     /// The sub-attribute's name as it is printed.
     pub fn name(self) -> &'static str
         ensures { result.now ≡ names.sub_attribute_name self }

@@ -98,7 +98,7 @@ pub(crate) fn values_beyond(
 fn values_missing(alloc: Global, members: &[Row], group: &Resource) -> Result<Vec<Text>, NoMemory>
     ensures { IfOk result (λ gone. (v : List ℕ) → is_one_of v gone.items ≡ (is_value_of v members.now && not (is_group_with v group.now))) }
 {
-    let listed = values_of(alloc, group)?;
+    let listed = member_values(alloc, noted_members(group))?;
     let mut gone = Vec::new(alloc);
     for member in members {
         if let Some(value) = value_of(member) {
@@ -110,15 +110,15 @@ fn values_missing(alloc: Global, members: &[Row], group: &Resource) -> Result<Ve
     Ok(gone)
 }
 
-/// The values that a group lists. NoMemory where none was to be had.
-fn values_of(alloc: Global, group: &Resource) -> Result<BTreeSet<&str>, NoMemory>
-    ensures { IfOk result (λ listed. (v : List ℕ) → is_in v listed ≡ is_group_with v group.now) }
+/// Returns the `value`s of the members, each once.
+pub fn member_values(alloc: Global, members: &[Row]) -> Result<BTreeSet<&str>, NoMemory>
+    ensures { IfOk result (λ values. (v : List ℕ) → is_in v values ≡ is_value_of v members.now) }
 {
-    let mut listed = BTreeSet::new(alloc);
-    for member in noted_members(group) {
+    let mut values = BTreeSet::new(alloc);
+    for member in members {
         if let Some(value) = value_of(member) {
-            listed.insert(value)?;
+            values.insert(value)?;
         }
     }
-    Ok(listed)
+    Ok(values)
 }

@@ -17,5 +17,6 @@ pub use changes::Change;
 pub use collections::Collection;
 pub use copies::{all_of, collection_of};
 pub use faults::ShelfFault;
+pub use groups::member_values;
 pub use memory::MemoryShelf;
 pub use shelf::{Shelf, Visitor, show_all};

@@ -3,19 +3,19 @@
 ghost use Rattle.std.specs.Prelude.{◌≡◌, ◌≢◌, ◌&&◌, not, ℕ, List, AllPairs, IfOk, Some, map};
 ghost use Rattle.std.specs.Option.{option_copied};
 ghost use Rattle.scim_cell.specs.Content.{Content};
-ghost use Rattle.scim_value.specs.Members.{is_text, lists_value};
+ghost use Rattle.scim_value.specs.Members.{lists_value};
 ghost use Rattle.scim_value.specs.Resource.{HasBase};
 ghost use Rattle.scim_value.specs.Uniqueness.{name_of};
-ghost use Rattle.scim_shelf.specs.Members.{is_found, is_in, value_in};
+ghost use Rattle.scim_shelf.specs.Members.{is_in};
 ghost use Rattle.scim_shelf.specs.Stores.{IsOld};
 ghost use Rattle.scim_store_rows.specs.Stands.{is_among};
 ghost use Rattle.scim_store.specs.Edits as spec;
 
 use crate::edits::Edits;
-use scim_cell::{Atom, Id, Row, Text};
+use scim_cell::{Id, Text};
 use scim_json::stored_text;
-use scim_schema::{Attribute, Kind, Leaf, SubAttribute, Unit};
-use scim_shelf::Change;
+use scim_schema::{Attribute, Kind, Unit};
+use scim_shelf::{Change, member_values};
 use scim_text::{NoMemory, push};
 use scim_value::{Resource, UniqueName, unique_names};
 use std::alloc::Global;
@@ -45,27 +45,14 @@ fn names_beyond(
     Ok(names)
 }
 
-/// The `value` of a member; None where it has none.
-fn value_of(member: &Row) -> Option<&str>
-    ensures { (v : List ℕ) → is_text v (value_in member.now) ≡ is_found v (option_copied result) }
-{
-    match member.get(Leaf::of(Attribute::Members, SubAttribute::Value)) {
-        Some(Atom::Text(text)) => Some(text.as_str()),
-        _ => None,
-    }
-}
-
 /// The values that a resource lists among its members. NoMemory where none was to be had.
 pub(crate) fn values_of(alloc: Global, resource: &Resource) -> Result<BTreeSet<&str>, NoMemory>
     ensures { IfOk result (λ values. (v : List ℕ) → is_in v values ≡ lists_value v resource.now) }
 {
-    let mut values = BTreeSet::new(alloc);
-    for member in resource.part().values(Unit::whole(Attribute::Members)) {
-        if let Some(value) = value_of(member) {
-            values.insert(value)?;
-        }
-    }
-    Ok(values)
+    member_values(
+        alloc,
+        resource.part().values(Unit::whole(Attribute::Members)),
+    )
 }
 
 /// The values that a resource lists among its members, if there is one. NoMemory where none was to be had.

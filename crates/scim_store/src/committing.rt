@@ -18,10 +18,10 @@ ghost use Rattle.scim_store.specs.Committing.{HasStore, AreOf, IsDue, IsDueOver,
 use crate::changes::edits_of;
 use crate::writing::write_change;
 use scim_audit::AuditRow;
-use scim_store_rows::{AuditTexts, columns_of, find_old};
 use scim_cell::Atom;
 use scim_schema::{Attribute, Leaf, SubAttribute};
 use scim_shelf::Change;
+use scim_store_rows::{AuditTexts, columns_of, find_old};
 use scim_text::NoMemory;
 use scim_value::{Resource, location};
 use sqlite::{Alter, Connection, Error};

@@ -20,9 +20,9 @@ ghost use Rattle.scim_store.specs.code.Damage as code;
 
 use crate::changes::values_of;
 use crate::owners::{has_text, have_owners, note_owners, rows_of, value_in};
-use scim_store_rows::kind_number;
 use scim_cell::{Id, Text};
 use scim_json::read_stored;
+use scim_store_rows::kind_number;
 use scim_text::{Failed, NoMemory, push};
 use scim_value::{Resource, UniqueName, unique_names};
 use sqlite::Row;

@@ -12,8 +12,8 @@ ghost use Rattle.scim_store.specs.Damage.{AreOrdered, Judges};
 ghost use Rattle.scim_store.specs.Opening as spec;
 
 use crate::damage::{Judged, ResourceRows, judge};
-use scim_store_rows::are_audit_rows;
 use scim_cell::Id;
+use scim_store_rows::are_audit_rows;
 use scim_store_tables::{Reading, TableRows, read_tables};
 use scim_text::{Failed, NoMemory};
 use sqlite::{Alter, Connection, Error, ErrorCode, Row};

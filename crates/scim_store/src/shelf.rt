@@ -22,11 +22,11 @@ use crate::committing::{CommitFault, commit_change, commit_over};
 use crate::opening::{Examined, examine};
 use scim_audit::AuditRow;
 use scim_cell::{Id, Text};
+use scim_schema::Kind;
+use scim_shelf::{Change, Shelf, ShelfFault, Visitor, show_all};
 use scim_store_rows::{
     LAST_NUMBER, find_by_id, find_groups_with, find_owner_of_name, read_audit_rows, walk,
 };
-use scim_schema::Kind;
-use scim_shelf::{Change, Shelf, ShelfFault, Visitor, show_all};
 use scim_text::Failed;
 use scim_value::{Resource, UniqueName};
 use sqlite::{Alter, Connection, Error, ErrorCode};

@@ -9,9 +9,12 @@ ghost use Rattle.scim_store_tables.specs.Steps.{Goes, Keeps, Became, Undoes, Lea
 ghost use Rattle.scim_store.specs.Edits.{is_name, is_member, rows_of_names, rows_of_members, rows_of_document, edited, edited_by, with_row, Writes};
 
 use crate::edits::Edits;
-use scim_store_rows::kind_number;
 use scim_cell::Text;
-use scim_store_tables::{AuditColumns, delete_member, delete_name, delete_resource, insert_audit, insert_member, insert_name, insert_resource, update_resource};
+use scim_store_rows::kind_number;
+use scim_store_tables::{
+    AuditColumns, delete_member, delete_name, delete_resource, insert_audit, insert_member,
+    insert_name, insert_resource, update_resource,
+};
 use scim_value::UniqueName;
 use sqlite::{Alter, Connection, Error, ErrorCode, Transaction};
 

@@ -37,7 +37,9 @@ use Rattle.scim_audit.specs.declared.refusals.Refusal.{Refusal}
 use Rattle.scim_audit.specs.declared.refusals.Refusal.TheVariants.{BadHead, TooLarge, BadFraming, UnknownCoding, NoRoute, NotSupported, BadMethod, NoToken, Syntax, Filter, Path, MessageValue, NotFound, Denied, Mutability, NoTarget, ResultValue, Taken, Widens, IdInUse, Store}
 use Rattle.scim_store_rows.specs.Audit.{kind_number, op_number, decided_number, refusal_number}
 use Rattle.scim_store_rows.specs.AuditBack.{ReadsBack, Any}
-use Rattle.scim_store_rows.specs.code.Places.{decisions, refusals, all_sub_attributes}
+use Rattle.scim_schema.specs.Names.{all_sub_attributes}
+use Rattle.scim_audit.specs.Refusals.{refusals}
+use Rattle.scim_audit.specs.Rows.{decisions}
 
 -- ---- by a place
 

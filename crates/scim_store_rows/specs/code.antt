@@ -1,3 +1,3 @@
+-- How the tables are searched.
 pub mod Finding
 pub mod Spans
-pub mod Places

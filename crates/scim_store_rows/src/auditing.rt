@@ -11,8 +11,8 @@ ghost use Rattle.scim_store_rows.specs.Auditing.{TellsRows};
 ghost use Rattle.scim_store_rows.specs.Finding.{StandsIn};
 ghost use Rattle.scim_store_rows.specs.code.Spans.{IsSpan};
 
-use scim_audit::AuditRow;
 use crate::records::are_audit_rows;
+use scim_audit::AuditRow;
 use scim_store_tables::read_audit_between;
 use scim_text::NoMemory;
 use sqlite::{Alter, Connection, Error, ErrorCode, Row};

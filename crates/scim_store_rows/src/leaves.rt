@@ -3,39 +3,8 @@ ghost use Rattle.std.specs.Prelude.{◌≡◌, find, bytes_eq};
 ghost use Rattle.scim_schema.specs.Names.{attribute_name, sub_attribute_name};
 ghost use Rattle.scim_audit.specs.Rows as rows;
 ghost use Rattle.scim_store_rows.specs.AuditBack.{ReadsBack, Any};
-ghost use Rattle.scim_store_rows.specs.code.Places as places;
 
 use scim_schema::{Attribute, Kind, Leaf, SubAttribute, attributes};
-
-/// The sub-attributes of all attributes.
-#[tactic(auto, unfolding(crate::specs::code::Places::all_sub_attributes))]
-fn all_sub_attributes() -> &'static [SubAttribute]
-    ensures { result.now ≡ places.all_sub_attributes }
-{
-    &[
-        SubAttribute::Formatted,
-        SubAttribute::FamilyName,
-        SubAttribute::GivenName,
-        SubAttribute::MiddleName,
-        SubAttribute::HonorificPrefix,
-        SubAttribute::HonorificSuffix,
-        SubAttribute::Value,
-        SubAttribute::Reference,
-        SubAttribute::Display,
-        SubAttribute::TypeName,
-        SubAttribute::Primary,
-        SubAttribute::StreetAddress,
-        SubAttribute::Locality,
-        SubAttribute::Region,
-        SubAttribute::PostalCode,
-        SubAttribute::Country,
-        SubAttribute::DisplayName,
-        SubAttribute::ResourceType,
-        SubAttribute::Created,
-        SubAttribute::LastModified,
-        SubAttribute::Location,
-    ]
-}
 
 /// The first of these attributes with this name. Case counts.
 fn attribute_in(attributes: &[Attribute], name: &str) -> Option<Attribute>
@@ -65,7 +34,7 @@ fn sub_attribute_in(sub_attributes: &[SubAttribute], name: &str) -> Option<SubAt
 fn sub_attribute_of(name: &str) -> Option<SubAttribute>
     ensures { ReadsBack Any sub_attribute_name name.now result }
 {
-    sub_attribute_in(all_sub_attributes(), name)
+    sub_attribute_in(SubAttribute::all(), name)
 }
 
 /// The leaf with this path, as `userName` or `emails.value`: what [`scim_audit::leaf_path`] prints, and nothing else,

@@ -1,55 +1,9 @@
 //! Kinds, operations, decisions and refusals by their places, as the columns of the audit have them.
-ghost use Rattle.std.specs.Prelude.{◌≡◌};
 ghost use Rattle.scim_store_rows.specs.Audit as spec;
 ghost use Rattle.scim_store_rows.specs.AuditBack.{ReadsBack, Any};
-ghost use Rattle.scim_store_rows.specs.code.Places as places;
 
-use scim_audit::{Decided, Methods, Refusal};
+use scim_audit::{Decided, Refusal};
 use scim_schema::{Kind, Op};
-
-/// All that may be decided.
-#[tactic(auto, unfolding(crate::specs::code::Places::decisions))]
-fn decisions() -> &'static [Decided]
-    ensures { result.now ≡ places.decisions }
-{
-    &[
-        Decided::Allow,
-        Decided::Deny,
-        Decided::Hidden,
-        Decided::Absent,
-        Decided::Refused,
-    ]
-}
-
-/// All refusals. Which methods an endpoint has isn't kept: those of a collection stand for them.
-#[tactic(auto, unfolding(crate::specs::code::Places::refusals))]
-fn refusals() -> &'static [Refusal]
-    ensures { result.now ≡ places.refusals }
-{
-    &[
-        Refusal::BadHead,
-        Refusal::TooLarge,
-        Refusal::BadFraming,
-        Refusal::UnknownCoding,
-        Refusal::NoRoute,
-        Refusal::NotSupported,
-        Refusal::BadMethod(Methods::Collection),
-        Refusal::NoToken,
-        Refusal::Syntax,
-        Refusal::Filter,
-        Refusal::Path,
-        Refusal::MessageValue,
-        Refusal::NotFound,
-        Refusal::Denied,
-        Refusal::Mutability,
-        Refusal::NoTarget,
-        Refusal::ResultValue,
-        Refusal::Taken,
-        Refusal::Widens,
-        Refusal::IdInUse,
-        Refusal::Store,
-    ]
-}
 
 /// The kind at a place among all kinds, from 0.
 pub(crate) fn kind_of(number: u64) -> Option<Kind>
@@ -69,7 +23,7 @@ pub(crate) fn op_of(number: u64) -> Option<Op>
 pub(crate) fn decided_of(number: u64) -> Option<Decided>
     ensures { ReadsBack Any spec.decided_number number result }
 {
-    decisions().get(number as usize).copied()
+    Decided::all().get(number as usize).copied()
 }
 
 /// The refusal at a place among all of them, from 0. A method that the endpoint hasn't is refused with the methods of a
@@ -77,5 +31,5 @@ pub(crate) fn decided_of(number: u64) -> Option<Decided>
 pub(crate) fn refusal_of(number: u64) -> Option<Refusal>
     ensures { ReadsBack Any spec.refusal_number number result }
 {
-    refusals().get(number as usize).copied()
+    Refusal::all().get(number as usize).copied()
 }

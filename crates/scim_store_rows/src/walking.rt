@@ -12,8 +12,8 @@ ghost use Rattle.scim_store_tables.specs.Reading.{Rests};
 ghost use Rattle.scim_store_rows.specs.Stands.{Entry, IsEntry, resource_row};
 ghost use Rattle.scim_store_rows.specs.Finding.{StandsIn, Shows};
 
-use crate::finding::read_document;
 use crate::columns::kind_number;
+use crate::finding::read_document;
 use scim_schema::Kind;
 use scim_shelf::Visitor;
 use scim_value::Resource;

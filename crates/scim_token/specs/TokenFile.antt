@@ -4,6 +4,7 @@ use Rattle.std.specs.List.{list_any, position_or_len, before_first, after_first}
 use Rattle.std.specs.Cmp.Lexicographic.{pointwise}
 use Rattle.std.specs.Result.{result_ok}
 use Rattle.hex.specs.Hex.{decode_sized}
+use Rattle.scim_schema.specs.declared.limits.TheConstants.{MOST_TOKENS}
 use Rattle.scim_policy_file.specs.Paths.{is_client_name}
 use Rattle.scim_token.specs.declared.faults.LineFault.{LineFault}
 use Rattle.scim_token.specs.declared.faults.LineFault.TheVariants.{BadLine, BadName, BadDigest, Twice, TooMany}
@@ -45,7 +46,7 @@ has_digest digest e = pointwise nat_eq digest e.digest
 
 -- the entries with one more: no digest stands twice, and there are at most 10,000
 abbrev pub added : List Entry → Entry → Result (List Entry) LineFault
-added known e = if list_any (has_digest e.digest) known then Err Twice else if length known == 10000 then Err TooMany else Ok (known ++ e ∷ [])
+added known e = if list_any (has_digest e.digest) known then Err Twice else if length known == MOST_TOKENS then Err TooMany else Ok (known ++ e ∷ [])
 
 -- the same, where a line says an entry
 abbrev pub added_if : List Entry → Result Entry LineFault → Result (List Entry) LineFault

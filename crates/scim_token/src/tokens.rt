@@ -13,12 +13,10 @@ use crate::digests::Digest;
 use crate::faults::{LineFault, TokenFault};
 use crate::lines::{TokenLine, read_line, says_nothing};
 use scim_cell::Text;
+use scim_schema::MOST_TOKENS;
 use scim_text::Failed;
 use std::alloc::Global;
 use std::collections::HashMap;
-
-/// The most tokens that a file may name.
-const MOST_TOKENS: usize = 10_000;
 
 /// Which client has which token. A client may have several, a token is that of one client; of a token its SHA-256
 /// alone is kept.

@@ -2,6 +2,7 @@
 use Rattle.std.specs.Prelude.{◌≡◌, ◌≢◌, ℕ, ◌≤◌, List, [], ◌++◌, length, codes, Option, Some, IsSome, All}
 use Rattle.std.specs.List.{count_by}
 use Rattle.std.specs.FinMap.{get}
+use Rattle.scim_schema.specs.declared.limits.TheConstants.{LONGEST_VALUE, MOST_VALUES}
 use Rattle.scim_schema.specs.declared.Kind.{Kind}
 use Rattle.scim_schema.specs.declared.Kind.TheVariants.{User, Group}
 use Rattle.scim_schema.specs.declared.Leaf.{Leaf}
@@ -65,10 +66,10 @@ HasAtMostOnePrimary kind rs = All (λ a. count_by is_primary (values (whole a) r
 
 -- no multi-valued attribute of the kind has more than 10,000 values
 abbrev pub HasFewValues : Kind → List Row → Type 0
-HasFewValues kind rs = All (λ a. length (values (whole a) rs) ≤ 10000) (attributes kind)
+HasFewValues kind rs = All (λ a. length (values (whole a) rs) ≤ MOST_VALUES) (attributes kind)
 
 abbrev pub IsShort : Atom → Type 0
-IsShort (Text t) = length t ≤ 65536
+IsShort (Text t) = length t ≤ LONGEST_VALUE
 IsShort _ = Unit {0}
 
 -- a field that a resource may keep: not of `groups`, which is computed, nor of a writeOnly leaf (RFC 7643 sections 4.1.2 and 7), and with a text of at most 65,536 bytes, `meta.location` aside

@@ -12,14 +12,9 @@ ghost use Rattle.scim_value.specs.Resource.{first_at, IsResource, IsIdentified, 
 use crate::parts::Part;
 use scim_cell::{Atom, Field, Id, Row};
 use scim_schema::{
-    Attribute, Kind, Leaf, Mutability, SubAttribute, Unit, attributes, characteristics_of,
+    Attribute, Kind, LONGEST_VALUE, Leaf, MOST_VALUES, Mutability, SubAttribute, Unit, attributes,
+    characteristics_of,
 };
-
-/// How many values a multi-valued attribute of a resource may have.
-const MOST_VALUES: usize = 10_000;
-
-/// How many bytes a text of a resource may have, `meta.location` aside.
-const LONGEST_VALUE: usize = 65_536;
 
 /// Whether the part is a resource, below whatever base.
 ///

@@ -3,13 +3,14 @@ use Rattle.std.specs.Prelude.{◌≡◌, ℕ, ◌+◌, ◌<◌, ◌≤◌, ◌�
 use Rattle.std.specs.List.{flat_map}
 use Rattle.httparse.specs.Ascii.{crlf_bytes}
 use Rattle.httparse.specs.Grammar.{LineEnd, Field, ReadsSection, ChunkLine, ReadsChunkLine, chunk_size}
+use Rattle.scim_schema.specs.declared.limits.TheConstants.{MAX_BODY}
 use Rattle.scim_wire.specs.declared.chunk_faults.BadChunks.{BadChunks}
 use Rattle.scim_wire.specs.declared.chunk_faults.BadChunks.TheVariants.{TooLarge, Malformed}
 use Rattle.scim_wire.specs.Fronts.{IsFrontOf, IsDeadEnd}
 
 -- the bytes that the content of a body may have
 abbrev pub most_content : ℕ
-most_content = 1048576
+most_content = MAX_BODY
 
 -- a chunk line with its CR LF, of at most 1,024 bytes, that gives this size
 pub record IsLineOf (size : ℕ) (text : List ℕ) : Type 0 where

@@ -8,11 +8,9 @@ ghost use Rattle.scim_wire.specs.code.ChunkSteps.{StandsAt};
 use crate::chunk_faults::BadChunks;
 use crate::chunk_lines::{BadLine, judge_line};
 use crate::trailers::{Trailed, TrailerPart};
+use scim_schema::MAX_BODY;
 use scim_text::{Failed, NoMemory};
 use std::alloc::Global;
-
-/// The bytes that the chunks may have together.
-const MAX_CONTENT: u64 = 1_048_576;
 
 /// A place in a chunked body.
 #[derive(Clone, Copy)]
@@ -110,7 +108,7 @@ impl ChunkedPart {
             → UnlessMemory (Leads bytes) result }
     {
         let content = self.body.len() as u64;
-        if content.saturating_add(size) > MAX_CONTENT {
+        if content.saturating_add(size) > MAX_BODY {
             return Err(Failed::Because(BadChunks::TooLarge));
         }
         if size == 0 {

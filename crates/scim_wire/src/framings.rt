@@ -8,11 +8,9 @@ ghost use Rattle.scim_wire.specs.Framings.{is_over_limit, framing, number_up_to,
 
 use crate::headers::{Header, same_name, values_named};
 use scim_audit::Refusal;
+use scim_schema::MAX_BODY;
 use scim_text::Failed;
 use std::alloc::Global;
-
-/// The most bytes that a body may have.
-pub const MAX_BODY: u64 = 1_048_576;
 
 /// How a body is framed (RFC 9112 section 6).
 #[derive(Clone, Copy, PartialEq, Eq)]

@@ -6,6 +6,8 @@ ghost use Rattle.scim_wire.specs.Bodies.{refusal_of};
 ghost use Rattle.scim_wire.specs.Messages.{OpensSaying, announced, message_of};
 ghost use Rattle.scim_wire.specs.code.Wires.{StandsAt, Steps};
 
+use crate::chunk_faults::BadChunks;
+use crate::chunked::{ChunkedPart, Step};
 use crate::framings::Framing;
 use crate::message_heads::MessageHead;
 use crate::message_texts::parse_message_head;
@@ -14,8 +16,6 @@ use crate::octets::Octets;
 use crate::parts::{HeadPart, HeadStep};
 use crate::states::{BodyPart, ChunksPart, State, StateStep};
 use scim_audit::Refusal;
-use crate::chunk_faults::BadChunks;
-use crate::chunked::{ChunkedPart, Step};
 use scim_text::{Failed, NoMemory};
 use std::alloc::Global;
 

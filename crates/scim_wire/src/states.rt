@@ -2,11 +2,11 @@
 ghost use Rattle.std.specs.Prelude.{◌≡◌, ◌≤◌, ℕ, List, [], ◌∷◌, ◌++◌, None, IfOk, length, take};
 ghost use Rattle.scim_wire.specs.code.Wires.{StandsAt, Steps};
 
+use crate::chunked::ChunkedPart;
 use crate::message_heads::MessageHead;
 use crate::messages::Item;
 use crate::parts::HeadPart;
 use crate::state_steps::take_in_head;
-use crate::chunked::ChunkedPart;
 use scim_text::NoMemory;
 use std::alloc::Global;
 

@@ -1,5 +1,6 @@
 -- How rules and decisions are kept.
 use Rattle.std.specs.Prelude.{◌≤◌, length}
+use Rattle.scim_schema.specs.declared.limits.TheConstants.{MOST_RULES}
 use Rattle.scim_policy.specs.declared.rules.Rule.TheInside.{Inside as RuleInside}
 use Rattle.scim_policy.specs.declared.rules.Policy.TheInside.{Inside as PolicyInside}
 use Rattle.scim_policy.specs.Rules.{Rule}
@@ -10,4 +11,4 @@ rule_of r = record { allow = r.allow; clients = r.clients.items; ops = r.ops.ite
 
 -- a policy has at most 1,000 rules
 abbrev pub IsSmall : PolicyInside → Type 0
-IsSmall p = length p.rules.items ≤ 1000
+IsSmall p = length p.rules.items ≤ MOST_RULES

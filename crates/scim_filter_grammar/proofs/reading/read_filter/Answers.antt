@@ -1,7 +1,7 @@
 use Rattle.std.proofs.Common.{◌≡◌, ◌≤◌, ◌<◌, ℕ, Some, inr, true, false, List, length, Ok, Err, sym, ap, subst, ◌∙◌, arith}
 use Rattle.scim_filter_grammar.specs.Tree.{Tree, view}
 use Rattle.scim_filter_grammar.specs.Types.{fits}
-use Rattle.scim_filter_grammar.specs.declared.limits.TheConstants.{LONGEST_TEXT}
+use Rattle.scim_schema.specs.declared.limits.TheConstants.{LONGEST_FILTER}
 use Rattle.scim_filter_grammar.specs.Reading.{Syntax, TooDeep, all_of}
 use Rattle.scim_filter_grammar.specs.Grammar.{IsFilter}
 use Rattle.scim_schema.specs.declared.Kind.{Kind}
@@ -21,7 +21,7 @@ same_tree kind text bytes read tree e f h = ok_is read tree (sym f ∙ ap (all_o
 pub returns-then-fits-clause-found : goal.returns-then-fits-clause-found
 returns-then-fits-clause-found c =
     let e : c.as_bytes-bytes.result.now ≡ c.args.text.now = c.as_bytes-bytes.ensures.value in
-    let short : length c.args.text.now ≤ LONGEST_TEXT = subst (λ (b : List ℕ). length b ≤ LONGEST_TEXT) e c.if-bytes-gt-LONGEST_TEXT.false in
+    let short : length c.args.text.now ≤ LONGEST_FILTER = subst (λ (b : List ℕ). length b ≤ LONGEST_FILTER) e c.if-bytes-gt-LONGEST_FILTER.false in
     let typed : fits (view c.in-Ok.node) ≡ true = sym c.fits.ensures ∙ c.if-fits.true in
     (short, rw c.of.ensures (spelled c.args.kind c.args.text.now c.as_bytes-bytes.result.now (view c.in-Ok.node) e c.in-Ok.ensures), rw c.of.ensures typed)
 
@@ -67,16 +67,16 @@ returns-in-Err-Because-TooDeep-clause-too_deep c =
     let failed : all_of (Attributes c.args.kind) c.as_bytes-bytes.result.now ≡ Err TooDeep = rw (c.in-Err-Because-TooDeep.field-0-is, c.in-Err-Because-TooDeep.field-0-0-is) at c.in-Err-Because-TooDeep.ensures in
     λ is tree h. not_within c.args.kind c.args.text.now tree (ap (all_of (Attributes c.args.kind)) (sym e) ∙ failed) h
 
-pub returns-then-bytes-gt-LONGEST_TEXT-clause-same : goal.returns-then-bytes-gt-LONGEST_TEXT-clause-same
-returns-then-bytes-gt-LONGEST_TEXT-clause-same c =
+pub returns-then-bytes-gt-LONGEST_FILTER-clause-same : goal.returns-then-bytes-gt-LONGEST_FILTER-clause-same
+returns-then-bytes-gt-LONGEST_FILTER-clause-same c =
     let e : c.as_bytes-bytes.result.now ≡ c.args.text.now = c.as_bytes-bytes.ensures.value in
-    let long : LONGEST_TEXT < length c.args.text.now = subst (λ (b : List ℕ). LONGEST_TEXT < length b) e c.if-bytes-gt-LONGEST_TEXT.true in
+    let long : LONGEST_FILTER < length c.args.text.now = subst (λ (b : List ℕ). LONGEST_FILTER < length b) e c.if-bytes-gt-LONGEST_FILTER.true in
     inr (none_spelled c.args.kind c.args.text.now (λ tree short h typed. absurd (omega (arith, long, short))))
 
 pub returns-then-fits-clause-same : goal.returns-then-fits-clause-same
 returns-then-fits-clause-same c =
     let e : c.as_bytes-bytes.result.now ≡ c.args.text.now = c.as_bytes-bytes.ensures.value in
-    let short : length c.args.text.now ≤ LONGEST_TEXT = subst (λ (b : List ℕ). length b ≤ LONGEST_TEXT) e c.if-bytes-gt-LONGEST_TEXT.false in
+    let short : length c.args.text.now ≤ LONGEST_FILTER = subst (λ (b : List ℕ). length b ≤ LONGEST_FILTER) e c.if-bytes-gt-LONGEST_FILTER.false in
     let h = spelled c.args.kind c.args.text.now c.as_bytes-bytes.result.now (view c.in-Ok.node) e c.in-Ok.ensures in
     spelled-filter_in c.args.kind c.args.text.now (view c.in-Ok.node) short h (sym c.fits.ensures ∙ c.if-fits.true) ∙ ap Some (sym c.of.ensures)
 

@@ -1,6 +1,6 @@
 use Rattle.std.proofs.Common.{◌≡◌, ◌≤◌, ℕ, List, length, Ok, Err, sym, ap, subst, ◌∙◌}
 use Rattle.scim_filter_grammar.specs.Bytes.{is_space, behind}
-use Rattle.scim_filter_grammar.specs.declared.limits.TheConstants.{LONGEST_TEXT}
+use Rattle.scim_schema.specs.declared.limits.TheConstants.{LONGEST_FILTER}
 use Rattle.scim_filter_grammar.specs.Reading.{Syntax, TooDeep}
 use Rattle.scim_filter_grammar.specs.PathReading.{written_at}
 use Rattle.scim_filter_grammar.specs.WrittenPaths.{written_of}
@@ -13,7 +13,7 @@ returns-in-Ok-clause-found c =
     let e : c.as_bytes-bytes.result.now ≡ c.args.text.now = c.as_bytes-bytes.ensures.value in
     let skipped : c.skip_spaces.result.now ≡ behind is_space c.args.text.now = c.skip_spaces.ensures.rest ∙ ap (behind is_space) e in
     let read : written_at 32 c.args.kind (behind is_space c.args.text.now) ≡ Ok (written_of c.in-Ok.path) = subst (λ (b : List ℕ). written_at 32 c.args.kind b ≡ Ok (written_of c.in-Ok.path)) skipped c.in-Ok.ensures in
-    let short : length c.args.text.now ≤ LONGEST_TEXT = subst (λ (b : List ℕ). length b ≤ LONGEST_TEXT) e c.if-bytes-gt-LONGEST_TEXT.false in
+    let short : length c.args.text.now ≤ LONGEST_FILTER = subst (λ (b : List ℕ). length b ≤ LONGEST_FILTER) e c.if-bytes-gt-LONGEST_FILTER.false in
     (short, whole_takes c.args.kind c.args.text.now (written_of c.in-Ok.path) read)
 
 pub returns-in-Ok-clause-only : goal.returns-in-Ok-clause-only
