@@ -1,4 +1,4 @@
--- Refusals: their numbers, and what is answered (RFC 7644 section 3.12).
+-- Refusals: their numbers, and the replies to them (RFC 7644 section 3.12).
 use Rattle.std.specs.Prelude.{ℕ, Bool, true, false, List, [], ◌∷◌, ◌++◌, codes, Option, None, Some}
 use Rattle.http.specs.StatusCode.{code_digits}
 use Rattle.scim_audit.specs.declared.refusals.Refusal.{Refusal}
@@ -6,7 +6,7 @@ use Rattle.scim_audit.specs.declared.refusals.Refusal.TheVariants.{BadHead, TooL
 use Rattle.scim_audit.specs.declared.methods.Methods.TheVariants.{Collection}
 use Rattle.scim_audit.specs.Methods.{allow_text}
 
--- the number of a refusal, in the order in which they are looked for
+-- the number of a refusal, in the order of the checks
 abbrev pub number_of : Refusal → ℕ
 number_of BadHead = 1
 number_of TooLarge = 2
@@ -58,7 +58,7 @@ status_of Widens = 403
 status_of IdInUse = 503
 status_of Store = 500
 
--- the detail error keyword, where there is one (RFC 7644 table 9)
+-- the detail error keyword, if the standard has one (RFC 7644 table 9)
 abbrev pub scim_type_of : Refusal → Option (List ℕ)
 scim_type_of Syntax = Some (codes "invalidSyntax")
 scim_type_of Filter = Some (codes "invalidFilter")
@@ -70,7 +70,7 @@ scim_type_of ResultValue = Some (codes "invalidValue")
 scim_type_of Taken = Some (codes "uniqueness")
 scim_type_of _ = None
 
--- what is told to people
+-- the description for people
 abbrev pub detail_of : Refusal → List ℕ
 detail_of BadHead = codes "Malformed request head."
 detail_of TooLarge = codes "Request body too large."
@@ -94,12 +94,12 @@ detail_of Widens = codes "The change would widen access."
 detail_of IdInUse = codes "The identifier is in use."
 detail_of Store = codes "The server could not complete the request."
 
--- the member `scimType` of an error message, where there is one
+-- the member `scimType` of an error message, or nothing
 abbrev pub scim_type_member : Option (List ℕ) → List ℕ
 scim_type_member None = codes ""
 scim_type_member (Some scim_type) = codes ",\"scimType\":\"" ++ scim_type ++ codes "\""
 
--- the JSON of an error message, its keys in byte order (RFC 7644 section 3.12)
+-- the JSON of an error message, with its keys in byte order (RFC 7644 section 3.12)
 abbrev pub error_message : ℕ → Option (List ℕ) → List ℕ → List ℕ
 error_message status scim_type detail =
     codes "{\"detail\":\"" ++ detail
@@ -107,11 +107,12 @@ error_message status scim_type detail =
     ++ scim_type_member scim_type
     ++ codes ",\"status\":\"" ++ code_digits status ++ codes "\"}"
 
--- the body of the reply
+-- the body of the reply to a refused request
 abbrev pub body_of : Refusal → List ℕ
 body_of refusal = error_message (status_of refusal) (scim_type_of refusal) (detail_of refusal)
 
--- whether the connection is closed after it: what follows can't be told from the message then (RFC 9112 section 9.6)
+-- whether the connection is closed after the reply, because the end of the message is unknown (RFC 9112
+-- section 9.6)
 abbrev pub closes : Refusal → Bool
 closes BadHead = true
 closes TooLarge = true
@@ -124,7 +125,7 @@ abbrev pub asks_for_token : Refusal → Bool
 asks_for_token NoToken = true
 asks_for_token _ = false
 
--- the text of `Allow`, where there is one (RFC 9110 section 15.5.6)
+-- the text of the header `Allow`, if the refusal has one (RFC 9110 section 15.5.6)
 abbrev pub allow_of : Refusal → Option (List ℕ)
 allow_of (BadMethod methods) = Some (allow_text methods)
 allow_of _ = None

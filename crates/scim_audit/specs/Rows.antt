@@ -1,4 +1,4 @@
--- Rows of the audit, and the line of each.
+-- Rows of the audit, and their lines of text.
 use Rattle.std.specs.Prelude.{ℕ, List, [], ◌∷◌, ◌++◌, codes, decimal, Option, None, Some, option_map, unwrap_or}
 use Rattle.std.specs.List.{join_with_byte}
 use Rattle.scim_schema.specs.declared.Attribute.{Attribute}
@@ -17,7 +17,7 @@ use Rattle.scim_audit.specs.Refusals.{number_of}
 unfoldable pub decisions : List Decided
 decisions = Allow ∷ Deny ∷ Hidden ∷ Absent ∷ Refused ∷ []
 
--- the word for what was decided
+-- the word for a decision
 abbrev pub decided_name : Decided → List ℕ
 decided_name Allow = codes "Allow"
 decided_name Deny = codes "Deny"
@@ -25,42 +25,45 @@ decided_name Hidden = codes "Hidden"
 decided_name Absent = codes "Absent"
 decided_name Refused = codes "Refused"
 
--- what stands where there is nothing to tell
+-- the word for a value that a row doesn't have
 abbrev pub no_word : List ℕ
 no_word = codes "-"
 
--- an attribute, and where there is one a dot and a sub-attribute (RFC 7644 section 3.10)
+-- the path of an attribute, or of its sub-attribute if one is given (RFC 7644 section 3.10)
 abbrev pub path_of : Attribute → Option SubAttribute → List ℕ
 path_of attribute None = attribute_name attribute
 path_of attribute (Some sub_attribute) = attribute_name attribute ++ codes "." ++ sub_attribute_name sub_attribute
 
--- the path of a leaf, as policies name it
+-- the path of a leaf, as in policies
 abbrev pub leaf_path : Leaf → List ℕ
 leaf_path leaf = path_of leaf.attribute leaf.sub_attribute
 
--- the mark of a refusal: `F` and its number
+-- `F` and the number of a refusal
 abbrev pub refusal_mark : Refusal → List ℕ
 refusal_mark refusal = codes "F" ++ decimal (number_of refusal)
 
--- the words for what a row may lack
+-- the text of an id, or `-`
 abbrev pub id_word : Option (List ℕ) → List ℕ
 id_word id = unwrap_or (option_map id_text id) no_word
 
+-- the number of a rule, or `-`
 abbrev pub rule_word : Option ℕ → List ℕ
 rule_word rule = unwrap_or (option_map decimal rule) no_word
 
+-- the path of a leaf, or `-`
 abbrev pub leaf_word : Option Leaf → List ℕ
 leaf_word leaf = unwrap_or (option_map leaf_path leaf) no_word
 
+-- `F` and the number of a refusal, or `-`
 abbrev pub refusal_word : Option Refusal → List ℕ
 refusal_word refusal = unwrap_or (option_map refusal_mark refusal) no_word
 
--- the words of the line of a row with its number
+-- the words of the line of a row with this number
 abbrev pub row_words : ℕ → AuditRow → List (List ℕ)
 row_words number row =
     decimal number ∷ moment_text row.moment ∷ row.client ∷ op_name row.op ∷ kind_name row.kind ∷ id_word row.id
     ∷ decided_name row.decided ∷ rule_word row.rule ∷ leaf_word row.leaf ∷ refusal_word row.refusal ∷ []
 
--- the line of a row: its words, with a space between two
+-- the line of a row with this number: its words, with a space between them
 unfoldable pub row_line : ℕ → AuditRow → List ℕ
 row_line number row = join_with_byte 32 (row_words number row)

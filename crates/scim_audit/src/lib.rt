@@ -1,4 +1,5 @@
-//! Refusals, and the rows of the audit with their lines.
+//! Refusals with their error messages (RFC 7644 section 3.12), and the rows of the audit with their
+//! lines.
 #![tactic(auto)]
 
 mod methods;

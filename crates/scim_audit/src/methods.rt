@@ -2,21 +2,21 @@
 ghost use Rattle.std.specs.Prelude.{◌≡◌};
 ghost use Rattle.scim_audit.specs.Methods as spec;
 
-/// The methods that an endpoint has, by what is found there.
+/// A set of HTTP methods, named for the endpoints that allow them.
 #[derive(Clone, Copy, Debug, PartialEq, Eq)]
 pub enum Methods {
-    /// The resources of a kind, as `/Users`.
+    /// For the resources of a kind, as `/Users`.
     Collection,
-    /// The search of these, as `/Users/.search` (RFC 7644 section 3.4.3).
+    /// For a search by POST, as `/Users/.search` (RFC 7644 section 3.4.3).
     Search,
-    /// One resource, as `/Users/{id}`.
+    /// For one resource, as `/Users/{id}`.
     Resource,
-    /// What the server tells of itself, as `/Schemas` (RFC 7644 section 4).
+    /// For a page about the server, as `/Schemas` (RFC 7644 section 4).
     Discovery,
 }
 
 impl Methods {
-    /// The methods as the header `Allow` lists them (RFC 9110 section 10.2.1).
+    /// The methods as in the header `Allow` (RFC 9110 section 10.2.1).
     pub fn allow(self) -> &'static str
         ensures { result.now ≡ spec.allow_text self }
     {

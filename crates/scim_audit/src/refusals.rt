@@ -1,58 +1,61 @@
-//! Refusals: what is answered in place of what was asked for (RFC 7644 section 3.12).
+//! Refusals: the errors that the server replies with (RFC 7644 section 3.12).
 ghost use Rattle.std.specs.Prelude.{◌≡◌};
 ghost use Rattle.std.specs.Option.{option_copied};
 ghost use Rattle.scim_audit.specs.Refusals as spec;
 
 use crate::methods::Methods;
 
-/// Why a request isn't answered with what it asks for, in the order in which it is looked for.
+/// The reason why a request is refused. The checks are made in this order.
 #[derive(Clone, Copy, Debug, PartialEq, Eq)]
 pub enum Refusal {
-    /// What came is no head of a request (RFC 9112 sections 2 and 3), or is too long for one.
+    /// The input isn't the head of an HTTP request (RFC 9112 sections 2 and 3), or the head is too
+    /// long.
     BadHead,
-    /// The body is longer than this server takes (RFC 9110 section 15.5.14).
+    /// The body is longer than this server accepts (RFC 9110 section 15.5.14).
     TooLarge,
-    /// Where the body ends can't be told (RFC 9112 section 6).
+    /// The length of the body can't be determined (RFC 9112 section 6).
     BadFraming,
-    /// The body comes in a transfer coding that isn't known (RFC 9112 section 6.1).
+    /// The body has an unknown transfer coding (RFC 9112 section 6.1).
     UnknownCoding,
     /// There is no such endpoint.
     NoRoute,
-    /// The endpoint is one of SCIM that this server hasn't, as `/Bulk` and `/Me` (RFC 7644 sections 3.7 and 3.11).
+    /// A SCIM endpoint that this server doesn't support, as `/Bulk` and `/Me` (RFC 7644 sections
+    /// 3.7 and 3.11).
     NotSupported,
-    /// The endpoint has these methods alone, which are told in `Allow` (RFC 9110 section 15.5.6).
+    /// The endpoint allows only these methods, which the header `Allow` lists (RFC 9110 section
+    /// 15.5.6).
     BadMethod(Methods),
-    /// No token came that a client has (RFC 6750 section 3).
+    /// The request has no token, or one that no client has (RFC 6750 section 3).
     NoToken,
-    /// The body isn't of the form that is asked for.
+    /// The body isn't of the required form.
     Syntax,
-    /// The filter is none, or compares what can't be compared.
+    /// The filter isn't valid, or compares values that can't be compared.
     Filter,
-    /// A path of a change is none, or names nothing.
+    /// A path of a PATCH operation isn't valid, or names no attribute.
     Path,
-    /// A value in the message is none for its attribute.
+    /// A value in the message isn't valid for its attribute.
     MessageValue,
-    /// There is no such resource, or the client doesn't see it: it can't tell which.
+    /// The resource doesn't exist, or the client may not see it; the reply is the same.
     NotFound,
-    /// The policy doesn't allow it.
+    /// The policy denies the request.
     Denied,
     /// The attribute can't be changed (RFC 7643 section 7).
     Mutability,
-    /// The filter of a path of a change matched no value.
+    /// The filter in a path of a PATCH operation matches no value.
     NoTarget,
-    /// The resource would lack what it must have, or have what it mustn't.
+    /// The result isn't a valid resource, for example because a required value is missing.
     ResultValue,
-    /// Another resource has the value, which must be unique (RFC 7643 section 7).
+    /// Another resource has a value that must be unique (RFC 7643 section 7).
     Taken,
-    /// The change would let the client do more with the resource than before.
+    /// The change would give the client more rights on the resource than before.
     Widens,
-    /// The id that was to be the new resource's is that of another.
+    /// The id drawn for the new resource is in use.
     IdInUse,
-    /// No memory was to be had, or the store failed.
+    /// An allocation or the store failed.
     Store,
 }
 
-/// The JSON of an error message, its keys in byte order.
+/// The JSON of an error message, with its keys in byte order.
 macro_rules! error_message {
     ($status:literal, $detail:literal) => {
         concat!(
@@ -107,7 +110,7 @@ impl Refusal {
         ]
     }
 
-    /// The number of this refusal, from 1, by which the audit names it.
+    /// The number of this refusal in the audit, from 1.
     pub fn number(self) -> u8
         ensures { result ≡ spec.number_of self }
     {
@@ -162,7 +165,7 @@ impl Refusal {
         }
     }
 
-    /// The detail error keyword, where the standard has one (RFC 7644 table 9).
+    /// The detail error keyword, if the standard has one (RFC 7644 table 9).
     pub fn scim_type(self) -> Option<&'static str>
         ensures { option_copied result ≡ spec.scim_type_of self }
     {
@@ -215,7 +218,7 @@ impl Refusal {
         }
     }
 
-    /// Whether the connection is closed after the reply: what follows can't be told from the message then.
+    /// Whether the connection is closed after the reply, because the end of the message is unknown.
     pub fn closes(self) -> bool
         ensures { result ≡ spec.closes self }
     {
@@ -225,14 +228,15 @@ impl Refusal {
         )
     }
 
-    /// Whether the reply asks for a token, by the header `WWW-Authenticate` (RFC 9110 section 15.5.2).
+    /// Whether the reply asks for a token in the header `WWW-Authenticate` (RFC 9110 section
+    /// 15.5.2).
     pub fn asks_for_token(self) -> bool
         ensures { result ≡ spec.asks_for_token self }
     {
         self == Refusal::NoToken
     }
 
-    /// The text of the header `Allow`, where the refusal has one (RFC 9110 section 10.2.1).
+    /// The text of the header `Allow`, if the refusal has one (RFC 9110 section 10.2.1).
     pub fn allow(self) -> Option<&'static str>
         ensures { option_copied result ≡ spec.allow_of self }
     {

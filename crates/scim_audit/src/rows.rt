@@ -1,4 +1,4 @@
-//! Rows of the audit, and the line of each.
+//! Rows of the audit, and their lines of text.
 ghost use Rattle.std.specs.Prelude.{◌≡◌, IfOk, string_bytes};
 ghost use Rattle.scim_audit.specs.Rows as spec;
 
@@ -8,18 +8,18 @@ use scim_schema::{Kind, Leaf, Op};
 use scim_text::{Moment, NoMemory, print_moment};
 use std::alloc::Global;
 
-/// What was decided on a request.
+/// The decision on a request.
 #[derive(Clone, Copy, PartialEq, Eq)]
 pub enum Decided {
-    /// The policy allowed it, and it was carried out.
+    /// The policy allowed the request, and it was carried out.
     Allow,
-    /// The policy denied it, or it would have widened access.
+    /// The policy denied the request, or the change would have widened access.
     Deny,
-    /// The resource is there, and the client doesn't see it.
+    /// The resource exists, but the client may not see it.
     Hidden,
-    /// There is no such resource.
+    /// The resource doesn't exist.
     Absent,
-    /// It was refused for what it says, or for what would have come of it.
+    /// The request was refused for its content or for its result.
     Refused,
 }
 
@@ -38,7 +38,7 @@ impl Decided {
         ]
     }
 
-    /// The word for it, as lines of the audit have it.
+    /// The word for the decision in a line of the audit.
     pub fn name(self) -> &'static str
         ensures { result.now ≡ spec.decided_name self }
     {
@@ -52,29 +52,30 @@ impl Decided {
     }
 }
 
-/// What the audit keeps of a request of a client. Its number is its place among the rows, from 1.
+/// The audit's record of a client's request. Its number is its place among the rows, from 1.
 pub struct AuditRow {
-    /// When the request came.
+    /// When the request was received.
     pub moment: Moment,
-    /// The name of the client that asked.
+    /// The name of the client.
     pub client: Text,
-    /// What it asked to do.
+    /// The operation.
     pub op: Op,
-    /// With which kind of resources.
+    /// The kind of the resources.
     pub kind: Kind,
-    /// The id of the resource; None where none was asked for, or what was given is no id.
+    /// The id of the resource; None if the request names none, or a text that isn't an id.
     pub id: Option<Id>,
-    /// What was decided.
+    /// The decision.
     pub decided: Decided,
-    /// The number of the rule that decided, 0 where none fitted; None where no one rule did.
+    /// The number of the rule that decided, or 0 if no rule applied. None if the decision isn't
+    /// that of a single rule.
     pub rule: Option<u32>,
-    /// What that rule denied, or would have allowed anew; None where it allowed, or no one rule decided.
+    /// The leaf that the rule denied, or would have allowed in addition. None if the rule allowed
+    /// the request, or the decision isn't that of a single rule.
     pub leaf: Option<Leaf>,
-    /// The refusal that was answered; None where the request was carried out.
+    /// The refusal in the reply; None if the request was carried out.
     pub refusal: Option<Refusal>,
 }
 
-/// One call, wherever a row of the audit is dropped, in place of a look at all that it has.
 impl Drop for AuditRow {
     fn drop(self) {
         let AuditRow {
@@ -92,9 +93,7 @@ impl Drop for AuditRow {
 }
 
 impl AuditRow {
-    /// A copy of this row.
-    ///
-    /// The only error is [`NoMemory`].
+    /// Copies this row.
     pub fn try_copy(&self, alloc: Global) -> Result<AuditRow, NoMemory>
         ensures { IfOk result (λ row. row ≡ self.now) }
     {
@@ -112,10 +111,8 @@ impl AuditRow {
     }
 }
 
-/// The path of a leaf, as policies name it: `userName`, `emails.value` (RFC 7644 section 3.10). A leaf of an
-/// extension has no URN before it.
-///
-/// The only error is [`NoMemory`].
+/// Returns the path of a leaf as in policies: `userName`, `emails.value` (RFC 7644 section 3.10).
+/// It has no URN, also for an attribute of an extension.
 pub fn leaf_path(alloc: Global, leaf: Leaf) -> Result<String, NoMemory>
     ensures { IfOk result (λ text. string_bytes text ≡ spec.leaf_path leaf) }
 {
@@ -129,14 +126,14 @@ pub fn leaf_path(alloc: Global, leaf: Leaf) -> Result<String, NoMemory>
     }
 }
 
-/// The word that stands where there is nothing to tell.
+/// The word for a value that a row doesn't have.
 fn no_word(alloc: Global) -> Result<String, NoMemory>
     ensures { IfOk result (λ text. string_bytes text ≡ spec.no_word) }
 {
     Ok(String::from_str(alloc, "-")?)
 }
 
-/// The number of a rule.
+/// The number of a rule, or `-`.
 fn rule_word(alloc: Global, rule: Option<u32>) -> Result<String, NoMemory>
     ensures { IfOk result (λ text. string_bytes text ≡ spec.rule_word rule) }
 {
@@ -146,7 +143,7 @@ fn rule_word(alloc: Global, rule: Option<u32>) -> Result<String, NoMemory>
     }
 }
 
-/// The path of a leaf.
+/// The path of a leaf, or `-`.
 fn leaf_word(alloc: Global, leaf: Option<Leaf>) -> Result<String, NoMemory>
     ensures { IfOk result (λ text. string_bytes text ≡ spec.leaf_word leaf) }
 {
@@ -156,7 +153,7 @@ fn leaf_word(alloc: Global, leaf: Option<Leaf>) -> Result<String, NoMemory>
     }
 }
 
-/// `F` and the number of a refusal.
+/// `F` and the number of a refusal, or `-`.
 fn refusal_word(alloc: Global, refusal: Option<Refusal>) -> Result<String, NoMemory>
     ensures { IfOk result (λ text. string_bytes text ≡ spec.refusal_word refusal) }
 {
@@ -169,7 +166,7 @@ fn refusal_word(alloc: Global, refusal: Option<Refusal>) -> Result<String, NoMem
     }
 }
 
-/// The text of an id.
+/// The text of an id, or `-`.
 fn id_word(buffer: &mut [u8; Id::TEXT_LENGTH], id: Option<Id>) -> &str
     ensures { result.now ≡ spec.id_word id }
 {
@@ -179,11 +176,11 @@ fn id_word(buffer: &mut [u8; Id::TEXT_LENGTH], id: Option<Id>) -> &str
     }
 }
 
-/// The line of a row: its number, the moment, the client, the operation, the kind, the id, what was decided,
-/// the rule, the leaf, and `F` with the number of the refusal, one space between two, and `-` for what there
-/// is none of. It has no line feed at its end.
+/// Returns the line of a row, without a line feed.
 ///
-/// The only error is [`NoMemory`].
+/// It has ten words with one space between them: number, moment, client, operation, kind, id,
+/// decision, rule, leaf, and `F` with the number of the refusal. The word is `-` for a value that
+/// the row doesn't have.
 #[tactic(auto, unfolding(crate::specs::Rows::row_line))]
 pub fn print_row(alloc: Global, number: u64, row: &AuditRow) -> Result<String, NoMemory>
     ensures { IfOk result (λ text. string_bytes text ≡ spec.row_line number row.now) }

@@ -1,4 +1,4 @@
--- What contracts see of a part or a resource: a kind, an id and cells (RFC 7643 section 2).
+-- The model of a part or a resource in contracts: a kind, an id and cells (RFC 7643 section 2).
 use Rattle.std.specs.Prelude.{◌≡◌, ◌≤◌, ℕ, ◌+◌, ◌⊎◌, true, List, map, All, Any}
 use Rattle.std.specs.List.Sorted.{IsPermutation}
 use Rattle.std.specs.FinMap.{FinMap, entries, is_sorted}
@@ -14,24 +14,25 @@ use Rattle.scim_cell.specs.declared.atoms.Atom.{Atom}
 use Rattle.scim_cell.specs.declared.atoms.Atom.TheVariants.{Text, Truth, Moment}
 use Rattle.scim_cell.specs.Place.{place_cmp, leaf_of, place_at}
 
--- a kind, an id and the cells: a finite map from places, each a leaf and a position, to atoms
+-- a kind, an id and the cells, as a finite map from places to atoms; a place is a leaf and a position
 pub record Content : Type 0 where
   pub kind : Kind
   pub id : List ℕ
   pub cells : FinMap place_cmp Atom
 
--- a place with the atom that stands there
+-- a place with its atom
 abbrev pub Entry : Type 0
 Entry = Place × Atom
 
--- where a cell stands
+-- the place of a cell
 abbrev pub place_of : Cell → Place
 place_of c = place_at c.leaf c.position
 
--- a cell as an entry, and cells as entries
+-- a cell as an entry
 abbrev pub entry_of : Cell → Entry
 entry_of c = (place_of c, c.atom)
 
+-- cells as entries
 abbrev pub entries_of : List Cell → List Entry
 entries_of cells = map entry_of cells
 
@@ -44,31 +45,31 @@ HasType Reference (Text t) = Unit {0}
 HasType Binary (Text t) = Unit {0}
 HasType _ _ = ⊥
 
--- the leaf is the kind's, and the atom has its type
+-- the leaf of an entry belongs to the kind, and the atom has the type of the leaf
 abbrev pub IsOfKind : Kind → Entry → Type 0
 IsOfKind kind e = HasLeaf kind (leaf_of e.0) × HasType (characteristics_of kind (leaf_of e.0)).attribute_type e.1
 
--- some cell of the attribute stands at the position before this one
+-- the entries have a cell of the attribute at the position before this place
 abbrev pub HasOneBefore : List Entry → Place → Type 0
 HasOneBefore es p = Any (λ f. (f.0.attribute ≡ p.attribute) × (f.0.position + 1 ≡ p.position)) es
 
--- the position is the first, or the attribute is multi-valued and a cell of it stands at the position before
+-- the position is 0, or the attribute is multi-valued and has a cell at the position before
 abbrev pub StandsInLine : List Entry → Place → Type 0
 StandsInLine es p = (p.position ≡ 0) ⊎ ((is_multi_valued p.attribute ≡ true) × HasOneBefore es p)
 
--- the cells of a part: each is the kind's, and positions run from 0 without a gap
+-- entries that can be the cells of a part: each is valid for the kind, and positions run from 0 without a gap
 pub record ArePartCells (kind : Kind) (es : List Entry) : Type 0 where
   pub of_kind : All (IsOfKind kind) es
   pub in_line : All (λ e. StandsInLine es e.0) es
 
--- the same of cells in order of place, no two at one place
+-- entries that can be the cells of a part, in strictly ascending order of place
 abbrev pub AreSortedPartCells : Kind → List Entry → Type 0
 AreSortedPartCells kind es = (is_sorted place_cmp es ≡ true) × ArePartCells kind es
 
--- what holds of every part
+-- the invariant of parts: their cells are valid for the kind, and positions have no gaps
 abbrev pub IsPart : Content → Type 0
 IsPart c = ArePartCells c.kind (entries c.cells)
 
--- some part of the kind has these cells, which may come in any order
+-- the entries, in any order, are the cells of some part of the kind
 abbrev pub AreCellsOfAPart : Kind → List Entry → Type 0
 AreCellsOfAPart kind es = (c : Content) × (c.kind ≡ kind) × IsPart c × IsPermutation es (entries c.cells)

@@ -5,20 +5,21 @@ use Rattle.std.specs.Ordering.{nat_cmp}
 use Rattle.std.specs.declared.cmp.Ordering.{Ordering}
 use Rattle.uuid.specs.Text.{hyphenated_text, hyphen, is_hyphen_place, lower}
 
--- an id is sixteen bytes
+-- an id is a list of sixteen bytes
 pub record IsId (id : List ℕ) : Type 0 where
   pub long : length id ≡ 16
   pub bytes : All (λ b. b < 256) id
 
--- the text of an id: its 32 hexadecimal digits, with letters in lower case, in groups of 8, 4, 4, 4 and 12 that hyphens part
+-- the text of an id: 32 hexadecimal digits in lower case, in groups of 8, 4, 4, 4 and 12 with hyphens between
+-- them
 unfoldable pub id_text : List ℕ → List ℕ
 id_text id = hyphenated_text lower id
 
--- a digit, or one of `a` to `f`
+-- a decimal digit, or one of `a` to `f`
 abbrev pub IsLowerHexDigit : ℕ → Type 0
 IsLowerHexDigit c = ((48 ≤ c) × (c ≤ 57)) ⊎ ((97 ≤ c) × (c ≤ 102))
 
--- what may stand at a place of an id's text: a hyphen at 8, 13, 18 and 23, and at the others a digit
+-- a valid character at a place of an id's text: a hyphen at 8, 13, 18 and 23, a hexadecimal digit elsewhere
 abbrev pub IsIdCharacter : ℕ → ℕ → Type 0
 IsIdCharacter place c = MatchBool (is_hyphen_place place) (c ≡ hyphen) (IsLowerHexDigit c)
 
@@ -31,10 +32,10 @@ pub record IsIdText (text : List ℕ) : Type 0 where
 abbrev pub IdTextsHaveTheForm : Type 0
 IdTextsHaveTheForm = (id : List ℕ) → IsId id → IsIdText (id_text id)
 
--- two ids of one text are one
+-- different ids have different texts
 abbrev pub IdTextsAreApart : Type 0
 IdTextsAreApart = (a b : List ℕ) → IsId a → IsId b → id_text a ≡ id_text b → a ≡ b
 
--- an order of ids is the order of their texts, by the first byte that differs
+-- the comparison orders ids as their texts, by the first byte that differs
 abbrev pub OrdersIdsAsTexts : (List ℕ → List ℕ → Ordering) → Type 0
 OrdersIdsAsTexts compare = (a b : List ℕ) → IsId a → IsId b → compare a b ≡ slice_cmp nat_cmp (id_text a) (id_text b)

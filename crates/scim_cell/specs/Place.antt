@@ -1,4 +1,4 @@
--- Where a cell stands, and the order of places.
+-- The places of cells, and the order of places and units.
 use Rattle.std.specs.Prelude.{ℕ, ◌+◌, Option, None, Some, List, [], ◌∷◌}
 use Rattle.std.specs.declared.cmp.Ordering.{Ordering}
 use Rattle.std.specs.Ordering.{nat_cmp, on, then_cmp}
@@ -14,34 +14,35 @@ use Rattle.scim_schema.specs.contracts.SubAttribute.{the_type as the_sub_attribu
 use Rattle.scim_schema.specs.Table.{sub_attributes}
 use Rattle.scim_cell.specs.declared.places.Place.{Place}
 
--- an attribute's number in the list of all
+-- the index of an attribute in the list of all attributes
 abbrev pub attribute_number : Attribute → ℕ
 attribute_number a = tag_of the_attribute a
 
--- no sub-attribute comes first, and then the sub-attributes in the order of their list
+-- the rank of a sub-attribute: None comes first, then the sub-attributes in the order of their list
 abbrev pub sub_attribute_number : Option SubAttribute → ℕ
 sub_attribute_number None = 0
 sub_attribute_number (Some b) = tag_of the_sub_attribute b + 1
 
--- by attribute, then by position, then by sub-attribute
+-- compares places by attribute, then by position, then by sub-attribute
 abbrev pub place_cmp : Place → Place → Ordering
 place_cmp =
     then_cmp (on (λ (p : Place). attribute_number p.attribute) nat_cmp)
     (then_cmp (on (λ (p : Place). p.position) nat_cmp) (on (λ (p : Place). sub_attribute_number p.sub_attribute) nat_cmp))
 
--- units by attribute, then by sub-attribute
+-- compares units by attribute, then by sub-attribute
 abbrev pub unit_cmp : AttributeUnit → AttributeUnit → Ordering
 unit_cmp = then_cmp (on (λ (u : AttributeUnit). attribute_number u.attribute) nat_cmp) (on (λ (u : AttributeUnit). sub_attribute_number u.sub_attribute) nat_cmp)
 
--- the leaf of a cell that stands at a place
+-- the leaf of a cell at a place
 abbrev pub leaf_of : Place → Leaf
 leaf_of p = record { attribute = p.attribute; sub_attribute = p.sub_attribute }
 
--- where a cell of a leaf stands
+-- the place of a cell, by its leaf and position
 abbrev pub place_at : Leaf → ℕ → Place
 place_at l k = record { attribute = l.attribute; position = k; sub_attribute = l.sub_attribute }
 
--- the sub-attributes of an attribute in order of place, which for two attributes isn't that of the table
+-- the sub-attributes of an attribute in order of place, which differs from the table's order for two
+-- attributes
 unfoldable pub sub_attributes_by_place : Attribute → List SubAttribute
 sub_attributes_by_place Addresses = Formatted ∷ TypeName ∷ Primary ∷ StreetAddress ∷ Locality ∷ Region ∷ PostalCode ∷ Country ∷ []
 sub_attributes_by_place Members = Value ∷ Reference ∷ Display ∷ TypeName ∷ []

@@ -1,4 +1,5 @@
--- The cells of a part by value: rows. All later definitions read a part so.
+-- Rows: the cells of a part, grouped by value.
+-- The definitions of policies, views, searches and changes read a part as its rows.
 use Rattle.std.specs.Prelude.{◌≡◌, ◌≤◌, ◌<◌, ◌⊎◌, length, Bool, true, false, ◌&&◌, not, eqb, ℕ, zero, suc, ◌+◌, Option, None, Some, List, [], ◌∷◌, ◌++◌, map, filter, All, AllPairs, if◌then◌else◌}
 use Rattle.std.specs.List.{list_any}
 use Rattle.std.specs.Ordering.{is_lt, is_eq, is_gt}
@@ -20,16 +21,16 @@ use Rattle.scim_cell.specs.declared.rows.Field.{Field}
 use Rattle.scim_cell.specs.Place.{unit_cmp, leaf_of, place_at, sub_attribute_number}
 use Rattle.scim_cell.specs.Content.{Content, Entry, HasType}
 
--- one value of a unit: its fields, in order of sub-attribute; the value of a unit that is a leaf has one
+-- one value of a unit, with its fields in order of sub-attribute; if the unit is a leaf, it has one field
 pub record Row : Type 0 where
   pub unit : AttributeUnit
   pub fields : List Field
 
--- a test of a row and a leaf, by which fields are kept
+-- a test of a row and a leaf, which selects fields
 abbrev pub Test : Type 0
 Test = Row → Leaf → Bool
 
--- the unit of a cell that stands at a place
+-- the unit of a cell at a place
 abbrev pub unit_at : Place → AttributeUnit
 unit_at p = unit_of (leaf_of p)
 
@@ -37,45 +38,46 @@ unit_at p = unit_of (leaf_of p)
 abbrev pub field_of : Entry → Field
 field_of e = record { leaf = leaf_of e.0; atom = e.1 }
 
--- two cells of one value of a multi-valued attribute
+-- whether two cells belong to the same value of a multi-valued attribute
 unfoldable pub goes_with : Place → Place → Bool
 goes_with p q = is_multi_valued p.attribute && (sameb the_attribute p.attribute q.attribute && eqb p.position q.position)
 
--- whether a cell is of one value with the first of those after it
+-- whether a cell belongs to the same value as the first of the cells after it
 abbrev pub is_led : Entry → List Entry → Bool
 is_led e [] = false
 is_led e (f ∷ es) = goes_with e.0 f.0
 
--- a cell before rows: in the first row, or in one of its own
+-- rows after a cell is put before them: into the first row if the flag is true, otherwise in a row of its own
 abbrev pub led : Bool → Entry → List Row → List Row
 led true e (r ∷ rs) = record { unit = unit_at e.0; fields = field_of e ∷ r.fields } ∷ rs
 led _ e rs = record { unit = unit_at e.0; fields = field_of e ∷ [] } ∷ rs
 
--- cells in order of place, by value
+-- the rows of cells that are in order of place
 abbrev pub rows_of : List Entry → List Row
 rows_of [] = []
 rows_of (e ∷ es) = led (is_led e es) e (rows_of es)
 
--- the rows of a part, in order of unit; a position is a row's place among those of its unit
+-- the rows of a part, in order of unit; the position of a cell is the index of its row among those of the
+-- unit
 abbrev pub rows : Content → List Row
 rows c = rows_of (entries c.cells)
 
--- the position of the next row of a unit
+-- the position of a row of a unit, given unit and position of the row before it
 abbrev pub next_position : Option (AttributeUnit × ℕ) → AttributeUnit → ℕ
 next_position None u = 0
 next_position (Some last) u = if sameb the_attribute last.0.attribute u.attribute && is_multi_valued u.attribute then last.1 + 1 else 0
 
--- rows as cells, each at the position of its row
+-- the cells of rows, each at the position of its row, given unit and position of the row before them
 abbrev pub numbered : Option (AttributeUnit × ℕ) → List Row → List Entry
 numbered last [] = []
 numbered last (r ∷ rs) =
     map (λ (f : Field). (place_at f.leaf (next_position last r.unit), f.atom)) r.fields ++ numbered (Some (r.unit, next_position last r.unit)) rs
 
--- and back: the part of these rows
+-- the part with this kind, this id and these rows
 abbrev pub content : Kind → List ℕ → List Row → Content
 content kind id rs = record { kind = kind; id = id; cells = from_sorted (numbered None rs) }
 
--- the rows of a unit, which are its values by position
+-- the rows of a unit, which are its values in order of position
 abbrev pub values : AttributeUnit → List Row → List Row
 values u rs = filter (λ (r : Row). is_eq (unit_cmp r.unit u)) rs
 
@@ -83,15 +85,15 @@ values u rs = filter (λ (r : Row). is_eq (unit_cmp r.unit u)) rs
 abbrev pub attribute_rows : Attribute → List Row → List Row
 attribute_rows a rs = filter (λ (r : Row). sameb the_attribute r.unit.attribute a) rs
 
--- rows with other values for a unit
+-- the rows with the values of a unit replaced
 abbrev pub put_values : AttributeUnit → List Row → List Row → List Row
 put_values u vs rs = filter (λ (r : Row). is_lt (unit_cmp r.unit u)) rs ++ (vs ++ filter (λ (r : Row). is_gt (unit_cmp r.unit u)) rs)
 
--- how many positions of an attribute have cells: the number of its values, or 1 where a single-valued one has any
+-- the number of values of an attribute; 1 if it is single-valued and has any cell
 abbrev pub positions : Attribute → List Row → ℕ
 positions a rs = if is_multi_valued a then length (values (whole a) rs) else (if list_any (λ (r : Row). sameb the_attribute r.unit.attribute a) rs then 1 else 0)
 
--- the atom of a leaf in one value
+-- the atom of a leaf among the fields of one value, or None
 abbrev pub atom_in : Leaf → List Field → Option Atom
 atom_in l [] = None
 atom_in l (f ∷ fs) = by (is_same_leaf f.leaf l) f.atom (atom_in l fs)
@@ -100,7 +102,7 @@ atom_in l (f ∷ fs) = by (is_same_leaf f.leaf l) f.atom (atom_in l fs)
     by true a o = Some a
     by false a o = o
 
--- whether an atom is there and is true
+-- whether the atom is there and is true
 abbrev pub is_truth : Option Atom → Bool
 is_truth (Some (Truth b)) = b
 is_truth _ = false
@@ -109,17 +111,17 @@ is_truth _ = false
 abbrev pub is_primary : Row → Bool
 is_primary r = is_truth (atom_in (leaf_at r.unit.attribute Primary) r.fields)
 
--- the atom of a leaf in the k-th of some values, from 0
+-- the atom of a leaf in the value at index k, or None
 abbrev pub atom_at : Leaf → ℕ → List Row → Option Atom
 atom_at l k [] = None
 atom_at l zero (r ∷ rs) = atom_in l r.fields
 atom_at l (suc k) (r ∷ rs) = atom_at l k rs
 
--- what stands at a position of a leaf
+-- the atom at a position of a leaf, or None
 abbrev pub cell_at : Leaf → ℕ → List Row → Option Atom
 cell_at l k rs = atom_at l k (values (unit_of l) rs)
 
--- whether there is no field
+-- whether there are no fields
 abbrev pub is_empty : List Field → Bool
 is_empty [] = true
 is_empty (f ∷ fs) = false
@@ -128,38 +130,40 @@ is_empty (f ∷ fs) = false
 abbrev pub has_fields : Row → Bool
 has_fields r = not (is_empty r.fields)
 
--- what is left of a row where only the fields that a test of row and leaf admits are kept
+-- a row with only the fields that a test of row and leaf keeps
 abbrev pub restricted_row : Test → Row → Row
 restricted_row keeps r = record { unit = r.unit; fields = filter (λ (f : Field). keeps r f.leaf) r.fields }
 
--- what is left of rows: those without a field go, so that positions close up
+-- rows with only the fields that a test keeps, without the rows that become empty, so that positions have no
+-- gaps
 abbrev pub restricted : Test → List Row → List Row
 restricted keeps rs = filter has_fields (map (restricted_row keeps) rs)
 
--- a field of the unit and the kind, with an atom of its type
+-- a valid field: it belongs to the unit and the kind, with an atom of its type
 abbrev pub IsSoundField : Kind → AttributeUnit → Field → Type 0
 IsSoundField kind u f = (unit_of f.leaf ≡ u) × HasLeaf kind f.leaf × HasType (characteristics_of kind f.leaf).attribute_type f.atom
 
--- a value's fields, each once, in order of sub-attribute
+-- a valid row: its fields are valid and in order of sub-attribute, each once
 pub record IsSoundRow (kind : Kind) (r : Row) : Type 0 where
   pub own : All (IsSoundField kind r.unit) r.fields
   pub in_order : AllPairs (λ f g. sub_attribute_number f.leaf.sub_attribute < sub_attribute_number g.leaf.sub_attribute) r.fields
 
--- a value of the one unit may stand before one of the other
+-- a row of the one unit may come before a row of the other
 abbrev pub Precedes : AttributeUnit → AttributeUnit → Type 0
 Precedes u v = (is_gt (unit_cmp u v) ≡ false) × (is_eq (unit_cmp u v) ≡ true → is_multi_valued u.attribute ≡ true)
 
--- rows that a part has: none empty, each of the kind, in order of unit, and one at most of a unit that isn't multi-valued
+-- valid rows of a part: each is valid and has a field, they are in order of unit, and a unit that isn't
+-- multi-valued has at most one
 pub record AreSound (kind : Kind) (rs : List Row) : Type 0 where
   pub full : All (λ r. has_fields r ≡ true) rs
   pub own : All (IsSoundRow kind) rs
   pub in_order : AllPairs (λ r s. Precedes r.unit s.unit) rs
 
--- a value of the unit, with a field at least
+-- a valid row of the unit, with at least one field
 abbrev pub IsValue : Kind → AttributeUnit → Row → Type 0
 IsValue kind u r = (r.unit ≡ u) × (has_fields r ≡ true) × IsSoundRow kind r
 
--- values that may be put in for a unit
+-- rows that may be put into a part as the values of a unit
 pub record AreValues (kind : Kind) (u : AttributeUnit) (vs : List Row) : Type 0 where
   pub few : (is_multi_valued u.attribute ≡ true) ⊎ (length vs ≤ 1)
   pub own : All (IsValue kind u) vs

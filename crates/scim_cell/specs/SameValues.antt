@@ -1,4 +1,4 @@
--- When two values of a multi-valued attribute are the same (RFC 7643 sections 2.4 and 4.2), and lists in which none stands twice.
+-- Same values of a multi-valued attribute, and appending without duplicates (RFC 7643 sections 2.4 and 4.2).
 use Rattle.std.specs.Prelude.{Bool, ◌&&◌, is_none, List, [], ◌∷◌, ◌++◌, Option, if◌then◌else◌}
 use Rattle.std.specs.List.{list_any}
 use Rattle.std.specs.Option.{option_eq}
@@ -13,10 +13,11 @@ use Rattle.scim_cell.specs.Atoms.{is_same_atom}
 use Rattle.scim_cell.specs.Equality.{is_same_row}
 use Rattle.scim_cell.specs.Rows.{Row, atom_in}
 
--- the `value` of a member
+-- the `value` of a member, or None
 abbrev pub member_value : Row → Option Atom
 member_value r = atom_in (leaf_at Members Value) r.fields
 
+-- whether the attribute is `members`
 abbrev pub is_members : Attribute → Bool
 is_members a = sameb the_attribute a Members
 
@@ -24,15 +25,15 @@ is_members a = sameb the_attribute a Members
 abbrev pub is_nameless : Attribute → Row → Bool
 is_nameless a r = is_members a && is_none (member_value r)
 
--- whether two values are the same: members with the same `value` (RFC 7643 section 4.2), other values with the same cells
+-- whether two values are the same: members with one `value` (RFC 7643 section 4.2), others with equal cells
 abbrev pub is_same_value : Attribute → Row → Row → Bool
 is_same_value a r s = if is_members a then option_eq is_same_atom (member_value r) (member_value s) else is_same_row r s
 
--- values, and one more, unless one of them is the same
+-- values with one more appended, unless one of them is the same
 abbrev pub with_value : Attribute → List Row → Row → List Row
 with_value a rs r = if list_any (λ s. is_same_value a s r) rs then rs else rs ++ r ∷ []
 
--- values, and after them each of these that isn't the same as one before it
+-- values with each of the given ones appended, unless it is the same as one before it
 abbrev pub with_values : Attribute → List Row → List Row → List Row
 with_values a rs [] = rs
 with_values a rs (r ∷ more) = with_values a (with_value a rs r) more

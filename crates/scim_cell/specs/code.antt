@@ -1,4 +1,4 @@
--- How the code keeps and checks rows.
+-- How the code stores and checks rows.
 pub mod Fields
 pub mod Inside
 pub mod Keys

@@ -1,4 +1,4 @@
-//! Values behind others, each once.
+//! Appends values to a list, leaving out those that it already has.
 ghost use Rattle.std.specs.Prelude.{◌≡◌, ◌++◌, ◌∷◌, [], IfOk, OnOk, string_bytes};
 ghost use Rattle.std.specs.List.{list_any};
 ghost use Rattle.scim_cell.specs.SameValues as spec;
@@ -12,14 +12,14 @@ use scim_text::{NoMemory, push};
 use std::alloc::Global;
 use std::collections::HashMap;
 
-/// How many values are given where each is compared with all that are there. More are found by keys, for which a
-/// text of each value is kept meanwhile.
+/// Up to this many given values are compared with each value of the list. More are looked up by
+/// keys, which costs a text for each value for the time of the call.
 const FEW: usize = 8;
 
-/// The values, and behind them each of the given ones that isn't the same as one before it
-/// (RFC 7644 section 3.5.2.1). NoMemory where none was to be had; the values are dropped then.
+/// Appends the given values to the list, in order, each unless it is the same as one before it (RFC
+/// 7644 section 3.5.2.1).
 ///
-/// Many given values take a time that is nearly linear in all of them; to add a few no text is copied.
+/// The time is nearly linear in the number of all values. No text is copied for a few given values.
 pub fn with_values(
     alloc: Global,
     attribute: Attribute,
@@ -35,7 +35,7 @@ pub fn with_values(
     }
 }
 
-/// The same by a look at each value that is there.
+/// Appends the given values, comparing each with all values before it.
 fn with_few(
     attribute: Attribute,
     mut values: Vec<Row>,
@@ -51,7 +51,7 @@ fn with_few(
     Ok(values)
 }
 
-/// The same by keys.
+/// Appends the given values, looking up each by its key.
 fn with_many(
     alloc: Global,
     attribute: Attribute,
@@ -68,7 +68,8 @@ fn with_many(
     Ok(values)
 }
 
-/// Where the values are, by their keys; of those with one key the last. There is room for this many keys more.
+/// A map from the keys of the values to their indexes, the last one if several values have the same
+/// key. It has room for `more` further keys.
 fn places_of(
     alloc: Global,
     attribute: Attribute,
@@ -84,7 +85,7 @@ fn places_of(
     Ok(places)
 }
 
-/// Whether one of the values, among them the one in this place, is the same as this one.
+/// Whether one of the values is the same as this one. The value at `place` is compared first.
 fn has_same(attribute: Attribute, values: &[Row], place: usize, value: &Row) -> bool
     ensures { result ≡ list_any (λ other. spec.is_same_value attribute other value.now) values.now }
 {
@@ -94,7 +95,8 @@ fn has_same(attribute: Attribute, values: &[Row], place: usize, value: &Row) -> 
     }
 }
 
-/// One value more and its key, unless one is the same. Where another value has its key, each value is looked at.
+/// Appends a value and enters its key, unless the list has the same value. All values are compared
+/// only if another value has the same key.
 fn add_value(
     alloc: Global,
     attribute: Attribute,

@@ -1,16 +1,15 @@
-//! Atoms: the single values that the cells of a resource hold (RFC 7643 section 2.3).
+//! Atoms: the single values in the cells of a resource (RFC 7643 section 2.3).
 ghost use Rattle.std.specs.Prelude.{◌≡◌, ◌↔◌, IfOk, IsTrue, string_bytes};
 
 use scim_text::{Moment, NoMemory};
 use std::alloc::Global;
 use std::marker::Model;
 
-/// A text of its own, which contracts see as its bytes.
+/// An owned text. Contracts see it as its bytes.
 pub struct Text {
     text: String,
 }
 
-/// One call, wherever a text is dropped, in place of a look at all that it has.
 impl Drop for Text {
     fn drop(self) {
         let Text { text: _text } = self;
@@ -26,23 +25,21 @@ impl Model for Text {
 }
 
 impl Text {
-    /// The text that a string holds.
+    /// The text of a string.
     pub fn new(text: String) -> Text
         ensures { result ≡ string_bytes text }
     {
         Text { text }
     }
 
-    /// A copy of a text.
-    ///
-    /// Fails where no memory is to be had.
+    /// Copies a text.
     pub fn copy_of(alloc: Global, text: &str) -> Result<Text, NoMemory>
         ensures { IfOk result (λ t. t ≡ text.now) }
     {
         Ok(Text::new(String::from_str(alloc, text)?))
     }
 
-    /// The text.
+    /// The text as a slice.
     pub fn as_str(&self) -> &str
         ensures { result.now ≡ self.now }
     {
@@ -57,9 +54,7 @@ impl Text {
         text
     }
 
-    /// A copy of this text.
-    ///
-    /// Fails where no memory is to be had.
+    /// Copies this text.
     pub fn try_copy(&self, alloc: Global) -> Result<Text, NoMemory>
         ensures { IfOk result (λ t. t ≡ self.now) }
     {
@@ -67,7 +62,7 @@ impl Text {
     }
 }
 
-/// Texts are equal where their bytes are.
+/// Texts are equal if their bytes are.
 impl PartialEq for Text {
     ghost use Rattle.std.specs.Prelude.{nat_eq};
     ghost use Rattle.std.specs.Cmp.{partial_equiv_from_equiv};
@@ -101,7 +96,6 @@ pub enum Atom {
     Moment(Moment),
 }
 
-/// One call, wherever an atom is dropped, in place of a look at all that it has.
 impl Drop for Atom {
     fn drop(self) {
         match self {
@@ -113,9 +107,7 @@ impl Drop for Atom {
 }
 
 impl Atom {
-    /// A copy of this atom.
-    ///
-    /// Fails where no memory is to be had.
+    /// Copies this atom.
     pub fn try_copy(&self, alloc: Global) -> Result<Atom, NoMemory>
         ensures { IfOk result (λ a. a ≡ self.now) }
     {
@@ -127,7 +119,7 @@ impl Atom {
     }
 }
 
-/// Atoms are equal where they are of one kind and their values are equal.
+/// Atoms are equal if they are of the same variant and their values are equal.
 impl PartialEq for Atom {
     ghost use Rattle.std.specs.Cmp.{partial_equiv_from_equiv};
     ghost use Rattle.scim_cell.specs.Atoms.{is_same_atom, is_same_atom-IsEquivalence};

@@ -7,17 +7,17 @@ use crate::places::Place;
 use scim_schema::{AttributeType, Leaf};
 use scim_text::Moment;
 
-/// A cell of a part or a resource: what stands at a position of a leaf.
+/// A cell of a part or a resource: the atom at a position of a leaf.
 #[derive(Drop)]
 pub struct Cell {
     pub leaf: Leaf,
-    /// The place of the value among those of its attribute, from 0; 0 at a single-valued one.
+    /// The index of the value among those of its attribute; 0 for a single-valued attribute.
     pub position: usize,
     pub atom: Atom,
 }
 
 impl Cell {
-    /// Where the cell stands.
+    /// The place of the cell.
     pub fn place(&self) -> Place
         ensures { result ≡ place_of self.now }
     {
@@ -29,8 +29,8 @@ impl Cell {
     }
 }
 
-/// Whether an atom has the type (RFC 7643 section 2.3): moments are dateTimes, truths booleans, and
-/// texts strings, references and binaries.
+/// Whether an atom has the type (RFC 7643 section 2.3). Moments are dateTimes, truths are booleans,
+/// and texts are strings, references and binaries. No atom is complex.
 pub fn has_type(attribute_type: AttributeType, atom: &Atom) -> bool
     ensures { IsTrue result ↔ HasType attribute_type atom.now }
 {

@@ -8,11 +8,11 @@ use std::alloc::Global;
 use std::marker::Model;
 use uuid::Uuid;
 
-/// The id of a resource: a UUID, whose text is in the hyphenated form with letters in lower case
-/// (RFC 9562 section 4).
+/// The id of a resource: a UUID, printed in the hyphenated form with lower-case letters (RFC 9562
+/// section 4).
 ///
-/// Contracts see an id as its sixteen bytes, which it holds. Ids are ordered by their bytes, the first byte first,
-/// which is the order of their texts too.
+/// Contracts see an id as its sixteen bytes. Ids are ordered by their bytes, first byte first,
+/// which is also the order of their texts.
 #[derive(Clone, Copy, Debug, PartialEq, Eq, PartialOrd, Ord, Hash)]
 pub struct Id {
     bytes: [u8; 16],
@@ -32,13 +32,13 @@ impl Model for Id {
 }
 
 impl Id {
-    /// How many bytes the text of an id has.
+    /// The length of the text of an id, in bytes.
     pub const TEXT_LENGTH: usize = 36;
 
-    /// Reads the text of an id: the hyphenated form with letters in lower case, and nothing else.
+    /// Reads the text of an id: the hyphenated form with lower-case letters.
     ///
-    /// None for any other text, as one in upper case, in braces, with `urn:uuid:` before it or
-    /// with no hyphens. Takes no memory.
+    /// Returns None for any other text, such as one in upper case, in braces, with the prefix
+    /// `urn:uuid:` or without hyphens.
     pub fn read(text: &str) -> Option<Id>
         ensures form { IsSome result ↔ IsIdText text.now }
         ensures value { IfSome result (λ id. text.now ≡ id_text id) }
@@ -49,9 +49,7 @@ impl Id {
         (id.write(&mut buffer) == text).then_some(id)
     }
 
-    /// The text of this id.
-    ///
-    /// Fails where no memory is to be had.
+    /// Returns the text of this id.
     pub fn text(self, alloc: Global) -> Result<Text, NoMemory>
         ensures value { IfOk result (λ t. t ≡ id_text self) }
         ensures id { IsId self }
@@ -60,9 +58,9 @@ impl Id {
         Text::copy_of(alloc, self.write(&mut buffer))
     }
 
-    /// Writes the text of this id to the start of `buffer`, and returns it. Takes no memory.
+    /// Writes the text of this id to the start of `buffer`, and returns it.
     ///
-    /// `buffer` has room for `TEXT_LENGTH` bytes.
+    /// `buffer` must have at least `TEXT_LENGTH` bytes.
     #[tactic(auto, unfolding(crate::specs::Ids::id_text))]
     pub fn write<'b>(self, buffer: &'b mut [u8]) -> &'b str
         requires { Self.TEXT_LENGTH ≤ length buffer.old }
@@ -75,9 +73,10 @@ impl Id {
     }
 }
 
-/// The id that a UUID stands for.
+/// The id with the bytes of a UUID.
 ///
-/// This call and `uuid_of` stand apart from the id's own, so that who names an id needn't know what a UUID is.
+/// This function and `uuid_of` aren't methods of `Id`, so that users of `Id` don't depend on the
+/// contracts of `Uuid`.
 pub fn id_of(uuid: Uuid) -> Id
     ensures value { result ≡ uuid }
     ensures id { IsId result }
@@ -88,7 +87,7 @@ pub fn id_of(uuid: Uuid) -> Id
     }
 }
 
-/// The UUID of an id.
+/// The UUID with the bytes of an id.
 pub fn uuid_of(id: Id) -> Uuid
     ensures value { result ≡ id }
     ensures id { IsId result }
@@ -96,20 +95,20 @@ pub fn uuid_of(id: Id) -> Uuid
     Uuid::from_bytes(id.bytes)
 }
 
-// A proof knows that each byte of a slice fits, and not that each byte of an array does.
+/// Lemma: each byte of a slice is below 256. Proofs have this fact for slices, but not for arrays.
 fn bytes_fit(bytes: &[u8])
     requires { length bytes.now ≡ 16 }
     ensures { IsId bytes.now }
 {}
 
-/// The text of an id has the form of one, and two ids of one text are one: so an id reads back from
-/// its text.
+/// Lemma: the text of an id has the form that [`Id::read`] accepts, and different ids have
+/// different texts. So an id reads back from its text.
 pub fn ids_read_back()
     ensures form { IdTextsHaveTheForm }
     ensures apart { IdTextsAreApart }
 {}
 
-/// Ids are ordered as their texts are, byte by byte.
+/// Lemma: ids are ordered as their texts are, byte by byte.
 pub fn ids_ordered_as_texts()
     ensures { OrdersIdsAsTexts ⟦<Id as Ord>⟧.cmp }
 {}

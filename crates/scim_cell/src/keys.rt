@@ -1,4 +1,4 @@
-//! Keys of values: values that are the same have the same key.
+//! Keys for the look-up of values: two values that are the same have the same key.
 ghost use Rattle.std.specs.Prelude.{◌≡◌, IfOk, string_bytes};
 ghost use Rattle.scim_cell.specs.code.Keys.{atom_key, field_key, fields_key, key_of};
 
@@ -8,8 +8,8 @@ use scim_schema::{Attribute, Leaf, SubAttribute};
 use scim_text::NoMemory;
 use std::alloc::Global;
 
-/// A text that values that are the same have in common: of a member its `value`, of any other value
-/// all its fields.
+/// Returns the key of a value: the text of its `value` for a member, all fields for any other
+/// value. Values that aren't the same can have the same key.
 pub(crate) fn key(alloc: Global, attribute: Attribute, value: &Row) -> Result<String, NoMemory>
     ensures { IfOk result (λ k. string_bytes k ≡ key_of attribute value.now) }
 {
@@ -22,7 +22,8 @@ pub(crate) fn key(alloc: Global, attribute: Attribute, value: &Row) -> Result<St
     }
 }
 
-/// The text of an atom.
+/// The text of an atom in a key. It is empty for `false` and for moments, which multi-valued
+/// attributes don't have.
 fn text_of(atom: &Atom) -> &str
     ensures { result.now ≡ atom_key atom.now }
 {
@@ -33,8 +34,8 @@ fn text_of(atom: &Atom) -> &str
     }
 }
 
-/// The text of a field, behind its sub-attribute and its length: so fields that differ differ in it,
-/// whatever texts a client sends.
+/// The text of a field in a key: its sub-attribute, the length of its text and its text. The length
+/// keeps apart fields whose texts a client has chosen to look alike when joined.
 #[tactic(auto, unfolding(crate::specs::code::Keys::field_key))]
 fn field_text(alloc: Global, field: &Field) -> Result<String, NoMemory>
     ensures { IfOk result (λ k. string_bytes k ≡ field_key field.now) }
@@ -48,7 +49,7 @@ fn field_text(alloc: Global, field: &Field) -> Result<String, NoMemory>
     Ok(format!(in alloc; "{name} {length} {text}")?)
 }
 
-/// The texts of fields.
+/// The texts of the fields, joined.
 fn all_texts(alloc: Global, fields: &[Field]) -> Result<String, NoMemory>
     ensures { IfOk result (λ k. string_bytes k ≡ fields_key fields.now) }
 {

@@ -1,4 +1,5 @@
-//! Ids, atoms, and the cells and rows of atoms that parts are made of (RFC 7643 sections 2 and 3.1).
+//! Ids, atoms, and the cells and rows of atoms that make up parts and resources (RFC 7643 sections
+//! 2 and 3.1).
 #![tactic(auto)]
 
 mod appending;

@@ -1,4 +1,4 @@
-//! Where a cell stands, and the order of places and units.
+//! The places of cells, and the order of places and units.
 ghost use Rattle.std.specs.Prelude.{◌≡◌};
 ghost use Rattle.scim_cell.specs.Place.{place_cmp, unit_cmp, sub_attribute_number, leaf_of};
 ghost use Rattle.scim_cell.specs.Place as spec;
@@ -6,8 +6,8 @@ ghost use Rattle.scim_cell.specs.Place as spec;
 use scim_schema::{Attribute, Leaf, SubAttribute, Unit, sub_attributes};
 use std::cmp::Ordering;
 
-/// Where a cell stands: an attribute, the position of a value in it from 0, and a sub-attribute of
-/// that value.
+/// The place of a cell: an attribute, the index of one of its values, and a sub-attribute of that
+/// value.
 #[derive(Clone, Copy)]
 pub struct Place {
     pub attribute: Attribute,
@@ -16,7 +16,7 @@ pub struct Place {
 }
 
 impl Place {
-    /// The leaf of a cell that stands here.
+    /// The leaf of a cell at this place.
     pub fn leaf(self) -> Leaf
         ensures { result ≡ leaf_of self }
     {
@@ -26,7 +26,7 @@ impl Place {
         }
     }
 
-    /// Places by attribute, then by position, then by sub-attribute.
+    /// Compares places by attribute, then by position, then by sub-attribute.
     pub fn compare(self, other: Place) -> Ordering
         ensures { result ≡ place_cmp self other }
     {
@@ -37,7 +37,7 @@ impl Place {
     }
 }
 
-/// Units by attribute, then by sub-attribute.
+/// Compares units by attribute, then by sub-attribute.
 pub fn compare_units(a: Unit, b: Unit) -> Ordering
     ensures { result ≡ unit_cmp a b }
 {
@@ -45,7 +45,7 @@ pub fn compare_units(a: Unit, b: Unit) -> Ordering
     by_attribute.then(number_of(a.sub_attribute).cmp(&number_of(b.sub_attribute)))
 }
 
-/// The number of a sub-attribute in the order of places; 0 for none.
+/// The rank of a sub-attribute in the order of places; 0 for None.
 pub(crate) fn number_of(sub_attribute: Option<SubAttribute>) -> u8
     ensures { result ≡ sub_attribute_number sub_attribute }
 {
@@ -55,8 +55,8 @@ pub(crate) fn number_of(sub_attribute: Option<SubAttribute>) -> u8
     }
 }
 
-/// The sub-attributes of an attribute, in the order in which the cells of one value stand; a simple
-/// attribute has none.
+/// The sub-attributes of an attribute, in the order of the cells of one value. Empty for a simple
+/// attribute.
 #[tactic(auto, unfolding(crate::specs::Place::sub_attributes_by_place))]
 pub fn sub_attributes_by_place(attribute: Attribute) -> &'static [SubAttribute]
     ensures { result.now ≡ spec.sub_attributes_by_place attribute }

@@ -8,13 +8,14 @@ use crate::places::number_of;
 use crate::rows::{Field, Row};
 use scim_schema::{Kind, Unit, characteristics_of, has_leaf, is_multi_valued, unit_of};
 
-// What `==` says of units.
+/// Equality of units, with a contract about equality instead of `==`.
 fn is_same_unit(a: Unit, b: Unit) -> bool
     ensures { IsTrue result ↔ (a ≡ b) }
 {
     a == b
 }
 
+/// Whether the field belongs to the unit and the kind, with an atom of its type.
 fn is_sound_field(kind: Kind, unit: Unit, field: &Field) -> bool
     ensures { IsTrue result ↔ IsSoundField kind unit field.now }
 {
@@ -26,6 +27,7 @@ fn is_sound_field(kind: Kind, unit: Unit, field: &Field) -> bool
         )
 }
 
+/// Whether the number is greater than the one before it, if there is one.
 fn rises(before: Option<u8>, number: u8) -> bool
     ensures { IsTrue result ↔ Rises before number }
 {
@@ -35,16 +37,18 @@ fn rises(before: Option<u8>, number: u8) -> bool
     }
 }
 
-/// Whether the row may stand in a part of the kind: each field is of the row's unit and of the
-/// kind, with an atom of its type, and the fields come in order of sub-attribute, each once.
+/// Whether the row may be part of a resource of the kind: each field belongs to the row's unit and
+/// to the kind, with an atom of its type, and the fields are in order of sub-attribute, each once.
 ///
-/// A row without fields passes, though no part has one. Takes no memory.
+/// A row without fields passes, though no part has one.
 pub(crate) fn is_sound_row(kind: Kind, row: &Row) -> bool
     ensures { IsTrue result ↔ IsSoundRow kind row.now }
 {
     are_sound_fields(kind, row.unit(), row.fields())
 }
 
+/// Whether the fields belong to the unit and the kind, and are in order of sub-attribute, each
+/// once.
 fn are_sound_fields(kind: Kind, unit: Unit, fields: &[Field]) -> bool
     ensures { IsTrue result ↔ AreRising kind unit None fields.now }
 {
@@ -59,16 +63,16 @@ fn are_sound_fields(kind: Kind, unit: Unit, fields: &[Field]) -> bool
     true
 }
 
+/// Whether the row is a valid value of the unit, with at least one field.
 fn is_value(kind: Kind, unit: Unit, row: &Row) -> bool
     ensures { IsTrue result ↔ IsValue kind unit row.now }
 {
     is_same_unit(row.unit(), unit) && !row.fields().is_empty() && is_sound_row(kind, row)
 }
 
-/// Whether the rows may be put into a part of the kind as the values of the unit: each is a sound
-/// row of that unit with a field, and there is one at most where the unit isn't multi-valued.
-///
-/// Takes no memory.
+/// Whether the rows may be put into a part of the kind as the values of the unit: each is a valid
+/// row of that unit with at least one field, and there is at most one unless the unit is
+/// multi-valued.
 pub fn are_values(kind: Kind, unit: Unit, values: &[Row]) -> bool
     ensures { IsTrue result ↔ AreValues kind unit values.now }
 {

@@ -1,4 +1,4 @@
-//! Rows: the values of units, one by one.
+//! Rows: the values of units.
 ghost use Rattle.std.specs.Prelude.{◌≡◌, false, IfOk, filter};
 ghost use Rattle.scim_schema.specs.declared.Leaf.{Leaf};
 ghost use Rattle.std.specs.Option.{option_copied};
@@ -10,13 +10,12 @@ use scim_text::{NoMemory, push};
 use std::alloc::Global;
 use std::marker::Model;
 
-/// A leaf of a value, and the atom that the value has there.
+/// A leaf of a value, and its atom.
 pub struct Field {
     pub leaf: Leaf,
     pub atom: Atom,
 }
 
-/// One call, wherever a field is dropped, in place of a look at all that it has.
 impl Drop for Field {
     fn drop(self) {
         let Field {
@@ -26,14 +25,13 @@ impl Drop for Field {
     }
 }
 
-/// One value of a unit: a value of a multi-valued attribute with the fields that it has, in order
-/// of sub-attribute; or the one field of a leaf that is a unit of its own.
+/// One value of a unit: a value of a multi-valued attribute, with its fields in order of
+/// sub-attribute, or the only field of a leaf that is a unit of its own.
 pub struct Row {
     unit: Unit,
     fields: Vec<Field>,
 }
 
-/// One call, wherever a row is dropped, in place of a look at all that it has.
 impl Drop for Row {
     fn drop(self) {
         let Row {
@@ -60,15 +58,15 @@ impl Model for Row {
 
 /// A test of a row and a leaf, by which `Part::restrict` keeps fields.
 pub trait RowTest {
-    /// Whether a row's field of a leaf is kept.
+    /// Whether a row's field at a leaf is kept.
     ghost keeps: { Self → spec.Test };
 
-    /// Whether the row's field of the leaf is kept.
+    /// Whether the row's field at the leaf is kept.
     fn is_kept(&self, row: &Row, leaf: Leaf) -> bool
         ensures { result ≡ keeps self.now row.now leaf };
 
-    /// Whether a field of the row may be kept. Where none may, no field is looked at, which for most rows spares a
-    /// look into memory that nobody else wants.
+    /// Whether any field of the row may be kept. If not, the fields aren't read, which saves a
+    /// memory access for most rows.
     fn may_keep(&self, row: &Row) -> bool
         ensures { result ≡ false → (leaf : Leaf) → keeps self.now row.now leaf ≡ false }
     {
@@ -77,7 +75,7 @@ pub trait RowTest {
 }
 
 impl Field {
-    /// A copy; NoMemory where none was to be had.
+    /// Copies the field.
     pub fn try_copy(&self, alloc: Global) -> Result<Field, NoMemory>
         ensures { IfOk result (λ f. f ≡ self.now) }
     {
@@ -90,7 +88,7 @@ impl Field {
 }
 
 impl Row {
-    /// The row of these fields. [`crate::are_values`] tells whether a part may have it as a value.
+    /// A row of these fields. [`crate::are_values`] checks whether it may be a value of a part.
     pub fn new(unit: Unit, fields: Vec<Field>) -> Row
         ensures unit { result.unit ≡ unit }
         ensures fields { result.fields ≡ fields.items }
@@ -98,7 +96,7 @@ impl Row {
         Row { unit, fields }
     }
 
-    /// The unit that this is a value of.
+    /// The unit of the value.
     pub fn unit(&self) -> Unit
         ensures { result ≡ self.now.unit }
     {
@@ -112,7 +110,7 @@ impl Row {
         self.fields.as_slice()
     }
 
-    /// The fields, to keep.
+    /// The fields, owned.
     pub fn into_fields(self) -> Vec<Field>
         ensures { result.items ≡ self.fields }
     {
@@ -120,7 +118,7 @@ impl Row {
         fields
     }
 
-    /// The atom at a leaf; None where the value has none there.
+    /// The atom at a leaf, or None if the value has no field there.
     pub fn get(&self, leaf: Leaf) -> Option<&Atom>
         ensures { option_copied result ≡ spec.atom_in leaf self.now.fields }
     {
@@ -142,7 +140,7 @@ impl Row {
         }
     }
 
-    /// A copy; NoMemory where none was to be had.
+    /// Copies the row.
     pub fn try_copy(&self, alloc: Global) -> Result<Row, NoMemory>
         ensures { IfOk result (λ r. r ≡ self.now) }
     {
@@ -153,8 +151,7 @@ impl Row {
         })
     }
 
-    /// What is left where only the fields that the test admits are kept; NoMemory where none was
-    /// to be had.
+    /// Returns a copy with only the fields that the test keeps. It may have no fields.
     pub fn restrict<T: RowTest>(&self, alloc: Global, test: &T) -> Result<Row, NoMemory>
         ensures { IfOk result (λ r. r ≡ spec.restricted_row (T.keeps test.now) self.now) }
     {
@@ -166,6 +163,7 @@ impl Row {
     }
 }
 
+/// Copies the fields.
 fn copy_fields(alloc: Global, fields: &[Field]) -> Result<Vec<Field>, NoMemory>
     ensures { IfOk result (λ v. v.items ≡ fields.now) }
 {
@@ -176,6 +174,7 @@ fn copy_fields(alloc: Global, fields: &[Field]) -> Result<Vec<Field>, NoMemory>
     Ok(copies)
 }
 
+/// Copies the fields of the row that the test keeps.
 fn kept_fields<T: RowTest>(alloc: Global, row: &Row, test: &T) -> Result<Vec<Field>, NoMemory>
     ensures { IfOk result (λ v. v.items ≡ filter (λ f. T.keeps test.now row.now f.leaf) row.now.fields) }
 {

@@ -6,8 +6,8 @@ ghost use Rattle.scim_cell.specs.SameValues as spec;
 use crate::rows::Row;
 use scim_schema::{Attribute, Leaf, SubAttribute};
 
-/// Whether two values of the attribute are the same: members with the same `value` (RFC 7643 section 4.2), other
-/// values with the same cells. Texts are compared as they are, case included.
+/// Whether two values of the attribute are the same: members with the same `value` (RFC 7643
+/// section 4.2), other values with equal cells. Comparisons of texts are case-sensitive.
 pub fn is_same_value(attribute: Attribute, a: &Row, b: &Row) -> bool
     ensures { result ≡ spec.is_same_value attribute a.now b.now }
 {
@@ -32,7 +32,7 @@ pub fn is_nameless(attribute: Attribute, value: &Row) -> bool
             .is_none()
 }
 
-/// Whether one of the values is the same as this one, by a look at each.
+/// Whether one of the values is the same as this one. Compares each.
 pub(crate) fn has_same_among(attribute: Attribute, values: &[Row], value: &Row) -> bool
     ensures { result ≡ list_any (λ other. spec.is_same_value attribute other value.now) values.now }
 {

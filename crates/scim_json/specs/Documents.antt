@@ -7,25 +7,25 @@ use Rattle.scim_value.specs.Uniqueness.{AreApart}
 use Rattle.scim_json.specs.PartData.{stored_data}
 use Rattle.scim_json.specs.Stored.{IsResourceBelow, IsDocument}
 
--- the documents of these resources, and then these values
+-- the stored documents of these resources, followed by these values
 abbrev pub documents_and : List Content → Items → Items
 documents_and [] ds = ds
 documents_and (c ∷ cs) ds = item (stored_data c) (documents_and cs ds)
 
--- resources below the base that one server may hold together
+-- resources below the base that may be on one server together
 pub record AreResourcesBelow (base : List ℕ) (cs : List Content) : Type 0 where
   pub below : All (IsResourceBelow base) cs
   pub apart : AllPairs AreApart cs
 
--- the text is a JSON list of the documents of these resources
+-- the text is a JSON list of the stored documents of these resources
 abbrev pub IsDocumentsText : List ℕ → List ℕ → List Content → Type 0
 IsDocumentsText base text cs = AreResourcesBelow base cs × (read text ≡ Some (array (documents_and cs no_items)))
 
--- the value is no document of a resource that may be held together with these
+-- the value isn't the stored document of a resource that may be on one server with these
 abbrev pub IsDamagedBeside : List ℕ → List Content → Data → Type 0
 IsDamagedBeside base cs d = (c : Content) → IsDocument base d c → All (λ b. AreApart b c) cs → ⊥
 
--- the text is a JSON list where such a value comes after the documents of these resources
+-- the text is a JSON list in which the stored documents of these resources are followed by a damaged value
 pub record IsDamagedAfter (base text : List ℕ) (cs : List Content) : Type 0 where
   pub before : AreResourcesBelow base cs
   pub value : Data
@@ -33,7 +33,7 @@ pub record IsDamagedAfter (base text : List ℕ) (cs : List Content) : Type 0 wh
   pub reads : read text ≡ Some (array (documents_and cs (item value later)))
   pub damaged : IsDamagedBeside base cs value
 
--- which item of the list is the first that is damaged, counted from 1; 0 where the text is no JSON list
+-- the number, from 1, of the first damaged item of the list, or 0 if the text isn't a JSON list
 abbrev pub IsDamagedAt : List ℕ → List ℕ → ℕ → Type 0
 IsDamagedAt base text zero = (ds : Items) → read text ≡ Some (array ds) → ⊥
 IsDamagedAt base text (suc n) = (cs : List Content) × (length cs ≡ n) × IsDamagedAfter base text cs

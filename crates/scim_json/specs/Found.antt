@@ -1,4 +1,4 @@
--- The cells that stand in the JSON of a resource, by look-ups in order of place.
+-- The cells in the JSON of a resource, found by look-ups in order of place.
 use Rattle.std.specs.Prelude.{ℕ, Bool, ◌+◌, Option, None, Some, option_map, option_and_then, List, [], ◌∷◌, ◌++◌}
 use Rattle.std.specs.List.{flat_map}
 use Rattle.serde_json.specs.Data.{Data, Items, no_items, item}
@@ -29,7 +29,7 @@ use Rattle.scim_schema.specs.declared.json_keys.JsonShape.{JsonShape}
 use Rattle.scim_schema.specs.declared.json_keys.JsonShape.TheVariants.{Simple, Complex, MultiValued}
 use Rattle.scim_schema.specs.JsonKeys.{shape_of}
 
--- the atom of a type that a value is which has this truth value, or this text
+-- the atom of a type with this truth value or this text, or None if it isn't of the type
 abbrev pub atom_from : AttributeType → Option Bool → Option (List ℕ) → Option Atom
 atom_from Boolean truth text = option_map Truth truth
 atom_from DateTime truth text = option_map Moment (option_and_then moment_of text)
@@ -38,63 +38,65 @@ atom_from Reference truth text = option_map Text text
 atom_from Binary truth text = option_map Text text
 atom_from ComplexType truth text = None
 
--- the value as an atom of a type, where it is one (RFC 7643 section 2.3)
+-- the atom of a type that a JSON value stands for, or None if the value isn't of the type (RFC 7643 section
+-- 2.3)
 abbrev pub atom_of : AttributeType → Data → Option Atom
 atom_of t d = atom_from t (as_bool d) (as_str d)
 
--- nothing, where there is no value
+-- the entries of a value, or no entries if there is no value
 abbrev pub if_there : {A : Type 0} → (A → List Entry) → Option A → List Entry
 if_there f None = []
 if_there f (Some a) = f a
 
--- the cell of a leaf that a value stands for
+-- the cell of a leaf with this JSON value, or no cell if the value isn't of its type
 abbrev pub found_value : Kind → Leaf → ℕ → Data → List Entry
 found_value kind l k d = cell_with l k (atom_of (characteristics_of kind l).attribute_type d)
 
--- the cell of a sub-attribute
+-- the cell of a sub-attribute in an object
 abbrev pub found_sub_attribute : Kind → Attribute → ℕ → Data → SubAttribute → List Entry
 found_sub_attribute kind a k d b = if_there (found_value kind (leaf_at a b) k) (get (sub_attribute_name b) d)
 
--- the cells of the object that is a value of a complex attribute
+-- the cells of an object, which is one value of a complex attribute
 abbrev pub found_object : Kind → Attribute → ℕ → Data → List Entry
 found_object kind a k d = flat_map (found_sub_attribute kind a k d) (sub_attributes_by_place a)
 
--- the cells of such objects, at this position and the ones after it
+-- the cells of an array of objects, whose positions begin with k
 abbrev pub found_items : Kind → Attribute → ℕ → Items → List Entry
 found_items kind a k no_items = []
 found_items kind a k (item d ds) = found_object kind a k d ++ found_items kind a (k + 1) ds
 
--- the cells of a value of that shape
+-- the cells of an attribute with this form of value
 abbrev pub found_shaped : Kind → Attribute → JsonShape → Data → List Entry
 found_shaped kind a Simple d = found_value kind (simple a) 0 d
 found_shaped kind a Complex d = found_object kind a 0 d
 found_shaped kind a MultiValued d = if_there (found_items kind a 0) (as_array d)
 
--- the object in which the attributes of a schema stand: that of the resource, or that of an extension (RFC 7643 section 3.3)
+-- the object with the attributes of a schema: the whole one for a core schema, that at its URN for an
+-- extension (RFC 7643 section 3.3)
 abbrev pub object_with : Option Schema → Data → Option Data
 object_with None d = Some d
 object_with (Some s) d = get (urn s) d
 
--- the value of an attribute
+-- the JSON value of an attribute, or None
 abbrev pub attribute_in : Attribute → Data → Option Data
 attribute_in a d = option_and_then (get (attribute_name a)) (object_with (extension_of a) d)
 
--- the cells of an attribute
+-- the cells of an attribute in the object of a resource
 abbrev pub found_attribute : Kind → Data → Attribute → List Entry
 found_attribute kind d a = if_there (found_shaped kind a (shape_of a)) (attribute_in a d)
 
--- the cells of a resource of the kind
+-- the cells of all attributes of a kind in the object of a resource
 unfoldable pub found_cells : Kind → Data → List Entry
 found_cells kind d = flat_map (found_attribute kind d) (attributes kind)
 
--- the cells of the resource of that kind and id below the base: those, and `meta.location`, which isn't kept
+-- the cells in the object of a resource, followed by `meta.location` below the base, which isn't stored
 abbrev pub cells_below : List ℕ → Kind → List ℕ → Data → List Entry
 cells_below base kind id d = found_cells kind d ++ (place_at (leaf_at attribute.Meta sub_attribute.Location) 0, Text (location base kind id)) ∷ []
 
--- the text of `id`
+-- the text of `id`, or None
 abbrev pub id_in : Data → Option (List ℕ)
 id_in d = option_and_then as_str (attribute_in attribute.Id d)
 
--- the text of `meta.resourceType`
+-- the text of `meta.resourceType`, or None
 abbrev pub resource_type_in : Data → Option (List ℕ)
 resource_type_in d = option_and_then as_str (option_and_then (get (sub_attribute_name sub_attribute.ResourceType)) (attribute_in attribute.Meta d))

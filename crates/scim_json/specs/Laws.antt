@@ -1,4 +1,4 @@
--- The JSON of a part has its cells, and the JSON that is kept of it is read back.
+-- The JSON of a part has exactly its cells, and the stored JSON of a resource reads back.
 use Rattle.std.specs.Prelude.{◌≡◌, ℕ, List, Some, Result, Ok}
 use Rattle.std.specs.FinMap.{entries}
 use Rattle.serde_json.specs.Read.{read}
@@ -9,15 +9,15 @@ use Rattle.scim_json.specs.PartData.{part_data, stored_data}
 use Rattle.scim_json.specs.Stored.{IsResourceBelow, GivesStored, stored_text}
 use Rattle.scim_json.specs.Found.{found_cells}
 
--- the JSON of a part has each of its cells at its place, and no other
+-- the JSON of a part has each of its cells at its place, and no other cell
 abbrev pub PartsAreShownWhole : Type 0
 PartsAreShownWhole = (c : Content) → IsPart c → found_cells c.kind (part_data c) ≡ entries c.cells
 
--- the text that is kept is read back as the JSON that it was written of
+-- the stored text of a part reads back as the JSON that it was written from
 abbrev pub KeptReadsBack : Type 0
 KeptReadsBack = (c : Content) → read (compact_text (stored_data c)) ≡ Some (stored_data c)
 
--- what is to be answered of the text that is kept of a resource below the base is that resource
+-- a result of reading the stored text of a resource below the base can only be that resource
 abbrev pub StoredResourcesReadBack : Type 0
 StoredResourcesReadBack =
     (base : List ℕ) (c : Content) (answer : Result Content Damaged)

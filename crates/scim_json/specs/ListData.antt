@@ -4,19 +4,20 @@ use Rattle.serde_json.specs.Data.{Data, number, unsigned, string, array, object,
 use Rattle.scim_cell.specs.Content.{Content}
 use Rattle.scim_json.specs.PartData.{part_data, with_member, items_of, array_of}
 
--- a count
+-- the JSON of a number
 abbrev pub count_data : ℕ → Data
 count_data n = number (unsigned n)
 
--- the URN that says what kind of message it is
+-- the value of `schemas`: the URN of a list message
 unfoldable pub list_schemas : Data
 list_schemas = array (item (string (codes "urn:ietf:params:scim:api:messages:2.0:ListResponse")) no_items)
 
--- how many are shown, the place of the first of them among all, from 1, and how many there are in all
+-- the members with the number of parts in the list, the place of the first among all results, from 1, and the
+-- number of all results
 abbrev pub counts : ℕ → ℕ → ℕ → Members
 counts total start shown =
     member (codes "itemsPerPage") (count_data shown) (member (codes "schemas") list_schemas (member (codes "startIndex") (count_data start) (member (codes "totalResults") (count_data total) no_members)))
 
--- the list: the parts that are shown, unless there are none, and those counts
+-- the JSON of a list: its parts, unless there are none, and the counts
 unfoldable pub list_data : ℕ → ℕ → List Content → Data
 list_data total start parts = object (with_member (codes "Resources") (array_of (items_of part_data parts)) (counts total start (length parts)))

@@ -27,108 +27,109 @@ use Rattle.scim_schema.specs.JsonKeys.{key_text, keys, extension_keys, ordered_s
 
 -- ---- objects and arrays
 
--- a member more, if there is a value for it
+-- members with one more at the start, if there is a value for it
 abbrev pub with_member : List ℕ → Option Data → Members → Members
 with_member k None ms = ms
 with_member k (Some d) ms = member k d ms
 
--- of the keys in order, those that have a value, with it
+-- the members of those keys that have a value, in order
 abbrev pub members_where : {K : Type 0} → (K → List ℕ) → (K → Option Data) → List K → Members
 members_where name value [] = no_members
 members_where name value (k ∷ ks) = with_member (name k) (value k) (members_where name value ks)
 
--- an object; none where it would have no member
+-- an object with these members, or None if there are none
 abbrev pub object_of : Members → Option Data
 object_of no_members = None
 object_of (member k d ms) = Some (object (member k d ms))
 
--- the values in order
+-- the JSON items of a list of values
 abbrev pub items_of : {V : Type 0} → (V → Data) → List V → Items
 items_of value [] = no_items
 items_of value (v ∷ vs) = item (value v) (items_of value vs)
 
--- an array; none where it would have no item (RFC 7643 section 2.5)
+-- an array with these items, or None if there are none (RFC 7643 section 2.5)
 abbrev pub array_of : Items → Option Data
 array_of no_items = None
 array_of (item d ds) = Some (array (item d ds))
 
 -- ---- values
 
--- the value of a cell (RFC 7643 section 2.3)
+-- the JSON value of an atom (RFC 7643 section 2.3)
 abbrev pub atom_data : Atom → Data
 atom_data (Text t) = string t
 atom_data (Truth b) = boolean b
 atom_data (Moment m) = string (moment_text m)
 
--- a sub-attribute in one value of a multi-valued attribute
+-- the JSON value of a sub-attribute in one value of a multi-valued attribute, or None
 abbrev pub field_data : Attribute → List Field → SubAttribute → Option Data
 field_data a fs b = option_map atom_data (atom_in (leaf_at a b) fs)
 
--- one value of a multi-valued attribute (RFC 7643 section 2.4)
+-- the JSON object of one value of a multi-valued attribute (RFC 7643 section 2.4)
 abbrev pub value_data : JsonForm → Attribute → Row → Data
 value_data form a r = object (members_where sub_attribute_name (field_data a r.fields) (ordered_sub_attributes form a))
 
--- a simple attribute
+-- the JSON value of a simple attribute, or None
 abbrev pub simple_data : List Row → Attribute → Option Data
 simple_data rs a = option_map atom_data (cell_at (simple a) 0 rs)
 
--- a sub-attribute of a complex attribute
+-- the JSON value of a sub-attribute of a complex attribute, or None
 abbrev pub sub_data : List Row → Attribute → SubAttribute → Option Data
 sub_data rs a b = option_map atom_data (cell_at (leaf_at a b) 0 rs)
 
--- a complex attribute (RFC 7643 section 2.3.8)
+-- the JSON object of a complex attribute, or None (RFC 7643 section 2.3.8)
 abbrev pub complex_data : JsonForm → List Row → Attribute → Option Data
 complex_data form rs a = object_of (members_where sub_attribute_name (sub_data rs a) (ordered_sub_attributes form a))
 
--- a multi-valued attribute
+-- the JSON array of a multi-valued attribute, or None
 abbrev pub values_data : JsonForm → List Row → Attribute → Option Data
 values_data form rs a = array_of (items_of (value_data form a) (values (whole a) rs))
 
--- an attribute whose value has that shape
+-- the JSON value of an attribute with this form of value, or None
 abbrev pub shaped_data : JsonForm → JsonShape → List Row → Attribute → Option Data
 shaped_data form Simple rs a = simple_data rs a
 shaped_data form Complex rs a = complex_data form rs a
 shaped_data form MultiValued rs a = values_data form rs a
 
--- an attribute; none where no cell of it is there
+-- the JSON value of an attribute, or None if it has no cells
 abbrev pub attribute_data : JsonForm → List Row → Attribute → Option Data
 attribute_data form rs a = shaped_data form (shape_of a) rs a
 
 -- ---- schemas
 
--- whether a cell of an attribute of the extension is there
+-- whether one of the rows is of an attribute of the extension
 unfoldable pub has_extension : List Row → Schema → Bool
 has_extension rs s = list_any (λ r. option_eq (sameb the_schema) (extension_of r.unit.attribute) (Some s)) rs
 
--- a schema by its URN (RFC 7643 section 8.7)
+-- the JSON of a schema: its URN (RFC 7643 section 8.7)
 abbrev pub urn_data : Schema → Data
 urn_data s = string (urn s)
 
--- `schemas`: the URN of the core schema, and those of the extensions that are there (RFC 7643 section 3)
+-- the value of `schemas`: the URN of the core schema, and those of the extensions that have cells (RFC 7643
+-- section 3)
 abbrev pub schemas_data : List Row → Schema → List Schema → Data
 schemas_data rs core extended = array (item (urn_data core) (items_of urn_data (filter (has_extension rs) extended)))
 
--- the object of an extension; none where no cell of it is there (RFC 7643 section 3.3)
+-- the JSON object of an extension, or None if it has no cells (RFC 7643 section 3.3)
 unfoldable pub extension_data : JsonForm → List Row → Schema → Option Data
 extension_data form rs s =
     if has_extension rs s then Some (object (members_where attribute_name (attribute_data form rs) (extension_keys s))) else None
 
 -- ---- parts
 
--- the value of a key of a part
+-- the JSON value of a key of a part, or None
 abbrev pub key_data : JsonForm → Content → JsonKey → Option Data
 key_data form c (Of a) = attribute_data form (rows c) a
 key_data form c Schemas = Some (schemas_data (rows c) (core_schema c.kind) (extensions c.kind))
 key_data form c (Extension s) = extension_data form (rows c) s
 
--- the JSON of a part in that form
+-- the JSON of a part in a form, for clients or for the store
 unfoldable pub data_of : JsonForm → Content → Data
 data_of form c = object (members_where key_text (key_data form c) (keys form c.kind))
 
--- the JSON of a part: its cells and `schemas`, with the keys of each object in byte order
+-- the JSON of a part for clients: its cells and `schemas`, with the keys of each object in byte order
 unfoldable pub part_data : Content → Data
 part_data c = data_of Shown c
 
--- the JSON that is kept of a part: without `schemas`, `groups` and `meta.location`
+-- the stored JSON of a part, without `schemas`, `groups` and `meta.location`
 unfoldable pub stored_data : Content → Data
 stored_data c = data_of Stored c

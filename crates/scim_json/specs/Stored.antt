@@ -1,4 +1,4 @@
--- Stored documents: the JSON that is kept of a resource.
+-- Stored documents: the JSON in which resources are stored.
 use Rattle.std.specs.Prelude.{◌≡◌, ℕ, List, Some, Result, Ok, Err}
 use Rattle.serde_json.specs.Data.{Data}
 use Rattle.serde_json.specs.Read.{read}
@@ -8,27 +8,28 @@ use Rattle.scim_value.specs.Resource.{IsResource, HasBase}
 use Rattle.scim_json.specs.declared.faults.Damaged.{Damaged}
 use Rattle.scim_json.specs.PartData.{stored_data}
 
--- the text that is kept of a resource
+-- the stored text of a resource
 abbrev pub stored_text : Content → List ℕ
 stored_text c = compact_text (stored_data c)
 
--- a resource below the base
+-- a resource whose location is below the base
 abbrev pub IsResourceBelow : List ℕ → Content → Type 0
 IsResourceBelow base c = IsResource c × HasBase base c
 
--- the value is the one that is kept of the resource, which stands below the base
+-- the value is the stored JSON of the resource, whose location is below the base
 abbrev pub IsDocument : List ℕ → Data → Content → Type 0
 IsDocument base d c = IsResourceBelow base c × (d ≡ stored_data c)
 
--- the text is a document of the resource: JSON with that value
+-- the text is a stored document of the resource: JSON text with its stored value
 abbrev pub IsDocumentText : List ℕ → List ℕ → Content → Type 0
 IsDocumentText base text c = IsResourceBelow base c × (read text ≡ Some (stored_data c))
 
--- what is to be answered of a text below a base: the resource that it is a document of; or that it is damaged, where it is the document of none
+-- the result of reading a stored document: the resource whose document the text is, or Damaged if it isn't
+-- one
 abbrev pub GivesStored : List ℕ → List ℕ → Result Content Damaged → Type 0
 GivesStored base text (Ok c) = IsDocumentText base text c
 GivesStored base text (Err damaged) = (c : Content) → ¬ IsDocumentText base text c
 
--- what is kept of a resource below a base is kept of no other
+-- resources below the same base with the same stored JSON are equal
 abbrev pub DocumentsAreApart : Type 0
 DocumentsAreApart = (base : List ℕ) (d : Data) (a b : Content) → IsDocument base d a → IsDocument base d b → a ≡ b

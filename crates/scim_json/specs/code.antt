@@ -1,3 +1,3 @@
--- How the code writes JSON, how it takes the items of a list, and what it remembers of the items before.
+-- How the code writes JSON, takes the items of a list, and records the items read before.
 pub mod Listed
 pub mod Taken

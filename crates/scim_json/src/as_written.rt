@@ -1,6 +1,8 @@
-//! Reading a document that is as the server writes it, as nearly all are. What is found here is a guess: it counts where what
-//! is kept of it is the document, so nothing needs to be known of how it was found. It is read from a tree that borrows from
-//! the text, and takes half as long as a reading that has to find whatever is there.
+//! Reads a stored document that is exactly as the server writes it, as nearly all are.
+//!
+//! The cells are guessed from a JSON tree that borrows from the text. The guess is accepted only if
+//! it is stored as the given text, so the guessing needs no contract. It takes half the time of the
+//! general reading in `reading`.
 ghost use Rattle.std.specs.Prelude.{◌≡◌, IfOk, IfSome, IsTrue, Some};
 ghost use Rattle.serde_json.specs.Read.{read};
 ghost use Rattle.scim_value.specs.Resource.{HasBase};
@@ -19,8 +21,8 @@ use scim_text::{Failed, NoMemory, push};
 use scim_value::{Invalid, Part, Resource, location};
 use std::alloc::Global;
 
-/// The resource that the text is kept of, where it is the text that `stored_text` writes; None where it isn't. NoMemory where
-/// none was to be had.
+/// Returns the resource whose stored text this is, or None if the text isn't as [`stored_text`]
+/// writes it.
 pub(crate) fn read_as_written(
     alloc: Global,
     base: &str,
@@ -36,8 +38,8 @@ pub(crate) fn read_as_written(
     }
 }
 
-/// The resource below the base that is guessed from the value, where the text is the one that is kept of it. NoMemory where
-/// none was to be had.
+/// Returns the resource below the base that is guessed from the value, if it is stored as this
+/// text.
 pub(crate) fn resource_with(
     alloc: Global,
     base: &str,
@@ -56,14 +58,14 @@ pub(crate) fn resource_with(
     }
 }
 
-/// Whether the text is the one that `stored_text` writes. NoMemory where none was to be had.
+/// Whether [`stored_text`] writes this text for the resource.
 fn is_stored_text(alloc: Global, resource: &Resource, text: &str) -> Result<bool, NoMemory>
     ensures { IfOk result (λ b. IsTrue b → read text.now ≡ Some (stored_data resource.now)) }
 {
     Ok(stored_text(alloc, resource)?.as_str() == text)
 }
 
-/// A resource below the base that the value may be kept of. NoMemory where none was to be had.
+/// Returns a resource below the base that the value may be the stored document of.
 fn guessed(alloc: Global, base: &str, value: &Value<'_>) -> Result<Option<Resource>, NoMemory>
     ensures { IfOk result (λ found. IfSome found (HasBase base.now)) }
 {
@@ -86,7 +88,7 @@ fn kind_and_id(value: &Value<'_>) -> Option<(Kind, Id)> {
     Some((kind, id))
 }
 
-/// The cells of the value, and behind them that of `meta.location`. NoMemory where none was to be had.
+/// Reads the cells in the value, and appends the cell of `meta.location`.
 fn cells_in(
     alloc: Global,
     base: &str,
@@ -105,7 +107,7 @@ fn cells_in(
     Ok(cells)
 }
 
-/// Adds the cells of all attributes. NoMemory where none was to be had.
+/// Appends the cells of all attributes.
 fn push_attributes(
     alloc: Global,
     value: &Value<'_>,
@@ -128,7 +130,7 @@ fn attribute_in<'a, 'b>(value: &'a Value<'b>, attribute: Attribute) -> Option<&'
     }
 }
 
-/// Adds the cells of an attribute. NoMemory where none was to be had.
+/// Appends the cells of an attribute.
 fn push_attribute(
     alloc: Global,
     found: &Value<'_>,
@@ -148,7 +150,7 @@ fn push_attribute(
     }
 }
 
-/// Adds the cells of the values of a multi-valued attribute. NoMemory where none was to be had.
+/// Appends the cells of the values of a multi-valued attribute.
 fn push_items(
     alloc: Global,
     items: &[Value<'_>],
@@ -162,7 +164,7 @@ fn push_items(
     Ok(())
 }
 
-/// Adds the cells of one value of a complex attribute. NoMemory where none was to be had.
+/// Appends the cells of one value of a complex attribute.
 fn push_object(
     alloc: Global,
     object: &Value<'_>,
@@ -180,7 +182,7 @@ fn push_object(
     Ok(())
 }
 
-/// Adds the cell of a leaf; none where the value isn't of its type. NoMemory where none was to be had.
+/// Appends the cell of a leaf, unless the value isn't of its type.
 fn push_cell(
     alloc: Global,
     found: &Value<'_>,

@@ -1,4 +1,4 @@
-//! Values as atoms (RFC 7643 section 2.3).
+//! Atoms from the values of JSON (RFC 7643 section 2.3).
 ghost use Rattle.std.specs.Prelude.{◌≡◌, IfOk, option_map, option_and_then};
 ghost use Rattle.scim_schema.specs.declared.characteristics.AttributeType.{AttributeType};
 ghost use Rattle.scim_cell.specs.declared.atoms.Atom.TheVariants.{Text as text_of, Moment as moment_in};
@@ -10,8 +10,9 @@ use scim_schema::AttributeType;
 use scim_text::{NoMemory, read_printed_moment};
 use std::alloc::Global;
 
-/// The atom of a type that a value is which has this truth value, or this text; None where it is none of that type
-/// (RFC 7643 section 2.3). NoMemory where none was to be had.
+/// Makes an atom of the type from a JSON value, given as its truth value or its text. Returns None
+/// if the value isn't of the type (RFC 7643 section 2.3). A dateTime must be as
+/// [`scim_text::print_moment`] prints it.
 pub fn atom_of(
     alloc: Global,
     truth: Option<bool>,
@@ -30,6 +31,7 @@ pub fn atom_of(
     }
 }
 
+/// The moment that the text is printed from, or None.
 fn moment_atom(alloc: Global, text: Option<&str>) -> Result<Option<Atom>, NoMemory>
     ensures { IfOk result
         (λ o. o ≡ option_map moment_in (option_and_then moment_of (option_map (λ s. s.now) text.entry))) }
@@ -40,6 +42,7 @@ fn moment_atom(alloc: Global, text: Option<&str>) -> Result<Option<Atom>, NoMemo
     }
 }
 
+/// The text, or None.
 fn text_atom(alloc: Global, text: Option<&str>) -> Result<Option<Atom>, NoMemory>
     ensures { IfOk result (λ o. o ≡ option_map text_of (option_map (λ s. s.now) text.entry)) }
 {

@@ -26,23 +26,22 @@ use serde_json::Value;
 use std::alloc::Global;
 use std::collections::HashSet;
 
-/// How deep an item of the list may nest: one level less than the whole text.
+/// The maximal nesting of an item, one level less than that of the whole text.
 const ITEM_DEPTH: usize = 126;
 
-/// What the resources so far have, and no later one may have too.
+/// The ids and unique names of the resources read so far, which no later one may have.
 #[derive(Drop)]
 struct Taken {
     ids: HashSet<Id>,
     names: HashSet<UniqueName>,
 }
 
-/// The resources that the text is a users file of: a JSON list of stored documents, in its order, of
-/// resources below `base`, of which no two have one id or share a unique name, as `userName`, which
-/// is compared without regard to case (RFC 7643 sections 2.2 and 3.1).
+/// Reads a users file: a JSON list of stored documents of resources below `base`. Returns the
+/// resources in the order of the list. No two may have the same id or share a unique name such as
+/// `userName`, which is compared without regard to case (RFC 7643 sections 2.2 and 3.1).
 ///
-/// Damaged with the number of the first item, from 1, that is no such document or has the id or a
-/// unique name of one before it; with 0 where the text is no JSON list. NoMemory where none was to be
-/// had.
+/// Damaged with the number of the first item, from 1, that isn't such a document or repeats the id
+/// or a unique name of one before it. The number is 0 if the text isn't a JSON list.
 pub fn read_documents(
     alloc: Global,
     base: &str,
@@ -57,8 +56,8 @@ pub fn read_documents(
     }
 }
 
-/// The resources of a users file, where it is one. It is read item by item, so that the values of one item alone are held
-/// beside the resources. NoMemory where none was to be had.
+/// Reads a users file item by item, so that the JSON values of only one item are in memory beside
+/// the resources. Returns None if that fails; `read_together` then reads the text again.
 fn read_one_by_one(alloc: Global, base: &str, text: &str) -> Result<Option<Vec<Resource>>, NoMemory>
     ensures { IfOk result (λ found. IfSome found (λ v. IsDocumentsText base.now text.now v.items)) }
 {
@@ -74,7 +73,8 @@ fn read_one_by_one(alloc: Global, base: &str, text: &str) -> Result<Option<Vec<R
     Ok(resources)
 }
 
-/// The resources of the items that are left, where each of them is a document. NoMemory where none was to be had.
+/// Reads the remaining items up to the end of the list. Returns None if one isn't a document, or
+/// repeats an id or a unique name.
 fn read_listed(
     alloc: Global,
     base: &str,
@@ -97,7 +97,7 @@ fn read_listed(
     Ok(Some(resources))
 }
 
-/// The resource that the next item is the document of, where it is one. NoMemory where none was to be had.
+/// Reads the next item. Returns None if it isn't the stored document of a resource below the base.
 fn read_next(
     alloc: Global,
     base: &str,
@@ -113,7 +113,7 @@ fn read_next(
     }
 }
 
-/// The resource that an item is the document of, where it is one. NoMemory where none was to be had.
+/// Returns the resource whose stored document the item is, or None.
 fn read_item(
     alloc: Global,
     base: &str,
@@ -128,7 +128,7 @@ fn read_item(
     read_printed(alloc, base, item, text.as_str())
 }
 
-/// The resource that the text of an item is a document of, where it is one. NoMemory where none was to be had.
+/// Returns the resource whose stored document the item is, or None. `text` is the text of the item.
 fn read_printed(
     alloc: Global,
     base: &str,
@@ -147,10 +147,10 @@ fn read_printed(
     }
 }
 
-/// The resources of a users file, as `read_documents` answers, whose values are all read before the first resource is: so
-/// it is known of a text with a damaged item whether it is a JSON list at all.
+/// Reads a users file as [`read_documents`], but parses the whole text first. So it can tell
+/// whether a text with a damaged item is a JSON list at all.
 ///
-/// Errors: as there.
+/// The errors are those of [`read_documents`].
 fn read_together(
     alloc: Global,
     base: &str,
@@ -170,9 +170,9 @@ fn read_together(
     }
 }
 
-/// The resources that the items are the documents of, as `read_documents` answers.
+/// Reads the items of a users file.
 ///
-/// Errors: as there.
+/// The errors are those of [`read_documents`], with a number from 1.
 fn read_items(
     alloc: Global,
     base: &str,
@@ -203,7 +203,7 @@ fn read_items(
 }
 
 impl Taken {
-    /// What no resources have.
+    /// No ids and no names.
     fn new(alloc: Global) -> Taken
         ensures { Records result [] }
     {
@@ -213,8 +213,10 @@ impl Taken {
         }
     }
 
-    /// Whether the id and the unique names of the resource were free, which they are no more then.
-    /// What is taken afterwards isn't said where they weren't. NoMemory where none was to be had.
+    /// Adds the id and the unique names of a resource. Returns whether all of them were free.
+    ///
+    /// After `false` or NoMemory, some of them may have been added, so the set is of no further
+    /// use.
     fn add(&mut self, alloc: Global, resource: &Resource) -> Result<bool, NoMemory>
         ensures free { (cs : List Content) → Records self.old cs → IfOk result (λ free. IsTrue free
             → Records self.new (cs ++ resource.now ∷ []) × All (λ b. AreApart b resource.now) cs) }

@@ -1,19 +1,20 @@
-//! Why a stored document, or a users file, wasn't read.
+//! The faults of stored documents and of users files.
 use std::error::Error as StdError;
 use std::fmt;
 use thiserror::Error;
 
-/// The text is no stored document of a resource below the base.
+/// The text isn't the stored document of a resource below the base.
 #[derive(Clone, Copy, Debug, PartialEq, Eq, Error)]
 #[error("not the stored document of a resource")]
 pub struct Damaged;
 
-/// Where a users file is damaged: the item with this number, from 1, is no document of a resource below the
-/// base, or has the id or a unique name of one before it; 0 where the text is no JSON list.
+/// The place of a fault in a users file: the item with this number, from 1, isn't the stored
+/// document of a resource below the base, or repeats the id or a unique name of one before it. 0 if
+/// the text isn't a JSON list.
 #[derive(Clone, Copy, Debug, PartialEq, Eq)]
 pub struct DamagedItem(pub usize);
 
-// By hand, since there are two texts.
+// Written by hand, since there are two texts.
 impl fmt::Display for DamagedItem {
     fn fmt<W: fmt::Write>(&self, f: &mut fmt::Formatter<W>) -> fmt::Result {
         match self {

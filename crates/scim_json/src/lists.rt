@@ -1,4 +1,4 @@
-//! The JSON of a list of parts, which answers a search (RFC 7644 section 3.4.2).
+//! The JSON of a list of parts, the reply to a search (RFC 7644 section 3.4.2).
 ghost use Rattle.std.specs.Prelude.{◌≡◌, ◌∷◌, IfOk, OnOk, Some, codes, length, string_bytes};
 ghost use Rattle.json.specs.Token.{begin_array};
 ghost use Rattle.serde_json.specs.Written.{compact_text};
@@ -13,11 +13,11 @@ use scim_text::NoMemory;
 use scim_value::Part;
 use std::alloc::Global;
 
-/// The JSON text of a list: these parts, as a client is shown them, how many they are, the place of the first
-/// of them among all that were found, from 1, and how many were found (RFC 7644 section 3.4.2). It has no
-/// spaces, and the keys of each object stand in byte order; without a part there is no `Resources`.
+/// Returns the JSON text of a list for a client (RFC 7644 section 3.4.2).
 ///
-/// The only error is [`NoMemory`].
+/// It has the parts, their number as `itemsPerPage`, the place `start` of the first one among all
+/// results, from 1, and the number `total` of all results. The text has no spaces, and the keys of
+/// each object are in byte order. `Resources` is left out if there are no parts.
 #[tactic(auto, using(crate::proofs::Printed::texts))]
 pub fn to_list_json(
     alloc: Global,
@@ -32,6 +32,7 @@ pub fn to_list_json(
     Ok(unsafe { String::from_utf8_unchecked(out.into_inner()) })
 }
 
+/// Writes the object of a list. After NoMemory `out` has an unfinished text.
 #[tactic(auto, unfolding(crate::specs::ListData::list_data))]
 fn write_list(
     alloc: Global,
@@ -47,7 +48,7 @@ fn write_list(
     write_counts(out, total, start, parts.len())
 }
 
-/// The member with the parts, if there is one.
+/// Writes the member `Resources`, unless there are no parts.
 fn write_resources(alloc: Global, out: &mut Writer, parts: &[Part]) -> Result<(), NoMemory>
     ensures { OnOk result (Adds out.old out.new
         (member_tokens (codes "Resources") (array_of (items_of part_data parts.now)))) }
@@ -60,6 +61,7 @@ fn write_resources(alloc: Global, out: &mut Writer, parts: &[Part]) -> Result<()
     Ok(())
 }
 
+/// Writes the array of parts.
 #[tactic(auto, unfolding(crate::specs::PartData::part_data))]
 fn write_parts(alloc: Global, out: &mut Writer, parts: &[Part]) -> Result<(), NoMemory>
     ensures { OnOk result (Adds out.old out.new
@@ -73,7 +75,7 @@ fn write_parts(alloc: Global, out: &mut Writer, parts: &[Part]) -> Result<(), No
     Ok(())
 }
 
-/// The counts, and the list's end.
+/// Writes the counts and `schemas`, and ends the object.
 fn write_counts(out: &mut Writer, total: usize, start: usize, shown: usize) -> Result<(), NoMemory>
     ensures { OnOk result (Adds out.old out.new (members_tokens (spec.counts total start shown))) }
 {
@@ -85,6 +87,7 @@ fn write_counts(out: &mut Writer, total: usize, start: usize, shown: usize) -> R
     Ok(())
 }
 
+/// Writes a member with a number.
 fn write_count(out: &mut Writer, name: &str, count: usize) -> Result<(), NoMemory>
     ensures { OnOk result (Adds out.old out.new (member_tokens name.now (Some (spec.count_data count)))) }
 {
@@ -93,6 +96,7 @@ fn write_count(out: &mut Writer, name: &str, count: usize) -> Result<(), NoMemor
     Ok(())
 }
 
+/// Writes the member `schemas`.
 #[tactic(auto, unfolding(crate::specs::ListData::list_schemas))]
 fn write_schemas(out: &mut Writer) -> Result<(), NoMemory>
     ensures { OnOk result (Adds out.old out.new (member_tokens (codes "schemas") (Some spec.list_schemas))) }

@@ -1,4 +1,4 @@
-//! Reading a stored document: the resource that it is kept of.
+//! Reads a stored document into a resource.
 ghost use Rattle.std.specs.Prelude.{◌≡◌, ◌≤◌, ◌↔◌, ◌++◌, List, ℕ, IsTrue, IfOk, IfSome, OnOk, None, Some, Err, option_map};
 ghost use Rattle.std.specs.List.{flat_map};
 ghost use Rattle.serde_json.specs.Data.{depth};
@@ -29,13 +29,13 @@ use scim_value::{Invalid, Part, Resource, location};
 use serde_json::Value;
 use std::alloc::Global;
 
-/// The resource that the text is a stored document of: JSON with the value that `stored_text` writes
-/// of it, where spaces and the order of keys are free. `meta.location`, which isn't stored, is put
-/// back; it stands below `base`, as `http://127.0.0.1:8080`.
+/// Reads a stored document: JSON with the value that [`stored_text`] writes, in which spaces and
+/// the order of keys are free. `meta.location`, which isn't stored, is computed below `base`, as
+/// `http://127.0.0.1:8080`.
 ///
-/// Damaged where the text is no such document. So are keys that are spelled in another way or aren't
-/// stored, null, empty lists and objects, values of another type, moments that aren't as printed, and
-/// what isn't a resource. NoMemory where none was to be had.
+/// Damaged if the text isn't such a document. Faults are keys that are spelled in another way or
+/// aren't stored, null, empty lists and objects, values of another type, moments that aren't as
+/// printed, and cells that don't make up a resource.
 pub fn read_stored(alloc: Global, base: &str, text: &str) -> Result<Resource, Failed<Damaged>>
     ensures { UnlessMemory (GivesStored base.now text.now) result }
 {
@@ -45,9 +45,9 @@ pub fn read_stored(alloc: Global, base: &str, text: &str) -> Result<Resource, Fa
     }
 }
 
-/// The resource that the text is a stored document of, however it is spelled, as `read_stored` answers.
+/// Reads a stored document in any spelling.
 ///
-/// Errors: as there.
+/// Damaged as [`read_stored`].
 pub(crate) fn read_spelled(
     alloc: Global,
     base: &str,
@@ -59,7 +59,7 @@ pub(crate) fn read_spelled(
     read_document(alloc, base, &value)
 }
 
-/// The JSON value of a text (RFC 8259). Damaged where it has none; NoMemory where none was to be had.
+/// Parses the JSON value of a text (RFC 8259). Damaged if the text isn't JSON.
 pub(crate) fn parse(alloc: Global, text: &str) -> Result<Value, Failed<Damaged>>
     ensures value { IfOk result (λ v. read text.now ≡ Some (view v)) }
     ensures nests { IfOk result (λ v. depth (view v) ≤ max_depth) }
@@ -77,9 +77,9 @@ pub(crate) fn parse(alloc: Global, text: &str) -> Result<Value, Failed<Damaged>>
     }
 }
 
-/// The resource that the value is kept of, as `read_stored` answers.
+/// Returns the resource whose stored document has this JSON value.
 ///
-/// Errors: as there.
+/// Damaged as [`read_stored`].
 pub(crate) fn read_document(
     alloc: Global,
     base: &str,
@@ -97,7 +97,7 @@ pub(crate) fn read_document(
     }
 }
 
-/// Whether the value is the one that is kept of the resource.
+/// Whether the resource is stored as this value.
 fn is_kept_of(alloc: Global, resource: &Resource, value: &Value) -> Result<bool, NoMemory>
     requires { depth (view value.now) ≤ max_depth }
     ensures { IfOk result (λ b. IsTrue b ↔ (view value.now ≡ stored_data resource.now)) }
@@ -107,7 +107,8 @@ fn is_kept_of(alloc: Global, resource: &Resource, value: &Value) -> Result<bool,
     Ok(kept.as_str() == written.as_str())
 }
 
-/// The one resource below the base of which the value can be kept, if there is one.
+/// Returns the only resource below the base that may be stored as this value. Damaged if there is
+/// none.
 fn resource_in(alloc: Global, base: &str, value: &Value) -> Result<Resource, Failed<Damaged>>
     ensures below { IfOk result (HasBase base.now) }
     ensures only { IfOk result
@@ -136,7 +137,7 @@ fn kind_in(value: &Value) -> Option<Kind>
     Kind::named(meta.get(SubAttribute::ResourceType.name())?.as_str()?)
 }
 
-/// The id that `id` is the text of.
+/// The id whose text is at `id`.
 fn id_in(value: &Value) -> Option<Id>
     ensures { (id : List ℕ) → IsId id → (result ≡ Some id)
         ↔ (spec.id_in (view value.now) ≡ Some (id_text id)) }
@@ -144,7 +145,7 @@ fn id_in(value: &Value) -> Option<Id>
     Id::read(attribute_in(value, Attribute::Id)?.as_str()?)
 }
 
-/// The part of the cells that stand in the value, with `meta.location`, which comes after all others.
+/// The part with the cells in the value and `meta.location`, which comes after all others.
 #[tactic(auto, unfolding(crate::specs::Found::found_cells))]
 fn part_in(
     alloc: Global,
@@ -175,7 +176,7 @@ fn part_in(
     }
 }
 
-/// The cells of these attributes.
+/// Appends the cells of these attributes.
 fn read_attributes(
     alloc: Global,
     value: &Value,
@@ -203,6 +204,7 @@ fn attribute_in(value: &Value, attribute: Attribute) -> Option<&Value>
     object.get(attribute.name())
 }
 
+/// Appends the cells of an attribute.
 fn read_attribute(
     alloc: Global,
     value: &Value,
@@ -226,7 +228,7 @@ fn read_attribute(
     }
 }
 
-/// The values of a multi-valued attribute, by position.
+/// Appends the cells of the values of a multi-valued attribute.
 fn read_items(
     alloc: Global,
     items: &[Value],
@@ -243,7 +245,7 @@ fn read_items(
     Ok(())
 }
 
-/// The sub-attributes of one value of a complex attribute.
+/// Appends the cells of one value of a complex attribute.
 fn read_object(
     alloc: Global,
     value: &Value,
@@ -264,7 +266,7 @@ fn read_object(
     Ok(())
 }
 
-/// The cell of a leaf; none where the value isn't of its type.
+/// Appends the cell of a leaf, unless the value isn't of its type.
 fn read_cell(
     alloc: Global,
     value: &Value,

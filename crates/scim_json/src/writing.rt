@@ -1,4 +1,7 @@
-//! Writing a part as JSON, token by token (RFC 7643 sections 2.3, 3 and 8).
+//! Writes a part as JSON, token by token (RFC 7643 sections 2.3, 3 and 8).
+//!
+//! After NoMemory the private functions leave an unfinished text in `out`, which their caller
+//! drops.
 ghost use Rattle.std.specs.Prelude.{◌≡◌, ◌∷◌, filter, IfOk, OnOk, string_bytes, Some, option_map, is_some};
 ghost use Rattle.std.specs.List.{list_any};
 ghost use Rattle.std.specs.Option.{option_copied};
@@ -24,11 +27,9 @@ use scim_text::{NoMemory, print_moment};
 use scim_value::{Part, Resource};
 use std::alloc::Global;
 
-/// The JSON text of a part, as a client is shown it: its cells and `schemas`, and nothing else
-/// (RFC 7643 section 3). It has no spaces, and the keys of each object stand in byte order.
-/// serde_json reads it back as the value that it was written from.
-///
-/// The only error is [`NoMemory`].
+/// Returns the JSON text of a part for a client: its cells and `schemas` (RFC 7643 section 3). It
+/// has no spaces, and the keys of each object are in byte order. serde_json reads it back as the
+/// value that it was written from.
 #[tactic(auto, unfolding(crate::specs::PartData::part_data))]
 pub fn to_json(alloc: Global, part: &Part) -> Result<String, NoMemory>
     ensures text { IfOk result (λ t. string_bytes t ≡ compact_text (spec.part_data part.now)) }
@@ -37,11 +38,9 @@ pub fn to_json(alloc: Global, part: &Part) -> Result<String, NoMemory>
     text_of(alloc, part, JsonForm::Shown)
 }
 
-/// The JSON text that is kept of a resource: that of [`to_json`] without `schemas`, `groups` and
-/// `meta.location`, which can be told from the rest. serde_json reads it back as the value that it
+/// Returns the stored JSON text of a resource: that of [`to_json`] without `schemas`, `groups` and
+/// `meta.location`, which are computed from the rest. serde_json reads it back as the value that it
 /// was written from.
-///
-/// The only error is [`NoMemory`].
 #[tactic(auto, unfolding(crate::specs::PartData::stored_data))]
 pub fn stored_text(alloc: Global, resource: &Resource) -> Result<String, NoMemory>
     ensures text { IfOk result (λ t. string_bytes t ≡ stored_text resource.now) }
@@ -50,6 +49,7 @@ pub fn stored_text(alloc: Global, resource: &Resource) -> Result<String, NoMemor
     text_of(alloc, resource.part(), JsonForm::Stored)
 }
 
+/// The JSON text of a part in this form.
 #[tactic(auto, using(crate::proofs::Printed::texts, crate::proofs::Kept::read_from_part))]
 fn text_of(alloc: Global, part: &Part, form: JsonForm) -> Result<String, NoMemory>
     ensures text { IfOk result (λ t. string_bytes t ≡ compact_text (spec.data_of form part.now)) }
@@ -60,6 +60,7 @@ fn text_of(alloc: Global, part: &Part, form: JsonForm) -> Result<String, NoMemor
     Ok(unsafe { String::from_utf8_unchecked(out.into_inner()) })
 }
 
+/// Writes the object of a part. After NoMemory `out` has an unfinished text.
 #[tactic(auto, unfolding(crate::specs::PartData::data_of))]
 pub(crate) fn write_part(
     alloc: Global,
@@ -73,7 +74,7 @@ pub(crate) fn write_part(
     write_keys(alloc, out, part, form, keys(form, part.kind()))
 }
 
-/// The members of these keys, and the object's end.
+/// Writes the members of these keys, and ends the object.
 fn write_keys(
     alloc: Global,
     out: &mut Writer,
@@ -91,7 +92,7 @@ fn write_keys(
     Ok(())
 }
 
-/// The member of a key, if it has a value.
+/// Writes the member of a key, if it has a value.
 fn write_key(
     alloc: Global,
     out: &mut Writer,
@@ -112,6 +113,7 @@ fn write_key(
     }
 }
 
+/// Writes the member `schemas`.
 fn write_schemas(
     out: &mut Writer,
     part: &Part,
@@ -126,7 +128,7 @@ fn write_schemas(
     write_urns(out, part, core, extensions)
 }
 
-/// The URN of the core schema, and those of the extensions of which a cell is there.
+/// Writes the array of the URN of the core schema and those of the extensions that have cells.
 fn write_urns(
     out: &mut Writer,
     part: &Part,
@@ -147,7 +149,7 @@ fn write_urns(
     Ok(())
 }
 
-/// Whether a cell of an attribute of the extension is there.
+/// Whether the part has a cell of an attribute of the extension.
 #[tactic(auto, unfolding(crate::specs::PartData::has_extension))]
 fn has_extension(part: &Part, schema: Schema) -> bool
     ensures { result ≡ spec.has_extension (rows part.now) schema }
@@ -157,6 +159,7 @@ fn has_extension(part: &Part, schema: Schema) -> bool
         .any(|row| extension_of(row.unit().attribute) == Some(schema))
 }
 
+/// Writes the member of an extension, if it has a cell.
 #[tactic(auto, unfolding(crate::specs::PartData::extension_data))]
 fn write_extension(
     alloc: Global,
@@ -176,7 +179,7 @@ fn write_extension(
     write_attributes(alloc, out, part, form, extension_keys(schema))
 }
 
-/// The members of these attributes, and the object's end.
+/// Writes the members of these attributes, and ends the object.
 fn write_attributes(
     alloc: Global,
     out: &mut Writer,
@@ -195,6 +198,7 @@ fn write_attributes(
     Ok(())
 }
 
+/// Writes the member of an attribute, if it has a cell.
 fn write_attribute(
     alloc: Global,
     out: &mut Writer,
@@ -219,7 +223,7 @@ fn write_attribute(
     }
 }
 
-/// The atom of a leaf of a single-valued attribute, of which these are the rows.
+/// The atom of a leaf of a single-valued attribute, among the rows of the attribute.
 fn single_atom(own: &[Row], leaf: Leaf) -> Option<&Atom>
     ensures { option_copied result ≡ cell_at leaf 0 own.now }
 {
@@ -232,7 +236,7 @@ fn single_atom(own: &[Row], leaf: Leaf) -> Option<&Atom>
     None
 }
 
-/// The member of a simple attribute, if it has a cell.
+/// Writes the member of a simple attribute, if it has a cell.
 fn write_simple(
     alloc: Global,
     out: &mut Writer,
@@ -246,7 +250,7 @@ fn write_simple(
     write_member(alloc, out, attribute.name(), atom)
 }
 
-/// The member of a single complex attribute, if one of these sub-attributes has a cell.
+/// Writes the member of a single complex attribute, if one of these sub-attributes has a cell.
 fn write_complex(
     alloc: Global,
     out: &mut Writer,
@@ -276,7 +280,7 @@ fn has_sub_attribute(own: &[Row], attribute: Attribute, sub_attributes: &[SubAtt
         .any(|b| single_atom(own, Leaf::of(attribute, *b)).is_some())
 }
 
-/// The members of these sub-attributes, and the object's end.
+/// Writes the members of these sub-attributes, and ends the object.
 fn write_sub_attributes(
     alloc: Global,
     out: &mut Writer,
@@ -296,7 +300,7 @@ fn write_sub_attributes(
     Ok(())
 }
 
-/// The member of a multi-valued attribute, if it has a value.
+/// Writes the member of a multi-valued attribute, if it has a value.
 fn write_values(
     alloc: Global,
     out: &mut Writer,
@@ -314,6 +318,7 @@ fn write_values(
     write_array(alloc, out, values, form, attribute)
 }
 
+/// Writes the array of the values of a multi-valued attribute.
 fn write_array(
     alloc: Global,
     out: &mut Writer,
@@ -332,6 +337,7 @@ fn write_array(
     Ok(())
 }
 
+/// Writes the object of one value of a multi-valued attribute.
 fn write_value(
     alloc: Global,
     out: &mut Writer,
@@ -350,7 +356,7 @@ fn write_value(
     Ok(())
 }
 
-/// A member with this atom, if there is one.
+/// Writes a member with this atom, if there is one.
 fn write_member(
     alloc: Global,
     out: &mut Writer,
@@ -369,6 +375,7 @@ fn write_member(
     }
 }
 
+/// Writes the value of an atom.
 fn write_atom(alloc: Global, out: &mut Writer, atom: &Atom) -> Result<(), NoMemory>
     ensures { OnOk result (Adds out.old out.new (value_tokens (spec.atom_data atom.now))) }
 {

@@ -1,4 +1,4 @@
--- The endpoints of paths (RFC 7644 section 3.2).
+-- The endpoints that paths name (RFC 7644 section 3.2).
 use Rattle.std.specs.Prelude.{ℕ, Bool, List, [], ◌∷◌, length, codes, Option, None, Some, option_map, ◌==◌, if◌then◌else◌, nat_eq}
 use Rattle.std.specs.List.{list_any, position_or_len, before_first, after_first}
 use Rattle.std.specs.Cmp.Lexicographic.{pointwise}
@@ -9,7 +9,8 @@ use Rattle.scim_route.specs.declared.endpoints.Page.{Page}
 use Rattle.scim_route.specs.declared.endpoints.Page.TheVariants.{ServiceProviderConfig, ResourceTypes, ResourceType, Schemas, Schema}
 use Rattle.scim_route.specs.Targets.{is_slash}
 
--- what a path may name: an endpoint that this server hasn't, a page of discovery, the resources of a kind, their search, or one of them by a text
+-- an endpoint: one that this server doesn't support, a page of discovery, the resources of a kind, their
+-- search, or one resource by a text
 pub data Place : Type 0 where
   unsupported : Place
   page : Page → Place
@@ -17,15 +18,15 @@ pub data Place : Type 0 where
   search : Kind → Place
   resource : Kind → List ℕ → Place
 
--- whether two texts are one, byte by byte
+-- whether two texts are equal, byte by byte
 abbrev pub is : List ℕ → List ℕ → Bool
 is = pointwise nat_eq
 
--- the kind whose resources stand at `/{name}`
+-- the kind whose resources are at `/{name}`, or None
 abbrev pub kind_below : List ℕ → Option Kind
 kind_below name = if is name (codes "Users") then Some User else if is name (codes "Groups") then Some Group else None
 
--- what `/{name}` is where it isn't the resources of a kind
+-- the endpoint at `/{name}` other than the resources of a kind, or None
 abbrev pub other_at_top : List ℕ → Option Place
 other_at_top name =
     if is name (codes "") then Some unsupported
@@ -37,20 +38,20 @@ other_at_top name =
     else if is name (codes "Schemas") then Some (page Schemas)
     else None
 
--- the resources of a kind, or else another place
+-- the endpoint of the resources of a kind, or the other one if there is no kind
 abbrev pub collection_or : Option Place → Option Kind → Option Place
 collection_or other (Some kind) = Some (collection kind)
 collection_or other None = other
 
--- what `/{name}` is
+-- the endpoint at `/{name}`, or None
 abbrev pub at_top : List ℕ → Option Place
 at_top name = collection_or (other_at_top name) (kind_below name)
 
--- what `/Users/{text}` and `/Groups/{text}` are
+-- the endpoint at `/Users/{text}` or `/Groups/{text}`
 abbrev pub among : Kind → List ℕ → Place
 among kind text = if is text (codes ".search") then search kind else resource kind text
 
--- what `/{name}/{text}` is where it isn't below the resources of a kind
+-- the endpoint at `/{name}/{text}` other than below the resources of a kind, or None
 abbrev pub other_below : List ℕ → List ℕ → Option Place
 other_below name text =
     if is name (codes "Me") then Some unsupported
@@ -58,17 +59,17 @@ other_below name text =
     else if is name (codes "Schemas") then option_map (λ schema. page (Schema schema)) (schema_named text)
     else None
 
--- what stands below the resources of a kind, or else another place
+-- the endpoint below the resources of a kind, or the other one if there is no kind
 abbrev pub among_or : Option Place → Option Kind → List ℕ → Option Place
 among_or other (Some kind) text = Some (among kind text)
 among_or other None text = other
 
--- what `/{name}/{text}` is; a path of an empty text or more segments is none
+-- the endpoint at `/{name}/{text}`, or None; it is None for an empty text and for more segments
 abbrev pub below : List ℕ → List ℕ → Option Place
 below name [] = None
 below name (b ∷ text) = if list_any is_slash (b ∷ text) then None else among_or (other_below name (b ∷ text)) (kind_below name) (b ∷ text)
 
--- what the segments behind the first slash of a path name
+-- the endpoint of a path without its leading slash, or None
 abbrev pub in_segments : List ℕ → Option Place
 in_segments segments =
     if position_or_len is_slash segments == length segments then at_top segments
@@ -80,7 +81,7 @@ without_last_slash [] = []
 without_last_slash (b ∷ []) = if is_slash b then [] else b ∷ []
 without_last_slash (b ∷ c ∷ rest) = b ∷ without_last_slash (c ∷ rest)
 
--- what a path names: one slash at its end is dropped, save where it is also its first
+-- the endpoint of a path, or None; one slash at the end is ignored, unless it is also the first
 abbrev pub place_of : List ℕ → Option Place
 place_of [] = None
 place_of (b ∷ rest) = if is_slash b then in_segments (without_last_slash rest) else None

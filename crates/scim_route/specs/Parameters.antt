@@ -1,4 +1,4 @@
--- What query strings give (RFC 7644 section 3.4.2).
+-- The parameters of query strings (RFC 7644 section 3.4.2).
 use Rattle.std.specs.Prelude.{ℕ, List, [], codes, map, Option, option_map, unwrap_or}
 use Rattle.std.specs.List.{find}
 use Rattle.std.specs.Str.Lossy.{utf8_lossy}
@@ -6,7 +6,7 @@ use Rattle.form_urlencoded.specs.Form.{raw_pairs, decode}
 use Rattle.scim_text.specs.Names.{is_same_name}
 use Rattle.scim_route.specs.declared.parameters.Parameters.{Parameters}
 
--- the text that a name or a value of a form stands for; bytes in it that are no UTF-8 become U+FFFD
+-- the decoded text of a name or a value of a form; bytes that aren't UTF-8 become U+FFFD
 abbrev pub decoded_text : List ℕ → List ℕ
 decoded_text bytes = utf8_lossy (decode bytes)
 
@@ -14,15 +14,15 @@ decoded_text bytes = utf8_lossy (decode bytes)
 abbrev pub decoded_pair : List ℕ × List ℕ → List ℕ × List ℕ
 decoded_pair pair = (decoded_text pair.0, decoded_text pair.1)
 
--- the names and values of a query string, in its order; no query string has none
+-- the decoded names and values of a query string, in order; empty if there is no query string
 abbrev pub pairs_of : Option (List ℕ) → List (List ℕ × List ℕ)
 pairs_of query = map decoded_pair (raw_pairs (unwrap_or query []))
 
--- the first value that stands at a name, in any ASCII case of it
+-- the first value of a name, in any ASCII case, or None
 abbrev pub first_named : List ℕ → List (List ℕ × List ℕ) → Option (List ℕ)
 first_named name pairs = option_map (λ pair. pair.1) (find (λ pair. is_same_name pair.0 name) pairs)
 
--- the parameters among these pairs (RFC 7644 sections 3.4.2 and 3.9)
+-- the parameters in these pairs (RFC 7644 sections 3.4.2 and 3.9)
 abbrev pub parameters_in : List (List ℕ × List ℕ) → Parameters
 parameters_in pairs = record {
   attributes = first_named (codes "attributes") pairs;

@@ -1,4 +1,4 @@
--- What a request's method and target name (RFC 7644 section 3.2).
+-- The request that a method and a target name (RFC 7644 section 3.2).
 use Rattle.std.specs.Prelude.{◌≡◌, ℕ, List, codes, Option, None, Some, ok_or, option_and_then, option_copied, Result, Ok, Err, if◌then◌else◌}
 use Rattle.scim_schema.specs.declared.Kind.{Kind}
 use Rattle.scim_schema.specs.declared.Op.{Op}
@@ -18,12 +18,14 @@ use Rattle.scim_route.specs.declared.routes.Found.TheVariants.{Discovery as Foun
 use Rattle.scim_route.specs.Targets.{path_of, decoded}
 use Rattle.scim_route.specs.Endpoints.{Place, unsupported, page, collection, search, resource, place_of, is}
 
--- what a request may name: a page of discovery, or what is asked of the resources of a kind, and the text that stands for an id
+-- a request: a page of discovery, or a form of request to the resources of a kind, with the text in the place
+-- of an id
 pub data Named : Type 0 where
   a_page : Page → Named
   a_route : Form → Kind → Option (List ℕ) → Named
 
--- what a method asks for, where the endpoint has it (RFC 7644 section 3.2)
+-- the form of a method at an endpoint with these methods, or None if the endpoint doesn't allow it (RFC 7644
+-- section 3.2)
 abbrev pub form_of : Methods → List ℕ → Option Form
 form_of Collection method =
     if is method (codes "GET") then Some ListGet
@@ -38,7 +40,7 @@ form_of Resource method =
     else None
 form_of Discovery method = if is method (codes "GET") then Some Get else None
 
--- what a client does to a resource by a form, as policies name it
+-- the operation of a form, as policies name it
 abbrev pub op_of : Form → Op
 op_of Get = Read
 op_of ListGet = Read
@@ -48,21 +50,21 @@ op_of Replace = Modify
 op_of Patch = Modify
 op_of Remove = Delete
 
--- a method that an endpoint hasn't is refused with those that it has
+-- the form of a method at an endpoint with these methods, or BadMethod with these methods
 abbrev pub asked : Methods → List ℕ → Result Form Refusal
 asked methods method = ok_or (form_of methods method) (BadMethod methods)
 
--- a page is named where the method is one of its own
+-- the page, unless the method is refused
 abbrev pub named_page : Page → Result Form Refusal → Result Named Refusal
 named_page p (Ok form) = Ok (a_page p)
 named_page p (Err refusal) = Err refusal
 
--- so is what is asked of the resources of a kind
+-- the request to the resources of a kind, unless the method is refused
 abbrev pub named_route : Kind → Option (List ℕ) → Result Form Refusal → Result Named Refusal
 named_route kind text (Ok form) = Ok (a_route form kind text)
 named_route kind text (Err refusal) = Err refusal
 
--- what a method names at a place
+-- the request that a method names at an endpoint, or a refusal
 abbrev pub named_at : List ℕ → Place → Result Named Refusal
 named_at method unsupported = Err NotSupported
 named_at method (page p) = named_page p (asked Discovery method)
@@ -70,22 +72,22 @@ named_at method (collection kind) = named_route kind None (asked Collection meth
 named_at method (search kind) = named_route kind None (asked Search method)
 named_at method (resource kind text) = named_route kind (Some text) (asked Resource method)
 
--- what a method names where there may be no place
+-- the request that a method names at an endpoint, or NoRoute if there is no endpoint
 abbrev pub named_at_any : List ℕ → Option Place → Result Named Refusal
 named_at_any method None = Err NoRoute
 named_at_any method (Some place) = named_at method place
 
--- what a method and a target name: the target's path is decoded, and then its endpoint is found
+-- the request that a method and a target name: the target's path is decoded, and its endpoint is looked up
 abbrev pub named : List ℕ → List ℕ → Result Named Refusal
 named method target = named_at_any method (option_and_then place_of (decoded (path_of target)))
 
--- the id that a text is that of; a text of another form is that of none, and so is no text
+-- the id is that of the text; it is None if there is no text, or the text isn't an id
 abbrev pub IsIdOf : Option (List ℕ) → Option Id → Type 0
 IsIdOf None id = id ≡ None
 IsIdOf (Some text) None = ¬ (IsIdText text)
 IsIdOf (Some text) (Some id) = IsId id × (text ≡ id_text id)
 
--- a route says what was named, with its query
+-- the route has this form, its operation, this kind, the id of the text and this query
 pub record Says (form : Form) (kind : Kind) (text : Option (List ℕ)) (query : Option (List ℕ)) (route : Route) : Type 0 where
   pub form_is : route.form ≡ form
   pub op_is : route.op ≡ op_of form
@@ -93,7 +95,7 @@ pub record Says (form : Form) (kind : Kind) (text : Option (List ℕ)) (query : 
   pub id_is : IsIdOf text route.id
   pub query_is : option_copied route.query ≡ query
 
--- what is found is what is named, and a refusal is told
+-- the result of a look-up is the request with its query, or the refusal
 abbrev pub Finds : Result Named Refusal → Option (List ℕ) → Result Found Refusal → Type 0
 Finds (Ok (a_page p)) query (Ok (FoundPage q text)) = (q ≡ p) × (option_copied text ≡ query)
 Finds (Ok (a_route form kind text)) query (Ok (FoundRoute route)) = Says form kind text query route

@@ -1,4 +1,4 @@
-//! The endpoints of SCIM, and which one a path names (RFC 7644 section 3.2).
+//! The endpoints of SCIM, and the look-up of an endpoint by path (RFC 7644 section 3.2).
 ghost use Rattle.std.specs.Prelude.{◌≡◌, Some, None, option_map};
 ghost use Rattle.scim_route.specs.Endpoints as spec;
 ghost use Rattle.std.specs.List.{after_first};
@@ -8,7 +8,7 @@ ghost use Rattle.scim_route.specs.code.Places.{place_at, led};
 use crate::route_table::{Leads, Routes};
 use scim_schema::{Kind, Schema};
 
-/// A page of what the server tells of itself (RFC 7644 section 4).
+/// A page about the server itself (RFC 7644 section 4).
 #[derive(Clone, Copy, Debug, PartialEq, Eq)]
 pub enum Page {
     /// `/ServiceProviderConfig`
@@ -23,22 +23,23 @@ pub enum Page {
     Schema(Schema),
 }
 
-/// What a path names.
+/// The endpoint that a path names.
 #[derive(Clone, Copy)]
 pub(crate) enum Endpoint<'p> {
-    /// An endpoint of SCIM that this server hasn't.
+    /// A SCIM endpoint that this server doesn't support.
     Unsupported,
-    /// What the server tells of itself.
+    /// A page about the server itself.
     Discovery(Page),
     /// The resources of a kind.
     Collection(Kind),
-    /// The search of these.
+    /// The search among the resources of a kind.
     Search(Kind),
-    /// One of these, by the text that stands for its id.
+    /// One resource of a kind, by the text in the place of its id.
     Resource(Kind, &'p str),
 }
 
-/// The endpoint that a route leads to, by what stands behind the first slash of the path that takes it.
+/// The endpoint of a route. `text` is the path's part after the first slash; it names a resource
+/// type, a schema or a resource. None if there is no such resource type or schema.
 fn endpoint_at(leads: Leads, text: &str) -> Option<Endpoint<'_>>
     ensures { option_map place_at result ≡ led leads text.now }
 {
@@ -53,7 +54,7 @@ fn endpoint_at(leads: Leads, text: &str) -> Option<Endpoint<'_>>
     }
 }
 
-/// What stands behind the first slash of a text; nothing where it has none.
+/// The text after the first slash, or nothing if there is no slash.
 fn behind_slash(text: &str) -> &str
     ensures { result.now ≡ after_first is_slash text.now }
 {
@@ -63,7 +64,7 @@ fn behind_slash(text: &str) -> &str
     }
 }
 
-/// The endpoint that is named behind the first slash of a path.
+/// The endpoint of a path without its leading slash.
 fn in_segments<'p>(routes: &Routes, segments: &'p str) -> Option<Endpoint<'p>>
     ensures { option_map place_at result ≡ spec.in_segments segments.now }
 {
@@ -78,7 +79,7 @@ fn without_last_slash(text: &str) -> &str
     text.strip_suffix('/').unwrap_or(text)
 }
 
-/// The endpoint of a path; None where the path is that of none.
+/// The endpoint of a path, or None. One slash at the end is ignored.
 pub(crate) fn endpoint_of<'p>(routes: &Routes, path: &'p str) -> Option<Endpoint<'p>>
     ensures { option_map place_at result ≡ spec.place_of path.now }
 {

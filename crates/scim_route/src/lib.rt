@@ -1,5 +1,5 @@
-//! The endpoints of SCIM: which one a request's method and target name (RFC 7644 section 3.2), and what its query
-//! string gives (RFC 7644 section 3.4.2).
+//! The endpoints of SCIM: finds the endpoint that a request's method and target name (RFC 7644
+//! section 3.2), and reads the parameters of a query string (RFC 7644 section 3.4.2).
 #![tactic(auto)]
 
 mod endpoints;

@@ -9,8 +9,8 @@ use scim_cell::Text;
 use scim_text::{NoMemory, same_name};
 use std::alloc::Global;
 
-/// What a query string gives: of each parameter that a request may have the first; None where it isn't there
-/// (RFC 7644 sections 3.4.2 and 3.9).
+/// The parameters of a query string that SCIM defines, each with its first value, or None if it
+/// isn't given (RFC 7644 sections 3.4.2 and 3.9).
 pub struct Parameters {
     /// `attributes`
     pub attributes: Option<Text>,
@@ -28,7 +28,6 @@ pub struct Parameters {
     pub count: Option<Text>,
 }
 
-/// One call, wherever parameters are dropped, in place of a look at each.
 impl Drop for Parameters {
     fn drop(self) {
         let Parameters {
@@ -43,14 +42,14 @@ impl Drop for Parameters {
     }
 }
 
-/// The text that a name or a value of a form stands for.
+/// Decodes a name or a value of a form.
 fn decoded_text(alloc: Global, bytes: &[u8]) -> Result<Text, NoMemory>
     ensures { IfOk result (λ text. text ≡ spec.decoded_text bytes.now) }
 {
     Ok(Text::new(decode(alloc, bytes)?.into_owned(alloc)?))
 }
 
-/// Takes the value of a pair where its name is this parameter's and none was taken before.
+/// Stores the decoded value if `name` is the parameter's and it has no value so far.
 fn take(
     alloc: Global,
     held: &mut Option<Text>,
@@ -67,7 +66,7 @@ fn take(
 }
 
 impl Parameters {
-    /// No parameter.
+    /// The parameters of an empty query string.
     fn none() -> Parameters
         ensures { result ≡ spec.parameters_in [] }
     {
@@ -82,7 +81,8 @@ impl Parameters {
         }
     }
 
-    /// Takes the value of a pair, as it stands in the query string, for the parameter that it names.
+    /// Stores the value of a pair for the parameter that it names. After NoMemory it may be stored
+    /// for one parameter and not for another.
     fn take_pair(&mut self, alloc: Global, name: &[u8], value: &[u8]) -> Result<(), NoMemory>
         ensures { OnOk result (self.new ≡ with_pair (spec.decoded_pair (name.now, value.now)) self.old) }
     {
@@ -97,10 +97,9 @@ impl Parameters {
         take(alloc, &mut self.count, "count", &name, value)
     }
 
-    /// The parameters of a query string, of which there may be none. Names are read in any ASCII case, the first of a
-    /// name counts, and other names are ignored. Bytes that are no UTF-8 become U+FFFD.
-    ///
-    /// Fails where no memory is to be had.
+    /// Reads the parameters of a query string, if there is one. Names are compared without regard
+    /// to ASCII case. The first value of a name counts, and other names are ignored. Bytes that
+    /// aren't UTF-8 become U+FFFD.
     pub fn read(alloc: Global, query: Option<&[u8]>) -> Result<Parameters, NoMemory>
         ensures { IfOk result (λ parameters. parameters ≡ spec.parameters_of (option_copied query.entry)) }
     {

@@ -1,4 +1,4 @@
-//! The routes of SCIM's endpoints, and which one a path takes (RFC 7644 section 3.2).
+//! The table of routes of SCIM's endpoints, and the look-up of a path in it (RFC 7644 section 3.2).
 ghost use Rattle.std.specs.Prelude.{◌≡◌, ℕ, List, [], IfOk, OnOk, map};
 ghost use Rattle.matchit.specs.Seek.{first};
 ghost use Rattle.matchit.specs.Router.{rename};
@@ -10,12 +10,12 @@ use scim_schema::Kind;
 use scim_text::NoMemory;
 use std::alloc::Global;
 
-/// What a route leads to.
+/// The target of a route.
 #[derive(Clone, Copy)]
 pub(crate) enum Leads {
-    /// An endpoint of SCIM that this server hasn't.
+    /// A SCIM endpoint that this server doesn't support.
     Unsupported,
-    /// What the server tells of itself.
+    /// A page about the server itself.
     Page(Page),
     /// The page of the resource type that the last segment names.
     ResourceType,
@@ -23,13 +23,13 @@ pub(crate) enum Leads {
     Schema,
     /// The resources of a kind.
     Collection(Kind),
-    /// The search of these.
+    /// The search among the resources of a kind.
     Search(Kind),
-    /// One of these, by the last segment.
+    /// One resource of a kind, by the last segment.
     Resource(Kind),
 }
 
-/// The routes, without the slash at their start.
+/// The routes, without the leading slash.
 static ROUTES: [(&str, Leads); 16] = [
     ("", Leads::Unsupported),
     (".search", Leads::Unsupported),
@@ -52,20 +52,20 @@ static ROUTES: [(&str, Leads); 16] = [
     ("Groups/{id}", Leads::Resource(Kind::Group)),
 ];
 
-/// The routes of SCIM's endpoints, made once and asked for each request.
+/// The table of routes of SCIM's endpoints, made once and used for all requests.
 pub struct Routes {
     router: Router<Leads>,
     ghost whole: { rename (λ r. r.value) router ≡ spec.routes },
 }
 
-/// One call, wherever they are dropped.
 impl Drop for Routes {
     fn drop(self) {
         let Routes { router: _router } = self;
     }
 }
 
-/// Enters a route.
+/// Adds a route to the router. An error is a failed allocation, since the routes are valid and
+/// differ.
 fn enter(router: &mut Router<Leads>, path: &str, leads: Leads) -> Result<(), NoMemory>
     ensures { OnOk result (rename (λ r. r.value) router.new ≡ spec.with_path path.now leads (rename (λ r. r.value) router.old)) }
 {
@@ -75,7 +75,7 @@ fn enter(router: &mut Router<Leads>, path: &str, leads: Leads) -> Result<(), NoM
     Ok(())
 }
 
-/// A router of these routes.
+/// Makes a router with these routes.
 fn router_of(alloc: Global, routes: &[(&str, Leads)]) -> Result<Router<Leads>, NoMemory>
     ensures { IfOk result (λ router. rename (λ r. r.value) router ≡ spec.with_paths (map (λ r. (r.0.now, r.1)) routes.now) []) }
 {
@@ -87,14 +87,14 @@ fn router_of(alloc: Global, routes: &[(&str, Leads)]) -> Result<Router<Leads>, N
 }
 
 impl Routes {
-    /// The routes of SCIM's endpoints. NoMemory where none was to be had.
+    /// Makes the table of routes.
     pub fn new(alloc: Global) -> Result<Routes, NoMemory> {
         Ok(Routes {
             router: router_of(alloc, &ROUTES)?,
         })
     }
 
-    /// What the route leads to that a path takes, without the slash at its start; None where it takes none.
+    /// The target of the route that a path matches, or None. The path has no leading slash.
     pub(crate) fn leads(&self, path: &str) -> Option<Leads>
         ensures { result ≡ first spec.routes path.now }
     {

@@ -1,4 +1,4 @@
-//! Which endpoint a request's method and target name (RFC 7644 section 3.2).
+//! Finds the endpoint that a request's method and target name (RFC 7644 section 3.2).
 ghost use Rattle.std.specs.Prelude.{◌≡◌, ℕ, List, Option};
 ghost use Rattle.std.specs.Option.{option_copied};
 ghost use Rattle.scim_text.specs.Failures.{UnlessMemory};
@@ -16,27 +16,27 @@ use scim_schema::{Kind, Op};
 use scim_text::Failed;
 use std::alloc::Global;
 
-/// What is asked of the resources of a kind.
+/// A request to the resources of a kind, by its form.
 #[derive(Clone, Copy, Debug, PartialEq, Eq)]
 pub enum Form {
-    /// One resource (RFC 7644 section 3.4.1).
+    /// Get one resource (RFC 7644 section 3.4.1).
     Get,
-    /// Those that a query asks for (RFC 7644 section 3.4.2).
+    /// Search by a query string (RFC 7644 section 3.4.2).
     ListGet,
-    /// Those that the body of a search asks for (RFC 7644 section 3.4.3).
+    /// Search by a body (RFC 7644 section 3.4.3).
     SearchPost,
-    /// A new one (RFC 7644 section 3.3).
+    /// Create a resource (RFC 7644 section 3.3).
     Create,
-    /// Another in its place (RFC 7644 section 3.5.1).
+    /// Replace a resource (RFC 7644 section 3.5.1).
     Replace,
-    /// A change of it (RFC 7644 section 3.5.2).
+    /// Change a resource by PATCH (RFC 7644 section 3.5.2).
     Patch,
-    /// That it be removed (RFC 7644 section 3.6).
+    /// Delete a resource (RFC 7644 section 3.6).
     Remove,
 }
 
 impl Form {
-    /// What a client does to a resource by this, as policies name it.
+    /// The operation of the form, as policies name it.
     pub fn op(self) -> Op
         ensures { result ≡ spec.op_of self }
     {
@@ -49,32 +49,32 @@ impl Form {
     }
 }
 
-/// What a request asks of the resources of a kind.
+/// The request to the resources of a kind, or to one of them.
 #[derive(Clone, Copy, PartialEq, Eq)]
 pub struct Route<'t> {
-    /// What is asked.
+    /// The form of the request.
     pub form: Form,
-    /// What a client does to a resource by it.
+    /// The operation of the form, as policies name it.
     pub op: Op,
-    /// Of which kind.
+    /// The kind of the resources.
     pub kind: Kind,
-    /// The id of the resource; None where none was asked for, or what was given is no id.
+    /// The id of the resource; None if the path names none, or a text that isn't an id.
     pub id: Option<Id>,
-    /// What stands behind the first `?` of the target; None where there is no `?`.
+    /// The part of the target after the first `?`; None if there is no `?`.
     pub query: Option<&'t [u8]>,
 }
 
-/// What a request names.
+/// The result of the look-up of a method and a target.
 #[derive(Clone, Copy, PartialEq, Eq)]
 pub enum Found<'t> {
-    /// What the server tells of itself (RFC 7644 section 4), and what stands behind the first `?` of the target; None
-    /// where there is no `?`.
+    /// A page about the server itself (RFC 7644 section 4), and the part of the target after the
+    /// first `?`; None if there is no `?`.
     Discovery(Page, Option<&'t [u8]>),
     /// Resources of a kind, or one of them.
     Resource(Route<'t>),
 }
 
-/// What is asked of the resources of a kind, or of that with this id.
+/// The route with these values and the form's operation.
 fn route_of(form: Form, kind: Kind, id: Option<Id>, query: Option<&[u8]>) -> Route<'_>
     ensures { (text : Option (List ℕ)) → IsIdOf text id → Says form kind text (option_copied query.entry) result }
 {
@@ -88,7 +88,8 @@ fn route_of(form: Form, kind: Kind, id: Option<Id>, query: Option<&[u8]>) -> Rou
     }
 }
 
-/// What a method asks for; None where the endpoint hasn't it.
+/// The form of a method at an endpoint with these methods, or None if the endpoint doesn't allow
+/// it.
 fn form_of(methods: Methods, method: &[u8]) -> Option<Form>
     ensures { result ≡ spec.form_of methods method.now }
 {
@@ -116,14 +117,16 @@ fn form_of(methods: Methods, method: &[u8]) -> Option<Form>
     }
 }
 
-/// What a method asks for; or a refusal with those that the endpoint has.
+/// The form of a method at an endpoint with these methods. BadMethod if the endpoint doesn't allow
+/// it.
 fn asked(methods: Methods, method: &[u8]) -> Result<Form, Refusal>
     ensures { result ≡ spec.asked methods method.now }
 {
     form_of(methods, method).ok_or(Refusal::BadMethod(methods))
 }
 
-/// What a method names at an endpoint.
+/// The result for a method at an endpoint. NotSupported if this server doesn't support the
+/// endpoint, BadMethod if the endpoint doesn't allow the method.
 fn found_at<'t>(
     method: &[u8],
     endpoint: Endpoint<'_>,
@@ -153,15 +156,16 @@ fn found_at<'t>(
 }
 
 impl Routes {
-    /// Which endpoint of SCIM a request's method and target name, and what is asked of it (RFC 7644 section 3.2).
+    /// Finds the endpoint of SCIM that a request's method and target name (RFC 7644 section 3.2).
     ///
-    /// Of the target, in origin form or behind `http://`, what stands before the first `?` is the path. Its escapes are
-    /// decoded, and then one slash at its end says nothing. A resource's id that is no id in its hyphenated form and
-    /// lower case is None: no resource has it.
+    /// The target is in origin form, or in absolute form with `http://`. Its path ends before the
+    /// first `?`. The escapes of the path are decoded, and then one slash at its end is ignored.
+    /// The id of the route is None if the path names a resource by a text that isn't an id in
+    /// hyphenated form and lower case; no resource has it.
     ///
-    /// Fails with NoRoute where there is no such endpoint, NotSupported at one of SCIM that this server hasn't (RFC 7644
-    /// sections 3.4.3, 3.7 and 3.11), BadMethod with the endpoint's methods where it hasn't this one, and NoMemory where
-    /// no memory is to be had.
+    /// NoRoute if there is no such endpoint. NotSupported for an endpoint of SCIM that this server
+    /// doesn't support (RFC 7644 sections 3.4.3, 3.7 and 3.11). BadMethod, with the methods of the
+    /// endpoint, if it doesn't allow the method.
     pub fn find<'t>(
         &self,
         alloc: Global,

@@ -1,4 +1,4 @@
-//! Targets of requests: their path and query.
+//! Splits the target of a request into path and query.
 ghost use Rattle.std.specs.Prelude.{◌≡◌, ◌≤◌, length, Ok, Err, Some, None, IfOk};
 ghost use Rattle.std.specs.Option.{option_copied};
 ghost use Rattle.std.specs.Cow.{cow_str_bytes};
@@ -13,14 +13,14 @@ use scim_text::Failed;
 use std::alloc::Global;
 use std::borrow::CowStr;
 
-/// The path and the query of a target, as they stand in it.
+/// The path and the query of a target, with their escapes.
 #[derive(Clone, Copy)]
 pub(crate) struct Target<'t> {
     pub(crate) path: &'t [u8],
     pub(crate) query: Option<&'t [u8]>,
 }
 
-/// Where an authority ends.
+/// The length of the authority at the start: up to the first `/` or `?`, or all bytes.
 fn end_of_authority(bytes: &[u8]) -> usize
     ensures place { result ≡ position_or_len spec.ends_authority bytes.now }
     ensures within { result ≤ length bytes.now }
@@ -31,7 +31,7 @@ fn end_of_authority(bytes: &[u8]) -> usize
         .unwrap_or(bytes.len())
 }
 
-/// Where the first `?` stands, or the end where there is none.
+/// The index of the first `?`, or the length if there is none.
 fn end_of_path(bytes: &[u8]) -> usize
     ensures place { result ≡ position_or_len spec.is_question_mark bytes.now }
     ensures within { result ≤ length bytes.now }
@@ -39,7 +39,7 @@ fn end_of_path(bytes: &[u8]) -> usize
     bytes.iter().position(|b| *b == b'?').unwrap_or(bytes.len())
 }
 
-/// What stands behind the authority of a target in absolute form; None in any other form.
+/// The part of a target in absolute form after its authority; None for any other form.
 fn behind_authority(target: &[u8]) -> Option<&[u8]>
     ensures { option_copied result ≡ spec.behind_authority_of target.now }
 {
@@ -47,7 +47,7 @@ fn behind_authority(target: &[u8]) -> Option<&[u8]>
     Some(&rest[end_of_authority(rest)..])
 }
 
-/// What stands behind the first `?`, where there is one.
+/// The part after the first `?`, or None if there is none.
 fn behind_question_mark(bytes: &[u8]) -> Option<&[u8]>
     ensures { option_copied result ≡ spec.behind_question_mark bytes.now }
 {
@@ -59,21 +59,21 @@ fn behind_question_mark(bytes: &[u8]) -> Option<&[u8]>
     }
 }
 
-/// What stands before the first `?`.
+/// The part before the first `?`, or all bytes if there is none.
 fn before_question_mark(bytes: &[u8]) -> &[u8]
     ensures { result.now ≡ before_first spec.is_question_mark bytes.now }
 {
     &bytes[..end_of_path(bytes)]
 }
 
-/// The path of an absolute form: `/` where there is none.
+/// The path of an absolute form, which is `/` if it is empty.
 fn or_root(path: &[u8]) -> &[u8]
     ensures { result.now ≡ spec.or_root path.now }
 {
     if path.is_empty() { b"/" } else { path }
 }
 
-/// The path and the query of a target.
+/// Splits a target into its path and its query.
 pub(crate) fn read_target(target: &[u8]) -> Target<'_>
     ensures path { result.path.now ≡ spec.path_of target.now }
     ensures query { option_copied result.query ≡ spec.query_of target.now }
@@ -90,9 +90,9 @@ pub(crate) fn read_target(target: &[u8]) -> Target<'_>
     }
 }
 
-/// The path that the escapes of a path stand for.
+/// Decodes the escapes of a path.
 ///
-/// Fails with NoRoute where that is no UTF-8, and with NoMemory where no memory is to be had.
+/// NoRoute if the result isn't UTF-8.
 pub(crate) fn decoded<'t>(
     alloc: Global,
     path: &'t [u8],

@@ -1,4 +1,4 @@
--- What each attribute and sub-attribute is: its characteristics (RFC 7643 sections 2.2 and 7).
+-- The characteristics of each attribute and sub-attribute (RFC 7643 sections 2.2 and 7).
 use Rattle.std.specs.Prelude.{Bool, true, false, Option, None, Some}
 use Rattle.scim_schema.specs.declared.Kind.{Kind}
 use Rattle.scim_schema.specs.declared.Kind.TheVariants.{User, Group}
@@ -13,48 +13,51 @@ use Rattle.scim_schema.specs.declared.characteristics.Mutability.TheVariants.{Re
 use Rattle.scim_schema.specs.declared.characteristics.Returned.TheVariants.{Always, Never, Default}
 use Rattle.scim_schema.specs.declared.characteristics.Uniqueness.TheVariants.{NotUnique, Server}
 
--- what holds where nothing else is said (RFC 7643 section 2.2)
+-- the default characteristics (RFC 7643 section 2.2)
 abbrev pub plain : Characteristics
 plain = record { attribute_type = String; multi_valued = false; required = false; case_exact = false; mutability = ReadWrite; returned = Default; uniqueness = NotUnique }
 
+-- these characteristics with mutability `readOnly`
 abbrev pub read_only : Characteristics → Characteristics
 read_only c = record c { mutability = ReadOnly }
 
+-- these characteristics with mutability `immutable`
 abbrev pub immutable : Characteristics → Characteristics
 immutable c = record c { mutability = Immutable }
 
+-- these characteristics with `required` set
 abbrev pub required : Characteristics → Characteristics
 required c = record c { required = true }
 
--- with sub-attributes (RFC 7643 section 2.3.8)
+-- the characteristics of a complex attribute with one value (RFC 7643 section 2.3.8)
 abbrev pub complex : Characteristics
 complex = record plain { attribute_type = Complex }
 
--- a list of values with sub-attributes (RFC 7643 section 2.4)
+-- the characteristics of a complex attribute with a list of values (RFC 7643 section 2.4)
 abbrev pub multi_valued : Characteristics
 multi_valued = record complex { multi_valued = true }
 
--- compared with regard to case (RFC 7643 section 2.2)
+-- the characteristics of a string whose case matters (RFC 7643 section 2.2)
 abbrev pub case_exact : Characteristics
 case_exact = record plain { case_exact = true }
 
--- a URI (RFC 7643 section 2.3.7)
+-- the characteristics of a URI (RFC 7643 section 2.3.7)
 abbrev pub reference : Characteristics
 reference = record case_exact { attribute_type = ReferenceType }
 
--- base64 text (RFC 7643 section 2.3.6)
+-- the characteristics of base64 text (RFC 7643 section 2.3.6)
 abbrev pub binary : Characteristics
 binary = record case_exact { attribute_type = Binary }
 
--- RFC 7643 section 2.3.2
+-- the characteristics of a boolean (RFC 7643 section 2.3.2)
 abbrev pub boolean : Characteristics
 boolean = record plain { attribute_type = Boolean }
 
--- RFC 7643 section 2.3.5
+-- the characteristics of a date and time (RFC 7643 section 2.3.5)
 abbrev pub date_time : Characteristics
 date_time = record plain { attribute_type = DateTime }
 
--- an attribute of a kind (RFC 7643 sections 3.1, 4.1, 4.2, 4.3 and 7)
+-- the characteristics of an attribute of a kind (RFC 7643 sections 3.1, 4.1, 4.2, 4.3 and 7)
 abbrev pub attribute_characteristics : Kind → Attribute → Characteristics
 attribute_characteristics _ Id = record case_exact { mutability = ReadOnly; returned = Always }
 attribute_characteristics _ ExternalId = case_exact
@@ -78,37 +81,38 @@ attribute_characteristics _ X509Certificates = multi_valued
 attribute_characteristics _ Members = multi_valued
 attribute_characteristics _ _ = plain
 
--- a sub-attribute of most attributes (RFC 7643 section 2.4)
+-- the characteristics of a sub-attribute of most attributes (RFC 7643 section 2.4)
 abbrev pub common_sub_attribute : SubAttribute → Characteristics
 common_sub_attribute Primary = boolean
 common_sub_attribute _ = plain
 
--- a value that is the id of a resource, and a reference to that resource
+-- the characteristics of a sub-attribute of a link to a resource: `value` is its id, `$ref` its location
 abbrev pub linked_sub_attribute : SubAttribute → Characteristics
 linked_sub_attribute Value = case_exact
 linked_sub_attribute Reference = reference
 linked_sub_attribute _ = plain
 
--- of `photos` and `x509Certificates` (RFC 7643 section 4.1.2)
+-- the characteristics of a sub-attribute of `photos` (RFC 7643 section 4.1.2)
 abbrev pub photo_sub_attribute : SubAttribute → Characteristics
 photo_sub_attribute Value = reference
 photo_sub_attribute b = common_sub_attribute b
 
+-- the characteristics of a sub-attribute of `x509Certificates` (RFC 7643 section 4.1.2)
 abbrev pub certificate_sub_attribute : SubAttribute → Characteristics
 certificate_sub_attribute Value = binary
 certificate_sub_attribute b = common_sub_attribute b
 
--- of `manager` (RFC 7643 section 4.3)
+-- the characteristics of a sub-attribute of `manager` (RFC 7643 section 4.3)
 abbrev pub manager_sub_attribute : SubAttribute → Characteristics
 manager_sub_attribute SubDisplayName = read_only plain
 manager_sub_attribute b = linked_sub_attribute b
 
--- of `members` (RFC 7643 section 4.2)
+-- the characteristics of a sub-attribute of `members` (RFC 7643 section 4.2)
 abbrev pub member_sub_attribute : SubAttribute → Characteristics
 member_sub_attribute Value = required (immutable case_exact)
 member_sub_attribute b = immutable (linked_sub_attribute b)
 
--- of `meta` (RFC 7643 section 3.1)
+-- the characteristics of a sub-attribute of `meta` (RFC 7643 section 3.1)
 abbrev pub meta_sub_attribute : SubAttribute → Characteristics
 meta_sub_attribute ResourceType = read_only case_exact
 meta_sub_attribute Created = read_only date_time
@@ -116,7 +120,7 @@ meta_sub_attribute LastModified = read_only date_time
 meta_sub_attribute Location = read_only reference
 meta_sub_attribute _ = read_only plain
 
--- a sub-attribute of an attribute
+-- the characteristics of a sub-attribute of an attribute
 abbrev pub sub_attribute_characteristics : Attribute → SubAttribute → Characteristics
 sub_attribute_characteristics Photos b = photo_sub_attribute b
 sub_attribute_characteristics X509Certificates b = certificate_sub_attribute b
@@ -126,18 +130,20 @@ sub_attribute_characteristics Members b = member_sub_attribute b
 sub_attribute_characteristics Meta b = meta_sub_attribute b
 sub_attribute_characteristics _ b = common_sub_attribute b
 
+-- the characteristics of an attribute of a kind, or of its sub-attribute if one is given
 abbrev pub characteristics_at : Kind → Attribute → Option SubAttribute → Characteristics
 characteristics_at kind a None = attribute_characteristics kind a
 characteristics_at kind a (Some b) = sub_attribute_characteristics a b
 
--- a leaf of a kind: those of the simple attribute, or of the sub-attribute
+-- the characteristics of a leaf of a kind: those of its sub-attribute, or of its attribute if it is simple
 abbrev pub characteristics_of : Kind → Leaf → Characteristics
 characteristics_of kind leaf = characteristics_at kind leaf.attribute leaf.sub_attribute
 
--- whether texts of a leaf are compared with regard to case (RFC 7643 section 2.2), which is the same for both kinds
+-- whether comparisons of the leaf's texts are case-sensitive (RFC 7643 section 2.2); it doesn't depend on the
+-- kind
 abbrev pub is_case_exact : Leaf → Bool
 is_case_exact leaf = (characteristics_of User leaf).case_exact
 
--- whether an attribute holds a list of values, which is the same for both kinds
+-- whether an attribute holds a list of values; it doesn't depend on the kind
 abbrev pub is_multi_valued : Attribute → Bool
 is_multi_valued a = (attribute_characteristics User a).multi_valued

@@ -1,4 +1,4 @@
--- The keys of the JSON objects of a part, in byte order.
+-- The keys of the JSON objects of a resource, in byte order.
 use Rattle.std.specs.Prelude.{◌≡◌, Bool, true, false, ◌&&◌, Some, is_none, ℕ, List, [], ◌∷◌, codes, filter, if◌then◌else◌}
 use Rattle.std.specs.List.{list_all, list_any}
 use Rattle.std.specs.Option.{option_eq}
@@ -30,52 +30,54 @@ use Rattle.scim_schema.specs.declared.json_keys.JsonKey.TheVariants.{Of, Schemas
 use Rattle.scim_schema.specs.declared.json_keys.JsonShape.{JsonShape}
 use Rattle.scim_schema.specs.declared.json_keys.JsonShape.TheVariants.{Simple, Complex, MultiValued}
 
--- the name of the attribute that names the schemas of a resource (RFC 7643 section 3)
+-- the name of the attribute that lists the schemas of a resource (RFC 7643 section 3)
 unfoldable pub schemas_name : List ℕ
 schemas_name = codes "schemas"
 
--- a key as it is printed: the name of an attribute, `schemas`, or the URN of an extension (RFC 7643 section 3.3)
+-- the text of a key: the name of an attribute, `schemas`, or the URN of an extension (RFC 7643 section 3.3)
 abbrev pub key_text : JsonKey → List ℕ
 key_text (Of a) = attribute_name a
 key_text Schemas = schemas_name
 key_text (Extension s) = urn s
 
--- the keys of a user and of a group that are shown
+-- the keys of a user and of a group in a text for clients, in byte order
 abbrev pub shown_keys : Kind → List JsonKey
 shown_keys User =
     Of Active ∷ Of Addresses ∷ Of DisplayName ∷ Of Emails ∷ Of Entitlements ∷ Of ExternalId ∷ Of Groups ∷ Of Id ∷ Of Ims ∷ Of Locale ∷ Of Meta ∷ Of Name ∷ Of NickName ∷ Of Password ∷ Of PhoneNumbers ∷ Of Photos ∷ Of PreferredLanguage ∷ Of ProfileUrl ∷ Of Roles ∷ Schemas ∷ Of Timezone ∷ Of Title ∷ Extension EnterpriseUser ∷ Of UserName ∷ Of UserType ∷ Of X509Certificates ∷ []
 shown_keys Group = Of DisplayName ∷ Of ExternalId ∷ Of Id ∷ Of Members ∷ Of Meta ∷ Schemas ∷ []
 
--- `schemas` and `groups` can be told from the rest, and aren't kept
+-- whether a key is stored; `schemas` and `groups` are computed from the rest
 abbrev pub is_stored_key : JsonKey → Bool
 is_stored_key Schemas = false
 is_stored_key (Of Groups) = false
 is_stored_key _ = true
 
--- the keys of a part of a kind
+-- the keys that the object of a part of a kind may have, in byte order
 unfoldable pub keys : JsonForm → Kind → List JsonKey
 keys Shown kind = shown_keys kind
 keys Stored kind = filter is_stored_key (shown_keys kind)
 
--- the attributes of an extension (RFC 7643 section 4.3)
+-- the attributes of an extension, in byte order of their names (RFC 7643 section 4.3)
 unfoldable pub extension_keys : Schema → List Attribute
 extension_keys EnterpriseUser = CostCenter ∷ Department ∷ Division ∷ EmployeeNumber ∷ Manager ∷ Organization ∷ []
 extension_keys _ = []
 
--- what most multi-valued attributes have (RFC 7643 section 2.4)
+-- the sub-attributes of most multi-valued attributes, in byte order of their names (RFC 7643 section 2.4)
 abbrev pub ordered_standard_sub_attributes : List SubAttribute
 ordered_standard_sub_attributes = Display ∷ Primary ∷ TypeName ∷ Value ∷ []
 
--- groups of a user and members of a group
+-- the sub-attributes of `groups` and `members`, in byte order of their names
 abbrev pub ordered_linked_sub_attributes : List SubAttribute
 ordered_linked_sub_attributes = Reference ∷ Display ∷ TypeName ∷ Value ∷ []
 
--- `meta.location` can be told from the kind and the id, and isn't kept
+-- the sub-attributes of `meta`, in byte order of their names; `location` is computed from kind and id and
+-- isn't stored
 abbrev pub ordered_meta_sub_attributes : JsonForm → List SubAttribute
 ordered_meta_sub_attributes Shown = Created ∷ LastModified ∷ Location ∷ ResourceType ∷ []
 ordered_meta_sub_attributes Stored = Created ∷ LastModified ∷ ResourceType ∷ []
 
--- the sub-attributes of an attribute (RFC 7643 sections 3.1, 4.1.1, 4.1.2, 4.2 and 4.3)
+-- the sub-attributes of an attribute, in byte order of their names (RFC 7643 sections 3.1, 4.1.1, 4.1.2, 4.2,
+-- 4.3)
 unfoldable pub ordered_sub_attributes : JsonForm → Attribute → List SubAttribute
 ordered_sub_attributes form Name = FamilyName ∷ Formatted ∷ GivenName ∷ HonorificPrefix ∷ HonorificSuffix ∷ MiddleName ∷ []
 ordered_sub_attributes form Emails = ordered_standard_sub_attributes
@@ -92,43 +94,45 @@ ordered_sub_attributes form Members = ordered_linked_sub_attributes
 ordered_sub_attributes form Meta = ordered_meta_sub_attributes form
 ordered_sub_attributes form _ = []
 
--- the shape of a value with these characteristics
+-- the form of a JSON value with these characteristics
 abbrev pub shape_with : Characteristics → JsonShape
 shape_with c = if c.multi_valued then MultiValued else (if sameb the_attribute_type c.attribute_type ComplexType then Complex else Simple)
 
--- what the JSON value of an attribute is
+-- the form of the JSON value of an attribute
 unfoldable pub shape_of : Attribute → JsonShape
 shape_of a = shape_with (attribute_characteristics User a)
 
--- the text of each key comes before those of all later ones, byte by byte
+-- whether the text of each key comes before the texts of all later keys, in byte order
 abbrev pub is_ascending : {K : Type 0} → (K → List ℕ) → List K → Bool
 is_ascending text [] = true
 is_ascending text (k ∷ ks) = list_all (λ l. is_lt (slice_cmp nat_cmp (text k) (text l))) ks && is_ascending text ks
 
--- the keys stand in byte order of their texts, none twice
+-- the keys are in byte order of their texts, each once
 abbrev pub Ascends : {K : Type 0} → (K → List ℕ) → List K → Type 0
 Ascends text ks = is_ascending text ks ≡ true
 
--- so the keys of a part do, the attributes of an extension, and the sub-attributes of an attribute
+-- the keys of a part ascend
 abbrev pub PartKeysAscend : Type 0
 PartKeysAscend = (form : JsonForm) (kind : Kind) → Ascends key_text (keys form kind)
 
+-- the attributes of each extension ascend by name
 abbrev pub ExtensionKeysAscend : Type 0
 ExtensionKeysAscend = (schema : Schema) → Ascends attribute_name (extension_keys schema)
 
+-- the sub-attributes of each attribute ascend by name
 abbrev pub SubAttributesAscend : Type 0
 SubAttributesAscend = (form : JsonForm) (a : Attribute) → Ascends sub_attribute_name (ordered_sub_attributes form a)
 
--- an attribute stands under a key: under its own name, or among those of its extension
+-- whether the object of a part has an attribute at this key: at its own name, or at the URN of its extension
 abbrev pub stands_under : Attribute → JsonKey → Bool
 stands_under a (Of b) = is_none (extension_of a) && sameb the_attribute a b
 stands_under a Schemas = false
 stands_under a (Extension s) = option_eq (sameb the_schema) (extension_of a) (Some s) && list_any (sameb the_attribute a) (extension_keys s)
 
--- each attribute of a kind stands under some key
+-- each attribute of a kind has a key in the text for clients
 abbrev pub AttributesHaveKeys : Type 0
 AttributesHaveKeys = (kind : Kind) → list_all (λ a. list_any (stands_under a) (keys Shown kind)) (attributes kind) ≡ true
 
--- and each sub-attribute among those of its attribute
+-- each sub-attribute is among the keys of its attribute's object in the text for clients
 abbrev pub SubAttributesHaveKeys : Type 0
 SubAttributesHaveKeys = (a : Attribute) → list_all (λ b. list_any (sameb the_sub_attribute b) (ordered_sub_attributes Shown a)) (sub_attributes a) ≡ true

@@ -1,4 +1,4 @@
--- Look-ups by name.
+-- Look-ups of kinds, operations, attributes, sub-attributes and schemas by name.
 use Rattle.std.specs.Prelude.{ℕ, Bool, List, ◌&&◌, Option, find, nat_eq}
 use Rattle.std.specs.Cmp.Lexicographic.{pointwise}
 use denote.Enum.Bare.{sameb}
@@ -12,23 +12,24 @@ use Rattle.scim_schema.specs.Names.{is_same_name, kinds, kind_name, operations, 
 use Rattle.scim_schema.specs.Table.{attributes, sub_attributes}
 use Rattle.scim_schema.specs.Schemas.{urn, schemas, schema_of}
 
--- whether two texts are one, byte by byte
+-- whether two texts are equal, byte by byte
 abbrev pub is_same_text : List ℕ → List ℕ → Bool
 is_same_text = pointwise nat_eq
 
--- the kind of this name, with regard to case
+-- the kind with this name, case-sensitive
 abbrev pub kind_named : List ℕ → Option Kind
 kind_named name = find (λ k. is_same_text name (kind_name k)) kinds
 
--- the operation of this name, with regard to case
+-- the operation with this name, case-sensitive
 abbrev pub operation_named : List ℕ → Option Op
 operation_named name = find (λ o. is_same_text name (op_name o)) operations
 
--- the attribute of a kind with this name in any ASCII case; those of an extension are found by their bare name too
+-- the attribute of a kind with this name in any ASCII case; those of an extension are found by their bare
+-- name
 abbrev pub attribute_named : Kind → List ℕ → Option Attribute
 attribute_named kind name = find (λ a. is_same_name (attribute_name a) name) (attributes kind)
 
--- the attribute with this name among those of a kind that stand in this schema (RFC 7644 section 3.10)
+-- the attribute of a kind and a schema with this name in any ASCII case (RFC 7644 section 3.10)
 abbrev pub attribute_named_in : Kind → Schema → List ℕ → Option Attribute
 attribute_named_in kind schema name = find (λ a. sameb the_schema (schema_of kind a) schema && is_same_name (attribute_name a) name) (attributes kind)
 

@@ -1,4 +1,4 @@
--- Who may write what, and whether it is kept (RFC 7643 section 2.2, mutability).
+-- The mutability of leaves and units: who may write them, and whether they are stored (RFC 7643 section 2.2).
 use Rattle.std.specs.Prelude.{Bool}
 use denote.Enum.Bare.{sameb}
 use Rattle.scim_schema.specs.declared.Kind.{Kind}
@@ -9,22 +9,22 @@ use Rattle.scim_schema.specs.declared.characteristics.Mutability.TheVariants.{Re
 use Rattle.scim_schema.specs.contracts.characteristics.Mutability.{the_type as the_mutability}
 use Rattle.scim_schema.specs.Characteristics.{characteristics_at, characteristics_of}
 
--- whether no client may write what is at a leaf, or at a whole attribute
+-- whether a leaf, or a whole attribute if there is no sub-attribute, is read-only: no client may write it
 abbrev pub is_read_only : Kind → Leaf → Bool
 is_read_only kind l = sameb the_mutability (characteristics_of kind l).mutability ReadOnly
 
--- whether what is written at a leaf is never shown to anyone, and isn't kept
+-- whether a leaf is write-only: a written value is neither stored nor returned
 abbrev pub is_write_only : Kind → Leaf → Bool
 is_write_only kind l = sameb the_mutability (characteristics_of kind l).mutability WriteOnly
 
--- of a unit: what the table says of the attribute or sub-attribute that it is
+-- the mutability of a unit: that of its sub-attribute, or of its attribute if it has no sub-attribute
 abbrev pub mutability_of : Kind → AttributeUnit → Mutability
 mutability_of kind u = (characteristics_at kind u.attribute u.sub_attribute).mutability
 
--- whether no client may write a unit
+-- whether a unit is read-only: no client may write it
 abbrev pub is_fixed : Kind → AttributeUnit → Bool
 is_fixed kind u = sameb the_mutability (mutability_of kind u) ReadOnly
 
--- whether what is written to a unit isn't kept
+-- whether a unit is write-only: a written value isn't stored
 abbrev pub is_secret : Kind → AttributeUnit → Bool
 is_secret kind u = sameb the_mutability (mutability_of kind u) WriteOnly

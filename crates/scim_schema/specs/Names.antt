@@ -1,4 +1,4 @@
--- Names as they are printed.
+-- The printed names of kinds, operations, attributes and sub-attributes.
 use Rattle.std.specs.Prelude.{ℕ, Bool, List, [], ◌∷◌, codes}
 use Rattle.std.specs.Str.{str_eq_ignore_ascii_case}
 use Rattle.scim_schema.specs.declared.Kind.{Kind}
@@ -14,10 +14,11 @@ use Rattle.scim_schema.specs.declared.SubAttribute.TheVariants.{Formatted, Famil
 abbrev pub is_same_name : List ℕ → List ℕ → Bool
 is_same_name a b = str_eq_ignore_ascii_case a b
 
--- all kinds of resources, and all operations
+-- all kinds of resources
 abbrev pub kinds : List Kind
 kinds = User ∷ Group ∷ []
 
+-- all operations
 abbrev pub operations : List Op
 operations = Read ∷ Create ∷ Modify ∷ Delete ∷ []
 
@@ -30,7 +31,7 @@ abbrev pub kind_name : Kind → List ℕ
 kind_name User = codes "User"
 kind_name Group = codes "Group"
 
--- where the resources of a kind are found below the base (RFC 7644 section 3.2)
+-- the path of the resources of a kind below the base URL (RFC 7644 section 3.2)
 abbrev pub endpoint : Kind → List ℕ
 endpoint User = codes "/Users"
 endpoint Group = codes "/Groups"

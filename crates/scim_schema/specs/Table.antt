@@ -1,4 +1,4 @@
--- Which attributes, sub-attributes and leaves there are, in order.
+-- The attributes, sub-attributes and leaves of each kind, in the order of the table.
 use Rattle.std.specs.Prelude.{List, [], ◌∷◌, ◌++◌, map, None, Some, Contains}
 use Rattle.std.specs.List.{flat_map}
 use Rattle.scim_schema.specs.declared.Kind.{Kind}
@@ -9,35 +9,37 @@ use Rattle.scim_schema.specs.declared.Attribute.TheVariants.{Id, ExternalId, Use
 use Rattle.scim_schema.specs.declared.SubAttribute.{SubAttribute}
 use Rattle.scim_schema.specs.declared.SubAttribute.TheVariants.{Formatted, FamilyName, GivenName, MiddleName, HonorificPrefix, HonorificSuffix, Value, Reference, Display, TypeName, Primary, StreetAddress, Locality, Region, PostalCode, Country, DisplayName as SubDisplayName, ResourceType, Created, LastModified, Location}
 
--- what every resource has, meta aside (RFC 7643 section 3.1)
+-- the attributes of every resource, except `meta` (RFC 7643 section 3.1)
 abbrev pub common_attributes : List Attribute
 common_attributes = Id ∷ ExternalId ∷ []
 
--- what a user has (RFC 7643 section 4.1): the single attributes and the multi-valued ones
+-- the single-valued attributes of a user (RFC 7643 section 4.1)
 abbrev pub single_user_attributes : List Attribute
 single_user_attributes = UserName ∷ Name ∷ DisplayName ∷ NickName ∷ ProfileUrl ∷ Title ∷ UserType ∷ PreferredLanguage ∷ Locale ∷ Timezone ∷ Active ∷ Password ∷ []
 
+-- the multi-valued attributes of a user (RFC 7643 section 4.1)
 abbrev pub multi_valued_user_attributes : List Attribute
 multi_valued_user_attributes = Emails ∷ PhoneNumbers ∷ Ims ∷ Photos ∷ Addresses ∷ Groups ∷ Entitlements ∷ Roles ∷ X509Certificates ∷ []
 
--- what a group has (RFC 7643 section 4.2)
+-- the attributes of a group (RFC 7643 section 4.2)
 abbrev pub group_attributes : List Attribute
 group_attributes = DisplayName ∷ Members ∷ []
 
--- what the enterprise extension adds to a user (RFC 7643 section 4.3)
+-- the attributes of the enterprise extension of a user (RFC 7643 section 4.3)
 abbrev pub enterprise_attributes : List Attribute
 enterprise_attributes = EmployeeNumber ∷ CostCenter ∷ Organization ∷ Division ∷ Department ∷ Manager ∷ []
 
--- the attributes of a kind, in order
+-- the attributes of a kind, in the order of the table
 abbrev pub attributes : Kind → List Attribute
 attributes User = common_attributes ++ single_user_attributes ++ multi_valued_user_attributes ++ enterprise_attributes ++ Meta ∷ []
 attributes Group = common_attributes ++ group_attributes ++ Meta ∷ []
 
--- what most multi-valued attributes have (RFC 7643 section 2.4)
+-- the sub-attributes of most multi-valued attributes (RFC 7643 section 2.4)
 abbrev pub standard_sub_attributes : List SubAttribute
 standard_sub_attributes = Value ∷ Display ∷ TypeName ∷ Primary ∷ []
 
--- the sub-attributes of a complex attribute, in order; a simple one has none (RFC 7643 sections 3.1, 4.1.1, 4.1.2, 4.2 and 4.3)
+-- the sub-attributes of an attribute, in the order of the table; empty for a simple one (RFC 7643 sections
+-- 3.1, 4.1.1, 4.1.2, 4.2 and 4.3)
 abbrev pub sub_attributes : Attribute → List SubAttribute
 sub_attributes Name = Formatted ∷ FamilyName ∷ GivenName ∷ MiddleName ∷ HonorificPrefix ∷ HonorificSuffix ∷ []
 sub_attributes Emails = standard_sub_attributes
@@ -54,15 +56,16 @@ sub_attributes Members = Value ∷ Reference ∷ TypeName ∷ Display ∷ []
 sub_attributes Meta = ResourceType ∷ Created ∷ LastModified ∷ Location ∷ []
 sub_attributes _ = []
 
--- the leaves of an attribute with these sub-attributes
+-- the leaves of an attribute with these sub-attributes: one for each, or the attribute itself if there is
+-- none
 abbrev pub leaves_with : Attribute → List SubAttribute → List Leaf
 leaves_with a [] = record { attribute = a; sub_attribute = None } ∷ []
 leaves_with a (s ∷ ss) = map (λ b. record { attribute = a; sub_attribute = Some b }) (s ∷ ss)
 
--- the leaves of a kind, in order: leaf order
+-- the leaves of a kind, in the order of the table, called leaf order
 abbrev pub leaves : Kind → List Leaf
 leaves kind = flat_map (λ a. leaves_with a (sub_attributes a)) (attributes kind)
 
--- the leaf is one of the leaves of the kind
+-- the leaf is one of the kind
 abbrev pub HasLeaf : Kind → Leaf → Type 0
 HasLeaf kind leaf = Contains (leaves kind) leaf

@@ -1,4 +1,4 @@
--- The leaves at which no two resources have one name.
+-- The leaves whose values are unique.
 use Rattle.std.specs.Prelude.{Bool, List, filter}
 use denote.Enum.Bare.{sameb}
 use Rattle.scim_schema.specs.declared.Kind.{Kind}
@@ -8,10 +8,10 @@ use Rattle.scim_schema.specs.contracts.characteristics.Uniqueness.{the_type as t
 use Rattle.scim_schema.specs.Characteristics.{characteristics_of}
 use Rattle.scim_schema.specs.Table.{leaves}
 
--- whether no two resources have one name at the leaf (RFC 7643 section 2.2, uniqueness)
+-- whether no two resources have the same name at the leaf (RFC 7643 section 2.2, uniqueness)
 abbrev pub is_unique : Kind → Leaf → Bool
 is_unique kind l = sameb the_uniqueness (characteristics_of kind l).uniqueness Server
 
--- the leaves of a kind where that holds
+-- the leaves of a kind whose values are unique
 unfoldable pub unique_leaves : Kind → List Leaf
 unique_leaves kind = filter (is_unique kind) (leaves kind)

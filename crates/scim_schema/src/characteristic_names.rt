@@ -1,11 +1,11 @@
-//! The names of characteristics, as schemas tell of them (RFC 7643 section 7).
+//! The names of characteristics, as the schema resources print them (RFC 7643 section 7).
 ghost use Rattle.std.specs.Prelude.{◌≡◌};
 ghost use Rattle.scim_schema.specs.CharacteristicNames as names;
 
 use crate::characteristics::{AttributeType, Mutability, Returned, Uniqueness};
 
 impl AttributeType {
-    /// The name of the type.
+    /// The name of the type, such as `dateTime`.
     pub fn name(self) -> &'static str
         ensures { result.now ≡ names.type_name self }
     {
@@ -21,7 +21,7 @@ impl AttributeType {
 }
 
 impl Mutability {
-    /// Its name.
+    /// The name of the mutability, such as `readOnly`.
     pub fn name(self) -> &'static str
         ensures { result.now ≡ names.mutability_name self }
     {
@@ -35,7 +35,7 @@ impl Mutability {
 }
 
 impl Returned {
-    /// Its name.
+    /// The name of the characteristic `returned`, such as `always`.
     pub fn name(self) -> &'static str
         ensures { result.now ≡ names.returned_name self }
     {
@@ -49,7 +49,7 @@ impl Returned {
 }
 
 impl Uniqueness {
-    /// Its name.
+    /// The name of the uniqueness: `none` or `server`.
     pub fn name(self) -> &'static str
         ensures { result.now ≡ names.uniqueness_name self }
     {

@@ -1,4 +1,4 @@
-//! What each attribute and sub-attribute is: its characteristics (RFC 7643 sections 2.2 and 7).
+//! The characteristics of each attribute and sub-attribute (RFC 7643 sections 2.2 and 7).
 ghost use Rattle.std.specs.Prelude.{◌≡◌};
 ghost use Rattle.scim_schema.specs.Characteristics as spec;
 ghost use Rattle.scim_schema.specs.Mutability as written;
@@ -53,7 +53,8 @@ pub struct Characteristics {
     pub uniqueness: Uniqueness,
 }
 
-/// What holds where nothing else is said.
+/// The defaults of RFC 7643 section 2.2: a single string, not case-sensitive, that clients may read
+/// and write.
 const PLAIN: Characteristics = Characteristics {
     attribute_type: AttributeType::String,
     multi_valued: false,
@@ -64,26 +65,31 @@ const PLAIN: Characteristics = Characteristics {
     uniqueness: Uniqueness::NotUnique,
 };
 
+/// A complex attribute with one value.
 const COMPLEX: Characteristics = Characteristics {
     attribute_type: AttributeType::Complex,
     ..PLAIN
 };
 
+/// A complex attribute with a list of values.
 const MULTI_VALUED: Characteristics = Characteristics {
     multi_valued: true,
     ..COMPLEX
 };
 
+/// A string whose case matters.
 const CASE_EXACT: Characteristics = Characteristics {
     case_exact: true,
     ..PLAIN
 };
 
+/// A URI, whose case matters.
 const REFERENCE: Characteristics = Characteristics {
     attribute_type: AttributeType::Reference,
     ..CASE_EXACT
 };
 
+/// Base64 text, whose case matters.
 const BINARY: Characteristics = Characteristics {
     attribute_type: AttributeType::Binary,
     ..CASE_EXACT
@@ -100,6 +106,7 @@ const DATE_TIME: Characteristics = Characteristics {
 };
 
 impl Characteristics {
+    /// These characteristics with mutability `readOnly`.
     fn read_only(self) -> Characteristics
         ensures { result ≡ spec.read_only self }
     {
@@ -109,6 +116,7 @@ impl Characteristics {
         }
     }
 
+    /// These characteristics with mutability `immutable`.
     fn immutable(self) -> Characteristics
         ensures { result ≡ spec.immutable self }
     {
@@ -118,6 +126,7 @@ impl Characteristics {
         }
     }
 
+    /// These characteristics with `required` set.
     fn required(self) -> Characteristics
         ensures { result ≡ spec.required self }
     {
@@ -128,7 +137,8 @@ impl Characteristics {
     }
 }
 
-/// The characteristics of an attribute of the kind.
+/// The characteristics of an attribute of the kind (RFC 7643 sections 3.1, 4 and 7). An attribute
+/// that the kind doesn't have gets the same characteristics as for the other kind.
 pub fn attribute_characteristics(kind: Kind, attribute: Attribute) -> Characteristics
     ensures { result ≡ spec.attribute_characteristics kind attribute }
 {
@@ -169,7 +179,7 @@ pub fn attribute_characteristics(kind: Kind, attribute: Attribute) -> Characteri
     }
 }
 
-/// The characteristics of a sub-attribute of an attribute.
+/// The characteristics of a sub-attribute of an attribute (RFC 7643 sections 2.4, 3.1 and 4).
 pub fn sub_attribute_characteristics(
     attribute: Attribute,
     sub_attribute: SubAttribute,
@@ -199,6 +209,8 @@ pub fn sub_attribute_characteristics(
     }
 }
 
+/// The characteristics of a sub-attribute of most attributes: `primary` is a boolean, the others
+/// are strings.
 fn common_sub_attribute(sub_attribute: SubAttribute) -> Characteristics
     ensures { result ≡ spec.common_sub_attribute sub_attribute }
 {
@@ -208,6 +220,8 @@ fn common_sub_attribute(sub_attribute: SubAttribute) -> Characteristics
     }
 }
 
+/// The characteristics of a sub-attribute of a link to a resource: `value` is its id, `$ref` its
+/// location.
 fn linked_sub_attribute(sub_attribute: SubAttribute) -> Characteristics
     ensures { result ≡ spec.linked_sub_attribute sub_attribute }
 {
@@ -218,6 +232,7 @@ fn linked_sub_attribute(sub_attribute: SubAttribute) -> Characteristics
     }
 }
 
+/// The characteristics of a sub-attribute of `meta`, all read-only.
 fn meta_sub_attribute(sub_attribute: SubAttribute) -> Characteristics
     ensures { result ≡ spec.meta_sub_attribute sub_attribute }
 {
@@ -229,8 +244,8 @@ fn meta_sub_attribute(sub_attribute: SubAttribute) -> Characteristics
     }
 }
 
-/// The characteristics of a leaf of the kind: those of the simple attribute, or of the
-/// sub-attribute.
+/// The characteristics of a leaf of the kind: those of its sub-attribute, or of its attribute if it
+/// is simple.
 pub fn characteristics_of(kind: Kind, leaf: Leaf) -> Characteristics
     ensures { result ≡ spec.characteristics_of kind leaf }
 {
@@ -240,38 +255,40 @@ pub fn characteristics_of(kind: Kind, leaf: Leaf) -> Characteristics
     }
 }
 
-/// Whether the attribute holds a list of values (RFC 7643 section 2.4), which is the same for both
-/// kinds.
+/// Whether the attribute holds a list of values (RFC 7643 section 2.4). It doesn't depend on the
+/// kind.
 pub fn is_multi_valued(attribute: Attribute) -> bool
     ensures { result ≡ spec.is_multi_valued attribute }
 {
     attribute_characteristics(Kind::User, attribute).multi_valued
 }
 
-/// Whether texts of the leaf are compared with regard to case (RFC 7643 section 2.2), which is the
-/// same for both kinds.
+/// Whether comparisons of the leaf's texts are case-sensitive (RFC 7643 section 2.2). It doesn't
+/// depend on the kind.
 pub fn is_case_exact(leaf: Leaf) -> bool
     ensures { result ≡ spec.is_case_exact leaf }
 {
     characteristics_of(Kind::User, leaf).case_exact
 }
 
-/// Whether no client may write what is at the leaf, or at a whole attribute (RFC 7643 section 2.2).
+/// Whether the leaf, or the whole attribute if there is no sub-attribute, is read-only: no client
+/// may write it (RFC 7643 section 2.2).
 pub fn is_read_only(kind: Kind, leaf: Leaf) -> bool
     ensures { result ≡ written.is_read_only kind leaf }
 {
     characteristics_of(kind, leaf).mutability == Mutability::ReadOnly
 }
 
-/// Whether what is written at the leaf is never shown and isn't kept (RFC 7643 section 2.2).
+/// Whether the leaf is write-only: a written value is neither stored nor returned (RFC 7643 section
+/// 2.2).
 pub fn is_write_only(kind: Kind, leaf: Leaf) -> bool
     ensures { result ≡ written.is_write_only kind leaf }
 {
     characteristics_of(kind, leaf).mutability == Mutability::WriteOnly
 }
 
-/// Who may change a unit, and when (RFC 7643 section 2.2): what the table says of the attribute or
-/// sub-attribute that it is.
+/// The mutability of a unit: that of its sub-attribute, or of its attribute if it has no
+/// sub-attribute (RFC 7643 section 2.2).
 pub fn mutability_of(kind: Kind, unit: Unit) -> Mutability
     ensures { result ≡ written.mutability_of kind unit }
 {

@@ -1,4 +1,5 @@
-//! The keys of the JSON objects of a part, in byte order, so that a part has one text.
+//! The keys of the JSON objects of a resource, in byte order, so that each resource has one JSON
+//! text.
 ghost use Rattle.std.specs.Prelude.{◌≡◌};
 ghost use Rattle.scim_schema.specs.JsonKeys as spec;
 
@@ -6,36 +7,36 @@ use crate::characteristics::{AttributeType, attribute_characteristics};
 use crate::schemas::Schema;
 use crate::{Attribute, Kind, SubAttribute};
 
-/// What a JSON text of a part is for.
+/// The purpose of a JSON text of a resource or of a part of one.
 #[derive(Clone, Copy, PartialEq, Eq)]
 pub enum JsonForm {
-    /// To be shown to a client: all cells, and `schemas` (RFC 7643 section 3).
+    /// For a client: all cells, and `schemas` (RFC 7643 section 3).
     Shown,
-    /// To be kept: without what can be told from the rest, which is `schemas`, `meta.location` and
-    /// `groups`.
+    /// For the store: without `schemas`, `meta.location` and `groups`, which are computed from the
+    /// rest.
     Stored,
 }
 
-/// A key of the JSON object of a part.
+/// A key of the JSON object of a part, the outermost one.
 #[derive(Clone, Copy, PartialEq, Eq)]
 pub enum JsonKey {
-    /// The name of an attribute of the core schema.
+    /// The name of an attribute of a core schema.
     Of(Attribute),
     /// `schemas` (RFC 7643 section 3).
     Schemas,
-    /// The URN of an extension, whose attributes stand in an object of their own (RFC 7643 section
+    /// The URN of an extension, whose attributes are in an object of their own (RFC 7643 section
     /// 3.3).
     Extension(Schema),
 }
 
-/// What the JSON value of an attribute is.
+/// The form of the JSON value of an attribute.
 #[derive(Clone, Copy, PartialEq, Eq)]
 pub enum JsonShape {
-    /// The value alone.
+    /// A value that isn't an object or an array.
     Simple,
     /// An object of sub-attributes (RFC 7643 section 2.3.8).
     Complex,
-    /// An array of such objects (RFC 7643 section 2.4).
+    /// An array of objects of sub-attributes (RFC 7643 section 2.4).
     MultiValued,
 }
 
@@ -113,7 +114,7 @@ static STORED_GROUP_KEYS: [JsonKey; 5] = [
 ];
 
 impl JsonKey {
-    /// The key as it is printed.
+    /// The text of the key.
     #[tactic(auto, unfolding(crate::specs::JsonKeys::schemas_name))]
     pub fn text(self) -> &'static str
         ensures { result.now ≡ spec.key_text self }
@@ -139,8 +140,8 @@ pub fn keys(form: JsonForm, kind: Kind) -> &'static [JsonKey]
     }
 }
 
-/// The attributes that the object of an extension may have, in byte order of their names. Those of
-/// a core schema stand in no such object.
+/// The attributes that the object of an extension may have, in byte order of their names. Empty for
+/// a core schema, whose attributes have no object of their own.
 #[tactic(auto, unfolding(crate::specs::JsonKeys::extension_keys))]
 pub fn extension_keys(schema: Schema) -> &'static [Attribute]
     ensures { result.now ≡ spec.extension_keys schema }
@@ -158,8 +159,8 @@ pub fn extension_keys(schema: Schema) -> &'static [Attribute]
     }
 }
 
-/// The sub-attributes that the object of a complex attribute or of one value of a multi-valued one
-/// may have, in byte order of their names; a simple attribute has none.
+/// The sub-attributes of the attribute that its object, or each object of its array, may have, in
+/// byte order of their names. Empty for a simple attribute.
 #[tactic(auto, unfolding(crate::specs::JsonKeys::ordered_sub_attributes))]
 pub fn ordered_sub_attributes(form: JsonForm, attribute: Attribute) -> &'static [SubAttribute]
     ensures { result.now ≡ spec.ordered_sub_attributes form attribute }
@@ -211,6 +212,7 @@ pub fn ordered_sub_attributes(form: JsonForm, attribute: Attribute) -> &'static 
     }
 }
 
+/// The sub-attributes of `meta` in byte order of their names; `location` isn't stored.
 fn ordered_meta_sub_attributes(form: JsonForm) -> &'static [SubAttribute]
     ensures { result.now ≡ spec.ordered_meta_sub_attributes form }
 {
@@ -229,7 +231,7 @@ fn ordered_meta_sub_attributes(form: JsonForm) -> &'static [SubAttribute]
     }
 }
 
-/// What the JSON value of the attribute is, which is the same for both kinds.
+/// The form of the JSON value of the attribute. It doesn't depend on the kind.
 #[tactic(auto, unfolding(crate::specs::JsonKeys::shape_of))]
 pub fn shape_of(attribute: Attribute) -> JsonShape
     ensures { result ≡ spec.shape_of attribute }
@@ -244,15 +246,15 @@ pub fn shape_of(attribute: Attribute) -> JsonShape
     }
 }
 
-/// The keys of each object ascend, byte by byte, so that none stands twice.
+/// Lemma: the keys of each object ascend byte by byte, so that no key occurs twice.
 pub fn keys_ascend()
     ensures part { spec.PartKeysAscend }
     ensures extension { spec.ExtensionKeysAscend }
     ensures sub_attributes { spec.SubAttributesAscend }
 {}
 
-/// No cell is left out where a part is shown: each attribute of a kind stands under its name or in
-/// the object of its extension, and each sub-attribute in the object of its attribute.
+/// Lemma: the JSON text for a client has a key for each cell. Each attribute of a kind has its name
+/// or the URN of its extension as a key, and each sub-attribute is in the object of its attribute.
 pub fn keys_have_all_attributes()
     ensures attributes { spec.AttributesHaveKeys }
     ensures sub_attributes { spec.SubAttributesHaveKeys }

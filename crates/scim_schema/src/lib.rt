@@ -1,7 +1,7 @@
 //! The attribute table of SCIM: the kinds of resources, their attributes and sub-attributes, the
-//! schemas that these stand in, and what each characteristic is (RFC 7643 sections 2, 3.1, 4 and 7).
+//! schemas that contain these, and all characteristics (RFC 7643 sections 2, 3.1, 4 and 7).
 //!
-//! Nothing here takes memory or can fail.
+//! No function of this crate allocates or fails.
 #![tactic(auto)]
 
 mod characteristic_names;
@@ -32,14 +32,14 @@ pub use places::unit_of;
 pub use schemas::{Schema, core_schema, extension_of, extensions, schema_of};
 pub use table::{attributes, has_leaf, leaves, sub_attributes, unique_leaves, units};
 
-/// A kind of resource, called its resource type in RFC 7643 section 6.
+/// A kind of resource, called resource type in RFC 7643 section 6.
 #[derive(Clone, Copy, Debug, PartialEq, Eq)]
 pub enum Kind {
     User,
     Group,
 }
 
-/// What a client may be allowed to do with a resource.
+/// An operation on a resource that a policy allows or denies.
 #[derive(Clone, Copy, Debug, PartialEq, Eq)]
 pub enum Op {
     Read,
@@ -50,7 +50,7 @@ pub enum Op {
 
 /// An attribute of a user (RFC 7643 sections 3.1, 4.1 and 4.3) or a group (sections 3.1 and 4.2).
 ///
-/// An attribute that both kinds have is one variant.
+/// An attribute of both kinds is one variant.
 #[derive(Clone, Copy, Debug, PartialEq, Eq, Hash)]
 pub enum Attribute {
     Id,
@@ -114,22 +114,22 @@ pub enum SubAttribute {
     Location,
 }
 
-/// A simple attribute, or a sub-attribute of a complex one: what a cell of a resource holds one
-/// atom of.
+/// A simple attribute, or a sub-attribute of a complex one. Each cell of a resource holds one atom
+/// at one leaf.
 ///
-/// Not every pair is a leaf of a kind: `table::has_leaf` tells.
+/// Not every pair is a leaf of a kind: see [`has_leaf`].
 #[derive(Clone, Copy, PartialEq, Eq, Hash)]
 pub struct Leaf {
     pub attribute: Attribute,
-    /// None at a simple attribute.
+    /// None for a simple attribute.
     pub sub_attribute: Option<SubAttribute>,
 }
 
-/// What is given and written as one: a simple attribute, a sub-attribute of a single complex
-/// attribute, or a whole multi-valued attribute.
+/// A part of a resource that is granted and written as one: a simple attribute, a sub-attribute of
+/// a single complex attribute, or a whole multi-valued attribute.
 #[derive(Clone, Copy, PartialEq, Eq)]
 pub struct Unit {
     pub attribute: Attribute,
-    /// None at a simple attribute and at a whole multi-valued one.
+    /// None for a simple attribute and for a whole multi-valued one.
     pub sub_attribute: Option<SubAttribute>,
 }

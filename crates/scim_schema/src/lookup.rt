@@ -1,5 +1,5 @@
-//! Look-ups by name: of attributes and schemas without regard to ASCII case (RFC 7643 section 2.1), of kinds
-//! and operations with regard to it.
+//! Look-ups by name. Attributes and schemas are found without regard to ASCII case (RFC 7643
+//! section 2.1); the names of kinds and operations are case-sensitive.
 ghost use Rattle.std.specs.Prelude.{◌≡◌, ◌↔◌, Some};
 ghost use Rattle.scim_schema.specs.Names as names;
 ghost use Rattle.scim_schema.specs.Lookup as lookup;
@@ -9,7 +9,7 @@ use crate::schemas::{Schema, schema_of};
 use crate::table::{attributes, sub_attributes};
 use crate::{Attribute, Kind, Op, SubAttribute};
 
-/// The attribute of the kind with this name; None where the kind has no such attribute. The
+/// Returns the attribute of the kind with this name, or None if the kind has no such attribute. The
 /// attributes of an extension are found by their bare name, without the URN.
 pub fn attribute_named(kind: Kind, name: &str) -> Option<Attribute>
     ensures { result ≡ lookup.attribute_named kind name.now }
@@ -20,8 +20,8 @@ pub fn attribute_named(kind: Kind, name: &str) -> Option<Attribute>
         .find(|a| is_same_name(a.name(), name))
 }
 
-/// The attribute of the kind with this name that stands under the schema's URN, as in the full
-/// path `urn:..:User:userName` (RFC 7644 section 3.10); None where there is no such attribute.
+/// Returns the attribute of the kind with this name whose schema is the given one, or None if there
+/// is no such attribute. So the full path `urn:..:User:userName` is read (RFC 7644 section 3.10).
 pub fn attribute_named_in(kind: Kind, schema: Schema, name: &str) -> Option<Attribute>
     ensures { result ≡ lookup.attribute_named_in kind schema name.now }
 {
@@ -29,8 +29,8 @@ pub fn attribute_named_in(kind: Kind, schema: Schema, name: &str) -> Option<Attr
         && is_same_name(a.name(), name))
 }
 
-/// The sub-attribute of the attribute with this name; None where the attribute has none such, as
-/// each simple attribute.
+/// Returns the sub-attribute of the attribute with this name, or None if the attribute has no such
+/// sub-attribute. A simple attribute has none.
 pub fn sub_attribute_named(attribute: Attribute, name: &str) -> Option<SubAttribute>
     ensures { result ≡ lookup.sub_attribute_named attribute name.now }
 {
@@ -41,7 +41,7 @@ pub fn sub_attribute_named(attribute: Attribute, name: &str) -> Option<SubAttrib
 }
 
 impl Schema {
-    /// The schema with this URN; None where it is the URN of none.
+    /// Returns the schema with this URN, or None if the URN isn't that of a schema.
     pub fn named(urn: &str) -> Option<Schema>
         ensures { result ≡ lookup.schema_named urn.now }
     {
@@ -53,8 +53,8 @@ impl Schema {
 }
 
 impl Kind {
-    /// The kind of this name, as `meta.resourceType` has it; None where it is the name of none. Case
-    /// counts.
+    /// Returns the kind with this name, as in `meta.resourceType`, or None if there is no such
+    /// kind. The name is case-sensitive.
     pub fn named(name: &str) -> Option<Kind>
         ensures named { result ≡ lookup.kind_named name.now }
         ensures exact { (kind : Kind) → (result ≡ Some kind) ↔ (name.now ≡ names.kind_name kind) }
@@ -70,8 +70,8 @@ impl Kind {
 }
 
 impl Op {
-    /// The operation of this name, as policy files have it; None where it is the name of none. Case
-    /// counts.
+    /// Returns the operation with this name, as in policy files, or None if there is no such
+    /// operation. The name is case-sensitive.
     pub fn named(name: &str) -> Option<Op>
         ensures { result ≡ lookup.operation_named name.now }
     {

@@ -1,4 +1,5 @@
-//! Names as they are printed, and names without regard to ASCII case (RFC 7643 section 2.1).
+//! The printed names of kinds, operations, attributes and sub-attributes, and the comparison of
+//! names without regard to ASCII case (RFC 7643 section 2.1).
 ghost use Rattle.std.specs.Prelude.{◌≡◌};
 ghost use Rattle.scim_schema.specs.Names as names;
 
@@ -30,8 +31,8 @@ impl Kind {
         }
     }
 
-    /// Where resources of the kind are found below the base of all locations: `/Users` or
-    /// `/Groups` (RFC 7644 section 3.2).
+    /// The path of the resources of the kind below the base URL: `/Users` or `/Groups` (RFC 7644
+    /// section 3.2).
     pub fn endpoint(self) -> &'static str
         ensures { result.now ≡ names.endpoint self }
     {
@@ -50,7 +51,7 @@ impl Op {
         &[Op::Read, Op::Create, Op::Modify, Op::Delete]
     }
 
-    /// The name of the operation, in lower case, as policy files and audit lines have it.
+    /// The name of the operation, in lower case, as in policy files and audit lines.
     pub fn name(self) -> &'static str
         ensures { result.now ≡ names.op_name self }
     {
@@ -64,7 +65,7 @@ impl Op {
 }
 
 impl Attribute {
-    /// The attribute's name as it is printed.
+    /// The attribute's printed name, such as `userName`.
     pub fn name(self) -> &'static str
         ensures { result.now ≡ names.attribute_name self }
     {
@@ -135,7 +136,8 @@ impl SubAttribute {
         ]
     }
 
-    /// The sub-attribute's name as it is printed.
+    /// The sub-attribute's printed name, such as `givenName`; `$ref` for `Reference` and `type` for
+    /// `TypeName`.
     pub fn name(self) -> &'static str
         ensures { result.now ≡ names.sub_attribute_name self }
     {

@@ -1,4 +1,5 @@
-//! Leaves and units: what a cell of a resource holds one atom of, and what is given and written as one.
+//! Leaves and units. A cell of a resource holds one atom at one leaf; a unit is granted and written
+//! as one.
 ghost use Rattle.std.specs.Prelude.{◌≡◌};
 ghost use Rattle.scim_schema.specs.Units as units;
 
@@ -6,7 +7,7 @@ use crate::characteristics::is_multi_valued;
 use crate::{Attribute, Leaf, SubAttribute, Unit};
 
 impl Leaf {
-    /// The leaf that a simple attribute is.
+    /// The leaf of a simple attribute.
     pub fn simple(attribute: Attribute) -> Leaf
         ensures { result ≡ units.simple attribute }
     {
@@ -16,7 +17,7 @@ impl Leaf {
         }
     }
 
-    /// The leaf of a sub-attribute.
+    /// The leaf of a sub-attribute of an attribute.
     pub fn of(attribute: Attribute, sub_attribute: SubAttribute) -> Leaf
         ensures { result ≡ units.leaf_at attribute sub_attribute }
     {
@@ -28,7 +29,7 @@ impl Leaf {
 }
 
 impl Unit {
-    /// A whole attribute: a simple one, or a multi-valued one with all its values.
+    /// The unit of a whole attribute: a simple one, or a multi-valued one with all its values.
     pub fn whole(attribute: Attribute) -> Unit
         ensures { result ≡ units.whole attribute }
     {
@@ -39,8 +40,7 @@ impl Unit {
     }
 }
 
-/// The unit of a leaf: the leaf itself, except that all leaves of a multi-valued attribute form
-/// one unit.
+/// The unit of a leaf: the leaf itself, or the whole attribute if that is multi-valued.
 pub fn unit_of(leaf: Leaf) -> Unit
     ensures { result ≡ units.unit_of leaf }
 {

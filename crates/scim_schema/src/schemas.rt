@@ -13,14 +13,14 @@ pub enum Schema {
 }
 
 impl Schema {
-    /// All schemas, in the order in which they are listed.
+    /// All schemas, in the order of `/Schemas`.
     pub fn all() -> &'static [Schema]
         ensures { result.now ≡ spec.schemas }
     {
         &[Schema::User, Schema::Group, Schema::EnterpriseUser]
     }
 
-    /// The schema's URN as it is printed.
+    /// The schema's URN.
     pub fn urn(self) -> &'static str
         ensures { result.now ≡ spec.urn self }
     {
@@ -32,7 +32,7 @@ impl Schema {
     }
 }
 
-/// The schema that each resource of the kind has.
+/// The core schema of the kind, which each resource of it has.
 pub fn core_schema(kind: Kind) -> Schema
     ensures { result ≡ spec.core_schema kind }
 {
@@ -52,7 +52,7 @@ pub fn extensions(kind: Kind) -> &'static [Schema]
     }
 }
 
-/// The extension that an attribute belongs to; None for an attribute of a core schema.
+/// The extension of an attribute, or None for an attribute of a core schema.
 pub fn extension_of(attribute: Attribute) -> Option<Schema>
     ensures { result ≡ spec.extension_of attribute }
 {
@@ -67,8 +67,7 @@ pub fn extension_of(attribute: Attribute) -> Option<Schema>
     }
 }
 
-/// The schema under whose URN an attribute of the kind stands; `id`, `externalId` and `meta` count
-/// to the core schema.
+/// The schema of an attribute of the kind. `id`, `externalId` and `meta` belong to the core schema.
 pub fn schema_of(kind: Kind, attribute: Attribute) -> Schema
     ensures { result ≡ spec.schema_of kind attribute }
 {

@@ -1,4 +1,4 @@
-//! Which attributes, sub-attributes and leaves there are, in the order of the table.
+//! The attributes, sub-attributes, leaves and units of each kind, in the order of the table.
 ghost use Rattle.std.specs.Prelude.{◌≡◌, ◌↔◌, IsTrue};
 ghost use Rattle.scim_schema.specs.Table as table;
 ghost use Rattle.scim_schema.specs.UniqueLeaves as unique;
@@ -22,6 +22,7 @@ macro_rules! leaf {
     };
 }
 
+// The unit of a simple or whole attribute, or of a sub-attribute of a single complex attribute.
 macro_rules! unit {
     ($attribute:ident) => {
         Unit {
@@ -230,7 +231,7 @@ pub fn attributes(kind: Kind) -> &'static [Attribute]
     }
 }
 
-/// The leaves of a kind, in the order of the table: leaf order.
+/// The leaves of a kind, in the order of the table, called leaf order.
 pub fn leaves(kind: Kind) -> &'static [Leaf]
     ensures { result.now ≡ table.leaves kind }
 {
@@ -251,14 +252,14 @@ pub fn units(kind: Kind) -> &'static [Unit]
     }
 }
 
-/// Whether the kind has this leaf.
+/// Whether the leaf is one of the kind.
 pub fn has_leaf(kind: Kind, leaf: Leaf) -> bool
     ensures { IsTrue result ↔ table.HasLeaf kind leaf }
 {
     leaves(kind).contains(&leaf)
 }
 
-/// The sub-attributes of a complex attribute, in the order of the table; a simple one has none.
+/// The sub-attributes of an attribute, in the order of the table. Empty for a simple attribute.
 pub fn sub_attributes(attribute: Attribute) -> &'static [SubAttribute]
     ensures { result.now ≡ table.sub_attributes attribute }
 {
@@ -320,7 +321,8 @@ pub fn sub_attributes(attribute: Attribute) -> &'static [SubAttribute]
     }
 }
 
-/// The leaves of a kind at which no two resources have one name (RFC 7643 section 2.2, uniqueness).
+/// The leaves of a kind whose values are unique: no two resources have the same name there (RFC
+/// 7643 section 2.2, uniqueness).
 #[tactic(auto, unfolding(crate::specs::UniqueLeaves::unique_leaves))]
 pub fn unique_leaves(kind: Kind) -> &'static [Leaf]
     ensures { result.now ≡ unique.unique_leaves kind }

@@ -1,5 +1,6 @@
--- The moment that a text spells, as a function (RFC 7643 section 2.3.5). The parts of a moment stand at places that are known: what a
--- text shows there is read off, and it is a moment's text where these parts are a moment's, and are written just so.
+-- The reading of a moment's text, as a function of the text (RFC 7643 section 2.3.5).
+-- Each part of a moment has a fixed place in its text. The function reads the parts from there, and accepts
+-- them if they are valid and their text is the given one.
 use Rattle.std.specs.Prelude.{◌≡◌, ◌↔◌, ℕ, ◌+◌, ◌*◌, ◌-◌, ◌==◌, nat_le, ◌&&◌, Bool, true, if◌then◌else◌, List, [], ◌∷◌, length, drop, take_while, slice_index, bytes_eq, Option, None, Some, pos}
 use Rattle.std.specs.Char.{is_ascii_digit}
 use Rattle.std.specs.Int.{is_in_range}
@@ -9,7 +10,7 @@ use Rattle.scim_text.specs.declared.readings.Reading.{Reading}
 use Rattle.scim_text.specs.Spelling.{CivilDate, Clock, Zone, absent, utc, ahead, behind, Spelling, fraction_text, spelling_text}
 use Rattle.scim_text.specs.Readings.{reading_of, Spells}
 
--- the number that two digits show at a place. The digit `0` is 48
+-- the number in the two digits at a place; 48 is `0`
 abbrev pub two_at : ℕ → List ℕ → ℕ
 two_at place text = (slice_index text place - 48) * 10 + (slice_index text (place + 1) - 48)
 
@@ -18,23 +19,23 @@ abbrev pub date_shown : List ℕ → CivilDate
 date_shown text =
     record { year = two_at 0 text * 100 + two_at 2 text; month = two_at 5 text; day = two_at 8 text }
 
--- the clock in it
+-- the time of day in a text such as `2024-02-29T23:59:59`
 abbrev pub clock_shown : List ℕ → Clock
 clock_shown text = record { hour = two_at 11 text; minute = two_at 14 text; second = two_at 17 text }
 
--- the fraction in what follows the clock: all digits behind a point, which is 46
+-- the fraction in the text after the seconds: the digits after a point, which is 46
 abbrev pub fraction_shown : List ℕ → List ℕ
 fraction_shown [] = []
 fraction_shown (mark ∷ rest) = if mark == 46 then take_while is_ascii_digit rest else []
 
--- the zone in what follows the fraction, by its mark: 43 is `+` and 45 is `-`
+-- the zone in the text after the fraction, by its first byte: 43 is `+` and 45 is `-`
 abbrev pub zone_shown : List ℕ → Zone
 zone_shown [] = absent
 zone_shown (mark ∷ rest) =
     if mark == 43 then ahead (two_at 0 rest) (two_at 3 rest)
     else (if mark == 45 then behind (two_at 0 rest) (two_at 3 rest) else utc)
 
--- the parts that a text shows
+-- the parts of a moment at their places in a text
 abbrev pub spelling_shown : List ℕ → Spelling
 spelling_shown text =
     let rest = drop 19 text in
@@ -45,21 +46,21 @@ spelling_shown text =
       zone = zone_shown (drop (length (fraction_text fraction)) rest);
     }
 
--- whether the calendar has the day, from year 1 to year 9999
+-- whether the calendar has the date, in the years 1 to 9999
 abbrev pub is_date : CivilDate → Bool
 is_date d =
     is_in_range 1 9999 d.year && is_in_range 1 12 d.month
     && is_in_range 1 (days_in_month (pos d.year) d.month) d.day
 
--- whether a clock shows this
+-- whether hours are at most 23, and minutes and seconds at most 59
 abbrev pub is_clock : Clock → Bool
 is_clock c = nat_le c.hour 23 && nat_le c.minute 59 && nat_le c.second 59
 
--- whether these are the hours and minutes of an offset
+-- whether hours are at most 23 and minutes at most 59
 abbrev pub is_offset : ℕ → ℕ → Bool
 is_offset hours minutes = nat_le hours 23 && nat_le minutes 59
 
--- whether the zone can be written
+-- whether the hours and minutes of a zone are within their limits
 abbrev pub is_zone : Zone → Bool
 is_zone absent = true
 is_zone utc = true
@@ -70,12 +71,12 @@ is_zone (behind hours minutes) = is_offset hours minutes
 abbrev pub is_spelling : Spelling → Bool
 is_spelling s = is_date s.date && is_clock s.clock && list_all is_ascii_digit s.fraction && is_zone s.zone
 
--- the moment that a text spells, if it spells one: the parts that it shows are a moment's, and are written so
+-- the reading of a text, or None if the parts at their places aren't a moment's or are written in another way
 unfoldable pub moment_in : List ℕ → Option Reading
 moment_in text =
     let shown = spelling_shown text in
     if is_spelling shown && bytes_eq (spelling_text shown) text then Some (reading_of shown) else None
 
--- the moment in a text is the one that the text spells
+-- `moment_in` gives the reading that the text spells, and None if it spells none
 abbrev pub MomentInIsSpelled : Type 0
 MomentInIsSpelled = (text : List ℕ) (r : Reading) → (moment_in text ≡ Some r) ↔ Spells text r

@@ -1,4 +1,4 @@
--- Names, and texts that are compared without regard to case.
+-- The comparison of names, and the folding of texts, without regard to case.
 use Rattle.std.specs.Prelude.{ℕ, Bool, List, chars, encode_utf8_all}
 use Rattle.std.specs.Str.{str_eq_ignore_ascii_case}
 use Rattle.caseless.specs.Caseless.{default_case_fold}
@@ -7,6 +7,6 @@ use Rattle.caseless.specs.Caseless.{default_case_fold}
 abbrev pub is_same_name : List ℕ → List ℕ → Bool
 is_same_name a b = str_eq_ignore_ascii_case a b
 
--- the text in full case folding, by which texts that differ in case alone are one
+-- the text in full Unicode case folding, equal for texts that differ only in case
 unfoldable pub folded : List ℕ → List ℕ
 folded text = encode_utf8_all (default_case_fold (chars text))

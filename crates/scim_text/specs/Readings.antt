@@ -1,4 +1,4 @@
--- What the text of a moment stands for.
+-- The instant that the text of a moment denotes.
 use Rattle.std.specs.Prelude.{◌≡◌, ◌↔◌, ℕ, ◌+◌, ◌*◌, ◌==◌, not, Bool, false, List, ℤ, pos, neg_ℤ, ◌+ℤ◌, ◌-ℤ◌, ◌*ℤ◌, ◌≤◌}
 use Rattle.std.specs.List.{list_any}
 use Rattle.std.specs.declared.cmp.Ordering.{Ordering}
@@ -14,66 +14,66 @@ use Rattle.scim_text.specs.Spelling.{CivilDate, Clock, Zone, absent, utc, ahead,
 abbrev pub day_number : CivilDate → ℤ
 day_number d = days_from_civil (pos d.year) d.month d.day
 
--- the seconds since midnight
+-- the seconds since midnight of a time of day
 abbrev pub clock_seconds : Clock → ℕ
 clock_seconds c = c.hour * 3600 + c.minute * 60 + c.second
 
--- hours and minutes in seconds
+-- hours and minutes, in seconds
 abbrev pub offset_seconds : ℕ → ℕ → ℕ
 offset_seconds hours minutes = hours * 3600 + minutes * 60
 
--- how many seconds the clock is ahead of UTC. A clock whose zone is not named shows UTC
+-- how many seconds the clock of a zone is ahead of UTC; a text without a zone is in UTC
 abbrev pub zone_seconds : Zone → ℤ
 zone_seconds absent = pos 0
 zone_seconds utc = pos 0
 zone_seconds (ahead hours minutes) = pos (offset_seconds hours minutes)
 zone_seconds (behind hours minutes) = neg_ℤ (pos (offset_seconds hours minutes))
 
--- some digit of the fraction is not `0`
+-- whether one of the digits of the fraction isn't `0`
 abbrev pub is_above_zero : List ℕ → Bool
 is_above_zero fraction = list_any (λ digit. not (digit == 48)) fraction
 
--- the instant in whole seconds since 1970-01-01T00:00:00Z, and whether a fraction of a second is left
+-- the instant in whole seconds since 1970-01-01T00:00:00Z, and whether a fraction greater than zero follows
 abbrev pub reading_of : Spelling → Reading
 reading_of s = record {
   second = day_number s.date *ℤ pos 86400 +ℤ pos (clock_seconds s.clock) -ℤ zone_seconds s.zone;
   later = is_above_zero s.fraction;
 }
 
--- the text is of the form in which moments are written
+-- the text has the form of a moment's text
 pub record IsMomentForm (text : List ℕ) : Type 0 where
   pub spelling : Spelling
   pub is_spelling : IsSpelling spelling
   pub written : text ≡ spelling_text spelling
 
--- the text is of that form, and stands for this reading
+-- the text has the form of a moment's text and denotes this reading
 pub record Spells (text : List ℕ) (reading : Reading) : Type 0 where
   pub spelling : Spelling
   pub is_spelling : IsSpelling spelling
   pub written : text ≡ spelling_text spelling
   pub meant : reading ≡ reading_of spelling
 
--- a text stands for one reading at most
+-- a text denotes at most one reading
 abbrev pub HasOneReading : Type 0
 HasOneReading = (text : List ℕ) (a b : Reading) → Spells text a → Spells text b → a ≡ b
 
--- the text of a moment stands for that moment, with no fraction
+-- the text of a moment denotes that moment, without a fraction
 abbrev pub PrintedReadsBack : Type 0
 PrintedReadsBack = (n : ℕ) → n ≤ last_moment → Spells (moment_text n) (record { second = pos n; later = false })
 
--- readings in the order of their instants: by the second, and within a second a whole one comes before what is later
+-- the order of readings: by second, and within a second the whole second comes first
 abbrev pub reading_cmp : Reading → Reading → Ordering
 reading_cmp = then_cmp (on (λ (r : Reading). r.second) int_cmp) (on (λ (r : Reading). r.later) bool_cmp)
 
--- a comparison of readings is that order
+-- a comparison of readings agrees with `reading_cmp`
 abbrev pub OrdersReadings : (Reading → Reading → Ordering) → Type 0
 OrdersReadings compare = (a b : Reading) → compare a b ≡ reading_cmp a b
 
--- it is a total order, and readings that are level in it are one
+-- `reading_cmp` is a total order in which only equal readings compare as equal
 pub record ReadingsAreOrdered : Type 0 where
   pub total : IsTotalOrder reading_cmp
   pub apart : (a b : Reading) → (reading_cmp a b ≡ Equal) ↔ (a ≡ b)
 
--- what the texts of moments stand for is in the order of the moments
+-- the readings of the texts of two moments compare as the moments do
 abbrev pub PrintedInOrder : Type 0
 PrintedInOrder = (m n : ℕ) (a b : Reading) → m ≤ last_moment → n ≤ last_moment → Spells (moment_text m) a → Spells (moment_text n) b → reading_cmp a b ≡ nat_cmp m n

@@ -1,5 +1,5 @@
--- How a moment is written: as a `dateTime` of RFC 7643 section 2.3.5, in the form of RFC 3339, where the zone may be left out
--- as in XML Schema. A text is the list of its bytes.
+-- The form of a moment's text: the `dateTime` of RFC 7643 section 2.3.5, as in RFC 3339.
+-- The zone may be left out, as in XML Schema. A text is the list of its bytes.
 use Rattle.std.specs.Prelude.{ℕ, ◌+◌, ◌/◌, ◌%◌, ◌≤◌, List, [], ◌∷◌, ◌++◌, pos, codes, IsTrue}
 use Rattle.std.specs.List.{list_all}
 use Rattle.std.specs.Char.{is_ascii_digit}
@@ -19,61 +19,61 @@ pub record CivilDate : Type 0 where
   pub month : ℕ
   pub day : ℕ
 
--- a second of a day
+-- a time of day, in whole seconds
 pub record Clock : Type 0 where
   pub hour : ℕ
   pub minute : ℕ
   pub second : ℕ
 
--- the zone of the clock: none is named, UTC, or so many hours and minutes ahead of UTC or behind it
+-- the zone of a text: left out, UTC, or hours and minutes ahead of UTC or behind it
 pub data Zone : Type 0 where
   absent : Zone
   utc : Zone
   ahead : ℕ → ℕ → Zone
   behind : ℕ → ℕ → Zone
 
--- the parts of a moment's text. The fraction is the digits after the point, and empty where there is no point
+-- the parts of a moment's text; the fraction is the digits after the point, and empty if there is no point
 pub record Spelling : Type 0 where
   pub date : CivilDate
   pub clock : Clock
   pub fraction : List ℕ
   pub zone : Zone
 
--- `2024-02-29`
+-- the text of a date, as `2024-02-29`
 abbrev pub date_text : CivilDate → List ℕ
 date_text d = four_digits d.year ++ codes "-" ++ two_digits d.month ++ codes "-" ++ two_digits d.day
 
--- `T23:59:59`
+-- the text of a time of day, as `T23:59:59`
 abbrev pub clock_text : Clock → List ℕ
 clock_text c =
     codes "T" ++ two_digits c.hour ++ codes ":" ++ two_digits c.minute ++ codes ":" ++ two_digits c.second
 
--- `.5`, or nothing
+-- the text of a fraction, as `.5`, or nothing
 abbrev pub fraction_text : List ℕ → List ℕ
 fraction_text [] = []
 fraction_text (digit ∷ digits) = codes "." ++ digit ∷ digits
 
--- hours and minutes, as `05:30`
+-- the text of hours and minutes, as `05:30`
 abbrev pub offset_text : ℕ → ℕ → List ℕ
 offset_text hours minutes = two_digits hours ++ codes ":" ++ two_digits minutes
 
--- `Z`, `+05:30`, `-05:30` or nothing
+-- the text of a zone: `Z`, `+05:30`, `-05:30` or nothing
 abbrev pub zone_text : Zone → List ℕ
 zone_text absent = []
 zone_text utc = codes "Z"
 zone_text (ahead hours minutes) = codes "+" ++ offset_text hours minutes
 zone_text (behind hours minutes) = codes "-" ++ offset_text hours minutes
 
--- the whole text, as `2024-02-29T23:59:59.5+05:30`
+-- the whole text of a moment, as `2024-02-29T23:59:59.5+05:30`
 abbrev pub spelling_text : Spelling → List ℕ
 spelling_text s = date_text s.date ++ clock_text s.clock ++ fraction_text s.fraction ++ zone_text s.zone
 
--- the calendar has the day, from year 1 to year 9999
+-- the calendar has the date, in the years 1 to 9999
 pub record IsDate (d : CivilDate) : Type 0 where
   pub from_year_one : 1 ≤ d.year
   pub in_calendar : IsCivilDate (pos d.year) d.month d.day
 
--- a clock shows this
+-- hours are at most 23, and minutes and seconds at most 59
 pub record IsClock (c : Clock) : Type 0 where
   pub hour : c.hour ≤ 23
   pub minute : c.minute ≤ 59
@@ -83,11 +83,11 @@ pub record IsClock (c : Clock) : Type 0 where
 abbrev pub IsFraction : List ℕ → Type 0
 IsFraction digits = IsTrue (list_all is_ascii_digit digits)
 
--- the hours and minutes of an offset
+-- hours are at most 23 and minutes at most 59
 abbrev pub IsOffset : ℕ → ℕ → Type 0
 IsOffset hours minutes = (hours ≤ 23) × (minutes ≤ 59)
 
--- a zone that can be written
+-- the hours and minutes of a zone are within their limits
 abbrev pub IsZone : Zone → Type 0
 IsZone absent = Unit {0}
 IsZone utc = Unit {0}

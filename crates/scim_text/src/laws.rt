@@ -1,42 +1,42 @@
-//! What holds of all texts of moments.
+//! Lemmas about the texts of moments.
 ghost use Rattle.scim_text.specs.Moments.{PrintedIsRead};
 ghost use Rattle.scim_text.specs.MomentIn.{MomentInIsSpelled};
 ghost use Rattle.scim_text.specs.Readings.{HasOneReading, PrintedReadsBack, OrdersReadings, ReadingsAreOrdered, PrintedInOrder};
 
 use crate::readings::Reading;
 
-/// A text stands for one reading at most. So [`crate::read_moment`], whose answer is one that the text
-/// stands for, gives the only one that there is.
+/// Lemma: a text has at most one reading. So the reading that [`crate::read_moment`] returns is the
+/// only one of the text.
 pub fn one_reading()
     ensures { HasOneReading }
 {}
 
-/// The text of a moment stands for that moment, with no fraction. So what [`crate::print_moment`] prints,
-/// [`crate::read_moment`] reads back.
+/// Lemma: the text of a moment reads as that moment, without a fraction. So [`crate::read_moment`]
+/// reads back what [`crate::print_moment`] prints.
 pub fn printed_reads_back()
     ensures { PrintedReadsBack }
 {}
 
-/// Each moment is the one that has its text. So what [`crate::print_moment`] prints,
-/// [`crate::read_printed_moment`] reads back.
+/// Lemma: no two moments have the same text. So [`crate::read_printed_moment`] reads back what
+/// [`crate::print_moment`] prints.
 pub fn printed_moments_are_read()
     ensures { PrintedIsRead }
 {}
 
-/// The moment in a text, which contracts tell by a function of the text, is the one that the text spells,
-/// and a text in which there is none spells none.
+/// Lemma: `moment_in`, the function by which contracts give the reading of a text, agrees with the
+/// relation `Spells`. A text that isn't a moment's has no reading in either.
 pub fn moment_in_is_spelled()
     ensures { MomentInIsSpelled }
 {}
 
-/// Readings are compared by their seconds, and within a second a whole one comes before what is later.
-/// That is a total order, in which two readings are level only where they are one.
+/// Lemma: the derived order of readings is by second, and within a second the whole second comes
+/// first. It is a total order in which only equal readings compare as equal.
 pub fn readings_are_ordered()
     ensures order { OrdersReadings ⟦<Reading as Ord>⟧.cmp }
     ensures total { ReadingsAreOrdered }
 {}
 
-/// What the texts of two moments stand for is in the order of the moments.
+/// Lemma: the readings of the texts of two moments compare as the moments do.
 pub fn printed_moments_are_ordered()
     ensures { PrintedInOrder }
 {}

@@ -1,4 +1,4 @@
-//! What asks for memory, and its error.
+//! The error of a failed allocation, and an append that can return it.
 ghost use Rattle.std.specs.Prelude.{◌≡◌, ◌++◌, ◌∷◌, [], if◌then◌else◌, is_ok};
 
 use std::alloc::{AllocError, AllocFailed};
@@ -6,8 +6,8 @@ use std::error::Error as StdError;
 use std::fmt;
 use thiserror::Error;
 
-/// No memory was to be had. It is the one error that a caller can do nothing about but give up, and
-/// each function that can return it leaves its arguments as they were.
+/// An allocation failed. A caller can only give up. A public function that returns this leaves what
+/// it borrows unchanged, unless its comment says otherwise.
 #[derive(Clone, Copy, Debug, PartialEq, Eq, Error)]
 #[error("out of memory")]
 pub struct NoMemory;
@@ -24,10 +24,10 @@ impl<T: Drop> From<AllocFailed<T>> for NoMemory {
     }
 }
 
-/// Puts a value behind the others. NoMemory where none was to be had: they are as they were then, and the value is dropped.
+/// Appends a value. If memory runs out, the vector is unchanged and the value is dropped.
 ///
-/// It is for whoever has no use for the value then: `Vec::push` gives it back, and to let go of it costs the proof of each
-/// caller more than all else that a push does.
+/// `Vec::push` returns the value with its error instead. A caller without a use for it should call
+/// this function: dropping the value in each caller would cost more proof than the rest of a push.
 pub fn push<T: Drop>(values: &mut Vec<T>, value: T) -> Result<(), NoMemory>
     ensures items { values.new.items ≡ (if is_ok result then values.old.items ++ value ∷ [] else values.old.items) }
 {
@@ -35,17 +35,16 @@ pub fn push<T: Drop>(values: &mut Vec<T>, value: T) -> Result<(), NoMemory>
     Ok(())
 }
 
-/// Why there is no answer: what was asked is at fault, or memory was wanting. It is the error of whatever
-/// takes memory and can refuse what it is asked; the fault alone is `E`.
+/// The error of a function that allocates and can also fail for a reason `E` of its own.
 #[derive(Clone, Copy, Debug, PartialEq, Eq)]
 pub enum Failed<E> {
-    /// What was asked is at fault, and would be in ample memory too.
+    /// A fault of the arguments, independent of the memory at hand.
     Because(E),
-    /// No memory was to be had.
+    /// An allocation failed.
     NoMemory,
 }
 
-// By hand, since the text is the fault's own.
+// Written by hand, since the text is that of the fault.
 impl<E: fmt::Display> fmt::Display for Failed<E> {
     fn fmt<W: fmt::Write>(&self, f: &mut fmt::Formatter<W>) -> fmt::Result {
         match self {

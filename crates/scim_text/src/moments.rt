@@ -1,4 +1,4 @@
-//! Moments in whole seconds, and their text.
+//! Moments in whole seconds, and their texts.
 ghost use Rattle.std.specs.Prelude.{◌≡◌, ◌≤◌, ◌<◌, ◌/◌, ◌%◌, ◌↔◌, ℕ, false, Some, IsSome, IfSome, IfOk, pos, ◌++◌, ◌≤ℤ◌, string_bytes};
 ghost use Rattle.jiff.specs.Words.{epoch_day, iso_datetime_text};
 ghost use Rattle.scim_text.specs.Spelling.{date_text, clock_text};
@@ -12,8 +12,8 @@ use jiff_core::civil::Date;
 use std::alloc::Global;
 use std::marker::Model;
 
-/// A second from 1970-01-01T00:00:00Z to 9999-12-31T23:59:59Z, as `meta.created` and
-/// `meta.lastModified` have it (RFC 7643 section 3.1). A day has 86,400 seconds.
+/// A second from 1970-01-01T00:00:00Z to 9999-12-31T23:59:59Z, as in `meta.created` and
+/// `meta.lastModified` (RFC 7643 section 3.1). A day has 86,400 seconds.
 #[derive(Clone, Copy, PartialEq, Eq, PartialOrd, Ord)]
 pub struct Moment {
     seconds: u64,
@@ -33,10 +33,10 @@ impl Model for Moment {
 }
 
 impl Moment {
-    /// The seconds of the last moment, 9999-12-31T23:59:59Z.
+    /// The last moment, 9999-12-31T23:59:59Z, in seconds since 1970-01-01T00:00:00Z.
     pub const LAST: i64 = 253_402_300_799;
 
-    /// The moment that many seconds after 1970-01-01T00:00:00Z, and `None` for a number that is negative
+    /// Returns the moment `seconds` after 1970-01-01T00:00:00Z, or `None` if the number is negative
     /// or above [`Moment::LAST`].
     pub fn new(seconds: i64) -> Option<Moment>
         ensures in_range { IsSome result ↔ (pos 0 ≤ℤ seconds × (seconds ≤ℤ pos last_moment)) }
@@ -60,7 +60,7 @@ impl Moment {
     }
 }
 
-/// The day of that number, where 1970-01-01 is day 0 and 9999-12-31 is day 2,932,896.
+/// The date of a day by its number: 1970-01-01 is day 0, and 9999-12-31 is day 2,932,896.
 fn date_of(day: u64) -> Date
     requires { day ≤ 2932896 }
     ensures { epoch_day result ≡ pos day }
@@ -71,7 +71,7 @@ fn date_of(day: u64) -> Date
     }
 }
 
-/// What calendar and clock show in UTC, that many seconds after 1970-01-01T00:00:00Z.
+/// The date and time in UTC, `seconds` after 1970-01-01T00:00:00Z.
 fn civil(seconds: u64) -> DateTime
     requires { seconds ≤ last_moment }
     ensures { iso_datetime_text result
@@ -90,10 +90,8 @@ fn civil(seconds: u64) -> DateTime
     )
 }
 
-/// The text of a moment, as `2024-01-01T00:00:00Z`: in UTC, in whole seconds (RFC 7643 section 2.3.5).
+/// Prints a moment, as `2024-01-01T00:00:00Z`: in UTC, in whole seconds (RFC 7643 section 2.3.5).
 /// [`crate::read_moment`] and [`read_printed_moment`] read it back.
-///
-/// The only error is [`NoMemory`].
 #[tactic(auto, unfolding(crate::specs::Moments::moment_text))]
 pub fn print_moment(alloc: Global, moment: Moment) -> Result<String, NoMemory>
     ensures { IfOk result (λ text. string_bytes text ≡ moment_text moment) }
@@ -102,7 +100,8 @@ pub fn print_moment(alloc: Global, moment: Moment) -> Result<String, NoMemory>
     Ok(format!(in alloc; "{shown}Z")?)
 }
 
-/// The moment that the text stands for, in whichever way, where no fraction is left.
+/// The moment that the text denotes in any zone, or None if the text has a fraction other than
+/// zero, is out of range, or isn't a moment's.
 fn moment_meant(text: &str) -> Option<Moment>
     ensures found { IfSome result (λ n. Spells text.now (record { second = pos n; later = false })) }
     ensures complete { (n : ℕ) → n ≤ last_moment → Spells text.now (record { second = pos n; later = false })
@@ -115,10 +114,8 @@ fn moment_meant(text: &str) -> Option<Moment>
     Moment::new(reading.second)
 }
 
-/// The moment whose text this is, as [`print_moment`] prints it, and `None` for any other text, also one
-/// that stands for a moment in another way, as with an offset or a fraction.
-///
-/// The only error is [`NoMemory`].
+/// Reads a moment in exactly the form of [`print_moment`]. Returns `None` for any other text, also
+/// for one that denotes a moment in another form, such as with an offset or a fraction.
 pub fn read_printed_moment(alloc: Global, text: &str) -> Result<Option<Moment>, NoMemory>
     ensures { IfOk result (λ found. found ≡ moment_of text.now) }
 {

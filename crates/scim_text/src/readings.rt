@@ -1,5 +1,6 @@
-//! Reading the text of a moment. Each function below `BadMoment` reads one piece of it: `found` says that
-//! what the function gives is written there, and `complete` that it finds the piece wherever it is written.
+//! Reads the text of a moment. Each private function reads one piece of it. Its clause `found`
+//! states that the result is written in the text; `complete` states that the piece is found if it
+//! is written.
 ghost use Rattle.std.specs.Prelude.{◌≡◌, length, take_while, drop, ◌≤◌, ◌<◌, ◌+◌, ◌*◌, ◌↔◌, ◌++◌, ◌∷◌, ℕ, List, IsOk, IfOk, IsSome, IfSome, IsSomeAnd, SomeIff, pos, string_bytes};
 ghost use Rattle.std.specs.Char.{is_ascii_digit};
 ghost use Rattle.std.specs.List.{prefix_len};
@@ -12,23 +13,23 @@ ghost use Rattle.scim_text.specs.MomentIn.{moment_in};
 use jiff_core::civil::Date;
 use thiserror::Error;
 
-/// What the text of a moment stands for. Readings are in the order of the instants: by their second, and
-/// within a second the whole second comes first.
+/// The instant that the text of a moment denotes. Readings are ordered by second, and within a
+/// second the whole second comes first.
 #[derive(Clone, Copy, PartialEq, Eq, PartialOrd, Ord)]
 pub struct Reading {
-    /// The whole seconds since 1970-01-01T00:00:00Z, which are negative before it.
+    /// The whole seconds since 1970-01-01T00:00:00Z, negative before it.
     pub second: i64,
-    /// Whether the text has a fraction of a second other than zero.
+    /// Whether the text has a fraction of a second greater than zero.
     pub later: bool,
 }
 
-/// The text is not of the form in which moments are written, or names a day or a time that there is not.
-/// [`read_moment`] says what the form is.
+/// The text isn't a date and time of the form that [`read_moment`] describes, or names a date or
+/// time that doesn't exist.
 #[derive(Clone, Copy, Debug, PartialEq, Eq, Error)]
 #[error("not a date and time of the form YYYY-MM-DDThh:mm:ssZ")]
 pub struct BadMoment;
 
-/// A number up to `last` in two digits, and what follows it.
+/// Reads a number up to `last` in two digits. Returns it with the rest of the text.
 fn number(text: &[u8], last: u8) -> Option<(u8, &[u8])>
     requires { last < 100 }
     ensures found { IfSome result (λ p. (p.0 ≤ last) × (text.now ≡ two_digits p.0 ++ p.1.now)) }
@@ -48,7 +49,7 @@ fn number(text: &[u8], last: u8) -> Option<(u8, &[u8])>
     Some((number, rest))
 }
 
-/// What follows the mark, where the text begins with it.
+/// The text after its first byte, if that is `mark`.
 fn after(text: &[u8], mark: u8) -> Option<&[u8]>
     ensures found { IfSome result (λ rest. text.now ≡ mark ∷ rest.now) }
     ensures complete { (rest : List ℕ) → text.now ≡ mark ∷ rest → IsSome result }
@@ -59,7 +60,8 @@ fn after(text: &[u8], mark: u8) -> Option<&[u8]>
     }
 }
 
-/// A mark, then a number up to `last` in two digits, and what follows it.
+/// Reads `mark` and a number up to `last` in two digits. Returns the number with the rest of the
+/// text.
 fn number_after(text: &[u8], mark: u8, last: u8) -> Option<(u8, &[u8])>
     requires { last < 100 }
     ensures found { IfSome result (λ p. (p.0 ≤ last) × (text.now ≡ mark ∷ two_digits p.0 ++ p.1.now)) }
@@ -69,7 +71,8 @@ fn number_after(text: &[u8], mark: u8, last: u8) -> Option<(u8, &[u8])>
     number(after(text, mark)?, last)
 }
 
-/// The number of a day that the calendar has, from year 1 on.
+/// The number of the day, or None if the calendar doesn't have it. Day 0 is 1970-01-01, and years
+/// begin with 1.
 fn day_number(year: u16, month: u8, day: u8) -> Option<i64>
     requires year { year < 10000 }
     requires month { month < 100 }
@@ -87,7 +90,7 @@ fn day_number(year: u16, month: u8, day: u8) -> Option<i64>
     }
 }
 
-/// A date, as the number of its day, and what follows it.
+/// Reads a date. Returns the number of its day with the rest of the text.
 fn date(text: &[u8]) -> Option<(i64, &[u8])>
     ensures found { IfSome result (λ p. (d : CivilDate) × IsDate d × (p.0 ≡ day_number d)
         × (text.now ≡ date_text d ++ p.1.now)) }
@@ -103,7 +106,7 @@ fn date(text: &[u8]) -> Option<(i64, &[u8])>
     Some((day_number(year, month, day)?, rest))
 }
 
-/// A time of day, as its seconds since midnight, and what follows it.
+/// Reads a time of day. Returns its seconds since midnight with the rest of the text.
 fn clock(text: &[u8]) -> Option<(u32, &[u8])>
     ensures found { IfSome result (λ p. (c : Clock) × IsClock c × (p.0 ≡ clock_seconds c)
         × (text.now ≡ clock_text c ++ p.1.now)) }
@@ -120,7 +123,7 @@ fn clock(text: &[u8]) -> Option<(u32, &[u8])>
     ))
 }
 
-/// Hours and minutes, in seconds.
+/// Reads hours and minutes, the whole of the text. Returns them in seconds.
 fn offset(text: &[u8]) -> Option<u32>
     ensures found { IfSome result (λ o. (h m : ℕ) × IsOffset h m × (o ≡ offset_seconds h m)
         × (text.now ≡ offset_text h m)) }
@@ -135,7 +138,7 @@ fn offset(text: &[u8]) -> Option<u32>
     Some(u32::from(hours) * 3600 + u32::from(minutes) * 60)
 }
 
-/// A zone, as the seconds that its clocks are ahead of UTC.
+/// Reads a zone, the whole of the text. Returns how many seconds its clock is ahead of UTC.
 fn zone(text: &[u8]) -> Option<i64>
     ensures found { IfSome result (λ o. (z : Zone) × IsZone z × (o ≡ zone_seconds z) × (text.now ≡ zone_text z)) }
     ensures range { IfSome result (IsWithin 86399) }
@@ -155,7 +158,7 @@ fn zone(text: &[u8]) -> Option<i64>
     }
 }
 
-/// How many digits stand at the front.
+/// The length of the longest prefix of digits.
 fn digit_count(text: &[u8]) -> usize
     ensures value { result ≡ prefix_len is_ascii_digit text.now }
     ensures within { result ≤ length text.now }
@@ -163,7 +166,7 @@ fn digit_count(text: &[u8]) -> usize
     text.iter().take_while(|byte| byte.is_ascii_digit()).count()
 }
 
-/// The digits at the front, and what follows them.
+/// Splits the text after its longest prefix of digits.
 fn digits(text: &[u8]) -> (&[u8], &[u8])
     ensures digits { result.0.now ≡ take_while is_ascii_digit text.now }
     ensures rest { result.1.now ≡ drop (prefix_len is_ascii_digit text.now) text.now }
@@ -171,8 +174,8 @@ fn digits(text: &[u8]) -> (&[u8], &[u8])
     text.split_at(digit_count(text))
 }
 
-/// A point and one digit or more, or nothing: whether a digit other than `0` is among them, and what
-/// follows.
+/// Reads a point and at least one digit, if the text begins with a point. Returns whether a digit
+/// other than `0` is among them, with the rest of the text.
 fn fraction(text: &[u8]) -> Option<(bool, &[u8])>
     ensures found { IfSome result (λ p. (f : List ℕ) × IsFraction f × (p.0 ≡ is_above_zero f)
         × (text.now ≡ fraction_text f ++ p.1.now)) }
@@ -189,14 +192,14 @@ fn fraction(text: &[u8]) -> Option<(bool, &[u8])>
     Some((is_above_zero(digits), rest))
 }
 
-/// Whether a digit other than `0` is among these.
+/// Whether one of the digits isn't `0`.
 fn is_above_zero(digits: &[u8]) -> bool
     ensures { result ≡ is_above_zero digits.now }
 {
     digits.iter().any(|digit| *digit != b'0')
 }
 
-/// A date, a time of day, a fraction and a zone, and nothing else.
+/// Reads a date, a time of day, a fraction and a zone, the whole of the text.
 fn read_bytes(text: &[u8]) -> Option<Reading>
     ensures found { IfSome result (Spells text.now) }
     ensures complete { IsMomentForm text.now → IsSome result }
@@ -211,13 +214,14 @@ fn read_bytes(text: &[u8]) -> Option<Reading>
     })
 }
 
-/// Reads the text of a moment, as `2024-02-29T23:59:59.5+05:30`: year, month and day, `T`, hours, minutes
-/// and seconds; then a fraction of `.` and one digit or more, or none; then the zone, which is `Z` or the
-/// hours and minutes by which the clock is ahead of UTC (`+`) or behind it (`-`), or is left out for UTC
-/// (RFC 7643 section 2.3.5, RFC 3339 section 5.6). It takes no memory.
+/// Reads the text of a moment, as `2024-02-29T23:59:59.5+05:30` (RFC 7643 section 2.3.5, RFC 3339
+/// section 5.6). It is year, month and day, `T`, hours, minutes and seconds; then, optionally, `.`
+/// with one or more digits; then the zone. The zone is `Z`, or the hours and minutes by which the
+/// clock is ahead of UTC (`+`) or behind it (`-`), or is left out for UTC.
 ///
-/// Years go from 0001 to 9999 and the day is one of the calendar; hours go to 23, minutes and seconds to
-/// 59, also those of the zone. `T` and `Z` are capital letters, and nothing stands before or after.
+/// Years go from 0001 to 9999, and the day must exist in the calendar. Hours go up to 23, minutes
+/// and seconds up to 59, also in the zone. `T` and `Z` are capital letters, and the text has
+/// nothing before or after.
 ///
 /// Any other text is a [`BadMoment`].
 #[tactic(auto, using(crate::proofs::MomentInLemmas::is_moment_in))]

@@ -1,4 +1,4 @@
--- Token files: which client has which bearer token, by its SHA-256.
+-- Token files: the clients' bearer tokens, as SHA-256 digests.
 use Rattle.std.specs.Prelude.{ℕ, ◌+◌, ◌==◌, nat_eq, Bool, true, List, [], ◌∷◌, ◌++◌, length, find, Option, None, Some, option_map, Result, Ok, Err, if◌then◌else◌}
 use Rattle.std.specs.List.{list_any, position_or_len, before_first, after_first}
 use Rattle.std.specs.Cmp.Lexicographic.{pointwise}
@@ -10,21 +10,21 @@ use Rattle.scim_token.specs.declared.faults.LineFault.{LineFault}
 use Rattle.scim_token.specs.declared.faults.LineFault.TheVariants.{BadLine, BadName, BadDigest, Twice, TooMany}
 use Rattle.scim_token.specs.declared.faults.TokenFault.{TokenFault}
 
--- a client, and the SHA-256 of a token that it has
+-- a client, and the SHA-256 of one of its tokens
 pub record Entry : Type 0 where
   pub client : List ℕ
   pub digest : List ℕ
 
--- whether a line says nothing: it is empty, or begins with `#`
+-- whether a line is empty or a comment, which begins with `#`
 abbrev pub says_nothing : List ℕ → Bool
 says_nothing [] = true
 says_nothing (b ∷ bs) = b == 35
 
--- the 32 bytes that 64 hex digits of either case say
+-- the 32 bytes of 64 hex digits of either case, or None for any other text
 abbrev pub digest_in : List ℕ → Option (List ℕ)
 digest_in text = result_ok (decode_sized text 32)
 
--- the entry of a client, where there is a digest
+-- the entry of a client with a digest, or a fault if there is no digest
 abbrev pub entry_with : List ℕ → Option (List ℕ) → Result Entry LineFault
 entry_with client None = Err BadDigest
 entry_with client (Some digest) = Ok (record { client = client; digest = digest })
@@ -33,7 +33,7 @@ entry_with client (Some digest) = Ok (record { client = client; digest = digest 
 abbrev pub is_space : ℕ → Bool
 is_space b = b == 32
 
--- what a line says: a client before its first space, and a digest behind it
+-- the entry in a line: a client before the first space and a digest after it
 abbrev pub entry_in : List ℕ → Result Entry LineFault
 entry_in line =
     if position_or_len is_space line == length line then Err BadLine
@@ -44,11 +44,11 @@ entry_in line =
 abbrev pub has_digest : List ℕ → Entry → Bool
 has_digest digest e = pointwise nat_eq digest e.digest
 
--- the entries with one more: no digest stands twice, and there are at most 10,000
+-- the entries with one more, or a fault if its digest is there or there are 10,000 entries
 abbrev pub added : List Entry → Entry → Result (List Entry) LineFault
 added known e = if list_any (has_digest e.digest) known then Err Twice else if length known == MOST_TOKENS then Err TooMany else Ok (known ++ e ∷ [])
 
--- the same, where a line says an entry
+-- the entries with the entry of a line added, or the fault of the line
 abbrev pub added_if : List Entry → Result Entry LineFault → Result (List Entry) LineFault
 added_if known (Ok e) = added known e
 added_if known (Err fault) = Err fault
@@ -57,16 +57,17 @@ added_if known (Err fault) = Err fault
 abbrev pub after_line : List Entry → List ℕ → Result (List Entry) LineFault
 after_line known line = if says_nothing line then Ok known else added_if known (entry_in line)
 
--- what comes of the lines behind one, if it is none that is faulty; else its number and fault
+-- the result for the remaining lines, or the fault of line n
 abbrev pub if_well : ℕ → Result (List Entry) LineFault → (List Entry → Result (List Entry) TokenFault) → Result (List Entry) TokenFault
 if_well n (Ok known) rest = rest known
 if_well n (Err cause) rest = Err (record { line = n; cause = cause })
 
--- the entries of lines, behind those of the lines before them, where the first has this number; or the first faulty line
+-- the entries after these lines, given the number of the first line and the entries before it, or the first
+-- faulty line
 unfoldable pub entries_from : ℕ → List Entry → List (List ℕ) → Result (List Entry) TokenFault
 entries_from n known [] = Ok known
 entries_from n known (line ∷ lines) = if_well n (after_line known line) (λ next. entries_from (n + 1) next lines)
 
--- the client that has the token of a digest
+-- the client with the token of this digest, or None
 abbrev pub client_with : List Entry → List ℕ → Option (List ℕ)
 client_with entries digest = option_map (λ e. e.client) (find (has_digest digest) entries)

@@ -1,4 +1,4 @@
--- Which entries tokens stand for.
+-- The entries of a stored token table.
 use Rattle.std.specs.Prelude.{◌≡◌, ℕ, List, length, Option, Result, Ok, Err}
 use Rattle.std.specs.HashMap.{get, hash_map_len}
 use Rattle.scim_token.specs.declared.digests.Digest.{Digest}
@@ -7,16 +7,16 @@ use Rattle.scim_token.specs.declared.tokens.Tokens.{Tokens}
 use Rattle.scim_token.specs.declared.faults.TokenFault.{TokenFault}
 use Rattle.scim_token.specs.TokenFile.{Entry, client_with}
 
--- the client that is kept for a digest
+-- the client stored for a digest, or None
 abbrev pub client_at : Tokens → Digest → Option (List ℕ)
 client_at tokens d = get (digest_eq.ghosts).eq tokens.clients d
 
--- the tokens know these entries, and no others
+-- the table has exactly these entries
 pub record Knows (entries : List Entry) (tokens : Tokens) : Type 0 where
   pub count : hash_map_len tokens.clients ≡ length entries
   pub clients : (d : Digest) → client_at tokens d ≡ client_with entries d.bytes
 
--- the tokens are read that a file has, or its fault is told
+-- a result is the table of the entries of a file, or the fault of the file
 abbrev pub Reads : Result (List Entry) TokenFault → Result Tokens TokenFault → Type 0
 Reads (Ok entries) (Ok tokens) = Knows entries tokens
 Reads (Err fault) (Err told) = told ≡ fault

@@ -1,27 +1,27 @@
-//! Why a token file is refused.
+//! The faults of token files.
 use thiserror::Error;
 
-/// What is wrong with a line of a token file, in the order in which it is looked for.
+/// The fault of a line of a token file. The checks are made in this order.
 #[derive(Clone, Copy, Debug, PartialEq, Eq, Error)]
 pub enum LineFault {
-    /// There is no space between a client and a digest.
+    /// The line has no space.
     #[error("no space")]
     BadLine,
-    /// What stands before the space isn't the name of a client.
+    /// The text before the first space isn't the name of a client.
     #[error("client")]
     BadName,
-    /// What stands behind the space isn't 64 hex digits.
+    /// The text after the first space isn't 64 hex digits.
     #[error("digest")]
     BadDigest,
     /// An earlier line has the same digest.
     #[error("digest of an earlier line")]
     Twice,
-    /// 10,000 lines before this one have tokens.
+    /// There are 10,000 tokens in the lines before this one.
     #[error("too many tokens")]
     TooMany,
 }
 
-/// Why a token file is refused: its first faulty line, from 1, and what is wrong there.
+/// The first faulty line of a token file, counted from 1, and its fault.
 #[derive(Clone, Copy, Debug, PartialEq, Eq, Error)]
 #[error("line {line}: {cause}")]
 pub struct TokenFault {

@@ -1,5 +1,5 @@
-//! Which client has which bearer token (RFC 6750). No token is kept: a file names clients with the SHA-256 of their
-//! tokens, and who comes with a token is found by its SHA-256.
+//! The bearer tokens of clients (RFC 6750). Tokens aren't stored: a file lists clients with the
+//! SHA-256 of their tokens, and the client of a token is looked up by its SHA-256.
 #![tactic(auto)]
 
 mod digests;

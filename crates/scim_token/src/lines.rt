@@ -1,4 +1,4 @@
-//! One line of a token file.
+//! Reads one line of a token file.
 ghost use Rattle.std.specs.Prelude.{◌≡◌, Ok, Err, IfOk, IfErr};
 ghost use Rattle.scim_token.specs.TokenFile as spec;
 ghost use Rattle.scim_token.specs.code.Known.{entry_of};
@@ -7,14 +7,14 @@ use crate::digests::Digest;
 use crate::faults::LineFault;
 use scim_policy_file::is_client_name;
 
-/// A client, and the digest of a token that it has.
+/// A client, and the digest of one of its tokens.
 #[derive(Clone, Copy)]
 pub(crate) struct TokenLine<'a> {
     pub(crate) client: &'a str,
     pub(crate) digest: Digest,
 }
 
-/// Whether the line says nothing: it is empty, or a comment.
+/// Whether the line is empty or a comment, which begins with `#`.
 pub(crate) fn says_nothing(line: &str) -> bool
     ensures { result ≡ spec.says_nothing line.now }
 {
@@ -24,7 +24,7 @@ pub(crate) fn says_nothing(line: &str) -> bool
     }
 }
 
-/// What a line says that isn't empty and no comment.
+/// Reads a line that isn't empty or a comment. The error is its first fault.
 pub(crate) fn read_line(line: &str) -> Result<TokenLine<'_>, LineFault>
     ensures ok { IfOk result (λ l. spec.entry_in line.now ≡ Ok (entry_of l)) }
     ensures err { IfErr result (λ fault. spec.entry_in line.now ≡ Err fault) }

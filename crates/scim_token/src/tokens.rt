@@ -1,4 +1,4 @@
-//! The clients' tokens.
+//! The table of the clients' tokens.
 ghost use Rattle.std.specs.Prelude.{◌≡◌, List, [], Ok, Err, OnOk, map};
 ghost use Rattle.std.specs.Option.{option_map, option_copied};
 ghost use Rattle.sha2.specs.Sha256.{sha256};
@@ -18,19 +18,19 @@ use scim_text::Failed;
 use std::alloc::Global;
 use std::collections::HashMap;
 
-/// Which client has which token. A client may have several, a token is that of one client; of a token its SHA-256
-/// alone is kept.
+/// The tokens of the clients, as SHA-256 digests. A client may have several tokens; a token belongs
+/// to one client.
 #[derive(Drop)]
 pub struct Tokens {
     clients: HashMap<Digest, Text>,
 }
 
 impl Tokens {
-    /// The tokens of a file: a line for each, of the client's name, one space, and the SHA-256 of the token in 64 hex
-    /// digits of either case. Lines that are empty or begin with `#` say nothing.
+    /// Reads a token file. It has one line for each token: the client's name, one space, and the
+    /// SHA-256 of the token in 64 hex digits of either case. Empty lines and lines that begin with
+    /// `#` are skipped.
     ///
-    /// The first faulty line is told, with the first fault of [`LineFault`] that it has; or NoMemory, where none was
-    /// to be had.
+    /// The error is the first faulty line, with its first fault in the order of [`LineFault`].
     pub fn read(alloc: Global, text: &str) -> Result<Tokens, Failed<TokenFault>>
         ensures { UnlessMemory (Reads (spec.entries_from 1 [] (lines text.now))) result }
     {
@@ -38,7 +38,7 @@ impl Tokens {
         Tokens::of_lines(alloc, lines.as_slice())
     }
 
-    /// The tokens of the lines of a file.
+    /// Reads the lines of a token file.
     fn of_lines(alloc: Global, lines: &[&str]) -> Result<Tokens, Failed<TokenFault>>
         ensures { UnlessMemory (Reads (spec.entries_from 1 [] (map (λ l. l.now) lines.now))) result }
     {
@@ -58,7 +58,7 @@ impl Tokens {
         Ok(tokens)
     }
 
-    /// The client that has the token; None where no client has it. Takes no memory, and keeps nothing of the token.
+    /// Returns the client with this token, or None. The token isn't stored.
     pub fn client_of(&self, token: &[u8]) -> Option<&str>
         ensures { (entries : List Entry) → Knows entries self.now → option_copied result ≡ spec.client_with entries (sha256 token.now) }
     {
@@ -66,7 +66,9 @@ impl Tokens {
         self.clients.get(&digest).map(|client| client.as_str())
     }
 
-    /// Takes what a line says to what is known.
+    /// Adds the entry in a line, if there is one.
+    ///
+    /// The fault is that of the line, and the tokens are unchanged then.
     fn take_line(&mut self, alloc: Global, line: &str) -> Result<(), Failed<LineFault>>
         ensures ok { OnOk result ((known : List Entry) → Knows known self.old → (next : List Entry) × (spec.after_line known line.now ≡ Ok next) × Knows next self.new) }
         ensures fault { IfFault result (λ fault. (known : List Entry) → Knows known self.old → spec.after_line known line.now ≡ Err fault) }
@@ -80,7 +82,9 @@ impl Tokens {
         }
     }
 
-    /// Takes an entry to what is known.
+    /// Adds an entry.
+    ///
+    /// The fault is `Twice` or `TooMany`, and the tokens are unchanged then.
     fn add(&mut self, alloc: Global, line: TokenLine<'_>) -> Result<(), Failed<LineFault>>
         ensures ok { OnOk result ((known : List Entry) → Knows known self.old → (next : List Entry) × (spec.added known (entry_of line.entry) ≡ Ok next) × Knows next self.new) }
         ensures fault { IfFault result (λ fault. (known : List Entry) → Knows known self.old → spec.added known (entry_of line.entry) ≡ Err fault) }

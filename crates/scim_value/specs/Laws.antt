@@ -1,4 +1,4 @@
--- The map of a part and its rows are two readings of one thing.
+-- Lemmas about all parts: the map of cells and the list of rows determine each other.
 use Rattle.std.specs.Prelude.{◌≡◌, ℕ, List}
 use Rattle.std.specs.FinMap.{get}
 use Rattle.scim_schema.specs.declared.Kind.{Kind}
@@ -7,18 +7,18 @@ use Rattle.scim_cell.specs.Place.{place_at}
 use Rattle.scim_cell.specs.Content.{Content, IsPart}
 use Rattle.scim_cell.specs.Rows.{Row, rows, content, cell_at, AreSound}
 
--- the rows of a part are sound
+-- the rows of a part are valid
 abbrev pub PartsHaveSoundRows : Type 0
 PartsHaveSoundRows = (c : Content) → IsPart c → AreSound c.kind (rows c)
 
--- sound rows are those of the part that is made of them
+-- valid rows are the rows of the part made from them
 abbrev pub SoundRowsMakeAPart : Type 0
 SoundRowsMakeAPart = (kind : Kind) (id : List ℕ) (rs : List Row) → AreSound kind rs → IsPart (content kind id rs) × (rows (content kind id rs) ≡ rs)
 
--- parts of one kind and id with equal rows have equal cells
+-- parts with the same kind, id and rows are equal
 abbrev pub RowsDetermineCells : Type 0
 RowsDetermineCells = (c d : Content) → IsPart c → IsPart d → c.kind ≡ d.kind → c.id ≡ d.id → rows c ≡ rows d → c ≡ d
 
--- what stands at a position of a leaf is the field of that leaf in the row at the position
+-- the atom at a position of a leaf is that of the leaf's field in the row at this index
 abbrev pub CellsStandInRows : Type 0
 CellsStandInRows = (c : Content) → IsPart c → (l : Leaf) (k : ℕ) → get c.cells (place_at l k) ≡ cell_at l k (rows c)

@@ -1,4 +1,4 @@
--- Whom a group lists (RFC 7643 section 4.2).
+-- The members that a group lists (RFC 7643 section 4.2).
 use Rattle.std.specs.Prelude.{ℕ, Bool, false, List, nat_eq, Option, Some}
 use Rattle.std.specs.List.{list_any}
 use Rattle.std.specs.Cmp.Lexicographic.{pointwise}
@@ -11,7 +11,7 @@ use Rattle.scim_cell.specs.Content.{Content}
 use Rattle.scim_cell.specs.Ids.{id_text}
 use Rattle.scim_cell.specs.Rows.{Row, rows, values, atom_in}
 
--- whether an atom is this text
+-- whether the atom is there and is this text
 abbrev pub is_text : List ℕ → Option Atom → Bool
 is_text t (Some (Text u)) = pointwise nat_eq t u
 is_text t _ = false
@@ -20,6 +20,6 @@ is_text t _ = false
 abbrev pub lists_value : List ℕ → Content → Bool
 lists_value value g = list_any (λ (m : Row). is_text value (atom_in (leaf_at Members Value) m.fields)) (values (whole Members) (rows g))
 
--- whether a group lists the resource of an id: some value of its `members` is the text of the id
+-- whether a group lists the resource with this id: one of its members has the text of the id as its `value`
 abbrev pub lists : List ℕ → Content → Bool
 lists id g = lists_value (id_text id) g

@@ -1,4 +1,4 @@
--- What a resource is: a part that has all that RFC 7643 sections 2.2 to 2.5, 3.1, 4.1 and 4.2 ask of it, within this server's limits.
+-- Resources: parts that obey RFC 7643 sections 2.2 to 2.5, 3.1, 4.1 and 4.2, within this server's limits.
 use Rattle.std.specs.Prelude.{◌≡◌, ◌≢◌, ℕ, ◌≤◌, List, [], ◌++◌, length, codes, Option, Some, IsSome, All}
 use Rattle.std.specs.List.{count_by}
 use Rattle.std.specs.FinMap.{get}
@@ -21,33 +21,35 @@ use Rattle.scim_cell.specs.Place.{place_at}
 use Rattle.scim_cell.specs.Content.{Content, IsPart}
 use Rattle.scim_cell.specs.Rows.{Row, rows, values, atom_in, is_primary}
 
--- what stands at the first position of a leaf
+-- the atom at the first position of a leaf, or None
 abbrev pub first_at : Leaf → Content → Option Atom
 first_at l c = get c.cells (place_at l 0)
 
--- it has an id, and `id` is there and is its text (RFC 7643 section 3.1)
+-- the id is valid, and the attribute `id` is its text (RFC 7643 section 3.1)
 abbrev pub IsIdentified : Content → Type 0
 IsIdentified c = IsId c.id × (first_at (simple Id) c ≡ Some (Text (id_text c.id)))
 
--- `meta.resourceType` is the kind's name, and `meta.created` and `meta.lastModified` are there (RFC 7643 section 3.1)
+-- `meta.resourceType` is the kind's name, and `meta.created` and `meta.lastModified` exist (RFC 7643 section
+-- 3.1)
 abbrev pub HasMeta : Content → Type 0
 HasMeta c =
     (first_at (leaf_at Meta ResourceType) c ≡ Some (Text (kind_name c.kind)))
     × IsSome (first_at (leaf_at Meta Created) c) × IsSome (first_at (leaf_at Meta LastModified) c)
 
--- where the resource of a kind and an id is found below a base (RFC 7644 section 3.2)
+-- the URL of the resource of a kind and an id below a base (RFC 7644 section 3.2)
 abbrev pub location : List ℕ → Kind → List ℕ → List ℕ
 location base kind id = base ++ (endpoint kind ++ (codes "/" ++ id_text id))
 
--- `meta.location` is where the resource is found below this base (RFC 7643 section 3.1)
+-- `meta.location` is the URL of the resource below this base (RFC 7643 section 3.1)
 abbrev pub HasBase : List ℕ → Content → Type 0
 HasBase base c = first_at (leaf_at Meta Location) c ≡ Some (Text (location base c.kind c.id))
 
--- a text that isn't empty
+-- the atom is there and is a text that isn't empty
 abbrev pub IsFilled : Option Atom → Type 0
 IsFilled (Some (Text t)) = t ≢ []
 IsFilled _ = ⊥
 
+-- a resource of the kind has its name: `userName`, not empty, for a user, and `displayName` for a group
 abbrev pub IsNamedAs : Kind → Content → Type 0
 IsNamedAs User c = IsFilled (first_at (simple UserName) c)
 IsNamedAs Group c = IsSome (first_at (simple DisplayName) c)
@@ -68,17 +70,19 @@ HasAtMostOnePrimary kind rs = All (λ a. count_by is_primary (values (whole a) r
 abbrev pub HasFewValues : Kind → List Row → Type 0
 HasFewValues kind rs = All (λ a. length (values (whole a) rs) ≤ MOST_VALUES) (attributes kind)
 
+-- a text has at most 65,536 bytes; other atoms always pass
 abbrev pub IsShort : Atom → Type 0
 IsShort (Text t) = length t ≤ LONGEST_VALUE
 IsShort _ = Unit {0}
 
--- a field that a resource may keep: not of `groups`, which is computed, nor of a writeOnly leaf (RFC 7643 sections 4.1.2 and 7), and with a text of at most 65,536 bytes, `meta.location` aside
+-- a field that a resource may have: not of `groups`, which is computed, nor of a writeOnly leaf (RFC 7643
+-- sections 4.1.2 and 7), and with a text of at most 65,536 bytes unless it is `meta.location`
 pub record MayBeKept (kind : Kind) (f : Field) : Type 0 where
   pub own : f.leaf.attribute ≢ Groups
   pub shown : (characteristics_of kind f.leaf).mutability ≢ WriteOnly
   pub short : f.leaf ≢ leaf_at Meta Location → IsShort f.atom
 
--- a part that is a whole resource
+-- a part is a complete resource
 pub record IsResource (c : Content) : Type 0 where
   pub part : IsPart c
   pub identified : IsIdentified c

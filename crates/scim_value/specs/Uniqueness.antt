@@ -1,4 +1,4 @@
--- The names that no two resources share.
+-- The names that are unique among resources.
 use Rattle.std.specs.Prelude.{◌≢◌, ℕ, List, [], ◌∷◌, Option, Some, Contains, string_bytes, if◌then◌else◌}
 use Rattle.std.specs.List.{flat_map}
 use Rattle.scim_text.specs.Names.{folded}
@@ -12,29 +12,30 @@ use Rattle.scim_value.specs.declared.uniqueness.UniqueName.{UniqueName}
 use Rattle.scim_cell.specs.Content.{Content}
 use Rattle.scim_value.specs.Resource.{first_at}
 
--- a leaf, and the text by which a name that stands there is known
+-- a leaf, and the text by which names are compared there
 pub record Name : Type 0 where
   pub leaf : Leaf
   pub text : List ℕ
 
--- a name that the code keeps, by the bytes of its text
+-- a stored name, with the bytes of its text
 abbrev pub name_of : UniqueName → Name
 name_of n = record { leaf = n.leaf; text = string_bytes n.text }
 
--- the text by which a name is known: folded, unless case counts (RFC 7643 section 2.2, caseExact)
+-- the text by which a name is compared: folded, unless the leaf is caseExact (RFC 7643 section 2.2)
 abbrev pub known_text : Kind → Leaf → List ℕ → List ℕ
 known_text kind l t = if (characteristics_of kind l).case_exact then t else folded t
 
--- the name that stands at a leaf
+-- the name at a leaf with this atom, or no name if there is no text
 abbrev pub name_at : Kind → Leaf → Option Atom → List Name
 name_at kind l (Some (Text t)) = record { leaf = l; text = known_text kind l t } ∷ []
 name_at kind l _ = []
 
--- the unique names of a resource
+-- the unique names of a resource, in the order of the table
 abbrev pub unique_names : Content → List Name
 unique_names c = flat_map (λ l. name_at c.kind l (first_at l c)) (unique_leaves c.kind)
 
--- two resources that one server may hold: their ids differ, and they share no unique name (RFC 7643 sections 2.2 and 3.1)
+-- two resources may be on one server: their ids differ, and they share no unique name (RFC 7643 sections 2.2
+-- and 3.1)
 pub record AreApart (c d : Content) : Type 0 where
   pub ids : c.id ≢ d.id
   pub names : (n : Name) → Contains (unique_names c) n → Contains (unique_names d) n → ⊥

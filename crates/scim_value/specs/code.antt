@@ -1,4 +1,4 @@
--- How the code keeps parts, and makes and checks them.
+-- How the code stores, makes and checks parts.
 pub mod Chain
 pub mod Grouping
 pub mod Inside

@@ -6,6 +6,7 @@ ghost use Rattle.scim_value.specs.code.Chain.{Follows, GoesOn, IsChain};
 use scim_cell::{Cell, Place, has_type};
 use scim_schema::{Kind, characteristics_of, has_leaf, is_multi_valued};
 
+/// Whether the cell's leaf belongs to the kind, with an atom of its type.
 fn is_of_kind(kind: Kind, cell: &Cell) -> bool
     ensures { IsTrue result ↔ IsOfKind kind (entry_of cell.now) }
 {
@@ -16,6 +17,7 @@ fn is_of_kind(kind: Kind, cell: &Cell) -> bool
         )
 }
 
+/// Whether a cell at `place` may come right after the cell at `before`.
 fn follows(before: Option<Place>, place: Place) -> bool
     ensures { IsTrue result ↔ Follows before place }
 {
@@ -25,6 +27,7 @@ fn follows(before: Option<Place>, place: Place) -> bool
     }
 }
 
+/// Whether both places are in the same multi-valued attribute, without a gap in the positions.
 fn goes_on(last: Place, place: Place) -> bool
     ensures { IsTrue result ↔ GoesOn last place }
 {
@@ -33,6 +36,7 @@ fn goes_on(last: Place, place: Place) -> bool
         && (place.position <= last.position || place.position - last.position == 1)
 }
 
+/// Whether each cell is valid for the kind and may come after the cell before it.
 fn is_chain(kind: Kind, cells: &[Cell]) -> bool
     ensures { IsTrue result ↔ IsChain kind None (entries_of cells.now) }
 {
@@ -46,7 +50,7 @@ fn is_chain(kind: Kind, cells: &[Cell]) -> bool
     true
 }
 
-/// Whether the cells are those of a part of the kind, in order of place.
+/// Whether the cells are all cells of some part of the kind, in order of place.
 pub(crate) fn are_sorted_part_cells(kind: Kind, cells: &[Cell]) -> bool
     ensures { IsTrue result ↔ AreSortedPartCells kind (entries_of cells.now) }
 {

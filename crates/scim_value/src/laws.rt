@@ -1,27 +1,27 @@
-//! What holds of all parts: the map of their cells and their rows are two readings of one thing.
+//! Lemmas about all parts: the map of cells and the list of rows determine each other.
 ghost use Rattle.scim_value.specs.Laws.{PartsHaveSoundRows, SoundRowsMakeAPart, RowsDetermineCells, CellsStandInRows};
 ghost use Rattle.scim_value.specs.Listing.{CellsAreListed};
 
-/// The rows of each part are sound, and sound rows are those of the part that is made of them.
+/// Lemma: the rows of each part are valid, and valid rows are the rows of the part made from them.
 pub fn parts_are_sound_rows()
     ensures sound { PartsHaveSoundRows }
     ensures made { SoundRowsMakeAPart }
 {}
 
-/// The rows determine the cells: parts of one kind and id with equal rows are equal.
+/// Lemma: the rows determine the cells. Parts with the same kind, id and rows are equal.
 pub fn rows_determine_cells()
     ensures { RowsDetermineCells }
 {}
 
-/// What stands at a position of a leaf is the field of that leaf in the row at the position, among
-/// the rows of the leaf's unit.
+/// Lemma: the atom at a position of a leaf is that of the leaf's field in the row at this index,
+/// among the rows of the leaf's unit.
 pub fn cells_stand_in_rows()
     ensures { CellsStandInRows }
 {}
 
-/// The cells of a part, in order of place, are those of each attribute of its kind, attribute by
-/// attribute: value by value where it is multi-valued, and within a value or a complex attribute by
-/// sub-attribute.
+/// Lemma: the cells of a part, in order of place, are those of each attribute of its kind in turn.
+/// Those of a multi-valued attribute are ordered by value and then by sub-attribute, those of a
+/// complex attribute by sub-attribute.
 pub fn cells_are_listed()
     ensures { CellsAreListed }
 {}

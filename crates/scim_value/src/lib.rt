@@ -1,4 +1,5 @@
-//! Parts and resources: what stands in their cells, and how it changes (RFC 7643 sections 2 to 4).
+//! Parts and resources: their cells, changes of cells, and the rules and limits that resources keep
+//! (RFC 7643 sections 2 to 4).
 #![tactic(auto)]
 
 mod cell_checks;

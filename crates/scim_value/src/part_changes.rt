@@ -1,4 +1,4 @@
-//! Parts with one cell changed, and the cells of a part one by one.
+//! The list of cells of a part, and parts with one cell changed.
 ghost use Rattle.std.specs.Prelude.{◌≡◌, ◌+◌, ◌^◌, ◌<◌, ◌++◌, filter, map, not, true, IfOk, OnOk, Err, None, length};
 ghost use Rattle.std.specs.Option.{ForSome};
 ghost use Rattle.std.specs.Ordering.{is_eq};
@@ -19,7 +19,7 @@ use scim_text::{Failed, NoMemory, push};
 use std::alloc::Global;
 
 impl Part {
-    /// The cells, in order of place; NoMemory where none was to be had.
+    /// Returns copies of the cells, in order of place.
     pub fn cells(&self, alloc: Global) -> Result<Vec<Cell>, NoMemory>
         ensures cells { IfOk result (λ v. entries_of v.items ≡ entries self.now.cells) }
         ensures valid { IsPart self.now }
@@ -27,11 +27,11 @@ impl Part {
         cells_of(alloc, self.rows())
     }
 
-    /// The part with this cell, in place of one that stands there.
+    /// Returns the part with this cell added, or replaced if there is one at this place.
     ///
-    /// Invalid where no part has these cells: the leaf or the atom's type isn't the kind's, there
-    /// is no value at the position before, or a single-valued attribute would have a position
-    /// beyond 0. NoMemory where none was to be had.
+    /// Invalid if no part has these cells: the leaf doesn't belong to the kind, the atom isn't of
+    /// its type, there is no value at the position before, or the attribute is single-valued and
+    /// the position isn't 0.
     pub fn with(
         &self,
         alloc: Global,
@@ -52,9 +52,8 @@ impl Part {
         Part::of_sorted(alloc, self.kind(), self.id(), cells)
     }
 
-    /// The part without the cell at a position of a leaf, if one stands there: a value left without
-    /// a cell goes, and the positions of those behind it close up. NoMemory where none was to be
-    /// had.
+    /// Returns the part without the cell at a position of a leaf, if there is one. A value that
+    /// loses its last cell is removed, and the positions after it move down by one.
     pub fn without(&self, alloc: Global, leaf: Leaf, position: usize) -> Result<Part, NoMemory>
         ensures { IfOk result (λ p. p ≡ without_cell leaf position self.now) }
     {
@@ -70,7 +69,7 @@ impl Part {
     }
 }
 
-/// The position of the next row of a unit, after the last row and its position.
+/// The position of a row of the unit, given unit and position of the row before it.
 fn next_position(last: Option<(Unit, usize)>, unit: Unit) -> usize
     requires { ForSome last (λ l. l.1 + 1 < 2 ^ 64) }
     ensures { result ≡ spec.next_position last unit }
@@ -83,6 +82,8 @@ fn next_position(last: Option<(Unit, usize)>, unit: Unit) -> usize
     }
 }
 
+/// Appends copies of the fields as cells at the position. After NoMemory some may have been
+/// appended.
 fn append_fields(
     alloc: Global,
     cells: &mut Vec<Cell>,
@@ -103,6 +104,7 @@ fn append_fields(
     Ok(())
 }
 
+/// Copies the cells of the rows, in order of place.
 fn cells_of(alloc: Global, rows: &[Row]) -> Result<Vec<Cell>, NoMemory>
     ensures { IfOk result (λ v. entries_of v.items ≡ spec.numbered None rows.now) }
 {
@@ -116,6 +118,7 @@ fn cells_of(alloc: Global, rows: &[Row]) -> Result<Vec<Cell>, NoMemory>
     Ok(cells)
 }
 
+/// The index of the cell at the place, or as an error the index at which to insert one.
 fn place_in(cells: &[Cell], place: Place) -> Result<usize, usize>
     ensures range { IsSearchInRange result (length cells.now) }
     ensures searched { IsBinarySearchResult (λ c. place_cmp (place_of c) place) cells.now result }
@@ -123,7 +126,7 @@ fn place_in(cells: &[Cell], place: Place) -> Result<usize, usize>
     cells.binary_search_by(|cell| cell.place().compare(place))
 }
 
-/// Puts a cell into its place, over one that stands there.
+/// Puts a cell at its place, replacing one that is there.
 fn put_cell(cells: &mut Vec<Cell>, cell: Cell) -> Result<(), NoMemory>
     requires { is_sorted place_cmp (entries_of cells.old.items) ≡ true }
     ensures { OnOk result (entries_of cells.new.items ≡ put place_cmp (place_of cell) cell.atom (entries_of cells.old.items)) }
@@ -135,7 +138,7 @@ fn put_cell(cells: &mut Vec<Cell>, cell: Cell) -> Result<(), NoMemory>
     Ok(())
 }
 
-/// Takes out the cell that stands at a place, if there is one.
+/// Removes the cell at a place, if there is one.
 fn remove_cell(cells: &mut Vec<Cell>, place: Place)
     ensures { cells.new.items ≡ filter (λ c. not (is_eq (place_cmp (place_of c) place))) cells.old.items }
 {

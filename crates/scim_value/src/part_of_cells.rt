@@ -16,11 +16,11 @@ use scim_text::{Failed, NoMemory, push};
 use std::alloc::Global;
 
 impl Part {
-    /// The part of these cells, which may come in any order.
+    /// Returns the part of these cells, which may be in any order.
     ///
-    /// Invalid where no part of the kind has these cells: a leaf or an atom's type isn't the
-    /// kind's, two cells stand at one place, positions have a gap, or a single-valued attribute has
-    /// a position beyond 0. NoMemory where none was to be had.
+    /// Invalid if no part of the kind has these cells: a leaf doesn't belong to the kind, an atom
+    /// isn't of its leaf's type, two cells have the same place, positions have a gap, or a
+    /// single-valued attribute has a position other than 0.
     pub fn of(
         alloc: Global,
         kind: Kind,
@@ -37,10 +37,10 @@ impl Part {
         Part::of_sorted(alloc, kind, id, cells)
     }
 
-    /// The part of these cells, which stand in order of place: by attribute in the order of the
+    /// Returns the part of cells that are in order of place: by attribute in the order of the
     /// table, by position, by sub-attribute.
     ///
-    /// Invalid where they don't, and where [`Part::of`] says it. NoMemory where none was to be had.
+    /// Invalid if they aren't in this order, and as for [`Part::of`].
     pub fn of_sorted(
         alloc: Global,
         kind: Kind,
@@ -61,7 +61,7 @@ impl Part {
     }
 }
 
-/// Whether two cells are of one value of a multi-valued attribute.
+/// Whether two cells belong to the same value of a multi-valued attribute.
 #[tactic(auto, unfolding(scim_cell::specs::Rows::goes_with))]
 fn go_together(a: Place, b: Place) -> bool
     ensures { result ≡ goes_with a b }
@@ -69,6 +69,7 @@ fn go_together(a: Place, b: Place) -> bool
     is_multi_valued(a.attribute) && a.attribute == b.attribute && a.position == b.position
 }
 
+/// Whether a cell belongs to the same value as the cell before it, if there is one.
 fn joins_last(before: Option<Place>, place: Place) -> bool
     ensures { result ≡ joins before place }
 {
@@ -78,7 +79,8 @@ fn joins_last(before: Option<Place>, place: Place) -> bool
     }
 }
 
-// The cell goes into the last row, or into one of its own.
+/// Adds the cell to the last row, or to a new row of its own. After NoMemory the last row may be
+/// missing.
 fn group_cell(
     alloc: Global,
     rows: &mut Vec<Row>,

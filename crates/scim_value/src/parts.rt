@@ -1,4 +1,4 @@
-//! Parts: a kind, an id and the cells of a resource or of what is visible or shown of one.
+//! Parts: a kind, an id, and all or some of the cells of a resource.
 ghost use Rattle.std.specs.Prelude.{◌≡◌, ◌++◌, IfOk, filter, take};
 ghost use Rattle.std.specs.List.{list_any};
 ghost use denote.Enum.Bare.{sameb};
@@ -22,18 +22,17 @@ use scim_text::NoMemory;
 use std::alloc::Global;
 use std::marker::Model;
 
-/// A kind, an id and cells of the kind whose positions run from 0 without a gap: all cells of a
-/// resource, or those that are visible or shown of one.
+/// A kind, an id and cells of the kind, whose positions run from 0 without a gap. The cells are all
+/// those of a resource, or a selection, such as those that a client may see.
 ///
-/// A part keeps its cells by value, as rows: contracts see the finite map from leaf and position to
-/// atom, and `rows` lends the rows of that map.
+/// A part stores its cells by value, as rows. Contracts see the finite map from leaf and position
+/// to atom; `rows` lends the rows of that map.
 pub struct Part {
     kind: Kind,
     id: Id,
     rows: Vec<Row>,
 }
 
-/// One call, wherever a part is dropped, in place of a look at all that it has.
 impl Drop for Part {
     fn drop(self) {
         let Part {
@@ -64,8 +63,8 @@ impl Model for Part {
 }
 
 impl Part {
-    /// The part of these rows: none is without a field, each is sound for the kind, they stand in
-    /// order of unit, and a unit of a single-valued attribute has one at most.
+    /// Returns the part with these rows. Each must be valid for the kind and have a field. They
+    /// must be in order of unit, with at most one for each unit that isn't multi-valued.
     pub fn of_rows(kind: Kind, id: Id, rows: Vec<Row>) -> Part
         requires { AreSound kind rows.items }
         ensures whole { result ≡ spec.content kind id rows.items }
@@ -77,14 +76,14 @@ impl Part {
         Part { kind, id, rows }
     }
 
-    /// The kind.
+    /// The kind of resource.
     pub fn kind(&self) -> Kind
         ensures { result ≡ self.now.kind }
     {
         self.kind
     }
 
-    /// The id.
+    /// The id of the resource.
     pub fn id(&self) -> Id
         ensures { result ≡ self.now.id }
     {
@@ -99,7 +98,7 @@ impl Part {
         self.rows.as_slice()
     }
 
-    /// The kind, the id and the rows, to keep.
+    /// The kind, the id and the rows, owned.
     pub fn into_parts(self) -> (Kind, Id, Vec<Row>)
         ensures kind { result.0 ≡ self.kind }
         ensures id { result.1 ≡ self.id }
@@ -110,7 +109,8 @@ impl Part {
         (kind, id, rows)
     }
 
-    /// The rows of the units before this one, its own, and those of the units after it.
+    /// Splits the rows into those of the units before this one, of this unit, and of the units
+    /// after it.
     fn split(&self, unit: Unit) -> (&[Row], &[Row], &[Row])
         ensures before { result.0.now ≡ filter (λ r. is_lt (unit_cmp r.unit unit)) (spec.rows self.now) }
         ensures own { result.1.now ≡ spec.values unit (spec.rows self.now) }
@@ -121,7 +121,7 @@ impl Part {
         split_rows(self.rows(), unit)
     }
 
-    /// The values of a unit, by position.
+    /// The values of a unit, in order of position.
     pub fn values(&self, unit: Unit) -> &[Row]
         ensures rows { result.now ≡ spec.values unit (spec.rows self.now) }
         ensures valid { IsPart self.now }
@@ -129,10 +129,10 @@ impl Part {
         self.split(unit).1
     }
 
-    /// The rows of an attribute, in order of unit: the values of a multi-valued attribute, and
-    /// what a single-valued one has of its leaves.
+    /// The rows of an attribute, in order of unit: the values of a multi-valued attribute, or one
+    /// row for each leaf of a single-valued one that has a cell.
     ///
-    /// One search finds them all, so this is the way to go over many attributes of a part.
+    /// It takes one binary search, so it is the fast way to visit many attributes of a part.
     pub fn attribute_rows(&self, attribute: Attribute) -> &[Row]
         ensures rows { result.now ≡ spec.attribute_rows attribute (spec.rows self.now) }
         ensures valid { IsPart self.now }
@@ -147,10 +147,10 @@ impl Part {
         rest.split_at(end).0
     }
 
-    /// The part with these values of a unit in place of its own; NoMemory where none was to be had.
+    /// Returns the part with the values of a unit replaced.
     ///
-    /// The values are sound for the unit, which `row_checks::are_values` tells. The rows of other
-    /// units are moved, not copied.
+    /// The values must be valid for the unit, which [`scim_cell::are_values`] checks. The rows of
+    /// other units are moved, not copied.
     pub fn put(self, unit: Unit, mut values: Vec<Row>) -> Result<Part, NoMemory>
         requires { AreValues self.kind unit values.items }
         ensures whole { IfOk result (λ p. p ≡ with_values unit values.items self) }
@@ -170,15 +170,15 @@ impl Part {
         Ok(Part::of_rows(kind, id, rows))
     }
 
-    /// The atom that stands at a position of a leaf, from 0; None where there is none.
+    /// The atom at a position of a leaf, counted from 0, or None if there is no cell.
     pub fn get(&self, leaf: Leaf, position: usize) -> Option<&Atom>
         ensures { option_copied result ≡ get self.now.cells (place_at leaf position) }
     {
         atom_at(self.values(unit_of(leaf)), leaf, position)
     }
 
-    /// How many positions of an attribute have cells: the number of values of a multi-valued
-    /// attribute; of a single-valued one 1 where it has any cell, else 0.
+    /// The number of values of a multi-valued attribute. For a single-valued one, 1 if it has a
+    /// cell, otherwise 0.
     #[tactic(auto, using(crate::proofs::PositionLemmas::number_filled))]
     pub fn positions(&self, attribute: Attribute) -> usize
         ensures rows { result ≡ spec.positions attribute (spec.rows self.now) }
@@ -193,7 +193,7 @@ impl Part {
         }
     }
 
-    /// A copy; NoMemory where none was to be had.
+    /// Copies the part.
     pub fn try_copy(&self, alloc: Global) -> Result<Part, NoMemory>
         ensures { IfOk result (λ p. p ≡ self.now) }
     {
@@ -201,8 +201,8 @@ impl Part {
         Ok(Part::of_rows(self.kind(), self.id(), rows))
     }
 
-    /// What is left where only the fields that the test admits are kept: rows without a field go,
-    /// so that positions close up. NoMemory where none was to be had.
+    /// Returns a copy with only the fields that the test keeps. Values that lose all fields are
+    /// removed, so that positions have no gaps.
     pub fn restrict<T: RowTest>(&self, alloc: Global, test: &T) -> Result<Part, NoMemory>
         ensures whole { IfOk result (λ p. p ≡ restricted_part (T.keeps test.now) self.now) }
         ensures valid { IfOk result IsPart }
@@ -215,7 +215,7 @@ impl Part {
     }
 }
 
-// Whether there is a first row, and it is of the attribute.
+/// Whether the first row exists and belongs to the attribute.
 fn begins_with(rows: &[Row], attribute: Attribute) -> bool
     ensures { result ≡ list_any (λ r. sameb the_attribute r.unit.attribute attribute) (take 1 rows.now) }
 {
@@ -225,6 +225,7 @@ fn begins_with(rows: &[Row], attribute: Attribute) -> bool
     }
 }
 
+/// The atom of a leaf in the row at this index, or None.
 fn atom_at(own: &[Row], leaf: Leaf, position: usize) -> Option<&Atom>
     ensures { option_copied result ≡ spec.atom_at leaf position own.now }
 {
@@ -235,6 +236,7 @@ fn atom_at(own: &[Row], leaf: Leaf, position: usize) -> Option<&Atom>
     }
 }
 
+/// Whether one of the rows belongs to the attribute.
 fn has_attribute(own: &[Row], attribute: Attribute) -> bool
     ensures { result ≡ list_any (λ r. sameb the_attribute r.unit.attribute attribute) own.now }
 {

@@ -15,12 +15,11 @@ use scim_text::Failed;
 use std::alloc::Global;
 
 impl Resource {
-    /// The resource with this cell, in place of one that stands there. This one stays as it is. At
-    /// another leaf than `meta.location` the base stays that of this one.
+    /// Returns the resource with this cell added, or replaced if there is one at this place. `self`
+    /// isn't changed. Unless the leaf is `meta.location`, the base of the location is the same.
     ///
-    /// Invalid where that is no resource, as where the leaf or the atom's type isn't the kind's,
-    /// there is no value at the position before, or a rule of a resource is broken. NoMemory where
-    /// none was to be had.
+    /// Invalid if the result isn't a resource: the leaf doesn't belong to the kind, the atom isn't
+    /// of its type, there is no value at the position before, or a rule for resources is broken.
     pub fn with(
         &self,
         alloc: Global,
@@ -37,12 +36,11 @@ impl Resource {
         Ok(Resource::of_part(part)?)
     }
 
-    /// The resource without the cell at a position of a leaf, if one stands there: a value left
-    /// without a cell goes, and the positions of those behind it close up. This one stays as it is. At
-    /// another leaf than `meta.location` the base stays that of this one.
+    /// Returns the resource without the cell at a position of a leaf, if there is one. A value that
+    /// loses its last cell is removed, and the positions after it move down by one. `self` isn't
+    /// changed. Unless the leaf is `meta.location`, the base of the location is the same.
     ///
-    /// Invalid where what is left is no resource, as where the cell was required. NoMemory where
-    /// none was to be had.
+    /// Invalid if the result isn't a resource, for example because the cell is required.
     pub fn without(
         &self,
         alloc: Global,

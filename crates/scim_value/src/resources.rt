@@ -1,4 +1,4 @@
-//! Resources: parts that are whole (RFC 7643 sections 2 to 4).
+//! Resources: parts with all that RFC 7643 sections 2 to 4 require.
 ghost use Rattle.std.specs.Prelude.{◌≡◌, ◌↔◌, IfOk, IsOk};
 ghost use Rattle.std.specs.Option.{option_copied};
 ghost use Rattle.std.specs.FinMap.{get};
@@ -17,24 +17,23 @@ use scim_text::NoMemory;
 use std::alloc::Global;
 use std::marker::Model;
 
-/// A part that is a whole resource: it has what RFC 7643 sections 3.1, 4.1 and 4.2 ask of it and
-/// keeps to this server's limits. `validity::is_resource` tells which parts are.
+/// A complete resource: a part with all that RFC 7643 sections 3.1, 4.1 and 4.2 require, within the
+/// limits of this server. [`crate::is_resource`] checks a part.
 ///
-/// Contracts see its part, of which they know that it is a resource.
+/// Contracts see a resource as its part, with the fact that it is a resource.
 pub struct Resource {
     part: Part,
 }
 
-/// One call, wherever a resource is dropped, in place of a look at all that it has.
 impl Drop for Resource {
     fn drop(self) {
         let Resource { part: _part } = self;
     }
 }
 
-/// Where the resource of a kind and an id is found below a base, as
-/// `http://127.0.0.1:8080/Users/2819c223-7f76-453a-919d-413861904646`: what `meta.location` has to be
-/// (RFC 7643 section 3.1). NoMemory where none was to be had.
+/// Returns the URL of a resource below a base, as
+/// `http://127.0.0.1:8080/Users/2819c223-7f76-453a-919d-413861904646`. It is the only valid
+/// `meta.location` (RFC 7643 section 3.1).
 pub fn location(alloc: Global, base: &str, kind: Kind, id: Id) -> Result<Text, NoMemory>
     ensures { IfOk result (λ t. t ≡ spec.location base.now kind id) }
 {
@@ -63,11 +62,11 @@ impl Model for Resource {
 }
 
 impl Resource {
-    /// The resource that the part is. `base` is that below which its `meta.location` has to stand, as
+    /// Makes a resource of a part. Its `meta.location` must be below `base`, as
     /// `http://127.0.0.1:8080`.
     ///
-    /// Invalid where the part isn't a resource, or its location stands below another base; the part
-    /// is dropped then. Takes no memory.
+    /// Invalid if the part isn't a resource or its location is below another base. The part is
+    /// dropped then.
     pub fn of(part: Part, base: &str) -> Result<Resource, Invalid>
         ensures value { IfOk result (λ r. r ≡ part) }
         ensures valid { IsOk result ↔ (IsResource part × HasBase base.now part) }
@@ -79,8 +78,8 @@ impl Resource {
         }
     }
 
-    /// The resource that the part is, below whatever base; Invalid where it isn't one. Takes no
-    /// memory.
+    /// Makes a resource of a part, whose location may be below any base. Invalid if the part isn't
+    /// a resource.
     pub(crate) fn of_part(part: Part) -> Result<Resource, Invalid>
         ensures value { IfOk result (λ r. r ≡ part) }
         ensures valid { IsOk result ↔ IsResource part }
@@ -92,7 +91,7 @@ impl Resource {
         }
     }
 
-    /// The resource that the part is known to be. Takes no memory.
+    /// Makes a resource of a part without a check. The part must be a resource.
     pub fn of_whole(part: Part) -> Resource
         requires { IsResource part }
         ensures { result ≡ part }
@@ -108,7 +107,7 @@ impl Resource {
         &self.part
     }
 
-    /// The part, to keep.
+    /// The part, owned.
     pub fn into_part(self) -> Part
         ensures value { result ≡ self }
         ensures valid { IsResource self }
@@ -117,29 +116,29 @@ impl Resource {
         part
     }
 
-    /// The kind.
+    /// The kind of the resource.
     pub fn kind(&self) -> Kind
         ensures { result ≡ self.now.kind }
     {
         self.part().kind()
     }
 
-    /// The id.
+    /// The id of the resource.
     pub fn id(&self) -> Id
         ensures { result ≡ self.now.id }
     {
         self.part().id()
     }
 
-    /// The atom that stands at a position of a leaf, from 0; None where there is none.
+    /// The atom at a position of a leaf, counted from 0, or None if there is no cell.
     pub fn get(&self, leaf: Leaf, position: usize) -> Option<&Atom>
         ensures { option_copied result ≡ get self.now.cells (place_at leaf position) }
     {
         self.part().get(leaf, position)
     }
 
-    /// How many positions of an attribute have cells: the number of values of a multi-valued
-    /// attribute; of a single-valued one 1 where it has any cell, else 0.
+    /// The number of values of a multi-valued attribute. For a single-valued one, 1 if it has a
+    /// cell, otherwise 0.
     pub fn positions(&self, attribute: Attribute) -> usize
         ensures rows { result ≡ positions attribute (rows self.now) }
         ensures filled { HasPositions self.now attribute result }
@@ -147,7 +146,7 @@ impl Resource {
         self.part().positions(attribute)
     }
 
-    /// A copy; NoMemory where none was to be had.
+    /// Copies the resource.
     pub fn try_copy(&self, alloc: Global) -> Result<Resource, NoMemory>
         ensures { IfOk result (λ r. r ≡ self.now) }
     {

@@ -1,4 +1,4 @@
-//! Lists of rows: copies, and what a test leaves of them.
+//! Copies of lists of rows, whole or restricted by a test.
 ghost use Rattle.std.specs.Prelude.{◌≡◌, IfOk};
 ghost use Rattle.scim_cell.specs.Rows as spec;
 
@@ -6,7 +6,7 @@ use scim_cell::{Row, RowTest};
 use scim_text::{NoMemory, push};
 use std::alloc::Global;
 
-/// What the test leaves of rows, those without a field left out.
+/// Copies the fields of the rows that the test keeps, without the rows that become empty.
 pub(crate) fn kept_rows<T: RowTest>(
     alloc: Global,
     own: &[Row],
@@ -24,7 +24,7 @@ pub(crate) fn kept_rows<T: RowTest>(
     Ok(copies)
 }
 
-/// Copies of rows. NoMemory where none was to be had.
+/// Copies the rows.
 pub fn copy_rows(alloc: Global, own: &[Row]) -> Result<Vec<Row>, NoMemory>
     ensures { IfOk result (λ v. v.items ≡ own.now) }
 {

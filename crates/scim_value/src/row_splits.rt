@@ -1,4 +1,4 @@
-//! Rows in order of unit, cut at a unit.
+//! Splits rows in order of unit at a unit.
 ghost use Rattle.std.specs.Prelude.{◌≡◌, ◌++◌, AllPairs, filter, take};
 ghost use Rattle.std.specs.List.{list_any};
 ghost use Rattle.std.specs.Ordering.{is_lt, is_eq, is_gt};
@@ -9,7 +9,8 @@ ghost use Rattle.scim_cell.specs.Rows.{Precedes};
 use scim_cell::{Row, compare_units};
 use scim_schema::Unit;
 
-/// The rows of the units before this one, its own, and those of the units after it.
+/// Splits rows in order of unit into those of the units before this one, of this unit, and of the
+/// units after it.
 pub(crate) fn split_rows(rows: &[Row], unit: Unit) -> (&[Row], &[Row], &[Row])
     requires { AllPairs (λ r s. Precedes r.unit s.unit) rows.now }
     ensures before { result.0.now ≡ filter (λ r. is_lt (unit_cmp r.unit unit)) rows.now }
@@ -27,7 +28,7 @@ pub(crate) fn split_rows(rows: &[Row], unit: Unit) -> (&[Row], &[Row], &[Row])
     (before, own, after)
 }
 
-// Whether there is a first row, and it is of the unit.
+/// Whether the first row exists and belongs to the unit.
 fn begins_with_unit(rows: &[Row], unit: Unit) -> bool
     ensures { result ≡ list_any (λ r. is_eq (unit_cmp r.unit unit)) (take 1 rows.now) }
 {
@@ -37,7 +38,8 @@ fn begins_with_unit(rows: &[Row], unit: Unit) -> bool
     }
 }
 
-/// The values of a unit among rows in order of unit, as those of a part, by position.
+/// The values of a unit in order of position, among rows that are in order of unit as those of a
+/// part.
 pub fn values_among(rows: &[Row], unit: Unit) -> &[Row]
     requires { AllPairs (λ r s. Precedes r.unit s.unit) rows.now }
     ensures { result.now ≡ spec.values unit rows.now }

@@ -1,4 +1,5 @@
-//! The names that no two resources share, as `userName` (RFC 7643 section 2.2, uniqueness).
+//! The names that are unique among resources, such as `userName` (RFC 7643 section 2.2,
+//! uniqueness).
 ghost use Rattle.std.specs.Prelude.{◌≡◌, ◌++◌, IfOk, OnOk, map, string_bytes};
 ghost use Rattle.std.specs.List.{flat_map};
 ghost use Rattle.scim_value.specs.Resource.{first_at};
@@ -11,15 +12,14 @@ use scim_schema::{Kind, Leaf, characteristics_of, unique_leaves};
 use scim_text::{NoMemory, fold, push};
 use std::alloc::Global;
 
-/// A name that a resource has alone: a leaf, and the text by which the name is known there. That is
-/// the folded text, unless the attribute is caseExact.
+/// A name that no other resource may have: a leaf, and the text by which names are compared there.
+/// The text is folded unless the attribute is caseExact.
 #[derive(PartialEq, Eq, Hash)]
 pub struct UniqueName {
     pub leaf: Leaf,
     pub text: String,
 }
 
-/// One call, wherever a name is dropped, in place of a look at all that it has.
 impl Drop for UniqueName {
     fn drop(self) {
         let UniqueName {
@@ -29,7 +29,7 @@ impl Drop for UniqueName {
     }
 }
 
-/// The unique names of a resource, in the order of the table. NoMemory where none was to be had.
+/// Returns the unique names of a resource, in the order of the table.
 pub fn unique_names(alloc: Global, resource: &Resource) -> Result<Vec<UniqueName>, NoMemory>
     ensures { IfOk result (λ v. map name_of v.items ≡ spec.unique_names resource.now) }
 {
@@ -38,6 +38,7 @@ pub fn unique_names(alloc: Global, resource: &Resource) -> Result<Vec<UniqueName
     Ok(names)
 }
 
+/// Appends the names of the resource at the leaves. After NoMemory some may have been appended.
 fn push_names(
     alloc: Global,
     resource: &Resource,
@@ -56,8 +57,8 @@ fn push_names(
     Ok(())
 }
 
-/// The text by which a name at a leaf of the kind is known: folded, unless case counts there.
-/// NoMemory where none was to be had.
+/// Returns the text by which a name at a leaf of the kind is compared: the folded text, or the text
+/// itself if the leaf is caseExact.
 pub fn known_text(alloc: Global, kind: Kind, leaf: Leaf, text: &str) -> Result<String, NoMemory>
     ensures { IfOk result (λ t. string_bytes t ≡ spec.known_text kind leaf text.now) }
 {

@@ -1,5 +1,5 @@
-//! Whether a part is a resource: a test for each rule of RFC 7643 sections 2.2 to 2.5, 3.1, 4.1 and
-//! 4.2, and for the limits of this server.
+//! Whether a part is a resource: one test for each rule of RFC 7643 sections 2.2 to 2.5, 3.1, 4.1
+//! and 4.2, and for each limit of this server.
 ghost use Rattle.std.specs.Prelude.{◌≡◌, ◌↔◌, ◌≤◌, ◌++◌, List, ℕ, IsTrue, IsSome, Some, All, codes, length, count_by};
 ghost use Rattle.std.specs.Option.{option_copied};
 ghost use Rattle.scim_schema.specs.Names.{endpoint};
@@ -16,13 +16,13 @@ use scim_schema::{
     characteristics_of,
 };
 
-/// Whether the part is a resource, below whatever base.
+/// Whether the part is a resource, with a location below any base.
 ///
-/// It is where `id` is its id and `meta` is complete (RFC 7643 section 3.1), a user has a `userName`
-/// that isn't empty (section 4.1.1) and a group a `displayName` (section 4.2), each member has a
-/// `value` (section 4.2), no attribute has two values whose `primary` is true (section 2.4), nothing
-/// of `groups` or of a writeOnly attribute is kept (sections 4.1.2 and 7), and the limits
-/// `MOST_VALUES` and `LONGEST_VALUE` are kept to. Takes no memory.
+/// These are the rules: `id` is its id and `meta` is complete (RFC 7643 section 3.1). A user has a
+/// `userName` that isn't empty (section 4.1.1), a group a `displayName` (section 4.2). Each member
+/// has a `value` (section 4.2). No attribute has two values whose `primary` is true (section 2.4).
+/// There are no cells of `groups` and of writeOnly attributes (sections 4.1.2 and 7). The limits
+/// `MOST_VALUES` and `LONGEST_VALUE` hold.
 pub fn is_resource(part: &Part) -> bool
     ensures { IsTrue result ↔ IsResource part.now }
 {
@@ -36,20 +36,21 @@ pub fn is_resource(part: &Part) -> bool
         && may_all_be_kept(part.kind(), part.rows())
 }
 
-/// Whether `meta.location` is where the resource is found below the base.
+/// Whether `meta.location` is the URL of the resource below the base.
 pub(crate) fn has_base(part: &Part, base: &str) -> bool
     ensures { IsTrue result ↔ HasBase base.now part.now }
 {
     location_base(part) == Some(base)
 }
 
+/// Whether the part has a cell at the first position of the leaf.
 fn has(part: &Part, leaf: Leaf) -> bool
     ensures { IsTrue result ↔ IsSome (first_at leaf part.now) }
 {
     part.get(leaf, 0).is_some()
 }
 
-// The text that stands first at a leaf.
+/// The text at the first position of a leaf, or None.
 fn first_text(part: &Part, leaf: Leaf) -> Option<&str>
     ensures { (text : List ℕ) → (option_copied result ≡ Some text) ↔ (first_at leaf part.now ≡ Some (Text text)) }
 {
@@ -59,6 +60,7 @@ fn first_text(part: &Part, leaf: Leaf) -> Option<&str>
     }
 }
 
+/// Whether this text is at the first position of the leaf.
 fn has_text(part: &Part, leaf: Leaf, text: &str) -> bool
     ensures { IsTrue result ↔ (first_at leaf part.now ≡ Some (Text text.now)) }
 {
@@ -68,6 +70,7 @@ fn has_text(part: &Part, leaf: Leaf, text: &str) -> bool
     }
 }
 
+/// Whether `id` is the text of the part's id.
 fn is_identified(part: &Part) -> bool
     ensures { IsTrue result ↔ IsIdentified part.now }
 {
@@ -79,6 +82,7 @@ fn is_identified(part: &Part) -> bool
     )
 }
 
+/// Whether `meta.resourceType` names the kind, and `meta.created` and `meta.lastModified` exist.
 fn has_meta(part: &Part) -> bool
     ensures { IsTrue result ↔ HasMeta part.now }
 {
@@ -90,21 +94,22 @@ fn has_meta(part: &Part) -> bool
         && has(part, Leaf::of(Attribute::Meta, SubAttribute::LastModified))
 }
 
-// What comes before the end of a text; None where it doesn't end so.
+/// The text without the suffix `end`, or None if it doesn't have it.
 fn before<'a>(text: &'a str, end: &str) -> Option<&'a str>
     ensures { (front : List ℕ) → (option_copied result ≡ Some front) ↔ (text.now ≡ front ++ end.now) }
 {
     text.strip_suffix(end)
 }
 
-// The base below which a resource of this kind and id is found at the location.
+/// The base of a location of this kind and id, or None if the location isn't that of such a
+/// resource.
 fn base_of<'a>(location: &'a str, kind: Kind, id: &str) -> Option<&'a str>
     ensures { (base : List ℕ) → (option_copied result ≡ Some base) ↔ (location.now ≡ base ++ (endpoint kind ++ (codes "/" ++ id.now))) }
 {
     before(before(before(location, id)?, "/")?, kind.endpoint())
 }
 
-// The base of `meta.location`; None where the resource would be found there below no base.
+/// The base of `meta.location`, or None if it isn't a location of the part's kind and id.
 fn location_base(part: &Part) -> Option<&str>
     ensures { (base : List ℕ) → (option_copied result ≡ Some base) ↔ HasBase base part.now }
 {
@@ -113,12 +118,14 @@ fn location_base(part: &Part) -> Option<&str>
     base_of(location, part.kind(), part.id().write(&mut buffer))
 }
 
+/// Whether `meta.location` is the URL of the resource below some base.
 fn is_located(part: &Part) -> bool
     ensures { IsTrue result ↔ ((base : List ℕ) × HasBase base part.now) }
 {
     location_base(part).is_some()
 }
 
+/// Whether a user has a `userName` that isn't empty, or a group a `displayName`.
 fn is_named(part: &Part) -> bool
     ensures { IsTrue result ↔ IsNamed part.now }
 {
@@ -131,6 +138,7 @@ fn is_named(part: &Part) -> bool
     }
 }
 
+/// Whether each member has a `value`.
 fn members_have_values(part: &Part) -> bool
     ensures { IsTrue result ↔ MembersHaveValues (rows part.now) }
 {
@@ -143,6 +151,7 @@ fn members_have_values(part: &Part) -> bool
         })
 }
 
+/// Whether at most one value of the attribute is primary.
 fn has_at_most_one_primary_in(part: &Part, attribute: Attribute) -> bool
     ensures { IsTrue result ↔ (count_by is_primary (values (whole attribute) (rows part.now)) ≤ 1) }
 {
@@ -153,6 +162,7 @@ fn has_at_most_one_primary_in(part: &Part, attribute: Attribute) -> bool
         <= 1
 }
 
+/// Whether each attribute has at most one primary value.
 fn has_at_most_one_primary(part: &Part) -> bool
     ensures { IsTrue result ↔ HasAtMostOnePrimary part.now.kind (rows part.now) }
 {
@@ -161,12 +171,14 @@ fn has_at_most_one_primary(part: &Part) -> bool
         .all(|attribute| has_at_most_one_primary_in(part, *attribute))
 }
 
+/// Whether the attribute has at most `MOST_VALUES` values.
 fn has_few_values_in(part: &Part, attribute: Attribute) -> bool
     ensures { IsTrue result ↔ (length (values (whole attribute) (rows part.now)) ≤ MOST_VALUES) }
 {
     part.values(Unit::whole(attribute)).len() <= MOST_VALUES
 }
 
+/// Whether each attribute has at most `MOST_VALUES` values.
 fn has_few_values(part: &Part) -> bool
     ensures { IsTrue result ↔ HasFewValues part.now.kind (rows part.now) }
 {
@@ -175,6 +187,7 @@ fn has_few_values(part: &Part) -> bool
         .all(|attribute| has_few_values_in(part, *attribute))
 }
 
+/// Whether a text has at most `LONGEST_VALUE` bytes; other atoms pass.
 fn is_short(atom: &Atom) -> bool
     ensures { IsTrue result ↔ IsShort atom.now }
 {
@@ -184,12 +197,15 @@ fn is_short(atom: &Atom) -> bool
     }
 }
 
+/// Whether the leaf is `meta.location`.
 fn is_location(leaf: Leaf) -> bool
     ensures { IsTrue result ↔ (leaf ≡ leaf_at Attribute.Meta SubAttribute.Location) }
 {
     leaf == Leaf::of(Attribute::Meta, SubAttribute::Location)
 }
 
+/// Whether a resource may have the field: it isn't of `groups` or of a writeOnly leaf, and isn't
+/// too long.
 fn may_be_kept(kind: Kind, field: &Field) -> bool
     ensures { IsTrue result ↔ MayBeKept kind field.now }
 {
@@ -198,12 +214,14 @@ fn may_be_kept(kind: Kind, field: &Field) -> bool
         && (is_location(field.leaf) || is_short(&field.atom))
 }
 
+/// Whether a resource may have all fields of the row.
 fn fields_may_be_kept(kind: Kind, value: &Row) -> bool
     ensures { IsTrue result ↔ All (MayBeKept kind) value.now.fields }
 {
     value.fields().iter().all(|field| may_be_kept(kind, field))
 }
 
+/// Whether a resource may have all fields of the rows.
 fn may_all_be_kept(kind: Kind, own: &[Row]) -> bool
     ensures { IsTrue result ↔ All (λ r. All (MayBeKept kind) r.fields) own.now }
 {

@@ -1,7 +1,7 @@
--- How rows are kept.
+-- The row that the private fields of a `Row` stand for.
 use Rattle.scim_cell.specs.declared.rows.Row.TheInside.{Inside as RowInside}
 use Rattle.scim_cell.specs.Rows.{Row}
 
--- a row by its fields
+-- the row with the unit and the fields of a stored row
 abbrev pub row_of : RowInside → Row
 row_of r = record { unit = r.unit; fields = r.fields.items }

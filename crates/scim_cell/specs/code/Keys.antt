@@ -1,4 +1,4 @@
--- Keys of values, by which those that are the same are found. All words are private to that.
+-- Keys for the look-up of values: values that are the same have the same key.
 use Rattle.std.specs.Prelude.{ℕ, ◌≡◌, String, List, [], ◌++◌, Option, Some, None, is_some, true, false, codes, decimal, length, if◌then◌else◌}
 use Rattle.std.specs.List.{list_any, flat_map}
 use Rattle.std.specs.Str.{bytes_eq}
@@ -15,36 +15,39 @@ use Rattle.scim_cell.specs.declared.rows.Field.{Field}
 use Rattle.scim_cell.specs.Rows.{Row}
 use Rattle.scim_cell.specs.SameValues.{is_members, member_value}
 
--- the text of an atom
+-- the text of an atom in a key
 abbrev pub atom_key : Atom → List ℕ
 atom_key (Text t) = t
 atom_key (Truth true) = codes "true"
 atom_key (Truth false) = []
 atom_key (Moment m) = []
 
+-- the text of an atom in a key, or the empty text
 abbrev pub some_key : Option Atom → List ℕ
 some_key None = []
 some_key (Some atom) = atom_key atom
 
+-- the name of a sub-attribute, or the empty text
 abbrev pub name_key : Option SubAttribute → List ℕ
 name_key None = []
 name_key (Some b) = sub_attribute_name b
 
--- the text of a field, behind its sub-attribute and its length
+-- the text of a field in a key: its sub-attribute, the length of its text and its text
 unfoldable pub field_key : Field → List ℕ
 field_key f = name_key f.leaf.sub_attribute ++ (codes " " ++ (decimal (length (atom_key f.atom)) ++ (codes " " ++ atom_key f.atom)))
 
+-- the texts of fields in a key, joined
 abbrev pub fields_key : List Field → List ℕ
 fields_key fs = flat_map field_key fs
 
--- the key of a value: values that are the same have the same
+-- the key of a value; values that are the same have the same key
 abbrev pub key_of : Attribute → Row → List ℕ
 key_of a r = if is_members a then some_key (member_value r) else fields_key r.fields
 
--- a map from keys to places
+-- a map from keys to indexes
 abbrev pub Places : Type 0
 Places = HashMap (String Global) ℕ (BuildHasherDefault FoldHasher)
 
--- the map has just the keys of the values
+-- the map has exactly the keys of the values
 abbrev pub Covers : Places → Attribute → List Row → Type 0
 Covers m a rs = (q : List ℕ) → is_some (get_by_text m q) ≡ list_any (λ r. bytes_eq q (key_of a r)) rs

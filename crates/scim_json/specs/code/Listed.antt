@@ -1,4 +1,4 @@
--- What the reader of a users file takes of the tokens of its text, item by item. All words are private to it.
+-- The reading of a users file by tokens, item by item.
 use Rattle.std.specs.Prelude.{◌≡◌, ℕ, List, length, Some}
 use Rattle.json.specs.Token.{Token}
 use Rattle.json.specs.Json as json
@@ -8,14 +8,15 @@ use Rattle.scim_cell.specs.Content.{Content}
 use Rattle.scim_json.specs.PartData.{stored_data}
 use Rattle.scim_json.specs.Documents.{documents_and}
 
--- how deep an item may nest
+-- the maximal nesting of an item
 abbrev pub item_depth : ℕ
 item_depth = 126
 
--- the next value is the document of the resource, and then come these tokens
+-- the next tokens are those of the stored document of the resource, and `rest` follows them
 abbrev pub ReadsItem : List Token → Content → List Token → Type 0
 ReadsItem ts c rest = (j : json.Json) × (json.value item_depth ts ≡ Some (j, rest)) × (of_json j ≡ Some (stored_data c))
 
--- the values up to the end of the list are the documents of the resources, and then come these tokens
+-- the next tokens are those of the stored documents of the resources up to the end of the list, and `rest`
+-- follows them
 abbrev pub ReadsItems : List Token → List Content → List Token → Type 0
 ReadsItems ts cs rest = (js : json.Items) × (json.items (json.value item_depth) (length ts) ts ≡ Some (js, rest)) × (of_items js ≡ Some (documents_and cs no_items))

@@ -1,4 +1,4 @@
--- What the code knows of a path.
+-- The endpoints of the code's types.
 use Rattle.std.specs.Prelude.{ℕ, List, Option, Some, option_map}
 use Rattle.scim_schema.specs.Lookup.{kind_named, schema_named}
 use Rattle.scim_route.specs.declared.endpoints.Page.TheVariants.{ResourceType as resource_type, Schema as schema}
@@ -8,7 +8,7 @@ use Rattle.scim_route.specs.declared.endpoints.Endpoint.{Endpoint}
 use Rattle.scim_route.specs.declared.endpoints.Endpoint.TheVariants.{Unsupported, Discovery, Collection, Search, Resource}
 use Rattle.scim_route.specs.Endpoints.{Place, unsupported, page, collection, search, resource}
 
--- the place of an endpoint
+-- the endpoint in the terms of the specification
 abbrev pub place_at : Endpoint → Place
 place_at Unsupported = unsupported
 place_at (Discovery p) = page p
@@ -16,7 +16,7 @@ place_at (Collection kind) = collection kind
 place_at (Search kind) = search kind
 place_at (Resource kind text) = resource kind text.now
 
--- the place that a route leads to, by what stands behind the first slash of its path
+-- the endpoint of a route, given the path's part after the first slash, or None
 abbrev pub led : Leads → List ℕ → Option Place
 led LeadsNowhere text = Some unsupported
 led (LeadsToPage p) text = Some (page p)

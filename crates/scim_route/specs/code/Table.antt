@@ -1,4 +1,4 @@
--- The routes of SCIM's endpoints, as the router has them.
+-- The table of routes of SCIM's endpoints, as the router stores it.
 use Rattle.std.specs.Prelude.{ℕ, List, [], ◌∷◌, codes, Result, Ok, Err, ◌++◌}
 use Rattle.matchit.specs.Rows.{RowsOf, param_token}
 use Rattle.matchit.specs.Order.{placed}
@@ -9,25 +9,25 @@ use Rattle.scim_route.specs.declared.endpoints.Page.TheVariants.{ServiceProvider
 use Rattle.scim_route.specs.declared.route_table.Leads.{Leads}
 use Rattle.scim_route.specs.declared.route_table.Leads.TheVariants.{Unsupported, Page, ResourceType, Schema, Collection, Search, Resource}
 
--- what a route's text says, entered in its place
+-- the rows with a parsed route put in its place; unchanged if the route is not valid
 abbrev pub with_route : Result Scan InsertError → Leads → RowsOf Leads → RowsOf Leads
 with_route (Ok scan) leads rows = placed (scan.pattern, leads) rows
 with_route (Err fault) leads rows = rows
 
--- a route, entered in its place
+-- the rows with a route put in its place
 abbrev pub with_path : List ℕ → Leads → RowsOf Leads → RowsOf Leads
 with_path path leads rows = with_route (parse_route path) leads rows
 
--- routes, entered one after another
+-- the rows with routes put in their places, one after another
 unfoldable pub with_paths : List (List ℕ × Leads) → RowsOf Leads → RowsOf Leads
 with_paths [] rows = rows
 with_paths (route ∷ rest) rows = with_paths rest (with_path route.0 route.1 rows)
 
--- a segment that a parameter takes
+-- a segment that a parameter matches
 abbrev pub any : List ℕ
 any = param_token ∷ []
 
--- the routes in their order: those that begin alike stand together, the longer ones first
+-- the rows of all routes; those with a common prefix are together, the longer ones first
 abbrev pub routes : RowsOf Leads
 routes =
     (codes ".search", Unsupported)

@@ -1,15 +1,15 @@
--- What the code has of the parameters when some pairs are read.
+-- The parameters after some pairs of a query string are read.
 use Rattle.std.specs.Prelude.{ℕ, List, codes, Option, None, Some, if◌then◌else◌}
 use Rattle.std.specs.Option.{option_or}
 use Rattle.scim_text.specs.Names.{is_same_name}
 use Rattle.scim_route.specs.declared.parameters.Parameters.{Parameters}
 use Rattle.scim_route.specs.Parameters.{first_named}
 
--- what is held of a parameter once a pair was read: the first value stays
+-- the value of a parameter after one more pair; the first value stays
 abbrev pub taken : List ℕ → List ℕ × List ℕ → Option (List ℕ) → Option (List ℕ)
 taken name pair held = option_or held (if is_same_name pair.0 name then Some pair.1 else None)
 
--- what is held of all of them
+-- all parameters after one more pair
 abbrev pub with_pair : List ℕ × List ℕ → Parameters → Parameters
 with_pair pair held = record {
   attributes = taken (codes "attributes") pair held.attributes;
@@ -21,7 +21,7 @@ with_pair pair held = record {
   count = taken (codes "count") pair held.count;
 }
 
--- what will be held once these pairs are read
+-- all parameters after these pairs
 abbrev pub with_pairs : List (List ℕ × List ℕ) → Parameters → Parameters
 with_pairs pairs held = record {
   attributes = option_or held.attributes (first_named (codes "attributes") pairs);

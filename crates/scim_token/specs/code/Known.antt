@@ -1,4 +1,4 @@
--- What the code knows of a line.
+-- The entry that the code reads from a line.
 use Rattle.scim_token.specs.declared.lines.TokenLine.{TokenLine}
 use Rattle.scim_token.specs.TokenFile.{Entry}
 

@@ -1,4 +1,4 @@
--- A check of cells in their order, one after another.
+-- A check of cells in order of place, one after another.
 use Rattle.std.specs.Prelude.{◌≡◌, ◌+◌, ◌≤◌, ◌⊎◌, true, Option, None, Some, List, [], ◌∷◌}
 use Rattle.std.specs.declared.cmp.Ordering.TheVariants.{Less}
 use Rattle.scim_schema.specs.declared.Kind.{Kind}
@@ -7,16 +7,16 @@ use Rattle.scim_cell.specs.declared.places.Place.{Place}
 use Rattle.scim_cell.specs.Place.{place_cmp}
 use Rattle.scim_cell.specs.Content.{Entry, IsOfKind}
 
--- the place is of a value beyond the first of a multi-valued attribute, at the position of the last cell or the next
+-- both places are in the same multi-valued attribute, and the position is at most one above the last
 abbrev pub GoesOn : Place → Place → Type 0
 GoesOn last p = (is_multi_valued p.attribute ≡ true) × (last.attribute ≡ p.attribute) × (p.position ≤ last.position + 1)
 
--- the place may come right after the last one
+-- a cell at the place may come right after the cell at the last place, or first if there is none
 abbrev pub Follows : Option Place → Place → Type 0
 Follows None p = p.position ≡ 0
 Follows (Some last) p = (place_cmp last p ≡ Less) × ((p.position ≡ 0) ⊎ GoesOn last p)
 
--- each entry is the kind's and may come after the one before
+-- each entry is valid for the kind and may come after the one before
 abbrev pub IsChain : Kind → Option Place → List Entry → Type 0
 IsChain kind last [] = Unit {0}
 IsChain kind last (e ∷ es) = IsOfKind kind e × Follows last e.0 × IsChain kind (Some e.0) es
