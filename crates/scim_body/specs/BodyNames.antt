@@ -1,4 +1,4 @@
--- The keys of a body, which name attributes in any case of their letters (RFC 7643 section 2.1), and those of which two are one name.
+-- The keys of a body, which name attributes in any case (RFC 7643 section 2.1), and when two clash.
 use Rattle.std.specs.Prelude.{ℕ, List, [], ◌∷◌, ◌&&◌, ◌||◌, Bool, false, not, Option, None, Some, length, nat_lt, if◌then◌else◌}
 use Rattle.std.specs.List.{list_any}
 use Rattle.std.specs.Option.{option_eq}
@@ -22,55 +22,56 @@ abbrev pub values_named : List ℕ → Members → List Data
 values_named name no_members = []
 values_named name (member k d ms) = if is_same_name name k then d ∷ values_named name ms else values_named name ms
 
--- the first of values
+-- the first of the values, if there is one
 abbrev pub first : List Data → Option Data
 first [] = None
 first (d ∷ ds) = Some d
 
--- the value under a name
+-- the value under a name; if two keys are the name, the first
 abbrev pub value_named : List ℕ → Members → Option Data
 value_named name ms = first (values_named name ms)
 
--- whether two keys are one name
+-- whether two keys are the name
 abbrev pub is_twice : List ℕ → Members → Bool
 is_twice name ms = nat_lt 1 (length (values_named name ms))
 
--- whether something is there that passes a test
+-- whether there is a value and it passes the test
 abbrev pub is_there_and : {A : Type 0} → (A → Bool) → Option A → Bool
 is_there_and test None = false
 is_there_and test (Some a) = test a
 
--- the values of a list
+-- the items of an array, as a list
 abbrev pub items_list : Items → List Data
 items_list no_items = []
 items_list (item d ds) = d ∷ items_list ds
 
--- the values that are meant where a list is due: those of a list, and anything else as the one value of a list
+-- the values meant where a list is expected: the items of an array, or else the value itself
 abbrev pub listed : Option Items → Data → List Data
 listed None d = d ∷ []
 listed (Some ds) d = items_list ds
 
--- whether two keys of an object name one sub-attribute of the attribute
+-- whether two keys of an object name the same sub-attribute of the attribute
 abbrev pub sub_attributes_clash : Attribute → Members → Bool
 sub_attributes_clash a ms = list_any (λ b. is_twice (sub_attribute_name b) ms) (sub_attributes a)
 
--- whether they do in a value of the attribute, which has keys where it is an object
+-- whether a value is an object in which two keys name the same sub-attribute of the attribute
 abbrev pub value_clashes : Attribute → Data → Bool
 value_clashes a d = is_there_and (sub_attributes_clash a) (as_object d)
 
--- whether they do in what a body has for the attribute: in some value of a multi-valued one, also one that would be dropped
+-- whether two keys clash in a body's value of the attribute; for a multi-valued one in any of its values,
+-- also one that counts as absent
 abbrev pub values_clash : Attribute → Data → Bool
 values_clash a d = if is_multi_valued a then list_any (value_clashes a) (listed (as_array d) d) else value_clashes a d
 
--- whether two keys name the attribute, or, unless it is readOnly, one of its sub-attributes in a value
+-- whether two keys name the attribute, or, unless it is readOnly, the same sub-attribute in its value
 unfoldable pub attribute_clashes : Kind → Members → Attribute → Bool
 attribute_clashes kind ms a = is_twice (attribute_name a) ms || (not (is_read_only kind (simple a)) && is_there_and (values_clash a) (value_named (attribute_name a) ms))
 
--- whether they do for an attribute of that extension; for None of the core schema
+-- whether two keys clash among the attributes of an extension, or of the core schema for None
 abbrev pub schema_clashes : Kind → Option Schema → Members → Bool
 schema_clashes kind s ms = list_any (λ a. option_eq (sameb the_schema) (extension_of a) s && attribute_clashes kind ms a) (attributes kind)
 
--- whether two keys are the URN of the extension, or clash in its object (RFC 7643 section 3.3)
+-- whether two keys are the extension's URN, or clash in its object (RFC 7643 section 3.3)
 abbrev pub extension_clashes : Kind → Members → Schema → Bool
 extension_clashes kind ms s = is_twice (urn s) ms || is_there_and (λ d. is_there_and (schema_clashes kind (Some s)) (as_object d)) (value_named (urn s) ms)
 

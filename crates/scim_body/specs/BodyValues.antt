@@ -1,4 +1,4 @@
--- What the values in a body are read as (RFC 7643 sections 2.3 to 2.5). None stands for a value that is refused.
+-- The values read from a body (RFC 7643 sections 2.3 to 2.5); None stands for a refused value.
 use Rattle.std.specs.Prelude.{ℕ, List, [], ◌∷◌, ◌++◌, ◌||◌, Bool, true, false, Option, Some, None, option_map, option_and_then, length, nat_lt, nat_le, if◌then◌else◌, codes}
 use Rattle.std.specs.List.{list_any, count_by}
 use denote.Enum.Bare.{sameb}
@@ -30,12 +30,12 @@ use Rattle.scim_body.specs.BodyNames.{value_named, listed}
 
 -- ---- one value
 
--- what is read of each of some things, in order; None where one of them is refused
+-- the results of reading each element, in order; None if one is refused
 abbrev pub collected : {K X : Type 0} → (K → Option (List X)) → List K → Option (List X)
 collected read [] = Some []
 collected read (k ∷ ks) = option_and_then (λ xs. option_map (λ ys. xs ++ ys) (collected read ks)) (read k)
 
--- null and `[]`, which count as no value (RFC 7643 section 2.5)
+-- whether a value counts as absent: null and `[]` do (RFC 7643 section 2.5)
 abbrev pub is_absent : Data → Bool
 is_absent null = true
 is_absent (array no_items) = true
@@ -45,25 +45,25 @@ is_absent (number n) = false
 is_absent (string s) = false
 is_absent (object ms) = false
 
--- a value, unless it counts as none
+-- the value, unless it counts as absent
 abbrev pub present : Option Data → Option Data
 present None = None
 present (Some d) = if is_absent d then None else Some d
 
--- the value that an object gives under a name
+-- the value that an object gives under a name, unless it counts as absent
 abbrev pub given_named : List ℕ → Members → Option Data
 given_named name ms = present (value_named name ms)
 
--- what is read of a value that is given; nothing, where none is
+-- the result of reading a value if one is given, else nothing
 abbrev pub if_given : {X : Type 0} → (Data → Option (List X)) → Option Data → Option (List X)
 if_given read None = Some []
 if_given read (Some d) = read d
 
--- the boolean that a text names, in any case of its letters
+-- the boolean that a text names, in any case
 abbrev pub truth_of_text : List ℕ → Option Bool
 truth_of_text s = if is_same_name s (codes "true") then Some true else (if is_same_name s (codes "false") then Some false else None)
 
--- a boolean, or the text that names it
+-- the boolean of a value, which may also be a text that names it
 abbrev pub truth_of : Data → Option Bool
 truth_of (boolean b) = Some b
 truth_of (string s) = truth_of_text s
@@ -78,21 +78,22 @@ is_short (Text t) = nat_le (length t) LONGEST_VALUE
 is_short (Truth b) = true
 is_short (Moment m) = true
 
+-- the atom, if it is within the limit for texts
 abbrev pub short : Atom → Option Atom
 short atom = if is_short atom then Some atom else None
 
--- the value as an atom of a type
+-- the atom of a type that a value gives; None if it has another type or is over the limit
 abbrev pub given_atom : AttributeType → Data → Option Atom
 given_atom t d = if sameb the_attribute_type t Boolean then option_map Truth (truth_of d) else option_and_then short (atom_of t d)
 
 -- ---- complex values
 
--- the field of a sub-attribute that has this value
+-- the field of a sub-attribute with this value
 abbrev pub field_with : Kind → Attribute → SubAttribute → Data → Option (List Field)
 field_with kind a b d =
     option_map (λ atom. record { leaf = leaf_at a b; atom = atom } ∷ []) (given_atom (characteristics_of kind (leaf_at a b)).attribute_type d)
 
--- the field of a sub-attribute that an object gives; what is readOnly is ignored (RFC 7643 section 2.2)
+-- the field that an object gives for a sub-attribute; a readOnly one is ignored (RFC 7643 section 2.2)
 abbrev pub field_in : Kind → Attribute → Members → SubAttribute → Option (List Field)
 field_in kind a ms b =
     if is_read_only kind (leaf_at a b) then Some [] else if_given (field_with kind a b) (given_named (sub_attribute_name b) ms)
@@ -105,10 +106,12 @@ fields_in kind a ms = collected (field_in kind a ms) (sub_attributes_by_place a)
 abbrev pub has_value : Attribute → Bool
 has_value a = list_any (λ b. sameb the_sub_attribute b sub_attribute.Value) (sub_attributes a)
 
--- the field of what isn't an object: it is the `value`, where there is one
+-- the field of a value that isn't an object: its `value`, or None if the attribute has no such
+-- sub-attribute
 abbrev pub value_alone : Kind → Attribute → Data → Option (List Field)
 value_alone kind a d = if has_value a then field_with kind a sub_attribute.Value d else None
 
+-- the fields of a value of a complex attribute, by its members if it is an object
 abbrev pub fields_with : Kind → Attribute → Data → Option Members → Option (List Field)
 fields_with kind a d None = value_alone kind a d
 fields_with kind a d (Some ms) = fields_in kind a ms
@@ -119,12 +122,12 @@ fields_of kind a d = fields_with kind a d (as_object d)
 
 -- ---- values of a multi-valued attribute (RFC 7643 section 2.4)
 
--- the value that has these fields; none, where there is no field
+-- the value with these fields; no value if there are no fields
 abbrev pub value_with : Attribute → List Field → List Row
 value_with a [] = []
 value_with a (f ∷ fs) = record { unit = whole a; fields = f ∷ fs } ∷ []
 
--- the value that an item of a list is; none, where it counts as none
+-- the value that an item of a list gives; no value if the item counts as absent
 abbrev pub value_of : Kind → Attribute → Data → Option (List Row)
 value_of kind a d = if is_absent d then Some [] else option_map (value_with a) (fields_of kind a d)
 
@@ -132,13 +135,14 @@ value_of kind a d = if is_absent d then Some [] else option_map (value_with a) (
 abbrev pub are_refused : Attribute → List Row → Bool
 are_refused a rs = nat_lt 1 (count_by is_primary rs) || nat_lt MOST_VALUES (length rs) || list_any (is_nameless a) rs
 
+-- the values, unless they are refused
 abbrev pub checked : Attribute → List Row → Option (List Row)
 checked a rs = if are_refused a rs then None else Some rs
 
--- the values that are given for a multi-valued attribute: those of a list, or one alone
+-- the values given for a multi-valued attribute: those of a list, or a single one; repeated ones are kept
 abbrev pub listed_values : Kind → Attribute → Data → Option (List Row)
 listed_values kind a d = collected (value_of kind a) (listed (as_array d) d)
 
--- the values of a multi-valued attribute: each that is given once
+-- the values of a multi-valued attribute, without repeated ones; None if they are refused
 abbrev pub values_of : Kind → Attribute → Data → Option (List Row)
 values_of kind a d = option_and_then (λ rs. checked a (with_values a [] rs)) (listed_values kind a d)

@@ -1,4 +1,4 @@
--- Drafts of resources, and what is known of them.
+-- Drafts of resources, and the invariant that each one meets.
 use Rattle.std.specs.Prelude.{◌≡◌, List, [], Bool, true, false, not, ◌&&◌, All}
 use Rattle.std.specs.List.{list_any}
 use denote.Enum.Bare.{sameb}
@@ -19,7 +19,8 @@ use Rattle.scim_value.specs.Resource.{IsShort, MembersHaveValues, HasAtMostOnePr
 use Rattle.scim_body.specs.declared.drafts.UseFor.{UseFor}
 use Rattle.scim_body.specs.declared.drafts.UseFor.TheVariants.{Creating}
 
--- a kind, what the body was read for, the units that it gives a value for, and the rows of the values that are kept; both in order of unit
+-- a draft: its kind, the purpose of the body, the units given, and the rows of the values to store, both in
+-- order of unit
 pub record Draft : Type 0 where
   pub kind : Kind
   pub use_for : UseFor
@@ -30,27 +31,29 @@ pub record Draft : Type 0 where
 abbrev pub gives : Draft → AttributeUnit → Bool
 gives d u = list_any (is_same_unit u) d.given
 
--- whether a text is empty
+-- whether an atom is an empty text
 abbrev pub is_empty : Atom → Bool
 is_empty (Text []) = true
 is_empty _ = false
 
--- whether the kind requires an attribute (RFC 7643 section 2.2), and no row is of it
+-- whether the kind requires an attribute (RFC 7643 section 2.2) and no row has it
 abbrev pub is_missing : Kind → List Row → Attribute → Bool
 is_missing kind rs a = (attribute_characteristics kind a).required && not (list_any (λ r. sameb the_attribute r.unit.attribute a) rs)
 
--- whether rows are without an attribute that the kind requires
+-- whether the rows lack an attribute that the kind requires
 unfoldable pub lacks_required : Kind → List Row → Bool
 lacks_required kind rs = list_any (is_missing kind rs) (attributes kind)
 
--- a field that a body may give and that is kept: it is neither readOnly nor writeOnly (RFC 7643 section 2.2), a text has at most 65,536 bytes, and a `userName` isn't empty (section 4.1.1)
+-- a field that a body may give and that is stored: neither readOnly nor writeOnly (RFC 7643 section 2.2), a
+-- text of at most 65,536 bytes, and no empty `userName` (section 4.1.1)
 pub record MayBeGiven (kind : Kind) (f : Field) : Type 0 where
   pub writable : is_read_only kind f.leaf ≡ false
   pub kept : is_write_only kind f.leaf ≡ false
   pub short : IsShort f.atom
   pub filled : f.leaf ≡ simple UserName → is_empty f.atom ≡ false
 
--- what is known of a draft: its rows are those of a part, may be given, and keep to the limits of a resource; one that was read to make a resource has all that the kind requires
+-- the invariant of a draft: its rows are valid, may be given, and keep the limits of a resource; a draft
+-- for Creating has all that the kind requires
 pub record IsDraft (d : Draft) : Type 0 where
   pub sound : AreSound d.kind d.rows
   pub may_be_given : All (λ r. All (MayBeGiven d.kind) r.fields) d.rows

@@ -1,29 +1,31 @@
--- What the reader of a body has read of the units so far.
+-- The units that the reader of a body has read so far.
 use Rattle.std.specs.Prelude.{◌≡◌, List, ◌++◌, map, Option, None, Some, option_map}
 use Rattle.serde_json.specs.Data.{Members, no_members}
 use Rattle.scim_schema.specs.declared.Kind.{Kind}
 use Rattle.scim_body.specs.declared.bodies.UnitGiven.{UnitGiven}
 use Rattle.scim_body.specs.Bodies.{Given, all_given}
 
--- a unit that is given, by its values
+-- the specified form of a given unit
 abbrev pub unit_given : UnitGiven → Given
 unit_given g = record { unit = g.unit; values = g.values.items }
 
+-- the specified form of given units
 abbrev pub units_given : List UnitGiven → List Given
 units_given gs = map unit_given gs
 
--- what is read, after what was read before
+-- the elements read before, then those read now; None if reading failed
 abbrev pub after : {X : Type 0} → List X → Option (List X) → Option (List X)
 after xs read = option_map (λ more. xs ++ more) read
 
+-- the units read before, then those read now; None if reading failed
 abbrev pub with_given : List UnitGiven → Option (List Given) → Option (List Given)
 with_given gs read = after (units_given gs) read
 
--- the members of an object; none, where there is no object
+-- the members of an object; no members if there is no object
 abbrev pub members_or_none : Option Members → Members
 members_or_none None = no_members
 members_or_none (Some ms) = ms
 
--- the units are all that the members of some body of the kind give
+-- the units are all that some body of the kind gives
 abbrev pub AreOfBody : Kind → List UnitGiven → Type 0
 AreOfBody kind gs = (ms : Members) × (all_given kind ms ≡ Some (units_given gs))

@@ -1,2 +1,2 @@
--- How drafts are kept, and what was read of the values of a body.
+-- Definitions for the code that holds drafts and reads bodies.
 pub mod Inside

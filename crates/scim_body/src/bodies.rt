@@ -1,5 +1,5 @@
-//! Bodies of requests that make or replace a resource (RFC 7644 sections 3.3 and 3.5.1): first the form
-//! of a whole body, then its values.
+//! Reads bodies that create or replace a resource (RFC 7644 sections 3.3 and 3.5.1): the keys first, then
+//! the values.
 ghost use Rattle.std.specs.Prelude.{◌≡◌, ◌++◌, IfOk, OnOk, Some, None, option_map, map};
 ghost use Rattle.std.specs.List.{flat_map};
 ghost use Rattle.serde_json.specs.Read.{read};
@@ -32,36 +32,40 @@ use thiserror::Error;
 /// Why a body is refused.
 #[derive(Clone, Copy, Debug, PartialEq, Eq, Error)]
 pub enum BodyFault {
-    /// It isn't a JSON object, or two keys of one object that differ are one name (RFC 7644 section
-    /// 3.12, invalidSyntax).
+    /// The body isn't a JSON object, or two different keys of one object are the same name (RFC 7644
+    /// section 3.12, invalidSyntax).
     #[error("not a JSON object whose keys are each a name of its own")]
     Syntax,
-    /// A value is of another type or over a limit, or what is required is missing (RFC 7644 section
+    /// A value has the wrong type or is over a limit, or a required attribute is missing (RFC 7644 section
     /// 3.12, invalidValue).
     #[error("a value is missing, of another type, or over a limit")]
     Value,
 }
 
-/// A unit that a client gives, and the values that are kept for it; of a writeOnly one none are.
+/// A unit that a body gives a value for, with the values to store.
+///
+/// A writeOnly unit, such as a password, has no values here, since they aren't stored.
 #[derive(Drop)]
 pub struct UnitGiven {
     /// The unit.
     pub unit: Unit,
-    /// Its values.
+    /// Its values to store.
     pub values: Vec<Row>,
 }
 
-/// What a body gives of a resource of the kind (RFC 7643 sections 2 to 4): the values that it has for
-/// attributes of the kind that aren't readOnly, with names in any case of their letters. A boolean may
-/// be the text that names it, a list of one its one value, a complex value the text that is its `value`.
-/// null, `[]`, values without known sub-attributes, and those that are the same as an earlier one of
-/// their list count as none. `schemas` isn't looked at.
+/// Reads the body of a create or a replace into a draft of a resource of `kind` (RFC 7643 sections 2 to 4).
 ///
-/// Syntax where the text isn't a JSON object, or where two keys that differ name one attribute, one
-/// extension, or one sub-attribute within a value that isn't readOnly, wherever in the body. Else Value
-/// where a value is of another type, a text is over 65,536 bytes, `userName` is empty, a member has no
-/// `value`, an attribute has two values whose `primary` is true or over 10,000, and, in a body that is
-/// read for Creating, where a required attribute is missing. NoMemory where none was to be had.
+/// Names match in any case. readOnly attributes, unknown keys and `schemas` are ignored. A boolean may be
+/// the text `true` or `false` in any case; a single value may stand for a list of one, and a text for a
+/// complex value that has only `value`. null, `[]`, values without known sub-attributes and repeated values
+/// of one list count as absent.
+///
+/// Syntax: the text isn't a JSON object, or two different keys name one attribute, one extension, or one
+/// sub-attribute in a value of an attribute that isn't readOnly, anywhere in the body.
+///
+/// Value, if the syntax is right: a value has the wrong type, a text is over 65,536 bytes, `userName` is
+/// empty, a member has no `value`, an attribute has two primary values or more than 10,000 values, or, for
+/// `Creating`, a required attribute is missing.
 pub fn read_body(
     alloc: Global,
     kind: Kind,
@@ -89,10 +93,9 @@ pub fn read_body(
     }
 }
 
-/// The draft of an object.
+/// Reads the draft from the members of the body.
 ///
-/// WrongValue where a value is refused, or in a create a required attribute is missing. NoMemory where
-/// none was to be had.
+/// WrongValue if a value is refused, or if a create lacks a required attribute.
 fn read_draft(
     alloc: Global,
     members: &[Member<'_>],
@@ -108,7 +111,7 @@ fn read_draft(
     draft_of(alloc, kind, use_for, given)
 }
 
-/// All that the body gives.
+/// Reads all units that the body gives, in the order of the attribute table.
 ///
 /// Errors: as `read_attributes`.
 #[tactic(auto, unfolding(crate::specs::Bodies::all_given))]
@@ -126,10 +129,9 @@ fn read_all(
     Ok(given)
 }
 
-/// What the body gives of these attributes.
+/// Appends the units that the body gives for `attributes` to `given`.
 ///
-/// WrongValue where a value is refused; `given` has then what came before it. NoMemory where none was
-/// to be had.
+/// WrongValue if a value is refused. On an error `given` keeps the units read before it.
 fn read_attributes(
     alloc: Global,
     members: &[Member<'_>],
@@ -149,7 +151,8 @@ fn read_attributes(
     Ok(())
 }
 
-/// What the body gives of an attribute, in its own object or in that of an extension.
+/// Appends the units that the body gives for one attribute, from the body itself or from the object of its
+/// extension.
 ///
 /// Errors: as `read_attributes`.
 fn read_given(
@@ -171,8 +174,10 @@ fn read_given(
     }
 }
 
-/// The object in which the attributes of an extension stand, or of the core schema; None where it isn't
-/// given. WrongValue where it is no object.
+/// The object that holds the attributes of `schema`: the body itself for the core schema (`None`), else the
+/// object under the extension's URN.
+///
+/// `None` if the body doesn't give the extension. WrongValue if its value isn't an object.
 fn schema_members<'a, 'b>(
     members: &'a [Member<'b>],
     schema: Option<Schema>,
@@ -193,7 +198,7 @@ fn schema_members<'a, 'b>(
     }
 }
 
-/// What an object gives of an attribute.
+/// Appends the units that an object gives for `attribute`, which is ignored if it is readOnly.
 ///
 /// Errors: as `read_attributes`.
 fn read_attribute(
@@ -218,7 +223,7 @@ fn read_attribute(
     read_shaped(alloc, value, kind, attribute, given)
 }
 
-/// A value of an attribute, by its shape.
+/// Appends the units that a value of `attribute` gives, by the attribute's shape.
 ///
 /// Errors: as `read_attributes`.
 fn read_shaped(
@@ -241,10 +246,13 @@ fn read_shaped(
     }
 }
 
-/// The units that a value gives of an attribute that isn't readOnly (RFC 7643 section 2.3): a simple one of itself,
-/// a complex one of each sub-attribute in it that isn't readOnly, and a multi-valued one of all its values, where it has some.
+/// Reads the units that a value of an attribute gives (RFC 7643 section 2.3).
 ///
-/// WrongValue where the value is refused, as `read_body` tells. NoMemory where none was to be had.
+/// A simple attribute gives one unit, a complex one a unit for each sub-attribute given that isn't
+/// readOnly, and a multi-valued one a unit with all its values, if it has any. It isn't checked whether
+/// `attribute` itself is readOnly.
+///
+/// WrongValue if the value is refused, for the reasons that `read_body` lists as Value.
 pub fn read_units(
     alloc: Global,
     value: &Tree<'_>,
@@ -261,7 +269,7 @@ pub fn read_units(
     Ok(given)
 }
 
-/// A simple attribute.
+/// Appends the unit of a simple attribute. An empty `userName` is refused.
 ///
 /// Errors: as `read_attributes`.
 fn read_simple(
@@ -294,8 +302,7 @@ fn is_empty(atom: &Atom) -> bool
     }
 }
 
-/// The unit of a field of a single-valued attribute; of a writeOnly one nothing is kept. NoMemory where none
-/// was to be had.
+/// The unit of a single-valued field, with no values if the field is writeOnly.
 pub fn field_given(alloc: Global, kind: Kind, field: Field) -> Result<UnitGiven, NoMemory>
     ensures { IfOk result (λ g. unit_given g ≡ spec.field_given kind field) }
 {
@@ -310,7 +317,7 @@ pub fn field_given(alloc: Global, kind: Kind, field: Field) -> Result<UnitGiven,
     Ok(UnitGiven { unit, values })
 }
 
-/// A complex attribute.
+/// Appends a unit for each sub-attribute of a complex attribute.
 ///
 /// Errors: as `read_attributes`.
 fn read_complex(
@@ -329,7 +336,7 @@ fn read_complex(
     Ok(())
 }
 
-/// Each field as a unit of its own. NoMemory where none was to be had.
+/// Appends each field as a unit of its own.
 fn push_fields(
     alloc: Global,
     kind: Kind,
@@ -345,7 +352,7 @@ fn push_fields(
     Ok(())
 }
 
-/// A multi-valued attribute; it isn't given where no value is left.
+/// Appends the unit of a multi-valued attribute, unless no value is left.
 ///
 /// Errors: as `read_attributes`.
 fn read_multi_valued(
@@ -368,9 +375,9 @@ fn read_multi_valued(
     Ok(())
 }
 
-/// The draft of what a body gives; a create needs what is required.
+/// The draft of the given units.
 ///
-/// WrongValue where that is missing. NoMemory where none was to be had.
+/// WrongValue if the draft is for `Creating` and lacks a required attribute.
 fn draft_of(
     alloc: Global,
     kind: Kind,
@@ -390,8 +397,7 @@ fn draft_of(
     Ok(Draft::new(kind, use_for, units, rows))
 }
 
-/// The units that are given, and the rows of their values, one unit after another. NoMemory where none
-/// was to be had.
+/// Splits what is given into its units and the rows of all their values.
 fn parts_of(alloc: Global, given: Vec<UnitGiven>) -> Result<(Vec<Unit>, Vec<Row>), NoMemory>
     ensures units { IfOk result (λ parts. parts.0.items ≡ map (λ g. g.unit) (units_given given.items)) }
     ensures rows { IfOk result (λ parts. parts.1.items ≡ flat_map (λ g. g.values) (units_given given.items)) }

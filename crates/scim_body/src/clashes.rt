@@ -1,4 +1,5 @@
-//! Keys of a body that clash: two keys of one object that are one name leave open which of their values is meant.
+//! Finds keys of a body that clash: two keys of one object that are the same name, so that it isn't clear
+//! which value counts.
 ghost use Rattle.std.specs.Prelude.{◌≡◌};
 ghost use Rattle.std.specs.List.{list_any};
 ghost use Rattle.scim_body.specs.View.{view, items_view, members_view};
@@ -11,7 +12,7 @@ use scim_schema::{
     is_read_only, sub_attributes,
 };
 
-/// Whether two keys name one sub-attribute of the attribute.
+/// Whether two keys of an object name the same sub-attribute of `attribute`.
 fn sub_attributes_clash(members: &[Member<'_>], attribute: Attribute) -> bool
     ensures { result ≡ spec.sub_attributes_clash attribute (members_view members.now) }
 {
@@ -23,7 +24,7 @@ fn sub_attributes_clash(members: &[Member<'_>], attribute: Attribute) -> bool
     false
 }
 
-/// Whether two keys of a value of the attribute name one of its sub-attributes.
+/// Whether two keys of a value name the same sub-attribute of `attribute`.
 pub fn value_clashes(value: &Tree<'_>, attribute: Attribute) -> bool
     ensures { result ≡ spec.value_clashes attribute (view value.now) }
 {
@@ -33,7 +34,7 @@ pub fn value_clashes(value: &Tree<'_>, attribute: Attribute) -> bool
     }
 }
 
-/// Whether they do in one of some values.
+/// Whether `value_clashes` holds for any of `values`.
 fn any_clashes(values: &[Tree<'_>], attribute: Attribute) -> bool
     ensures { result ≡ list_any (spec.value_clashes attribute) (spec.items_list (items_view values.now)) }
 {
@@ -45,8 +46,9 @@ fn any_clashes(values: &[Tree<'_>], attribute: Attribute) -> bool
     false
 }
 
-/// Whether two keys name one sub-attribute in what a body has for the attribute: in some value of a multi-valued one, also
-/// in one that counts as none.
+/// Whether two keys clash in the body's value of `attribute`.
+///
+/// For a multi-valued attribute each item of the list is checked, also one that counts as absent.
 pub fn values_clash(value: &Tree<'_>, attribute: Attribute) -> bool
     ensures { result ≡ spec.values_clash attribute (view value.now) }
 {
@@ -59,8 +61,9 @@ pub fn values_clash(value: &Tree<'_>, attribute: Attribute) -> bool
     }
 }
 
-/// Whether two keys name the attribute, or one of its sub-attributes in a value. What is readOnly is
-/// ignored, and isn't looked into.
+/// Whether two keys name `attribute`, or the same sub-attribute in its value.
+///
+/// The value of a readOnly attribute is ignored, so it isn't checked.
 #[tactic(auto, unfolding(crate::specs::BodyNames::attribute_clashes))]
 fn attribute_clashes(members: &[Member<'_>], kind: Kind, attribute: Attribute) -> bool
     ensures { result ≡ spec.attribute_clashes kind (members_view members.now) attribute }
@@ -77,7 +80,7 @@ fn attribute_clashes(members: &[Member<'_>], kind: Kind, attribute: Attribute) -
     }
 }
 
-/// Whether two keys clash in an object with the attributes of an extension, or of the core schema.
+/// Whether two keys clash among the attributes of an extension, or of the core schema for `None`.
 fn schema_clashes(members: &[Member<'_>], kind: Kind, schema: Option<Schema>) -> bool
     ensures { result ≡ spec.schema_clashes kind schema (members_view members.now) }
 {
@@ -89,7 +92,7 @@ fn schema_clashes(members: &[Member<'_>], kind: Kind, schema: Option<Schema>) ->
     false
 }
 
-/// Whether two keys are the URN of the extension, or clash in its object.
+/// Whether two keys are the extension's URN, or clash in its object.
 fn extension_clashes(members: &[Member<'_>], kind: Kind, schema: Schema) -> bool
     ensures { result ≡ spec.extension_clashes kind (members_view members.now) schema }
 {
@@ -102,7 +105,7 @@ fn extension_clashes(members: &[Member<'_>], kind: Kind, schema: Schema) -> bool
     }
 }
 
-/// Whether they do for one of these extensions.
+/// Whether `extension_clashes` holds for any of `schemas`.
 fn any_extension_clashes(members: &[Member<'_>], kind: Kind, schemas: &[Schema]) -> bool
     ensures { result ≡ list_any (spec.extension_clashes kind (members_view members.now)) schemas.now }
 {
@@ -114,8 +117,8 @@ fn any_extension_clashes(members: &[Member<'_>], kind: Kind, schemas: &[Schema])
     false
 }
 
-/// Whether two keys that differ name one attribute of the kind, the same extension, or one
-/// sub-attribute within a value of an attribute that isn't readOnly, anywhere in a body.
+/// Whether two different keys name one attribute of `kind`, one extension, or one sub-attribute in a value
+/// of an attribute that isn't readOnly, anywhere in a body.
 #[tactic(auto, unfolding(crate::specs::BodyNames::body_clashes))]
 pub(crate) fn body_clashes(members: &[Member<'_>], kind: Kind) -> bool
     ensures { result ≡ spec.body_clashes kind (members_view members.now) }

@@ -1,4 +1,4 @@
-//! Drafts: what the bodies of requests give of resources.
+//! Drafts of resources, read from the bodies of requests.
 ghost use Rattle.std.specs.Prelude.{◌≡◌};
 ghost use Rattle.scim_cell.specs.Rows.{values};
 ghost use Rattle.scim_body.specs.Drafts as spec;
@@ -9,19 +9,18 @@ use scim_schema::{Kind, Unit};
 use scim_value::values_among;
 use std::marker::Model;
 
-/// What a body is read for: to make a resource (RFC 7644 section 3.3), or to replace one (section
-/// 3.5.1).
+/// The purpose of a body: to create a resource (RFC 7644 section 3.3) or to replace one (section 3.5.1).
 #[derive(Clone, Copy, PartialEq, Eq)]
 pub enum UseFor {
     Creating,
     Replacing,
 }
 
-/// What a body gives: a kind, what it was read for, the units that have a value in it, and the rows
-/// of the values, without those that aren't kept, as a password.
+/// A resource as a body gives it: its kind, the purpose, the units given, and the rows to store.
 ///
-/// Contracts know of every draft that its values may stand in a resource of the kind; and of one that was
-/// read for Creating that it has all that the kind requires.
+/// Values that aren't stored, such as a password, are among the units but not among the rows. Invariant:
+/// the rows are valid values of a resource of the kind, and a draft for `Creating` has all that the kind
+/// requires.
 pub struct Draft {
     kind: Kind,
     use_for: UseFor,
@@ -29,7 +28,6 @@ pub struct Draft {
     rows: Vec<Row>,
 }
 
-/// One call, wherever a draft is dropped, in place of a look at all that it has.
 impl Drop for Draft {
     fn drop(self) {
         let Draft {
@@ -58,7 +56,7 @@ impl Model for Draft {
 }
 
 impl Draft {
-    /// The draft of these units and rows.
+    /// Makes a draft, which must satisfy `IsDraft`.
     pub(crate) fn new(kind: Kind, use_for: UseFor, given: Vec<Unit>, rows: Vec<Row>) -> Draft
         requires { IsDraft (record { kind = kind; use_for = use_for; given = given.items; rows = rows.items }) }
         ensures kind { result.kind ≡ kind }
@@ -74,28 +72,28 @@ impl Draft {
         }
     }
 
-    /// The kind.
+    /// The kind of the resource.
     pub fn kind(&self) -> Kind
         ensures { result ≡ self.now.kind }
     {
         self.kind
     }
 
-    /// What the body was read for.
+    /// The purpose that the body was read for.
     pub fn use_for(&self) -> UseFor
         ensures { result ≡ self.now.use_for }
     {
         self.use_for
     }
 
-    /// The units that the body has a value for, in the order of the table.
+    /// The units that the body has a value for, in the order of the attribute table.
     pub fn given(&self) -> &[Unit]
         ensures { result.now ≡ self.now.given }
     {
         self.given.as_slice()
     }
 
-    /// Whether the body has a value for the unit.
+    /// Whether the body has a value for `unit`.
     pub fn gives(&self, unit: Unit) -> bool
         ensures { result ≡ spec.gives self.now unit }
     {
@@ -107,7 +105,7 @@ impl Draft {
         false
     }
 
-    /// The values of a unit that are kept, by position; none of what isn't kept, as a password.
+    /// The values to store of `unit`, in the order given. Empty for a writeOnly unit.
     pub fn values(&self, unit: Unit) -> &[Row]
         ensures values { result.now ≡ values unit self.now.rows }
         ensures valid { IsDraft self.now }
@@ -115,7 +113,7 @@ impl Draft {
         values_among(self.rows(), unit)
     }
 
-    /// The rows of the values, in order of unit.
+    /// The rows of all values to store, in order of unit.
     pub fn rows(&self) -> &[Row]
         ensures rows { result.now ≡ self.now.rows }
         ensures valid { IsDraft self.now }

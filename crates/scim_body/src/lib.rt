@@ -1,4 +1,7 @@
-//! The bodies of requests: what they give of resources (RFC 7644 sections 3.3 and 3.5.1).
+//! Reads the bodies of requests that create or replace a resource (RFC 7644 sections 3.3 and 3.5.1) into
+//! drafts. The JSON is read into a tree whose texts are borrowed from the body.
+//!
+//! Cases: `crates/cases/data/bodies.jsonl`.
 #![tactic(auto)]
 
 mod bodies;

@@ -1,4 +1,4 @@
-//! The members of an object, which are found in any case of the letters of their keys (RFC 7643 section 2.1).
+//! Finds members of a JSON object by name, in any case of the letters of their keys (RFC 7643 section 2.1).
 ghost use Rattle.std.specs.Prelude.{◌≡◌, option_map};
 ghost use Rattle.scim_body.specs.View.{view, members_view};
 ghost use Rattle.scim_body.specs.BodyNames as spec;
@@ -7,7 +7,7 @@ ghost use Rattle.scim_body.specs.BodyValues as values;
 use crate::trees::{Member, Tree};
 use scim_text::same_name;
 
-/// The value under a name; the first, where two keys are the name.
+/// The value under `name`. If two keys are the name, the first.
 pub fn value_named<'a, 'b>(members: &'a [Member<'b>], name: &str) -> Option<&'a Tree<'b>>
     ensures { option_map (λ v. view v.now) result ≡ spec.value_named name.now (members_view members.now) }
 {
@@ -19,7 +19,9 @@ pub fn value_named<'a, 'b>(members: &'a [Member<'b>], name: &str) -> Option<&'a 
     None
 }
 
-/// Whether two keys are the name. An object with one key isn't gone through: most values of a long list have one.
+/// Whether two keys are `name`.
+///
+/// An object with one key returns at once; most values of a long list are such objects.
 pub fn is_twice(members: &[Member<'_>], name: &str) -> bool
     ensures { result ≡ spec.is_twice name.now (members_view members.now) }
 {
@@ -38,7 +40,7 @@ pub fn is_twice(members: &[Member<'_>], name: &str) -> bool
     false
 }
 
-/// Whether a value counts as none: null and `[]` do (RFC 7643 section 2.5).
+/// Whether a value counts as absent: null and `[]` do (RFC 7643 section 2.5).
 pub fn is_absent(value: &Tree<'_>) -> bool
     ensures { result ≡ values.is_absent (view value.now) }
 {
@@ -49,7 +51,7 @@ pub fn is_absent(value: &Tree<'_>) -> bool
     }
 }
 
-/// The value that an object gives under a name; None where it gives none, or one that counts as none.
+/// The value that an object gives under `name`. `None` if there is none, or if it counts as absent.
 pub fn given_named<'a, 'b>(members: &'a [Member<'b>], name: &str) -> Option<&'a Tree<'b>>
     ensures { option_map (λ v. view v.now) result ≡ values.given_named name.now (members_view members.now) }
 {

@@ -1,4 +1,4 @@
-//! Numbers.
+//! Reads JSON numbers.
 ghost use Rattle.std.specs.Prelude.{◌≡◌, Some, None, IfOk};
 ghost use Rattle.json.specs.Print.{IsNumber};
 ghost use Rattle.serde_json.specs.Read.{number_of};
@@ -10,9 +10,9 @@ use scim_text::Failed;
 use serde_json::{Number, Value};
 use std::alloc::Global;
 
-/// The number of a text that is one: an integer of 64 bits, or the nearest float.
+/// Reads `text`, which must be a JSON number: as a 64-bit integer if it is one, else as the nearest float.
 ///
-/// NotJson where it is too large for a float. NoMemory where none was to be had.
+/// NotJson if it is too large for a float.
 pub(crate) fn read_number(alloc: Global, text: &str) -> Result<Number, Failed<NotJson>>
     requires { IsNumber text.now }
     ensures number { IfOk result (λ n. number_of text.now ≡ Some (number_view n)) }

@@ -1,4 +1,4 @@
-//! Reading a text, in one pass over its tokens.
+//! Reads a JSON text into a tree, in one pass over its tokens.
 ghost use Rattle.std.specs.Prelude.{◌≡◌, ◌<◌, length, Some, None, IfOk, OnOk, option_map};
 ghost use Rattle.json.specs.Json.{value, items, members, read_key};
 ghost use Rattle.serde_json.specs.Data.{no_members, put as with_member};
@@ -14,18 +14,19 @@ use std::alloc::Global;
 use std::collections::BTreeMap;
 use thiserror::Error;
 
-/// How deep lists and objects may nest.
+/// How deep arrays and objects may nest.
 const MAX_DEPTH: usize = 127;
 
-/// A text is no JSON value, or nests deeper than 127 levels, or has a number that is too large for a float.
+/// The text isn't a JSON value, nests deeper than 127 levels, or has a number that is too large for a
+/// float.
 #[derive(Clone, Copy, Debug, PartialEq, Eq, Error)]
 #[error("no JSON value")]
 pub struct NotJson;
 
 impl<'a> Tree<'a> {
-    /// The JSON value of a text (RFC 8259).
+    /// Reads the JSON value of a text (RFC 8259).
     ///
-    /// NotJson where it has none. NoMemory where none was to be had.
+    /// NotJson if it has none.
     pub fn read(
         alloc: Global,
         text: &'a str,
@@ -45,9 +46,9 @@ impl<'a> Tree<'a> {
     }
 }
 
-/// The value that the tokens begin with.
+/// Reads the value that begins at the next token, with at most `depth` more levels of nesting.
 ///
-/// NotJson where there is none. NoMemory where none was to be had.
+/// NotJson if there is none.
 #[cycle(read_value)]
 fn read_value<'a>(
     alloc: Global,
@@ -86,7 +87,7 @@ fn read_value<'a>(
     }
 }
 
-/// The items of a list, after its bracket.
+/// Reads the items of an array, after its opening bracket.
 ///
 /// Errors: as `read_value`.
 #[cycle(read_value)]
@@ -110,7 +111,7 @@ fn read_items<'a>(
     Ok(found)
 }
 
-/// The members of an object, after its brace, by their keys.
+/// Reads the members of an object, after its opening brace, keyed by name.
 ///
 /// Errors: as `read_value`.
 #[cycle(read_value)]
@@ -136,7 +137,9 @@ fn read_members<'a>(
     Ok(found)
 }
 
-/// The next key, or None behind the last member. NotJson where there is neither.
+/// Reads the next key, or `None` after the last member.
+///
+/// NotJson if there is neither.
 fn next_key<'a>(reader: &mut Reader<'a>) -> Result<Option<&'a str>, Failed<NotJson>>
     ensures key { IfOk result (λ k. read_key reader.old ≡ Some (option_map (λ s. s.now) k, reader.new)) }
     ensures none { OnFault result (read_key reader.old ≡ None) }
@@ -147,7 +150,7 @@ fn next_key<'a>(reader: &mut Reader<'a>) -> Result<Option<&'a str>, Failed<NotJs
     }
 }
 
-/// Puts a member among the others, in the place of one with its key. NoMemory where none was to be had.
+/// Inserts a member, replacing one that has its key.
 fn put<'a>(
     members: &mut BTreeMap<&'a str, Tree<'a>>,
     key: &'a str,
@@ -160,7 +163,7 @@ fn put<'a>(
     Ok(())
 }
 
-/// The members in the order of their keys. NoMemory where none was to be had.
+/// The members in byte order of their keys.
 fn in_order<'a>(
     alloc: Global,
     members: BTreeMap<&'a str, Tree<'a>>,

@@ -1,4 +1,4 @@
-//! What a kind requires (RFC 7643 section 2.2).
+//! Finds missing required attributes (RFC 7643 section 2.2).
 ghost use Rattle.std.specs.Prelude.{◌≡◌};
 ghost use Rattle.std.specs.List.{list_any};
 ghost use denote.Enum.Bare.{sameb};
@@ -8,7 +8,7 @@ ghost use Rattle.scim_body.specs.Drafts as drafts;
 use scim_cell::Row;
 use scim_schema::{Attribute, Kind, attribute_characteristics, attributes};
 
-/// Whether rows are without an attribute that the kind requires.
+/// Whether `rows` lack an attribute that the kind requires.
 #[tactic(auto, unfolding(crate::specs::Drafts::lacks_required))]
 pub fn lacks_required(kind: Kind, rows: &[Row]) -> bool
     ensures { result ≡ drafts.lacks_required kind rows.now }
@@ -18,14 +18,14 @@ pub fn lacks_required(kind: Kind, rows: &[Row]) -> bool
         .any(|attribute| is_missing(kind, rows, *attribute))
 }
 
-/// Whether the kind requires the attribute, and none of the rows is of it.
+/// Whether the kind requires `attribute` and no row has it.
 fn is_missing(kind: Kind, rows: &[Row], attribute: Attribute) -> bool
     ensures { result ≡ drafts.is_missing kind rows.now attribute }
 {
     attribute_characteristics(kind, attribute).required && !has_attribute(rows, attribute)
 }
 
-/// Whether one of the rows is of the attribute.
+/// Whether any of `rows` is a value of `attribute`.
 fn has_attribute(rows: &[Row], attribute: Attribute) -> bool
     ensures { result ≡ list_any (λ r. sameb the_attribute r.unit.attribute attribute) rows.now }
 {

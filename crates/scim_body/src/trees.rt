@@ -1,4 +1,4 @@
-//! Trees, and what one is.
+//! JSON trees with borrowed texts.
 ghost use Rattle.std.specs.Prelude.{◌≡◌, option_map, option_and_then};
 ghost use Rattle.serde_json.specs.Find.{as_bool, as_number, as_str, as_array, as_object, as_i64};
 ghost use Rattle.scim_body.specs.View.{view, items_view, members_view};
@@ -8,8 +8,9 @@ use serde_json::Number;
 /// A key of an object and its value.
 pub type Member<'a> = (&'a str, Tree<'a>);
 
-/// A JSON value (RFC 8259) whose texts and keys are borrowed from what it was read from. An object has each key once, in
-/// byte order; where its text has one twice, the value of the last counts.
+/// A JSON value (RFC 8259) whose texts and keys are borrowed from the text it was read from.
+///
+/// An object has each key once, in byte order; if the text repeats a key, the last value counts.
 #[derive(Drop)]
 pub enum Tree<'a> {
     Null,
@@ -21,7 +22,7 @@ pub enum Tree<'a> {
 }
 
 impl<'a> Tree<'a> {
-    /// The truth value, where it is one.
+    /// The boolean, if the value is one.
     pub fn as_bool(&self) -> Option<bool>
         ensures { result ≡ as_bool (view self.now) }
     {
@@ -32,7 +33,7 @@ impl<'a> Tree<'a> {
         }
     }
 
-    /// The integer, where it is a number that is one of 64 bits with a sign.
+    /// The integer, if the value is a number that fits a signed 64-bit integer.
     pub fn as_i64(&self) -> Option<i64>
         ensures { result ≡ option_and_then as_i64 (as_number (view self.now)) }
     {
@@ -43,7 +44,7 @@ impl<'a> Tree<'a> {
         }
     }
 
-    /// The text, where it is one.
+    /// The text, if the value is one.
     pub fn as_str(&self) -> Option<&'a str>
         ensures { option_map (λ s. s.now) result ≡ as_str (view self.now) }
     {
@@ -54,7 +55,7 @@ impl<'a> Tree<'a> {
         }
     }
 
-    /// The items, where it is a list.
+    /// The items, if the value is an array.
     pub fn as_array(&self) -> Option<&[Tree<'a>]>
         ensures { option_map (λ v. items_view v.now) result ≡ as_array (view self.now) }
     {
@@ -65,7 +66,7 @@ impl<'a> Tree<'a> {
         }
     }
 
-    /// The members, where it is an object.
+    /// The members, if the value is an object.
     pub fn as_object(&self) -> Option<&[Member<'a>]>
         ensures { option_map (λ v. members_view v.now) result ≡ as_object (view self.now) }
     {

@@ -1,4 +1,4 @@
-//! The values of a body (RFC 7643 sections 2.3 to 2.5).
+//! Reads the values of a body (RFC 7643 sections 2.3 to 2.5).
 ghost use Rattle.std.specs.Prelude.{◌≡◌, ◌∷◌, [], IfOk, OnOk, Some, None, option_map, count_by};
 ghost use Rattle.std.specs.List.{list_any};
 ghost use Rattle.scim_body.specs.View.{view, items_view, members_view};
@@ -21,11 +21,11 @@ use scim_text::{Failed, push, same_name};
 use std::alloc::Global;
 use std::slice;
 
-/// A value of a body is refused: it is of another type, or over a limit.
+/// A value of a body is refused: it has the wrong type or is over a limit.
 #[derive(Clone, Copy, PartialEq, Eq)]
 pub struct WrongValue;
 
-/// A boolean, or the text that names it in any case of its letters.
+/// Reads a boolean, or a text that is `true` or `false` in any case.
 fn read_truth(value: &Tree<'_>) -> Option<bool>
     ensures { result ≡ spec.truth_of (view value.now) }
 {
@@ -52,9 +52,9 @@ fn is_short(atom: &Atom) -> bool
     }
 }
 
-/// The value as an atom of a type.
+/// Reads a value as an atom of the given type.
 ///
-/// WrongValue where it isn't one, or a text over the limit. NoMemory where none was to be had.
+/// WrongValue if it isn't one, or is a text over 65,536 bytes.
 pub fn read_atom(
     alloc: Global,
     value: &Tree<'_>,
@@ -79,7 +79,7 @@ pub fn read_atom(
     }
 }
 
-/// The field of a sub-attribute that has this value.
+/// Reads the field of `sub_attribute` from its value.
 ///
 /// Errors: as `read_atom`.
 pub fn read_field(
@@ -98,9 +98,9 @@ pub fn read_field(
     Ok(Field { leaf, atom })
 }
 
-/// Adds the field of a sub-attribute that an object gives; what is readOnly is ignored.
+/// Appends the field that an object gives for `sub_attribute`, which is ignored if it is readOnly.
 ///
-/// Errors: as `read_atom`; nothing is added then.
+/// Errors: as `read_atom`; `fields` is unchanged then.
 fn read_sub_attribute(
     alloc: Global,
     members: &[Member<'_>],
@@ -126,7 +126,7 @@ fn read_sub_attribute(
     Ok(())
 }
 
-/// The fields that an object gives, in order of place.
+/// Reads the fields that an object gives, in order of place. Unknown keys are ignored.
 ///
 /// Errors: as `read_atom`.
 fn read_object(
@@ -159,9 +159,9 @@ fn has_value(attribute: Attribute) -> bool
     false
 }
 
-/// The field of what isn't an object: it is the `value`, where there is one.
+/// Reads a value that isn't an object as the sub-attribute `value`.
 ///
-/// Errors: as `read_atom`; WrongValue where the attribute has no such sub-attribute.
+/// Errors: as `read_atom`; also WrongValue if the attribute has no such sub-attribute.
 fn read_alone(
     alloc: Global,
     value: &Tree<'_>,
@@ -180,9 +180,9 @@ fn read_alone(
     Ok(fields)
 }
 
-/// The fields of a value of a complex attribute, in order of place.
+/// Reads the fields of a value of a complex attribute, in order of place.
 ///
-/// WrongValue where it is of another type, or one of them is. NoMemory where none was to be had.
+/// WrongValue if the value or one of its fields has the wrong type, or a text is over 65,536 bytes.
 pub fn read_fields(
     alloc: Global,
     value: &Tree<'_>,
@@ -198,10 +198,10 @@ pub fn read_fields(
     }
 }
 
-/// Adds the value that an item of a list is; none, where it counts as none or has no known
+/// Appends the value that an item of a list gives, unless it counts as absent or has no known
 /// sub-attribute.
 ///
-/// Errors: as `read_fields`; nothing is added then.
+/// Errors: as `read_fields`; `values` is unchanged then.
 fn read_value(
     alloc: Global,
     value: &Tree<'_>,
@@ -224,10 +224,12 @@ fn read_value(
     Ok(())
 }
 
-/// The values that are given for a multi-valued attribute (RFC 7643 section 2.4): those of a list, or one alone; null,
-/// `[]` and values without known sub-attributes are none.
+/// Reads the values given for a multi-valued attribute (RFC 7643 section 2.4): those of a list, or a single
+/// one.
 ///
-/// WrongValue where one is of another type, or a text is over the limit. NoMemory where none was to be had.
+/// null, `[]` and values without known sub-attributes are left out; repeated values are kept.
+///
+/// WrongValue if a value has the wrong type, or a text is over 65,536 bytes.
 pub fn read_listed(
     alloc: Global,
     value: &Tree<'_>,
@@ -243,7 +245,7 @@ pub fn read_listed(
     }
 }
 
-/// The values that the items of a list are.
+/// Reads the values that the items of a list give.
 ///
 /// Errors: as `read_fields`.
 fn read_items(
@@ -264,22 +266,22 @@ fn read_items(
     Ok(values)
 }
 
-/// Whether values are refused: two are primary (RFC 7643 section 2.4), there are too many, or a member
-/// has no `value` (section 4.2).
+/// Whether the values of an attribute are refused: two are primary (RFC 7643 section 2.4), there are more
+/// than 10,000, or a member has no `value` (section 4.2).
 fn are_refused(attribute: Attribute, values: &[Row]) -> bool
     ensures { result ≡ spec.are_refused attribute values.now }
 {
     count_primary(values) > 1 || values.len() > MOST_VALUES || any_nameless(attribute, values)
 }
 
-/// How many values are marked as the primary one.
+/// The number of values marked as primary.
 fn count_primary(values: &[Row]) -> usize
     ensures { result ≡ count_by is_primary values.now }
 {
     values.iter().filter(|value| value.is_primary()).count()
 }
 
-/// Whether one is a member without a `value`.
+/// Whether any value is a member without a `value`.
 fn any_nameless(attribute: Attribute, values: &[Row]) -> bool
     ensures { result ≡ list_any (is_nameless attribute) values.now }
 {
@@ -291,10 +293,10 @@ fn any_nameless(attribute: Attribute, values: &[Row]) -> bool
     false
 }
 
-/// The values of a multi-valued attribute, each once: those of a list, or one alone.
+/// Reads the values of a multi-valued attribute from a list or a single value, without repeated ones.
 ///
-/// WrongValue where one is of another type, two are primary, there are too many, or a member has no
-/// `value`. NoMemory where none was to be had.
+/// WrongValue if a value has the wrong type, a text is over 65,536 bytes, two values are primary, there are
+/// more than 10,000, or a member has no `value`.
 pub(crate) fn read_values(
     alloc: Global,
     value: &Tree<'_>,

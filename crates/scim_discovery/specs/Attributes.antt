@@ -1,4 +1,4 @@
--- Attributes and sub-attributes as schemas tell of them (RFC 7643 section 7).
+-- Attributes and sub-attributes as schemas describe them (RFC 7643 section 7).
 use Rattle.std.specs.Prelude.{ℕ, List, codes, map, Option, None, Some}
 use Rattle.serde_json.specs.Data.{Data, boolean, string, array, object, Members, no_members, member}
 use Rattle.serde_json.specs.View.{items_of}
@@ -14,7 +14,7 @@ use Rattle.scim_schema.specs.Table.{sub_attributes}
 use Rattle.scim_schema.specs.Characteristics.{attribute_characteristics, sub_attribute_characteristics}
 use Rattle.scim_discovery.specs.Members.{with_member}
 
--- what is told of a name: its characteristics, and its sub-attributes if there is a value for them
+-- the members that describe a name and its characteristics, with optional sub-attributes
 abbrev pub members_for : List ℕ → Characteristics → Option Data → Members
 members_for name c sub_attributes =
     member (codes "caseExact") (boolean c.case_exact)
@@ -27,19 +27,20 @@ members_for name c sub_attributes =
     (member (codes "type") (string (type_name c.attribute_type))
     (member (codes "uniqueness") (string (uniqueness_name c.uniqueness)) no_members))))))))
 
--- a sub-attribute of an attribute
+-- the description of a sub-attribute
 abbrev pub sub_attribute_data : Attribute → SubAttribute → Data
 sub_attribute_data a b = object (members_for (sub_attribute_name b) (sub_attribute_characteristics a b) None)
 
--- the sub-attributes of an attribute of that type: a complex one alone has them (RFC 7643 section 2.3.8)
+-- the descriptions of an attribute's sub-attributes, which only a complex attribute has (RFC 7643 section
+-- 2.3.8)
 abbrev pub sub_attributes_data : Attribute → AttributeType → Option Data
 sub_attributes_data a Complex = Some (array (items_of (map (sub_attribute_data a) (sub_attributes a))))
 sub_attributes_data a _ = None
 
--- an attribute of a kind with these characteristics
+-- the description of an attribute with these characteristics
 abbrev pub attribute_data_with : Attribute → Characteristics → Data
 attribute_data_with a c = object (members_for (attribute_name a) c (sub_attributes_data a c.attribute_type))
 
--- an attribute of a kind
+-- the description of an attribute of a kind
 abbrev pub attribute_data : Kind → Attribute → Data
 attribute_data kind a = attribute_data_with a (attribute_characteristics kind a)

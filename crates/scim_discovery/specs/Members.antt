@@ -1,8 +1,8 @@
--- Objects that may lack a member.
+-- Members of JSON objects that may be missing.
 use Rattle.std.specs.Prelude.{ℕ, List, Option, None, Some}
 use Rattle.serde_json.specs.Data.{Data, Members, member}
 
--- a member more, if there is a value for it
+-- the members, with one more if there is a value for it
 abbrev pub with_member : List ℕ → Option Data → Members → Members
 with_member key None members = members
 with_member key (Some d) members = member key d members

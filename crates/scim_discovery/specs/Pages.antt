@@ -23,23 +23,23 @@ page_data (ResourceType kind) = resource_type_data kind
 page_data Schemas = list_data (map schema_data schemas)
 page_data (Schema schema) = schema_data schema
 
--- whether a text is more than spaces
+-- whether a text has a character other than a space
 abbrev pub is_given : List ℕ → Bool
 is_given text = list_any (λ b. not (b == 32)) text
 
--- so a parameter that isn't there is not given
+-- whether there is a text, and it has a character other than a space
 abbrev pub is_given_in : Option (List ℕ) → Bool
 is_given_in None = false
 is_given_in (Some text) = is_given text
 
--- whether a query string gives a filter
+-- whether a query string has a filter that isn't blank
 abbrev pub has_filter : Option (List ℕ) → Bool
 has_filter query = is_given_in (parameters_of query).filter
 
--- the body of a page's reply; a filter is forbidden
+-- the body of the reply to a request for a page; a filter is refused
 abbrev pub reply_of : Page → Option (List ℕ) → Result (List ℕ) Refusal
 reply_of page query = if has_filter query then Err Denied else Ok (compact_text (page_data page))
 
--- what is replied is that
+-- the result is the specified reply
 abbrev pub Replies : Page → Option (List ℕ) → Result (List ℕ) Refusal → Type 0
 Replies page query told = told ≡ reply_of page query

@@ -8,16 +8,17 @@ use Rattle.scim_schema.specs.Names.{kind_name, endpoint}
 use Rattle.scim_schema.specs.Schemas.{urn, core_schema, extensions}
 use Rattle.scim_discovery.specs.Members.{with_member}
 
--- an extension, which a resource may have and needn't
+-- the description of an extension, which is never required
 abbrev pub extension_data : Schema → Data
 extension_data s = object (member (codes "required") (boolean false) (member (codes "schema") (string (urn s)) no_members))
 
--- the extensions; nothing where there is none
+-- the descriptions of extensions; None if there are none
 abbrev pub extensions_data : List Schema → Option Data
 extensions_data [] = None
 extensions_data (s ∷ ss) = Some (array (items_of (map extension_data (s ∷ ss))))
 
--- a resource type: where its resources are found, and by which schemas they are described
+-- the members of a resource type: the endpoint of its resources, its names, and the schemas that describe
+-- them
 abbrev pub members_for : Kind → Option Data → Members
 members_for kind extended =
     member (codes "endpoint") (string (endpoint kind))
@@ -27,6 +28,6 @@ members_for kind extended =
     (with_member (codes "schemaExtensions") extended
     (member (codes "schemas") (array (item (string (codes "urn:ietf:params:scim:schemas:core:2.0:ResourceType")) no_items)) no_members)))))
 
--- the resource type that a kind is
+-- the resource type of a kind
 unfoldable pub resource_type_data : Kind → Data
 resource_type_data kind = object (members_for kind (extensions_data (extensions kind)))

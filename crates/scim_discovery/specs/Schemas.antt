@@ -23,13 +23,13 @@ schema_name UserSchema = codes "User"
 schema_name GroupSchema = codes "Group"
 schema_name EnterpriseUser = codes "EnterpriseUser"
 
--- the attributes that a schema lists; those that each resource has, whatever its schemas are, stand in none (RFC 7643 section 3.1)
+-- the attributes that a schema lists, without those that every resource has (RFC 7643 section 3.1)
 abbrev pub attributes_in : Schema → List Attribute
 attributes_in UserSchema = single_user_attributes ++ multi_valued_user_attributes
 attributes_in GroupSchema = group_attributes
 attributes_in EnterpriseUser = enterprise_attributes
 
--- a schema with its attributes
+-- the description of a schema, with its attributes
 unfoldable pub schema_data : Schema → Data
 schema_data s = object
     (member (codes "attributes") (array (items_of (map (attribute_data (kind_with s)) (attributes_in s))))

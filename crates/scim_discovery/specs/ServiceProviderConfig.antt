@@ -1,38 +1,39 @@
--- What this server can do (RFC 7643 section 5).
+-- The server's features (RFC 7643 section 5).
 use Rattle.std.specs.Prelude.{Bool, true, false, codes}
 use Rattle.serde_json.specs.Data.{Data, boolean, number, unsigned, string, array, object, no_items, item, no_members, member}
 use Rattle.scim_schema.specs.declared.limits.TheConstants.{MOST_SHOWN}
 
--- clients show who they are by bearer tokens (RFC 6750)
+-- the description of bearer tokens (RFC 6750)
 abbrev pub bearer_tokens : Data
 bearer_tokens = object
     (member (codes "description") (string (codes "Bearer token"))
     (member (codes "name") (string (codes "OAuth Bearer Token"))
     (member (codes "type") (string (codes "oauthbearertoken")) no_members)))
 
+-- the ways to authenticate: bearer tokens
 abbrev pub authentication_schemes : Data
 authentication_schemes = array (item bearer_tokens no_items)
 
--- the URN that says what kind of page it is
+-- the list with the URN of this page's schema
 abbrev pub config_schemas : Data
 config_schemas = array (item (string (codes "urn:ietf:params:scim:schemas:core:2.0:ServiceProviderConfig")) no_items)
 
--- whether something is supported
+-- whether a feature is supported
 abbrev pub supported : Bool → Data
 supported b = object (member (codes "supported") (boolean b) no_members)
 
--- many operations at once aren't (RFC 7644 section 3.7)
+-- bulk operations, which aren't supported (RFC 7644 section 3.7)
 abbrev pub bulk : Data
 bulk = object
     (member (codes "maxOperations") (number (unsigned 0))
     (member (codes "maxPayloadSize") (number (unsigned 0))
     (member (codes "supported") (boolean false) no_members)))
 
--- filters are, and at most 200 resources are shown at once (RFC 7644 section 3.4.2)
+-- filters, which are supported, with at most 200 resources on a page (RFC 7644 section 3.4.2)
 abbrev pub filter : Data
 filter = object (member (codes "maxResults") (number (unsigned MOST_SHOWN)) (member (codes "supported") (boolean true) no_members))
 
--- what this server can do
+-- the page about the server's features
 unfoldable pub service_provider_config : Data
 service_provider_config = object
     (member (codes "authenticationSchemes") authentication_schemes

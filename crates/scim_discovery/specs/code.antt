@@ -1,1 +1,2 @@
+-- Definitions for the code that describes schemas.
 pub mod Listed

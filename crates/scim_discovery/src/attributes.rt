@@ -1,4 +1,4 @@
-//! Attributes and sub-attributes as schemas tell of them (RFC 7643 section 7).
+//! Describes attributes and sub-attributes in schemas (RFC 7643 section 7).
 ghost use Rattle.std.specs.Prelude.{◌≡◌, IfOk, OnOk, map, None};
 ghost use Rattle.serde_json.specs.Data.{array, no_members};
 ghost use Rattle.serde_json.specs.View.{view, items_of, items_view, members_view};
@@ -14,7 +14,7 @@ use scim_text::{NoMemory, push};
 use serde_json::{Map, Value, put};
 use std::alloc::Global;
 
-/// The members that tell a name and its characteristics.
+/// The members that describe a name and its characteristics.
 fn members_for(
     alloc: Global,
     name: &str,
@@ -27,7 +27,9 @@ fn members_for(
     Ok(map)
 }
 
-/// Puts the same into a map that is empty, which is lent: so each way out has nothing to let go.
+/// Fills the empty `map` with the members that describe a name and its characteristics.
+///
+/// The map is borrowed so that no early return has to drop it. On an error it may have some of the members.
 fn put_members(
     map: &mut Map<String, Value>,
     alloc: Global,
@@ -56,6 +58,7 @@ fn put_members(
     put_text(map, alloc, "uniqueness", uniqueness.name())
 }
 
+/// The description of a sub-attribute.
 fn sub_attribute_value(
     alloc: Global,
     attribute: Attribute,
@@ -68,7 +71,7 @@ fn sub_attribute_value(
     Ok(Value::Object(map))
 }
 
-/// The sub-attributes of a complex attribute, in the order of the table.
+/// The descriptions of a complex attribute's sub-attributes, in the order of the attribute table.
 fn sub_attribute_values(alloc: Global, attribute: Attribute) -> Result<Vec<Value>, NoMemory>
     ensures { IfOk result (λ values. map view values.items
         ≡ map (spec.sub_attribute_data attribute) (sub_attributes attribute)) }
@@ -81,7 +84,8 @@ fn sub_attribute_values(alloc: Global, attribute: Attribute) -> Result<Vec<Value
     Ok(values)
 }
 
-/// An attribute of the kind: its name, its characteristics, and its sub-attributes where it is complex.
+/// The description of an attribute of the kind: its name, its characteristics, and its sub-attributes if it
+/// is complex.
 pub(crate) fn attribute_value(
     alloc: Global,
     kind: Kind,

@@ -1,6 +1,9 @@
-//! What the server tells of itself: the pages of discovery (RFC 7644 section 4, RFC 7643 sections 5, 6 and 7).
+//! The pages of discovery, in which the server describes itself (RFC 7644 section 4, RFC 7643 sections 5, 6
+//! and 7).
 //!
-//! Schemas are written from the attribute table: what clients are told is what the server goes by.
+//! Schemas are generated from the attribute table that the server itself uses.
+//!
+//! Cases: `crates/cases/data/requests_discovery.json`.
 #![tactic(auto)]
 
 mod attributes;

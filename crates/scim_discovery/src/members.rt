@@ -1,4 +1,4 @@
-//! Members of JSON objects, one by one.
+//! Adds members to JSON objects.
 ghost use Rattle.std.specs.Prelude.{◌≡◌, OnOk};
 ghost use Rattle.serde_json.specs.Data.{boolean, string, put as with};
 ghost use Rattle.serde_json.specs.View.{members_view};
@@ -7,7 +7,7 @@ use scim_text::NoMemory;
 use serde_json::{Map, Value, put};
 use std::alloc::Global;
 
-/// Puts a text under a key.
+/// Inserts a text under a key.
 pub(crate) fn put_text(
     map: &mut Map<String, Value>,
     alloc: Global,
@@ -20,7 +20,7 @@ pub(crate) fn put_text(
     Ok(put(map, alloc, key, Value::try_from_str(alloc, text)?)?)
 }
 
-/// Puts a Boolean under a key.
+/// Inserts a boolean under a key.
 pub(crate) fn put_truth(
     map: &mut Map<String, Value>,
     alloc: Global,

@@ -18,14 +18,14 @@ use scim_text::{Failed, NoMemory};
 use serde_json::Value;
 use std::alloc::Global;
 
-/// Whether a text is more than spaces.
+/// Whether a text has a character other than a space.
 fn is_given(text: &str) -> bool
     ensures { result ≡ spec.is_given text.now }
 {
     text.as_bytes().iter().any(|byte| *byte != b' ')
 }
 
-/// Whether a query string gives a filter.
+/// Whether a query string has a `filter` that isn't blank.
 fn has_filter(alloc: Global, query: Option<&[u8]>) -> Result<bool, NoMemory>
     ensures { IfOk result (λ b. b ≡ spec.has_filter (option_copied query.entry)) }
 {
@@ -58,11 +58,13 @@ fn page_text(alloc: Global, page: Page) -> Result<Text, NoMemory>
     Ok(Text::new(value.to_string(alloc)?))
 }
 
-/// The body of the reply to a request for a page, whose status is 200, where the query string is this one; None where
-/// the target has none (RFC 7644 section 4). It is JSON without spaces, and the keys of each object stand in byte order.
+/// Returns the body of the reply, with status 200, to a request for a page (RFC 7644 section 4).
 ///
-/// Fails with Denied where the query string gives a filter, by the first parameter of that name that it has, in any ASCII
-/// case; one that is empty, or spaces alone, gives none. Fails with NoMemory where no memory is to be had.
+/// `query` is the query string of the request's target, if it has one. The body is JSON without spaces, and
+/// the keys of each object are in byte order.
+///
+/// Denied if the query string has a filter. The first parameter with that name, in any ASCII case, counts;
+/// one that is empty or only spaces counts as no filter.
 pub fn page_reply(alloc: Global, page: Page, query: Option<&[u8]>) -> Result<Text, Failed<Refusal>>
     ensures { UnlessMemory (Replies page (option_copied query.entry)) result }
 {

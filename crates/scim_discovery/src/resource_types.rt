@@ -1,4 +1,4 @@
-//! Resource types (RFC 7643 section 6).
+//! Describes resource types (RFC 7643 section 6).
 ghost use Rattle.std.specs.Prelude.{◌≡◌, IfOk, map, None};
 ghost use Rattle.serde_json.specs.View.{view, members_view};
 ghost use Rattle.scim_schema.specs.Names.{kinds};
@@ -10,13 +10,14 @@ use scim_text::{NoMemory, push};
 use serde_json::{Map, Value, json, put};
 use std::alloc::Global;
 
-/// An extension that a resource may have.
+/// The description of an extension, which is never required.
 fn extension_value(alloc: Global, schema: Schema) -> Result<Value, NoMemory>
     ensures { IfOk result (λ v. view v ≡ spec.extension_data schema) }
 {
     Ok(json!(in alloc; {"required": false, "schema": schema.urn()})?)
 }
 
+/// The descriptions of extensions.
 fn extension_values(alloc: Global, schemas: &[Schema]) -> Result<Vec<Value>, NoMemory>
     ensures { IfOk result (λ values. map view values.items ≡ map spec.extension_data schemas.now) }
 {
@@ -41,7 +42,7 @@ fn members_for(alloc: Global, kind: Kind) -> Result<Map<String, Value>, NoMemory
     Ok(map)
 }
 
-/// The resource type that a kind is.
+/// The resource type of a kind.
 #[tactic(auto, unfolding(crate::specs::ResourceTypes::resource_type_data))]
 pub(crate) fn resource_type_value(alloc: Global, kind: Kind) -> Result<Value, NoMemory>
     ensures { IfOk result (λ v. view v ≡ spec.resource_type_data kind) }

@@ -1,4 +1,4 @@
-//! Schemas (RFC 7643 section 7).
+//! Describes schemas (RFC 7643 section 7).
 ghost use Rattle.std.specs.Prelude.{◌≡◌, IfOk, map};
 ghost use Rattle.serde_json.specs.View.{view};
 ghost use Rattle.scim_schema.specs.Schemas.{schemas};
@@ -22,6 +22,7 @@ fn kind_with(schema: Schema) -> Kind
     }
 }
 
+/// The name of a schema.
 fn schema_name(schema: Schema) -> &'static str
     ensures { result.now ≡ spec.schema_name schema }
 {
@@ -32,7 +33,7 @@ fn schema_name(schema: Schema) -> &'static str
     }
 }
 
-/// Whether each resource has the attribute, whatever its schemas are (RFC 7643 section 3.1).
+/// Whether every resource has the attribute, whatever its schemas (RFC 7643 section 3.1).
 fn is_common(attribute: Attribute) -> bool
     ensures { result ≡ listed.is_common attribute }
 {
@@ -42,7 +43,7 @@ fn is_common(attribute: Attribute) -> bool
     )
 }
 
-/// The attributes that the schema lists, in the order of the table.
+/// The descriptions of the schema's attributes, in the order of the attribute table.
 fn attribute_values(alloc: Global, schema: Schema) -> Result<Vec<Value>, NoMemory>
     ensures { IfOk result (λ values. map view values.items
         ≡ map (attribute_data (spec.kind_with schema)) (spec.attributes_in schema)) }

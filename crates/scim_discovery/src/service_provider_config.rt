@@ -1,4 +1,4 @@
-//! What this server can do (RFC 7643 section 5).
+//! Describes the server's features (RFC 7643 section 5).
 ghost use Rattle.std.specs.Prelude.{◌≡◌, IfOk, OnOk};
 ghost use Rattle.serde_json.specs.Data.{put as with};
 ghost use Rattle.serde_json.specs.View.{view, members_view};
@@ -8,7 +8,7 @@ use scim_text::NoMemory;
 use serde_json::{Map, Value, json, put};
 use std::alloc::Global;
 
-/// The ways in which clients show who they are.
+/// The ways to authenticate: bearer tokens.
 fn authentication_schemes_value(alloc: Global) -> Result<Value, NoMemory>
     ensures { IfOk result (λ v. view v ≡ spec.authentication_schemes) }
 {
@@ -19,25 +19,28 @@ fn authentication_schemes_value(alloc: Global) -> Result<Value, NoMemory>
     }])?)
 }
 
+/// The list with the URN of this page's schema.
 fn schemas_value(alloc: Global) -> Result<Value, NoMemory>
     ensures { IfOk result (λ v. view v ≡ spec.config_schemas) }
 {
     Ok(json!(in alloc; ["urn:ietf:params:scim:schemas:core:2.0:ServiceProviderConfig"])?)
 }
 
+/// Bulk operations, which aren't supported.
 fn bulk_value(alloc: Global) -> Result<Value, NoMemory>
     ensures { IfOk result (λ v. view v ≡ spec.bulk) }
 {
     Ok(json!(in alloc; {"maxOperations": 0u64, "maxPayloadSize": 0u64, "supported": false})?)
 }
 
+/// Filters, which are supported, with the most resources on a page.
 fn filter_value(alloc: Global) -> Result<Value, NoMemory>
     ensures { IfOk result (λ v. view v ≡ spec.filter) }
 {
     Ok(json!(in alloc; {"maxResults": 200u64, "supported": true})?)
 }
 
-/// Puts under a key whether something is supported.
+/// Inserts under a key whether a feature is supported.
 fn put_supported(
     map: &mut Map<String, Value>,
     alloc: Global,
@@ -51,7 +54,7 @@ fn put_supported(
     Ok(put(map, alloc, key, value)?)
 }
 
-/// What this server can do.
+/// The page about the server's features.
 #[tactic(auto, unfolding(crate::specs::ServiceProviderConfig::service_provider_config))]
 pub(crate) fn service_provider_config_value(alloc: Global) -> Result<Value, NoMemory>
     ensures { IfOk result (λ v. view v ≡ spec.service_provider_config) }

@@ -1,4 +1,4 @@
--- Rules that can never decide, since a rule before them covers all that they cover.
+-- Rules that can never decide, since an earlier rule covers all that they cover.
 use Rattle.std.specs.Prelude.{ℕ, ◌+◌, ◌-◌, Bool, true, false, ◌&&◌, ◌==◌, List, ◌++◌, length, take, nat_eq, codes, decimal, Option, option_map, position}
 use Rattle.std.specs.List.{list_any, list_all, filter_map, flat_map, enumerate_from}
 use Rattle.std.specs.Cmp.Lexicographic.{pointwise}
@@ -16,13 +16,14 @@ use Rattle.scim_policy.specs.Decide.{paths_on}
 use Rattle.scim_explain.specs.declared.idle.IdleRule.{IdleRule}
 use Rattle.scim_explain.specs.Texts.{rule_line}
 
--- whether a client name is for all for whom another is: `*` for everyone, a name for itself
+-- whether a client name covers every client that another covers: `*` covers all, and a name covers itself
 abbrev pub covers_client : ClientName → ClientName → Bool
 covers_client Everyone other = true
 covers_client (Named name) Everyone = false
 covers_client (Named name) (Named other) = pointwise nat_eq name other
 
--- whether a path covers all that another covers: `*` everything, an attribute itself and its sub-attributes, a sub-attribute itself
+-- whether a path covers every leaf that another covers: `*` covers all, an attribute covers itself and its
+-- sub-attributes, and a sub-attribute covers itself
 abbrev pub covers_path : PolicyPath → PolicyPath → Bool
 covers_path Everything other = true
 covers_path (Attribute a) Everything = false
@@ -32,26 +33,27 @@ covers_path (SubAttribute a sub) Everything = false
 covers_path (SubAttribute a sub) (Attribute b) = false
 covers_path (SubAttribute a sub) (SubAttribute b other) = is_same_leaf (leaf_at a sub) (leaf_at b other)
 
--- whether each of some is covered by one of others
+-- whether each element is covered by one of the others
 abbrev pub are_covered : {X : Type 0} → (X → X → Bool) → List X → List X → Bool
 are_covered covers others xs = list_all (λ x. list_any (λ y. covers y x) others) xs
 
--- whether a rule covers all that another does of a kind
+-- whether a rule covers all leaves that another covers on a kind
 abbrev pub covers_on_kind : Rule → Rule → Kind → Bool
 covers_on_kind e r k = are_covered covers_path (paths_on k e.paths) (paths_on k r.paths)
 
--- whether a rule covers all that another does: it has no target, and the clients, the operations, the kinds and on each of them the paths
+-- whether a rule has no target and covers the clients, operations and kinds of another, and the paths on
+-- each kind
 abbrev pub covers_rule : Rule → Rule → Bool
 covers_rule e r =
     (length e.targets == 0)
     && (are_covered covers_client e.clients r.clients
     && (are_covered (sameb the_op) e.ops r.ops && (are_covered (sameb the_kind) e.kinds r.kinds && list_all (covers_on_kind e r) r.kinds)))
 
--- that a numbered rule is idle behind some, by the first of them that covers all that it does
+-- the entry for a numbered rule after earlier rules, if one of them covers it; it names the first that does
 abbrev pub idle_behind : List Rule → ℕ → Rule → Option IdleRule
 idle_behind earlier number r = option_map (λ i. record { rule = number; covered_by = i + 1 }) (position (λ e. covers_rule e r) earlier)
 
--- the rules of a policy that are idle behind those before them, in order
+-- the rules of a policy that an earlier rule covers, in order
 abbrev pub idle_rules : List Rule → List IdleRule
 idle_rules policy = filter_map (λ (numbered : ℕ × Rule). idle_behind (take (numbered.0 - 1) policy) numbered.0 numbered.1) (enumerate_from 1 policy)
 
@@ -59,6 +61,6 @@ idle_rules policy = filter_map (λ (numbered : ℕ × Rule). idle_behind (take (
 abbrev pub idle_line : IdleRule → List ℕ
 idle_line idle = rule_line idle.rule (codes "never decides, see rule " ++ decimal idle.covered_by)
 
--- a line for each of some
+-- the lines of idle rules
 abbrev pub idle_lines : List IdleRule → List ℕ
 idle_lines idle = flat_map idle_line idle

@@ -1,4 +1,4 @@
--- What explanations tell, for any policy, client, operation, resource and leaf; and that idle rules are idle.
+-- Laws about explanations and idle rules.
 use Rattle.std.specs.Prelude.{◌≡◌, ◌≢◌, true, ◌==◌, ◌-◌, ℕ, false, List, All, length, map, take, Some, if◌then◌else◌}
 use Rattle.scim_schema.specs.declared.Op.{Op}
 use Rattle.scim_schema.specs.declared.Leaf.{Leaf}
@@ -9,29 +9,29 @@ use Rattle.scim_explain.specs.declared.idle.IdleRule.{IdleRule}
 use Rattle.scim_explain.specs.Explain.{Explanation, explained}
 use Rattle.scim_explain.specs.Idle.{covers_rule, idle_rules}
 
--- the rules that an explanation tells of: those before the deciding one, or all where that is 0
+-- the rules that an explanation has misfits for: those before the deciding rule, or all if that is 0
 abbrev pub earlier : List Rule → Explanation → List Rule
 earlier policy e = if e.decision.rule == 0 then policy else take (e.decision.rule - 1) policy
 
--- it has one misfit fewer than the number of the deciding rule, or as many as there are rules where that is 0
+-- an explanation has one misfit for each rule before the deciding one, or for each rule if that is 0
 abbrev pub TellsOfEachEarlierRule : Type 0
 TellsOfEachEarlierRule =
     (policy : List Rule) (client : List ℕ) (op : Op) (c : Content) (l : Leaf)
     → length (explained policy client op c l).misfits ≡ (let e = explained policy client op c l in if e.decision.rule == 0 then length policy else e.decision.rule - 1)
 
--- its misfits are those of the rules before the deciding one, one of each
+-- the misfits of an explanation are those of the rules before the deciding one, one for each
 abbrev pub TellsTheMisfitOfEach : Type 0
 TellsTheMisfitOfEach =
     (policy : List Rule) (client : List ℕ) (op : Op) (c : Content) (l : Leaf)
     → map Some (explained policy client op c l).misfits ≡ map (misfit_of client op c l) (earlier policy (explained policy client op c l))
 
--- none of these rules fits
+-- no rule before the deciding one fits
 abbrev pub NoEarlierRuleFits : Type 0
 NoEarlierRuleFits =
     (policy : List Rule) (client : List ℕ) (op : Op) (c : Content) (l : Leaf)
     → All (λ r. fits client op c l r ≡ false) (earlier policy (explained policy client op c l))
 
--- a rule that covers all that another does fits wherever the other fits
+-- a rule that covers all that another covers fits wherever the other fits
 abbrev pub CoveringRulesFit : Type 0
 CoveringRulesFit = (e r : Rule) (client : List ℕ) (op : Op) (c : Content) (l : Leaf) → covers_rule e r ≡ true → fits client op c l r ≡ true → fits client op c l e ≡ true
 

@@ -1,4 +1,4 @@
--- What a policy decides of a whole resource, as a text.
+-- The decisions of a policy on a whole resource, as a text.
 use Rattle.std.specs.Prelude.{ℕ, List, ◌++◌, codes, decimal}
 use Rattle.std.specs.List.{flat_map}
 use Rattle.scim_schema.specs.declared.Op.{Op}
@@ -11,14 +11,15 @@ use Rattle.scim_policy.specs.Rules.{Rule}
 use Rattle.scim_policy.specs.Decide.{decide}
 use Rattle.scim_explain.specs.Texts.{effect_word}
 
--- the line of a leaf: its path, the rule that decides, and what, with a line feed at its end
+-- the line of a leaf: its path, the rule that decides, and `allow` or `deny`
 abbrev pub decision_line : Leaf → Decision → List ℕ
 decision_line l d = leaf_path l ++ codes " rule " ++ decimal d.rule ++ codes " " ++ effect_word d.allow ++ codes "\n"
 
--- a line for each of some leaves
+-- the lines of leaves
 abbrev pub decision_lines : (Leaf → Decision) → List Leaf → List ℕ
 decision_lines decided ls = flat_map (λ l. decision_line l (decided l)) ls
 
--- a line for each leaf of a resource's kind, in order, with what a policy decides of a client's operation on it
+-- the decisions of a policy on a client's operation on a resource, a line for each leaf of its kind, in
+-- order
 abbrev pub table : List Rule → List ℕ → Op → Content → List ℕ
 table policy client op c = decision_lines (decide policy client op c) (leaves c.kind)

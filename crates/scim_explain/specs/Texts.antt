@@ -5,7 +5,7 @@ use Rattle.scim_policy.specs.declared.misfits.Misfit.{Misfit}
 use Rattle.scim_policy.specs.declared.misfits.Misfit.TheVariants as misfit
 use Rattle.scim_explain.specs.Explain.{Explanation}
 
--- the word for what of a rule doesn't fit, in the words of a policy file where it has one
+-- the word for the part of a rule that doesn't fit, as in policy files if they have a word for it
 abbrev pub misfit_word : Misfit → List ℕ
 misfit_word misfit.Client = codes "client"
 misfit_word misfit.Op = codes "op"
@@ -13,18 +13,18 @@ misfit_word misfit.Kind = codes "type"
 misfit_word misfit.Path = codes "path"
 misfit_word misfit.Target = codes "target"
 
--- the word for whether something is allowed
+-- the word `allow` or `deny`
 abbrev pub effect_word : Bool → List ℕ
 effect_word allow = if allow then codes "allow" else codes "deny"
 
--- the line that says a word of a rule, with a line feed at its end
+-- the line with a word or sentence about a rule
 abbrev pub rule_line : ℕ → List ℕ → List ℕ
 rule_line number word = codes "rule " ++ decimal number ++ codes ": " ++ word ++ codes "\n"
 
--- a line for each misfit, of the rules from a number on
+-- the lines of misfits, of the rules from a number on
 abbrev pub misfit_lines : ℕ → List Misfit → List ℕ
 misfit_lines first misfits = flat_map (λ (numbered : ℕ × Misfit). rule_line numbered.0 (misfit_word numbered.1)) (enumerate_from first misfits)
 
--- a line for each misfit, and one for the decision
+-- the text of an explanation: a line for each misfit, and one for the decision
 abbrev pub explanation_text : Explanation → List ℕ
 explanation_text e = misfit_lines 1 e.misfits ++ rule_line e.decision.rule (effect_word e.decision.allow)

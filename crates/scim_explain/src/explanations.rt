@@ -1,4 +1,4 @@
-//! Explanations of decisions.
+//! Explains single decisions.
 ghost use Rattle.std.specs.Prelude.{◌≡◌, IfOk};
 ghost use Rattle.scim_explain.specs.Explain as spec;
 
@@ -9,8 +9,9 @@ use scim_value::Resource;
 use std::alloc::Global;
 use std::marker::Model;
 
-/// Why a decision fell: the decision, and for each rule before the one that decided the first thing of it
-/// that doesn't fit; where none decided, for each rule. Contracts see the list and the decision.
+/// A decision with its reason: for each rule before the one that decided, the first part that doesn't fit.
+///
+/// If no rule decided, there is a misfit for every rule. Its contracts speak of the list and the decision.
 #[derive(Drop)]
 pub struct Explanation {
     misfits: Vec<Misfit>,
@@ -31,8 +32,7 @@ impl Model for Explanation {
 }
 
 impl Explanation {
-    /// What doesn't fit of the rules before the one that decided, or of all where none did, in order of
-    /// their numbers.
+    /// The misfits of the rules before the one that decided, or of all rules if none decided, in order.
     pub fn misfits(&self) -> &[Misfit]
         ensures { result.now ≡ self.now.misfits }
     {
@@ -47,10 +47,9 @@ impl Explanation {
     }
 }
 
-/// Why the policy decides as it does of the client's operation on the leaf of the resource. Each rule is
-/// looked at once, up to the first that fits.
+/// Explains the policy's decision on the client's operation on a leaf of the resource.
 ///
-/// The only error is [`NoMemory`].
+/// Each rule up to the first that fits is checked once.
 pub fn explain(
     alloc: Global,
     policy: &Policy,

@@ -1,4 +1,4 @@
-//! Rules that can never decide.
+//! Finds rules that can never decide.
 ghost use Rattle.std.specs.Prelude.{◌≡◌, ◌<◌, ◌+◌, IfOk, length, position, string_bytes};
 ghost use Rattle.std.specs.List.{list_any, list_all};
 ghost use denote.Enum.Bare.{sameb};
@@ -12,22 +12,22 @@ use scim_schema::{Kind, Op};
 use scim_text::{NoMemory, push};
 use std::alloc::Global;
 
-/// A rule that can never decide, since a rule before it has no target and covers all that it covers.
+/// A rule that can never decide, since an earlier rule without a target covers all that it covers.
 #[derive(Clone, Copy, PartialEq, Eq)]
 pub struct IdleRule {
-    /// Its number, from 1.
+    /// The rule's number, from 1.
     pub rule: u32,
     /// The number of the first rule that covers all that it covers.
     pub covered_by: u32,
 }
 
-/// The rules of the policy that can never decide, in order of their numbers: those of which some earlier rule
-/// without a target covers the clients, the operations, the types, and on each type the paths. Only what is
-/// certain is told: a rule that two others cover together, or whose target never holds, isn't.
+/// Finds the rules that can never decide, in order of their numbers.
 ///
-/// Each rule is compared with those before it, which is quadratic; there are at most 1,000.
+/// They are the rules for which one earlier rule without a target covers the clients, the operations, the
+/// types and, on each type, the paths. Other idle rules aren't found, such as one that two rules cover
+/// together, or one whose target matches no resource.
 ///
-/// The only error is [`NoMemory`].
+/// Each rule is compared with those before it, which is quadratic; a policy has at most 1,000 rules.
 pub fn idle_rules(alloc: Global, policy: &Policy) -> Result<Vec<IdleRule>, NoMemory>
     ensures { IfOk result (λ idle. idle.items ≡ spec.idle_rules policy.now) }
 {
@@ -41,7 +41,7 @@ pub fn idle_rules(alloc: Global, policy: &Policy) -> Result<Vec<IdleRule>, NoMem
     Ok(idle)
 }
 
-/// That a rule is idle behind all that are before it.
+/// The entry for `rule` after the `earlier` rules, if one of them covers it.
 fn idle_behind(earlier: &[Rule], rule: &Rule) -> Option<IdleRule>
     requires { length earlier.now < 1000 }
     ensures { result ≡ spec.idle_behind earlier.now (length earlier.now + 1) rule.now }
@@ -53,14 +53,14 @@ fn idle_behind(earlier: &[Rule], rule: &Rule) -> Option<IdleRule>
     })
 }
 
-/// The place of the first rule that covers all that another does.
+/// The index of the first rule that covers all that `rule` covers.
 fn first_covering(rules: &[Rule], rule: &Rule) -> Option<usize>
     ensures { result ≡ position (λ e. spec.covers_rule e rule.now) rules.now }
 {
     rules.iter().position(|earlier| covers_rule(earlier, rule))
 }
 
-/// Whether a rule has no target and covers all that another does.
+/// Whether `earlier` has no target and covers all that `rule` covers.
 fn covers_rule(earlier: &Rule, rule: &Rule) -> bool
     ensures { result ≡ spec.covers_rule earlier.now rule.now }
 {
@@ -71,21 +71,21 @@ fn covers_rule(earlier: &Rule, rule: &Rule) -> bool
         && covers_on_kinds(earlier, rule)
 }
 
-/// Whether each client name is covered by one of others.
+/// Whether each of `names` is covered by one of `others`.
 fn covers_clients(others: &[ClientName], names: &[ClientName]) -> bool
     ensures { result ≡ spec.are_covered spec.covers_client others.now names.now }
 {
     names.iter().all(|name| covers_name(others, name))
 }
 
-/// Whether one of these client names covers another.
+/// Whether one of `others` covers `name`.
 fn covers_name(others: &[ClientName], name: &ClientName) -> bool
     ensures { result ≡ list_any (λ other. spec.covers_client other name.now) others.now }
 {
     others.iter().any(|other| covers_client(other, name))
 }
 
-/// Whether a client name is for all for whom another is.
+/// Whether `name` covers every client that `other` covers.
 fn covers_client(name: &ClientName, other: &ClientName) -> bool
     ensures { result ≡ spec.covers_client name.now other.now }
 {
@@ -96,42 +96,42 @@ fn covers_client(name: &ClientName, other: &ClientName) -> bool
     }
 }
 
-/// Whether each operation is among others.
+/// Whether each of `ops` is among `others`.
 fn covers_ops(others: &[Op], ops: &[Op]) -> bool
     ensures { result ≡ spec.are_covered (sameb the_op) others.now ops.now }
 {
     ops.iter().all(|op| others.contains(op))
 }
 
-/// Whether each kind is among others.
+/// Whether each of `kinds` is among `others`.
 fn covers_kinds(others: &[Kind], kinds: &[Kind]) -> bool
     ensures { result ≡ spec.are_covered (sameb the_kind) others.now kinds.now }
 {
     kinds.iter().all(|kind| others.contains(kind))
 }
 
-/// Whether a rule covers all that another does of each of its kinds.
+/// Whether `earlier` covers all leaves that `rule` covers on each of its kinds.
 fn covers_on_kinds(earlier: &Rule, rule: &Rule) -> bool
     ensures { result ≡ list_all (spec.covers_on_kind earlier.now rule.now) rule.now.kinds }
 {
     rule.kinds().iter().all(|kind| covers_paths(earlier.paths_on(*kind), rule.paths_on(*kind)))
 }
 
-/// Whether each path is covered by one of others.
+/// Whether each of `paths` is covered by one of `others`.
 fn covers_paths(others: &[PolicyPath], paths: &[PolicyPath]) -> bool
     ensures { result ≡ spec.are_covered spec.covers_path others.now paths.now }
 {
     paths.iter().all(|path| is_covered(others, *path))
 }
 
-/// Whether one of these paths covers another.
+/// Whether one of `others` covers `path`.
 fn is_covered(others: &[PolicyPath], path: PolicyPath) -> bool
     ensures { result ≡ list_any (λ other. spec.covers_path other path) others.now }
 {
     others.iter().any(|other| covers_path(*other, path))
 }
 
-/// Whether a path covers all that another covers.
+/// Whether `path` covers every leaf that `other` covers.
 fn covers_path(path: PolicyPath, other: PolicyPath) -> bool
     ensures { result ≡ spec.covers_path path other }
 {
@@ -144,9 +144,7 @@ fn covers_path(path: PolicyPath, other: PolicyPath) -> bool
     }
 }
 
-/// Idle rules in lines, each with a line feed at its end: `rule M: never decides, see rule N`.
-///
-/// The only error is [`NoMemory`].
+/// Prints idle rules, each on a line: `rule M: never decides, see rule N`.
 pub fn print_idle_rules(alloc: Global, idle: &[IdleRule]) -> Result<String, NoMemory>
     ensures { IfOk result (λ text. string_bytes text ≡ spec.idle_lines idle.now) }
 {
@@ -158,7 +156,7 @@ pub fn print_idle_rules(alloc: Global, idle: &[IdleRule]) -> Result<String, NoMe
     Ok(text)
 }
 
-/// The line of an idle rule.
+/// The line of an idle rule, with its line feed.
 fn idle_line(alloc: Global, idle: IdleRule) -> Result<String, NoMemory>
     ensures { IfOk result (λ line. string_bytes line ≡ spec.idle_line idle) }
 {

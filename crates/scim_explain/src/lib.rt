@@ -1,5 +1,8 @@
-//! Why a policy decided as it did: which rule decided, and what of each rule before it doesn't fit. Also its
-//! decisions on a whole resource, and which of its rules can never decide.
+//! Explains the decisions of a policy: which rule decided, and why each rule before it doesn't fit.
+//!
+//! Also prints the decisions on all leaves of a resource, and finds rules that can never decide.
+//!
+//! Cases: `crates/cases/data/explain.jsonl`.
 #![tactic(auto)]
 
 mod explanations;

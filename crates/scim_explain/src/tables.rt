@@ -1,4 +1,4 @@
-//! What a policy decides of a whole resource.
+//! Prints the decisions on a whole resource.
 ghost use Rattle.std.specs.Prelude.{◌≡◌, IfOk, string_bytes};
 ghost use Rattle.scim_policy.specs.Table.{decision};
 ghost use Rattle.scim_explain.specs.Tables as spec;
@@ -11,11 +11,11 @@ use scim_text::NoMemory;
 use scim_value::Resource;
 use std::alloc::Global;
 
-/// What the policy decides of the client's operation on the resource, in lines, each with a line feed at its
-/// end: for each leaf of the resource's kind, in order, its path as policies name it, and the rule that
-/// decides or 0, as `userName rule 3 allow`. The policy is asked once, and not for each leaf.
+/// Prints the policy's decisions on the client's operation on the resource.
 ///
-/// The only error is [`NoMemory`].
+/// It has a line for each leaf of the resource's kind, in order: the path as in policy files, the number of
+/// the deciding rule or 0, and `allow` or `deny`, as `userName rule 3 allow`. The decision table is
+/// computed once.
 pub fn table(
     alloc: Global,
     policy: &Policy,
@@ -29,7 +29,7 @@ pub fn table(
     decision_lines(alloc, &decisions, leaves(resource.kind()))
 }
 
-/// The lines of some leaves.
+/// The lines of `leaves`.
 fn decision_lines(alloc: Global, decisions: &Decisions, leaves: &[Leaf]) -> Result<String, NoMemory>
     ensures { IfOk result (λ text. string_bytes text ≡ spec.decision_lines (decision decisions.now) leaves.now) }
 {
@@ -41,7 +41,7 @@ fn decision_lines(alloc: Global, decisions: &Decisions, leaves: &[Leaf]) -> Resu
     Ok(text)
 }
 
-/// The line of a leaf.
+/// The line of a leaf, with its line feed.
 fn decision_line(alloc: Global, leaf: Leaf, decision: Decision) -> Result<String, NoMemory>
     ensures { IfOk result (λ line. string_bytes line ≡ spec.decision_line leaf decision) }
 {

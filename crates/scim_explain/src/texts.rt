@@ -1,4 +1,4 @@
-//! The text of an explanation.
+//! Prints explanations.
 ghost use Rattle.std.specs.Prelude.{◌≡◌, IfOk, string_bytes};
 ghost use Rattle.scim_explain.specs.Texts as spec;
 
@@ -7,7 +7,7 @@ use scim_policy::Misfit;
 use scim_text::NoMemory;
 use std::alloc::Global;
 
-/// The word for what of a rule doesn't fit.
+/// The word for the part of a rule that doesn't fit.
 fn misfit_word(misfit: Misfit) -> &'static str
     ensures { result.now ≡ spec.misfit_word misfit }
 {
@@ -20,16 +20,14 @@ fn misfit_word(misfit: Misfit) -> &'static str
     }
 }
 
-/// The word for whether something is allowed: `allow` or `deny`.
+/// Returns `allow` or `deny`.
 pub fn effect_word(allow: bool) -> &'static str
     ensures { result.now ≡ spec.effect_word allow }
 {
     if allow { "allow" } else { "deny" }
 }
 
-/// The line that says a word, or a sentence, of the rule with a number: `rule N: `, the word, and a line feed.
-///
-/// The only error is [`NoMemory`].
+/// The line `rule N: ` with a word or sentence about the rule, and a line feed.
 pub fn rule_line(alloc: Global, number: usize, word: &str) -> Result<String, NoMemory>
     ensures { IfOk result (λ line. string_bytes line ≡ spec.rule_line number word.now) }
 {
@@ -48,11 +46,11 @@ fn misfit_lines(alloc: Global, misfits: &[Misfit]) -> Result<String, NoMemory>
     Ok(text)
 }
 
-/// The explanation in lines, each with a line feed at its end: for each rule before the one that decided, or
-/// where none did for each rule, `rule N: ` and what of it doesn't fit, `client`, `op`, `type`, `path` or
-/// `target`; and then the rule that decided, or 0, with `allow` or `deny`.
+/// Prints an explanation, each entry on a line.
 ///
-/// The only error is [`NoMemory`].
+/// For each rule before the one that decided, or for each rule if none decided: `rule N: ` and the part
+/// that doesn't fit, `client`, `op`, `type`, `path` or `target`. Then the rule that decided, or 0, with
+/// `allow` or `deny`.
 pub fn print(alloc: Global, explanation: &Explanation) -> Result<String, NoMemory>
     ensures { IfOk result (λ text. string_bytes text ≡ spec.explanation_text explanation.now) }
 {

@@ -1,4 +1,4 @@
--- When two values stand in the relation of an operator (RFC 7644 section 3.4.2.2, table 3).
+-- When a cell's atom meets a comparison operator with a literal (RFC 7644 section 3.4.2.2, table 3).
 use Rattle.std.specs.Prelude.{ℕ, pos, Bool, true, false, not, ◌||◌, nat_eq, List, [], ◌∷◌, Option, Some, None}
 use Rattle.std.specs.List.{starts_with, ends_with}
 use Rattle.std.specs.declared.cmp.Ordering.{Ordering}
@@ -15,12 +15,12 @@ use Rattle.scim_filter_grammar.specs.declared.tree.Operator.TheVariants.{Eq, Ne,
 use Rattle.scim_text.specs.MomentIn.{moment_in}
 use Rattle.scim_filter_grammar.specs.Types.{truth_in}
 
--- the part stands somewhere in the text
+-- whether the part occurs in the text
 abbrev pub contains_text : List ℕ → List ℕ → Bool
 contains_text [] part = starts_with nat_eq [] part
 contains_text (b ∷ bs) part = starts_with nat_eq (b ∷ bs) part || contains_text bs part
 
--- what two values that have an order are to each other
+-- whether two values in this order meet the operator; false for `co`, `sw` and `ew`
 abbrev pub is_ordered : Operator → Ordering → Bool
 is_ordered Eq order = is_eq order
 is_ordered Ne order = not (is_eq order)
@@ -30,39 +30,40 @@ is_ordered Lt order = is_lt order
 is_ordered Le order = is_le order
 is_ordered _ order = false
 
--- texts by their bytes
+-- whether two texts meet the operator, compared by their bytes
 abbrev pub text_stands : Operator → List ℕ → List ℕ → Bool
 text_stands Co a b = contains_text a b
 text_stands Sw a b = starts_with nat_eq a b
 text_stands Ew a b = ends_with nat_eq a b
 text_stands op a b = is_ordered op (slice_cmp nat_cmp a b)
 
--- a text as it is compared: as it is where case counts, else folded
+-- the text as it is compared: as it is if case counts, else folded
 abbrev pub cased : Bool → List ℕ → List ℕ
 cased true text = text
 cased false text = folded text
 
--- two truth values are equal
+-- whether two booleans are equal
 abbrev pub same_truth : Bool → Bool → Bool
 same_truth true b = b
 same_truth false b = not b
 
--- truth values are equal or not
+-- whether a boolean meets `eq` or `ne` with another, if there is another
 abbrev pub truth_stands : Operator → Bool → Option Bool → Bool
 truth_stands Eq a (Some b) = same_truth a b
 truth_stands Ne a (Some b) = not (same_truth a b)
 truth_stands _ _ _ = false
 
--- a moment, which has no fraction, and a reading: by the second, and then a fraction is later than none
+-- the order of a moment and a reading: by second, and a reading with a fraction is later
 abbrev pub moment_cmp : ℕ → Reading → Ordering
 moment_cmp m r = ordering_then (int_cmp (pos m) r.second) (bool_cmp false r.later)
 
--- a moment and what a text spells; a text that spells no moment stands in no relation
+-- whether a moment meets the operator with a reading; false if there is no reading
 abbrev pub moment_stands : Operator → ℕ → Option Reading → Bool
 moment_stands op m (Some r) = is_ordered op (moment_cmp m r)
 moment_stands op m None = false
 
--- whether what a cell holds stands in the relation to a value, with regard to case or not
+-- whether an atom meets the operator with a literal, with regard to case if `exact`; false if the literal
+-- doesn't suit the atom's type
 abbrev pub stands : Bool → Operator → Atom → Literal → Bool
 stands exact op (atom.Text a) (literal.Text b) = text_stands op (cased exact a) (cased exact b)
 stands exact op (atom.Truth a) (literal.Truth b) = truth_stands op a (Some b)

@@ -19,37 +19,37 @@ use Rattle.scim_schema.specs.Characteristics.{is_case_exact}
 use Rattle.scim_filter_grammar.specs.Types.{compared_leaf}
 use Rattle.scim_filter_grammar.specs.Tree.{Tree, Or, And, Not, Present, Compare, Values}
 
--- some cell of an attribute passes
+-- whether a cell of the attribute passes the test
 abbrev pub some_cell : (Field → Bool) → Attribute → List Row → Bool
 some_cell passes a rs = list_any (λ (r : Row). list_any passes r.fields) (attribute_rows a rs)
 
--- some cell of a leaf has an atom that passes
+-- whether the atom of a cell of the leaf passes the test
 abbrev pub some_atom : (Atom → Bool) → Leaf → List Row → Bool
 some_atom passes leaf rs = some_cell (λ (f : Field). is_same_leaf f.leaf leaf && passes f.atom) leaf.attribute rs
 
--- `pr`: some cell is there, for a complex attribute one of any sub-attribute
+-- whether `pr` holds: there is a cell, for a complex attribute of any sub-attribute
 abbrev pub is_present : Meant → List Row → Bool
 is_present meant.Nothing rs = false
 is_present (meant.Attribute a) rs = some_cell (λ f. true) a rs
 is_present (meant.SubAttribute a b) rs = some_atom (λ x. true) (leaf_at a b) rs
 
--- `ne` is true of what has no cell too
+-- whether the operator is `ne` and there is no cell
 abbrev pub is_unlike : Operator → Bool → Bool
 is_unlike Ne present = not present
 is_unlike _ present = false
 
--- some cell of the leaf stands in the relation, or there is none and the operator is `ne`
+-- whether a cell of the leaf meets the operator, or there is none and the operator is `ne`
 abbrev pub leaf_compares : Option Leaf → Operator → Literal → List Row → Bool
 leaf_compares None op x rs = is_unlike op false
 leaf_compares (Some leaf) op x rs = is_unlike op (some_atom (λ a. true) leaf rs) || some_atom (λ a. stands (is_case_exact leaf) op a x) leaf rs
 
--- null stands for no cell
+-- whether a comparison holds; null means that there is no cell
 abbrev pub compares : Meant → Operator → Literal → List Row → Bool
 compares m Eq literal.Null rs = not (is_present m rs)
 compares m Ne literal.Null rs = is_present m rs
 compares m op x rs = leaf_compares (compared_leaf m) op x rs
 
--- some position of the attribute makes the test true; a single complex attribute has one position
+-- whether the test holds at some position of the attribute; a single-valued attribute has one position
 abbrev pub some_position : (List Row → Bool) → Meant → List Row → Bool
 some_position holds (meant.Attribute a) rs = if is_multi_valued a then list_any (λ (r : Row). holds (r ∷ [])) (attribute_rows a rs) else holds (attribute_rows a rs)
 some_position holds _ rs = false
@@ -63,17 +63,17 @@ truth (Present path) rs = is_present path.meant rs
 truth (Compare path op x) rs = compares path.meant op x rs
 truth (Values path inner) rs = some_position (truth inner) path.meant rs
 
--- the cells at a position of an attribute, from 0
+-- the rows at a position of an attribute, from 0
 abbrev pub rows_at : Meant → ℕ → List Row → List Row
 rows_at (meant.Attribute a) k rs = if is_multi_valued a then take 1 (drop k (attribute_rows a rs)) else if k == 0 then attribute_rows a rs else []
 rows_at _ k rs = []
 
--- whether what stands between the brackets of a value path holds of one position; any other filter holds of none
+-- whether the filter in the brackets of a value path holds at a position; false for any other filter
 abbrev pub truth_at : Tree → ℕ → List Row → Bool
 truth_at (Values path inner) k rs = truth inner (rows_at path.meant k rs)
 truth_at _ k rs = false
 
--- whether what stands between the brackets of a value path holds of one value; any other filter holds of none
+-- whether the filter in the brackets of a value path holds of one value; false for any other filter
 abbrev pub truth_in_value : Tree → Row → Bool
 truth_in_value (Values path inner) r = truth inner (r ∷ [])
 truth_in_value _ r = false

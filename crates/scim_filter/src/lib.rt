@@ -1,4 +1,6 @@
-//! Whether a filter holds of a part (RFC 7644 section 3.4.2.2).
+//! Evaluates filters on the cells of a resource, or on a part of them (RFC 7644 section 3.4.2.2).
+//!
+//! Cases: `crates/cases/data/filter_truth.jsonl` and `filter_examples.jsonl`.
 #![tactic(auto)]
 
 mod looks;

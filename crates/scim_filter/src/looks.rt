@@ -1,4 +1,4 @@
-//! What of the rows a filter looks at.
+//! Restricts which fields of a part a filter may see.
 ghost use Rattle.std.specs.Prelude.{◌≡◌, ◌&&◌, Bool, true};
 ghost use Rattle.std.specs.List.{list_any};
 ghost use Rattle.scim_cell.specs.declared.rows.Field.{Field};
@@ -7,16 +7,16 @@ ghost use Rattle.scim_filter.specs.code.Looks.{admitted, stays};
 use scim_cell::{Field, Row, RowTest};
 use scim_schema::Leaf;
 
-/// What of the rows is looked at.
+/// The fields that a filter may see.
 #[derive(Drop)]
 pub(crate) enum Look<'a, T> {
-    /// All of them.
+    /// All fields.
     Everything,
-    /// The fields that the test admits. A row without such a field is passed over.
+    /// The fields that the test admits. A row without such a field counts as absent.
     Admitted(&'a T),
 }
 
-/// Stands where a test does in the type of a look at everything, and is never asked.
+/// Fills the type parameter of `Look::Everything`; its test is never called.
 pub(crate) struct NoTest;
 
 impl RowTest for NoTest {
@@ -30,7 +30,7 @@ impl RowTest for NoTest {
 }
 
 impl<T: RowTest> Look<'_, T> {
-    /// Whether the row's field of the leaf is looked at.
+    /// Whether the filter may see the row's field of this leaf.
     #[tactic(auto, unfolding(crate::specs::code::Looks::admitted))]
     pub(crate) fn admits(&self, row: &Row, leaf: Leaf) -> bool
         ensures { result ≡ admitted T.keeps self.now row.now leaf }
@@ -41,8 +41,9 @@ impl<T: RowTest> Look<'_, T> {
         }
     }
 
-    /// The fields of a row with those that are looked at among them: none where the test may keep none, which spares
-    /// a look into memory that nobody else wants.
+    /// The fields of a row to go through: no fields if the test rules out the whole row, else all.
+    ///
+    /// An empty slice for a hidden row saves reading the row's fields from memory.
     pub(crate) fn fields<'r>(&self, row: &'r Row) -> &'r [Field]
         ensures { (passes : Field → Bool) → list_any (λ f. admitted T.keeps self.now row.now f.leaf && passes f) result.now ≡ list_any (λ f. admitted T.keeps self.now row.now f.leaf && passes f) row.now.fields }
     {
@@ -52,7 +53,7 @@ impl<T: RowTest> Look<'_, T> {
         }
     }
 
-    /// Whether a field of the row is looked at.
+    /// Whether the filter may see any field of the row.
     pub(crate) fn has_field(&self, row: &Row) -> bool
         ensures { result ≡ list_any (λ f. admitted T.keeps self.now row.now f.leaf && true) row.now.fields }
     {
@@ -64,7 +65,7 @@ impl<T: RowTest> Look<'_, T> {
         false
     }
 
-    /// Whether the row is among those that are looked at.
+    /// Whether the row counts as present.
     #[tactic(auto, unfolding(crate::specs::code::Looks::stays))]
     pub(crate) fn stays(&self, row: &Row) -> bool
         ensures { result ≡ stays T.keeps self.now row.now }

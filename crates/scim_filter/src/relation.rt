@@ -1,5 +1,4 @@
-//! Whether what a cell holds stands in the relation of an operator to a value (RFC 7644 section
-//! 3.4.2.2, table 3).
+//! Compares a cell with a literal by an operator (RFC 7644 section 3.4.2.2, table 3).
 ghost use Rattle.std.specs.Prelude.{◌≡◌, IfOk};
 ghost use Rattle.scim_filter.specs.Relation as spec;
 
@@ -9,12 +8,14 @@ use scim_text::{Moment, NoMemory, Reading, fold};
 use std::alloc::Global;
 use std::cmp::Ordering;
 
+/// Whether `part` occurs in `text`.
 fn contains(text: &str, part: &str) -> bool
     ensures { result ≡ spec.contains_text text.now part.now }
 {
     text.contains(part)
 }
 
+/// Whether two values in this order meet the operator. False for `co`, `sw` and `ew`.
 fn is_ordered(op: Operator, order: Ordering) -> bool
     ensures { result ≡ spec.is_ordered op order }
 {
@@ -29,6 +30,7 @@ fn is_ordered(op: Operator, order: Ordering) -> bool
     }
 }
 
+/// Whether two texts meet the operator, compared by their bytes.
 fn texts_stand(op: Operator, a: &str, b: &str) -> bool
     ensures { result ≡ spec.text_stands op a.now b.now }
 {
@@ -40,7 +42,7 @@ fn texts_stand(op: Operator, a: &str, b: &str) -> bool
     }
 }
 
-/// Whether a cell's text stands in the relation, with regard to case or not.
+/// Whether a cell's text meets the operator with a literal: compared as it is if `exact`, else folded.
 fn text_stands(
     alloc: Global,
     exact: bool,
@@ -57,6 +59,7 @@ fn text_stands(
     Ok(texts_stand(op, folded.as_str(), literal.folded()))
 }
 
+/// Whether two booleans meet the operator. Only `eq` and `ne` compare booleans.
 fn truths_stand(op: Operator, a: bool, b: Option<bool>) -> bool
     ensures { result ≡ spec.truth_stands op a b }
 {
@@ -67,6 +70,7 @@ fn truths_stand(op: Operator, a: bool, b: Option<bool>) -> bool
     }
 }
 
+/// Compares a moment with one read from a literal, whose fraction of a second makes it later.
 fn compare_moments(moment: Moment, reading: Reading) -> Ordering
     ensures { result ≡ spec.moment_cmp moment reading }
 {
@@ -75,6 +79,7 @@ fn compare_moments(moment: Moment, reading: Reading) -> Ordering
         .then(false.cmp(&reading.later))
 }
 
+/// Whether a moment meets the operator with the literal's. False if the literal isn't a moment.
 fn moments_stand(op: Operator, moment: Moment, reading: Option<Reading>) -> bool
     ensures { result ≡ spec.moment_stands op moment reading }
 {
@@ -84,9 +89,10 @@ fn moments_stand(op: Operator, moment: Moment, reading: Option<Reading>) -> bool
     }
 }
 
-/// Whether what a cell holds stands in the relation to a literal. Texts are compared as they are
-/// where `exact`, else in full case folding, which the literal has with it. NoMemory where none was to
-/// be had.
+/// Whether a cell's atom meets the operator with a literal.
+///
+/// Texts are compared as they are if `exact`, else in full case folding. False if the literal doesn't suit
+/// the atom's type.
 pub(crate) fn atom_stands(
     alloc: Global,
     exact: bool,

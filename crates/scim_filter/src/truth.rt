@@ -1,4 +1,4 @@
-//! Whether a filter holds of the cells of a part (RFC 7644 section 3.4.2.2).
+//! Evaluates filters on the cells of a part (RFC 7644 section 3.4.2.2).
 ghost use Rattle.std.specs.Prelude.{◌≡◌, ◌&&◌, ◌∷◌, [], IfOk, true, take, drop};
 ghost use Rattle.std.specs.List.{list_any};
 ghost use Rattle.scim_schema.specs.Units.{is_same_leaf};
@@ -20,18 +20,19 @@ use scim_value::Part;
 use std::alloc::Global;
 use std::slice;
 
-/// The cells that a filter looks at.
+/// The cells that a filter is evaluated on.
 #[derive(Clone, Copy)]
 enum Cells<'a> {
-    /// All of a part.
+    /// All cells of a part.
     All(&'a Part),
-    /// Those of an attribute among rows: all that it has, or those of one position.
+    /// The cells of an attribute among the rows: all its rows, or one value's.
     Of(Attribute, &'a [Row]),
+    /// No cells.
     None,
 }
 
 impl<'a> Cells<'a> {
-    /// Rows with all those of the attribute among them.
+    /// Rows that include all rows of `attribute`.
     #[tactic(auto, using(crate::proofs::RowLemmas::none_of_another))]
     fn around(self, attribute: Attribute) -> &'a [Row]
         ensures { attribute_rows attribute result.now ≡ attribute_rows attribute (rows_in self.entry) }
@@ -44,7 +45,7 @@ impl<'a> Cells<'a> {
     }
 }
 
-/// Whether a cell of the leaf is looked at in the row.
+/// Whether the filter sees a cell of the leaf in the row.
 fn has_cell<T: RowTest>(look: &Look<'_, T>, leaf: Leaf, row: &Row) -> bool
     ensures { result ≡ list_any (λ f. admitted T.keeps look.now row.now f.leaf && (is_same_leaf f.leaf leaf && true)) row.now.fields }
 {
@@ -56,6 +57,7 @@ fn has_cell<T: RowTest>(look: &Look<'_, T>, leaf: Leaf, row: &Row) -> bool
     false
 }
 
+/// Whether the filter sees a cell of `attribute` in the rows.
 fn has_attribute<T: RowTest>(look: &Look<'_, T>, attribute: Attribute, rows: &[Row]) -> bool
     ensures { result ≡ spec.some_cell (λ f. true) attribute (looked T.keeps look.now rows.now) }
 {
@@ -67,6 +69,7 @@ fn has_attribute<T: RowTest>(look: &Look<'_, T>, attribute: Attribute, rows: &[R
     false
 }
 
+/// Whether the filter sees a cell of `leaf` in the rows.
 fn has_leaf<T: RowTest>(look: &Look<'_, T>, leaf: Leaf, rows: &[Row]) -> bool
     ensures { result ≡ spec.some_atom (λ a. true) leaf (looked T.keeps look.now rows.now) }
 {
@@ -78,6 +81,7 @@ fn has_leaf<T: RowTest>(look: &Look<'_, T>, leaf: Leaf, rows: &[Row]) -> bool
     false
 }
 
+/// Evaluates `pr`.
 fn is_present<T: RowTest>(look: &Look<'_, T>, meant: Meant, cells: Cells<'_>) -> bool
     ensures { result ≡ spec.is_present meant (looked T.keeps look.now (rows_in cells.entry)) }
 {
@@ -92,7 +96,7 @@ fn is_present<T: RowTest>(look: &Look<'_, T>, meant: Meant, cells: Cells<'_>) ->
     }
 }
 
-/// Whether one of the row's fields that are looked at is a cell of the leaf that stands in the relation.
+/// Whether a cell of the leaf that the filter sees in the row meets the operator.
 fn fields_stand<T: RowTest>(
     alloc: Global,
     look: &Look<'_, T>,
@@ -115,7 +119,7 @@ fn fields_stand<T: RowTest>(
     Ok(false)
 }
 
-/// Whether a cell of the leaf stands in the relation.
+/// Whether a cell of the leaf that the filter sees in the rows meets the operator.
 fn leaf_stands<T: RowTest>(
     alloc: Global,
     look: &Look<'_, T>,
@@ -137,14 +141,14 @@ fn leaf_stands<T: RowTest>(
     Ok(false)
 }
 
-/// Whether there is no cell of the leaf and the operator is `ne`.
+/// Whether the operator is `ne` and the filter sees no cell of the leaf.
 fn is_unlike<T: RowTest>(look: &Look<'_, T>, op: Operator, leaf: Leaf, rows: &[Row]) -> bool
     ensures { result ≡ spec.is_unlike op (spec.some_atom (λ a. true) leaf (looked T.keeps look.now rows.now)) }
 {
     op == Operator::Ne && !has_leaf(look, leaf, rows)
 }
 
-/// Whether a cell of the leaf stands in the relation, or there is none and the operator is `ne`.
+/// Whether a cell of the leaf meets the operator, or there is none and the operator is `ne`.
 fn leaf_compares<T: RowTest>(
     alloc: Global,
     look: &Look<'_, T>,
@@ -165,6 +169,7 @@ fn leaf_compares<T: RowTest>(
     leaf_stands(alloc, look, leaf, op, literal, is_case_exact(leaf), rows)
 }
 
+/// Evaluates a comparison. `eq null` holds if the filter sees no cell, and `ne null` if it sees one.
 fn compares<T: RowTest>(
     alloc: Global,
     look: &Look<'_, T>,
@@ -182,8 +187,9 @@ fn compares<T: RowTest>(
     }
 }
 
-/// Whether a filter holds of one of the attribute's values alone. A value of which nothing is looked at is none, and
-/// isn't asked: the filter might be a `not`.
+/// Whether the filter holds of one of the attribute's values on its own.
+///
+/// A value without a visible field is skipped, since a `not` would hold of it.
 #[cycle(truth)]
 fn some_value_holds<T: RowTest>(
     alloc: Global,
@@ -210,7 +216,7 @@ fn some_value_holds<T: RowTest>(
     Ok(false)
 }
 
-/// Whether a filter holds of a position of what the path before its brackets names.
+/// Whether the filter in the brackets of a value path holds of a value of the attribute before them.
 #[cycle(truth)]
 fn some_position_holds<T: RowTest>(
     alloc: Global,
@@ -232,6 +238,7 @@ fn some_position_holds<T: RowTest>(
     }
 }
 
+/// Evaluates a node of a filter.
 #[cycle(truth)]
 fn node_holds<T: RowTest>(
     alloc: Global,
@@ -257,6 +264,7 @@ fn node_holds<T: RowTest>(
     }
 }
 
+/// The row at `position`, or no rows.
 #[tactic(auto, using(crate::proofs::RowLemmas::one_taken))]
 fn row_at(rows: &[Row], position: usize) -> &[Row]
     ensures { result.now ≡ take 1 (drop position rows.now) }
@@ -267,7 +275,7 @@ fn row_at(rows: &[Row], position: usize) -> &[Row]
     }
 }
 
-/// The rows at a position of an attribute, from 0; a single complex attribute has position 0 alone.
+/// The rows at a position of an attribute, from 0. A single-valued attribute has only position 0.
 #[tactic(auto, using(crate::proofs::RowLemmas::own_again, crate::proofs::RowLemmas::one_again))]
 fn rows_at(part: &Part, attribute: Attribute, position: usize) -> &[Row]
     ensures { attribute_rows attribute result.now ≡ spec.rows_at (meant.Attribute attribute) position (rows part.now) }
@@ -282,11 +290,10 @@ fn rows_at(part: &Part, attribute: Attribute, position: usize) -> &[Row]
     }
 }
 
-/// Whether a filter holds of the cells of a part (RFC 7644 section 3.4.2.2). NoMemory where none was
-/// to be had.
+/// Whether a filter holds of the cells of a part (RFC 7644 section 3.4.2.2).
 ///
-/// A term looks its attribute up in the part, and goes over the rows of that attribute alone; inside a
-/// value path, over those of one value.
+/// Each term looks its attribute up, and goes through the rows of that attribute only; in a value path,
+/// through those of one value.
 #[tactic(auto, unfolding(crate::specs::code::Looks::looked))]
 pub fn holds(alloc: Global, filter: &Filter, part: &Part) -> Result<bool, NoMemory>
     ensures { IfOk result (λ b. b ≡ spec.truth (tree_of filter.now) (rows part.now)) }
@@ -299,9 +306,10 @@ pub fn holds(alloc: Global, filter: &Filter, part: &Part) -> Result<bool, NoMemo
     )
 }
 
-/// Whether a filter holds of what is left of a part where only the fields that the test admits are kept, as of
-/// [`Part::restrict`]: values without a field are left out, and positions close up. Nothing is copied. NoMemory where
-/// none was to be had.
+/// Whether a filter holds of a part restricted to the fields that the test admits, as by
+/// [`Part::restrict`].
+///
+/// Values without an admitted field are left out, and positions close up. Nothing is copied.
 #[tactic(auto, unfolding(crate::specs::code::Looks::looked))]
 pub fn holds_where<T: RowTest>(
     alloc: Global,
@@ -319,9 +327,10 @@ pub fn holds_where<T: RowTest>(
     )
 }
 
-/// Whether what stands between the brackets of a value path, which the filter is, holds of one value of the
-/// path's attribute (RFC 7644 section 3.5.2). A filter that is no value path holds of none. NoMemory where none
-/// was to be had.
+/// Whether the filter in the brackets of a value path holds of one value of its attribute (RFC 7644 section
+/// 3.5.2).
+///
+/// False if `filter` isn't a value path.
 #[tactic(auto, unfolding(crate::specs::code::Looks::looked))]
 pub fn holds_of(alloc: Global, filter: &Filter, value: &Row) -> Result<bool, NoMemory>
     ensures { IfOk result (λ b. b ≡ spec.truth_in_value (tree_of filter.now) value.now) }
@@ -333,9 +342,10 @@ pub fn holds_of(alloc: Global, filter: &Filter, value: &Row) -> Result<bool, NoM
     node_holds(alloc, &Look::<NoTest>::Everything, inner, cells)
 }
 
-/// Whether what stands between the brackets of a value path, which the filter is, holds of the cells
-/// at one position of the path's attribute, from 0 (RFC 7644 sections 3.4.2.2 and 3.5.2). A filter that
-/// is no value path holds of none. NoMemory where none was to be had.
+/// Whether the filter in the brackets of a value path holds at a position of its attribute, from 0 (RFC
+/// 7644 sections 3.4.2.2 and 3.5.2).
+///
+/// The filter sees no cells at a position past the last value. False if `filter` isn't a value path.
 #[tactic(auto, unfolding(crate::specs::code::Looks::looked))]
 pub fn holds_at(
     alloc: Global,

@@ -1,15 +1,15 @@
--- How many brackets are open at a place of a text.
+-- How many brackets are open at a place of a filter's text.
 use Rattle.std.specs.Prelude.{◌≡◌, ◌<◌, ℕ, Bool, suc, pred, ◌||◌, ◌==◌, List, [], ◌∷◌, ◌++◌, if◌then◌else◌}
 
--- "(" and "["
+-- whether the byte opens a bracket: "(" or "["
 abbrev pub is_opening : ℕ → Bool
 is_opening b = b == 40 || b == 91
 
--- ")" and "]"
+-- whether the byte closes a bracket: ")" or "]"
 abbrev pub is_closing : ℕ → Bool
 is_closing b = b == 41 || b == 93
 
--- brackets that are open behind a text, where n are open in front of it; those in a JSON string don't count
+-- the number of open brackets after a text, if n are open before it; brackets in JSON strings don't count
 abbrev mutual
   pub open_behind : ℕ → List ℕ → ℕ
   open_behind n [] = n
@@ -18,17 +18,18 @@ abbrev mutual
       if is_opening b then open_behind (suc n) bs else
       if is_closing b then open_behind (pred n) bs else open_behind n bs
 
-  -- where the text begins within a string, which the next quote closes
+  -- the number of open brackets after a text that begins within a string
   pub open_string : ℕ → List ℕ → ℕ
   open_string n [] = n
   open_string n (b ∷ bs) = if b == 34 then open_behind n bs else if b == 92 then open_escaped n bs else open_string n bs
 
-  -- where it begins behind a "\" in a string, which takes the next byte with it
+  -- the number of open brackets after a text that begins after a "\" in a string, which escapes the next
+  -- byte
   pub open_escaped : ℕ → List ℕ → ℕ
   open_escaped n [] = n
   open_escaped n (b ∷ bs) = open_string n bs
 
--- at some place of the text more than so many brackets are open
+-- more than `most` brackets are open at some place of the text
 pub record IsDeeper (most : ℕ) (text : List ℕ) : Type 0 where
   pub before : List ℕ
   pub after : List ℕ

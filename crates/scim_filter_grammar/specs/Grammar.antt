@@ -11,17 +11,17 @@ use Rattle.scim_filter_grammar.specs.Names.{IsPath, attribute_meant}
 use Rattle.scim_filter_grammar.specs.Literals.{IsWord, IsLiteral}
 use Rattle.scim_filter_grammar.specs.Tree.{Tree, Or, And, Not, Present, Compare, Values}
 
--- any number of spaces
+-- the bytes are all spaces
 abbrev pub IsBlank : List ℕ → Type 0
 IsBlank [] = Unit {0}
 IsBlank (b ∷ bs) = (b ≡ 32) × IsBlank bs
 
--- one or more spaces
+-- the bytes are one or more spaces
 abbrev pub IsGap : List ℕ → Type 0
 IsGap [] = ⊥
 IsGap (b ∷ bs) = (b ≡ 32) × IsBlank bs
 
--- the word of an operator
+-- the keyword of an operator
 abbrev pub spelled : Operator → List ℕ
 spelled Eq = codes "eq"
 spelled Ne = codes "ne"
@@ -33,7 +33,7 @@ spelled Ge = codes "ge"
 spelled Lt = codes "lt"
 spelled Le = codes "le"
 
--- a keyword with spaces on both sides
+-- the text is a keyword with spaces on both sides
 pub record IsJoin (keyword text : List ℕ) : Type 0 where
   pub before : List ℕ
   pub word : List ℕ
@@ -43,7 +43,7 @@ pub record IsJoin (keyword text : List ℕ) : Type 0 where
   pub after_gap : IsGap after
   pub whole : text ≡ before ++ (word ++ after)
 
--- what stands between brackets, with spaces round it
+-- the text is the inner text in brackets, with spaces around it
 pub record Encloses (open_byte close_byte : ℕ) (inner text : List ℕ) : Type 0 where
   pub before : List ℕ
   pub after : List ℕ
@@ -51,14 +51,14 @@ pub record Encloses (open_byte close_byte : ℕ) (inner text : List ℕ) : Type 
   pub after_blank : IsBlank after
   pub whole : text ≡ open_byte ∷ (before ++ (inner ++ (after ++ close_byte ∷ [])))
 
--- how loosely the parts of a text bind
+-- the levels of binding of `or`, `and` and terms, loosest first
 pub data Level : Type 0 where
   Disjunction : Level
   Conjunction : Level
   Term : Level
 
--- Spells scope level n text tree: the text spells the tree, with brackets nested at most n deep.
--- `not` binds before `and`, and `and` before `or`; a row of one of them nests to the right.
+-- `Spells scope level n text tree`: the text spells the tree, with brackets nested at most n deep; `not`
+-- binds before `and`, and `and` before `or`, and rows of `and` or of `or` nest to the right
 pub data Spells : Scope → Level → ℕ → List ℕ → Tree → Type 0 where
   one_conjunction : {i : Scope} {n : ℕ} {a : List ℕ} {t : Tree} → Spells i Conjunction n a t → Spells i Disjunction n a t
   either : {i : Scope} {n : ℕ} {a w b : List ℕ} {t u : Tree} → Spells i Conjunction n a t → IsJoin (codes "or") w → Spells i Disjunction n b u
@@ -76,7 +76,7 @@ pub data Spells : Scope → Level → ℕ → List ℕ → Tree → Type 0 where
   values : {kind : Kind} {n : ℕ} {a text : List ℕ} {path : Path} {t : Tree} (p : List ℕ) → IsPath (Attributes kind) p path → Spells (SubAttributes (attribute_meant path.meant)) Disjunction n a t → Encloses 91 93 a text
       → Spells (Attributes kind) Term (suc n) (p ++ text) (Values path t)
 
--- A text that spells the tree of a filter on a kind, with spaces round it.
+-- the text spells the tree of a filter on a kind, with spaces around it and brackets nested at most n deep
 pub record IsFilter (kind : Kind) (n : ℕ) (text : List ℕ) (tree : Tree) : Type 0 where
   pub before : List ℕ
   pub inner : List ℕ

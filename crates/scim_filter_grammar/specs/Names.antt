@@ -1,4 +1,4 @@
--- The names in a filter, and what they name.
+-- How attribute paths are spelled, and what they refer to in the attribute table.
 use Rattle.std.specs.Prelude.{◌≡◌, ℕ, Bool, true, false, ◌&&◌, ◌||◌, ◌==◌, nat_le, List, [], ◌∷◌, ◌++◌, codes, Option, Some, None, option_and_then}
 use Rattle.std.specs.List.{list_all}
 use Rattle.scim_schema.specs.declared.Attribute.{Attribute}
@@ -12,75 +12,76 @@ use Rattle.scim_filter_grammar.specs.declared.tree.Scope.TheVariants.{Attributes
 use Rattle.scim_filter_grammar.specs.declared.tree.Path.{Path}
 use Rattle.scim_filter_grammar.specs.Bytes.{front, is_word, is_no_colon}
 
--- a letter of ASCII
+-- whether the byte is an ASCII letter
 abbrev pub is_letter : ℕ → Bool
 is_letter b = nat_le 65 b && nat_le b 90 || nat_le 97 b && nat_le b 122
 
--- a letter, a digit, "$", "-" or "_"
+-- whether the byte may be part of a name: a letter, a digit, "$", "-" or "_"
 abbrev pub is_name_byte : ℕ → Bool
 is_name_byte b = is_letter b || nat_le 48 b && nat_le b 57 || b == 36 || b == 45 || b == 95
 
--- a letter and then letters, digits, "$", "-" and "_" (RFC 7643 section 2.1)
+-- whether the text is a letter, followed by letters, digits, "$", "-" and "_" (RFC 7643 section 2.1)
 abbrev pub is_plain_name : List ℕ → Bool
 is_plain_name [] = false
 is_plain_name (b ∷ bs) = is_letter b && list_all is_name_byte bs
 
--- such a name, or "$ref"
+-- whether the text is a plain name or "$ref"
 abbrev pub is_name : List ℕ → Bool
 is_name text = is_plain_name text || is_word (codes "$ref") text
 
--- such a byte, "." or ":"
+-- whether the byte may be part of a URN: one of a name, "." or ":"
 abbrev pub is_urn_byte : ℕ → Bool
 is_urn_byte b = is_name_byte b || b == 46 || b == 58
 
--- "urn" up to the first colon, and letters, digits, ":", ".", "-", "_" and "$" throughout
+-- whether the text is a URN: "urn" before the first colon, and only bytes of URNs
 abbrev pub is_urn : List ℕ → Bool
 is_urn text = is_word (codes "urn") (front is_no_colon text) && list_all is_urn_byte text
 
--- name [ "." name ]
+-- the text of the names in a path: name [ "." name ]
 abbrev pub names_text : List ℕ → Option (List ℕ) → List ℕ
 names_text name None = name
 names_text name (Some sub) = name ++ 46 ∷ sub
 
--- [ urn ":" ] names
+-- the text of a path: [ urn ":" ] names
 abbrev pub path_text : Option (List ℕ) → List ℕ → List ℕ
 path_text None names = names
 path_text (Some urn) names = urn ++ 58 ∷ names
 
--- where there is such a text, it passes
+-- the text passes the test, if there is one
 abbrev pub IsPassed : (List ℕ → Bool) → Option (List ℕ) → Type 0
 IsPassed test None = Unit {0}
 IsPassed test (Some text) = test text ≡ true
 
--- between brackets a name stands alone
+-- whether names may be combined so in a scope: in brackets a name stands alone
 abbrev pub fits_scope : Scope → Option (List ℕ) → Option (List ℕ) → Bool
 fits_scope (Attributes kind) urn sub = true
 fits_scope (SubAttributes a) None None = true
 fits_scope (SubAttributes a) None (Some sub) = false
 fits_scope (SubAttributes a) (Some urn) sub = false
 
--- the attribute of a kind with this name, under the schema of this URN where there is one (RFC 7644 section 3.10)
+-- the attribute of a kind with this name, in the schema with this URN if one is given (RFC 7644 section
+-- 3.10)
 abbrev pub attribute_by : Kind → Option (List ℕ) → List ℕ → Option Attribute
 attribute_by kind None name = attribute_named kind name
 attribute_by kind (Some urn) name = option_and_then (λ s. attribute_named_in kind s name) (schema_named urn)
 
--- what is named by an attribute and the sub-attribute that a name finds in it
+-- the sub-attribute of an attribute, if the look-up found one
 abbrev pub sub_meant : Attribute → Option SubAttribute → Meant
 sub_meant a None = meant.Nothing
 sub_meant a (Some b) = meant.SubAttribute a b
 
--- what an attribute and the name of a sub-attribute of it name
+-- the attribute, or its sub-attribute with this name
 abbrev pub meant_in : Option Attribute → Option (List ℕ) → Meant
 meant_in None sub = meant.Nothing
 meant_in (Some a) None = meant.Attribute a
 meant_in (Some a) (Some sub) = sub_meant a (sub_attribute_named a sub)
 
--- what the names of a path name
+-- the attribute or sub-attribute that the names of a path refer to in a scope
 abbrev pub meant_by : Scope → Option (List ℕ) → List ℕ → Option (List ℕ) → Meant
 meant_by (Attributes kind) urn name sub = meant_in (attribute_by kind urn name) sub
 meant_by (SubAttributes a) urn name sub = meant_in a (Some name)
 
--- the attribute whose sub-attributes may be named between brackets
+-- the attribute whose sub-attributes may be named in brackets after a path
 abbrev pub attribute_meant : Meant → Option Attribute
 attribute_meant meant.Nothing = None
 attribute_meant (meant.Attribute a) = Some a

@@ -1,4 +1,4 @@
--- Reading from left to right, with the first fault that is met.
+-- Reading a filter from left to right, up to the first fault.
 use Rattle.std.specs.Prelude.{◌≡◌, ℕ, ℤ, zero, suc, ◌-◌, ◌&&◌, ◌==◌, List, [], ◌∷◌, length, drop, take, codes, Option, Some, None, Result, Ok, Err, ok_or, option_and_then, slice_index, if◌then◌else◌, true, false}
 use Rattle.std.specs.Str.{is_utf8}
 use Rattle.std.specs.Str.Parse.{signed_digits_value}
@@ -21,59 +21,59 @@ use Rattle.scim_filter_grammar.specs.code.Cuts.{is_no_dot, past_gap, past_join, 
 use Rattle.scim_filter_grammar.specs.Names.{is_name, is_urn, fits_scope, meant_by, attribute_meant}
 use Rattle.scim_filter_grammar.specs.Tree.{Tree, Or, And, Not, Present, Compare, Values}
 
--- what is wrong with a text: it is no filter, or nests too deep
+-- why a text can't be read: it isn't a filter, or it nests too deep
 pub data Fault : Type 0 where
   Syntax : Fault
   TooDeep : Fault
 
--- going on with what was read, or stopping at the first fault
+-- the second step on the result of the first, or the first step's fault
 infixl 10 ◌>>=◌
 abbrev pub ◌>>=◌ : {A B : Type 0} → Result A Fault → (A → Result B Fault) → Result B Fault
 (Ok x) >>= f = f x
 (Err e) >>= f = Err e
 
--- What a function returned, seen by view, is what reading gives, unless memory ran out.
+-- an error that a function returned is the fault of reading, or is NoMemory
 abbrev pub Fails : {Y : Type 0} → Failed ReadError → Result Y Fault → Type 0
 Fails NoMemory read = Unit {0}
 Fails (Because (errors.Syntax left)) read = read ≡ Err Syntax
 Fails (Because errors.TooDeep) read = read ≡ Err TooDeep
 
--- the same of all that a function returned
+-- a function returned the result of reading, seen through `view`, or NoMemory
 abbrev pub Gives : {X Y : Type 0} → (X → Y) → Result X (Failed ReadError) → Result Y Fault → Type 0
 Gives view (Ok x) read = read ≡ Ok (view x)
 Gives view (Err e) read = Fails e read
 
--- what is read, and the bytes after it
+-- the result of reading: what was read, with the bytes after it
 abbrev pub Read : Type 0 → Type 0
 Read A = Result (A × List ℕ) Fault
 
--- what reads a tree from the front of bytes
+-- a function that reads a tree from the start of bytes
 abbrev pub Reader : Type 0
 Reader = List ℕ → Read Tree
 
--- what stands before the last colon of a word
+-- the bytes before the last colon of a word, which must be a URN if there is a colon
 unfoldable pub urn_of : Option (List ℕ) → Result (Option (List ℕ)) Fault
 urn_of None = Ok None
 urn_of (Some urn) = if is_urn urn then Ok (Some urn) else Err Syntax
 
--- a whole word that is a name
+-- the word as a name
 unfoldable pub name_of : List ℕ → Result (List ℕ) Fault
 name_of name = if is_name name then Ok name else Err Syntax
 
--- what stands behind the name of an attribute
+-- the sub-attribute's name after an attribute's name: a dot and a name, or nothing
 unfoldable pub sub_of : List ℕ → Result (Option (List ℕ)) Fault
 sub_of [] = Ok None
 sub_of (dot ∷ sub) = name_of sub >>= λ name. Ok (Some name)
 
--- the path of these names
+-- the path with these names
 abbrev pub path_for : Scope → Option (List ℕ) → List ℕ → Option (List ℕ) → Path
 path_for scope urn name sub = record { urn = urn; name = name; sub_name = sub; meant = meant_by scope urn name sub }
 
--- the same where they may stand so
+-- the path with these names, if they may be combined so in the scope
 abbrev pub path_with : Scope → Option (List ℕ) → List ℕ → Option (List ℕ) → Result Path Fault
 path_with scope urn name sub = if fits_scope scope urn sub then Ok (path_for scope urn name sub) else Err Syntax
 
--- a path that is a whole word
+-- the path that a whole word spells
 unfoldable pub path_of : Scope → List ℕ → Result Path Fault
 path_of scope word = do
   urn ← urn_of (urn_in word)
@@ -81,7 +81,7 @@ path_of scope word = do
   sub ← sub_of (behind is_no_dot (names_in word))
   path_with scope urn name sub
 
--- a whole word that is an operator
+-- the operator that a whole word spells
 unfoldable pub operator_of : List ℕ → Result Operator Fault
 operator_of w =
     if is_word (codes "eq") w then Ok Eq else
@@ -94,15 +94,15 @@ operator_of w =
     if is_word (codes "lt") w then Ok Lt else
     if is_word (codes "le") w then Ok Le else Err Syntax
 
--- a whole word that is a number
+-- the integer that a whole word spells, if it is one
 unfoldable pub integer_of : List ℕ → Option ℤ
 integer_of w = if is_integer w then Some (signed_digits_value 10 w) else None
 
--- the same as a literal
+-- the number literal that a whole word spells
 unfoldable pub number_of : List ℕ → Result Literal Fault
 number_of w = ok_or (integer_of w) Syntax >>= λ z. Ok (literal.Number z)
 
--- a whole word that is a literal
+-- the literal that a whole word spells
 unfoldable pub word_literal : List ℕ → Result Literal Fault
 word_literal w =
     if is_word (codes "true") w then Ok (literal.Truth true) else
@@ -113,31 +113,31 @@ word_literal w =
 unfoldable pub string_of : List ℕ → Result (List ℕ) Fault
 string_of text = if is_utf8 text then ok_or (option_and_then as_str (read text)) Syntax else Err Syntax
 
--- a JSON string in front
+-- the JSON string at the start of bytes
 unfoldable pub string_at : List ℕ → Read Literal
 string_at bytes = do
   rest ← ok_or (past_quote (drop 1 bytes)) Syntax
   s ← string_of (take (length bytes - length rest) bytes)
   Ok (literal.Text s, rest)
 
--- a literal in front
+-- the literal at the start of bytes
 unfoldable pub literal_at : List ℕ → Read Literal
 literal_at bytes = if slice_index bytes 0 == 34 then string_at bytes else do
   x ← word_literal (front is_word_byte bytes)
   Ok (x, behind is_word_byte bytes)
 
--- a bracket that closes
+-- the tree, with the bytes after its closing bracket
 abbrev pub closing_at : ℕ → Tree → List ℕ → Read Tree
 closing_at close t [] = Err Syntax
 closing_at close t (b ∷ bs) = if b == close then Ok (t, bs) else Err Syntax
 
--- what stands behind an open bracket, up to the bracket that closes it
+-- the filter after an opening bracket, up to the closing bracket
 unfoldable pub enclosed_at : ℕ → Reader → Reader
 enclosed_at close filter bytes = do
   x ← filter (behind is_space bytes)
   closing_at close x.0 (behind is_space x.1)
 
--- what stands behind a path and a gap
+-- the test after a path and a space: `pr`, or an operator and a literal
 unfoldable pub relation_at : Path → Reader
 relation_at path bytes =
     if is_word (codes "pr") (front is_word_byte bytes) then Ok (Present path, behind is_word_byte bytes) else do
@@ -146,23 +146,23 @@ relation_at path bytes =
       x ← literal_at rest
       Ok (Compare path op x.0, x.1)
 
--- what is read, with its tree made part of another
+-- the result of reading, with its tree made part of another tree
 abbrev pub mapped : (Tree → Tree) → Read Tree → Read Tree
 mapped f read = read >>= λ x. Ok (f x.0, x.1)
 
--- what stands between the brackets of a value path
+-- the value path on a path, after its opening bracket
 unfoldable pub listed_at : (Scope → Reader) → Scope → Path → Reader
 listed_at filter (Attributes kind) path bytes = mapped (Values path) (enclosed_at 93 (filter (SubAttributes (attribute_meant path.meant))) bytes)
 listed_at filter (SubAttributes a) path bytes = Err Syntax
 
--- what stands behind a path
+-- the tree that continues after a path: a filter in brackets, or a space and a test
 unfoldable pub behind_path_at : (Scope → Reader) → Scope → Path → Reader
 behind_path_at filter scope path bytes =
     if slice_index bytes 0 == 91 then listed_at filter scope path (drop 1 bytes) else do
       rest ← ok_or (past_gap bytes) Syntax
       relation_at path rest
 
--- a term that begins with a word
+-- the term that begins with a word: `not (..)`, or a path and its test
 unfoldable pub worded_at : (Scope → Reader) → Scope → Reader
 worded_at filter scope bytes =
     if is_word (codes "not") (front is_word_byte bytes) && slice_index (behind is_space (behind is_word_byte bytes)) 0 == 40
@@ -171,40 +171,40 @@ worded_at filter scope bytes =
       path ← path_of scope (front is_word_byte bytes)
       behind_path_at filter scope path (behind is_word_byte bytes)
 
--- a term in front
+-- the term at the start of bytes: a filter in brackets, or one that begins with a word
 unfoldable pub term_at : (Scope → Reader) → Scope → Reader
 term_at filter scope bytes =
     if slice_index bytes 0 == 40 then enclosed_at 41 (filter scope) (drop 1 bytes) else worded_at filter scope bytes
 
--- what an item is joined with, where the keyword stands behind it
+-- the tree read first, joined with the rest if the keyword follows it
 abbrev pub joined_at : Reader → (Tree → Tree → Tree) → Tree × List ℕ → Option (List ℕ) → Read Tree
 joined_at others join x None = Ok x
 joined_at others join x (Some rest) = mapped (join x.0) (others rest)
 
--- items with a keyword between them, at most n of them
+-- at most n items joined by a keyword
 abbrev pub chain_at : ℕ → Reader → List ℕ → (Tree → Tree → Tree) → Reader
 chain_at zero item keyword join bytes = Err Syntax
 chain_at (suc n) item keyword join bytes = item bytes >>= λ x. joined_at (chain_at n item keyword join) join x (past_join keyword x.1)
 
--- terms with `and` between them
+-- the terms joined by `and` at the start of bytes
 unfoldable pub conjunction_at : (Scope → Reader) → Scope → Reader
 conjunction_at filter scope bytes = chain_at (suc (length bytes)) (term_at filter scope) (codes "and") And bytes
 
--- conjunctions with `or` between them
+-- the conjunctions joined by `or` at the start of bytes
 unfoldable pub disjunction_at : (Scope → Reader) → Scope → Reader
 disjunction_at filter scope bytes = chain_at (suc (length bytes)) (conjunction_at filter scope) (codes "or") Or bytes
 
--- a filter within n brackets less one
+-- the filter at the start of bytes, with fewer than n brackets open at one place
 unfoldable pub filter_at : ℕ → Scope → Reader
 filter_at zero scope bytes = Err TooDeep
 filter_at (suc n) scope bytes = disjunction_at (filter_at n) scope bytes
 
--- the tree, where nothing is left
+-- the tree, if no bytes are left
 abbrev pub ended : Tree → List ℕ → Result Tree Fault
 ended t [] = Ok t
 ended t (b ∷ bs) = Err Syntax
 
--- a whole filter, with nothing but spaces behind it
+-- the whole filter, with only spaces around it
 unfoldable pub all_of : Scope → List ℕ → Result Tree Fault
 all_of scope bytes = do
   x ← filter_at 33 scope (behind is_space bytes)

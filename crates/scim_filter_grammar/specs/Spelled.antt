@@ -12,27 +12,27 @@ use Rattle.scim_filter_grammar.specs.Tree.{Tree}
 use Rattle.scim_filter_grammar.specs.Types.{fits}
 use Rattle.scim_filter_grammar.specs.WrittenPaths.{Written, IsWritten, Plain}
 
--- a tree whose values are of the types of what they are compared with
+-- the tree, if it passes `fits`
 abbrev pub fitting : Option Tree → Option Tree
 fitting None = None
 fitting (Some tree) = if fits tree then Some tree else None
 
--- the filter that a text spells within the limits and types, if it spells one
+-- the filter that a text spells within the limits and with the right types, if it spells one
 unfoldable pub filter_in : Kind → List ℕ → Option Tree
 filter_in kind text = if nat_le (length text) LONGEST_FILTER then fitting (result_ok (all_of (Attributes kind) text)) else None
 
--- the path of an attribute or a sub-attribute that a text spells within the limit, if it spells one (RFC 7644 section 3.10)
+-- the attribute path that a text spells within the limit, if it spells one (RFC 7644 section 3.10)
 unfoldable pub path_in : Kind → List ℕ → Option Path
 path_in kind text = if nat_le (length text) LONGEST_FILTER then option_and_then (λ word. result_ok (path_of (Attributes kind) word)) (lone_word text) else None
 
--- the filter that a text spells is what the grammar says
+-- `filter_in` agrees with the grammar
 abbrev pub FiltersAreSpelled : Type 0
 FiltersAreSpelled = (kind : Kind) (text : List ℕ) (tree : Tree) → (filter_in kind text ≡ Some tree) ↔ ((length text ≤ LONGEST_FILTER) × IsFilter kind 32 text tree × (fits tree ≡ true))
 
--- and so is the path of an attribute
+-- `path_in` agrees with the grammar
 abbrev pub PathsAreSpelled : Type 0
 PathsAreSpelled = (kind : Kind) (text : List ℕ) (path : Path) → (path_in kind text ≡ Some path) ↔ ((length text ≤ LONGEST_FILTER) × IsWritten kind 0 text (Plain path))
 
--- a text spells one path of a change at most, value paths too, however many brackets are open in it
+-- a text spells at most one path of a PATCH operation, however many brackets are open in it
 abbrev pub OnePathIsSpelled : Type 0
 OnePathIsSpelled = (kind : Kind) (text : List ℕ) (m n : ℕ) (v w : Written) → IsWritten kind m text v → IsWritten kind n text w → v ≡ w

@@ -1,4 +1,4 @@
--- The tree of a filter, without where its parts lie in memory.
+-- The tree of a filter, without pointers.
 use Rattle.scim_filter_grammar.specs.declared.tree.Operator.{Operator}
 use Rattle.scim_filter_grammar.specs.declared.tree.Literal.{Literal}
 use Rattle.scim_filter_grammar.specs.declared.tree.Path.{Path}
@@ -6,7 +6,7 @@ use Rattle.scim_filter_grammar.specs.declared.tree.Node.{Node}
 use Rattle.scim_filter_grammar.specs.declared.tree.Filter.{Filter}
 use Rattle.scim_filter_grammar.specs.declared.tree.Node.TheVariants as node
 
--- the tree that the text of a filter spells: `or`, `and` and `not`; `pr`; a comparison; and a value path with the filter between its brackets
+-- a filter: `or`, `and`, `not`, `pr`, a comparison, or a value path with the filter in its brackets
 pub data Tree : Type 0 where
   Or : Tree → Tree → Tree
   And : Tree → Tree → Tree

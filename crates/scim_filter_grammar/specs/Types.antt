@@ -23,39 +23,40 @@ use Rattle.scim_filter_grammar.specs.Bytes.{is_word}
 use Rattle.scim_text.specs.MomentIn.{moment_in}
 use Rattle.scim_filter_grammar.specs.Tree.{Tree, Or, And, Not, Present, Compare, Values}
 
--- the type of a leaf, which is the same for all kinds
+-- the type of a leaf, which is the same for both kinds
 abbrev pub type_of : Leaf → AttributeType
 type_of leaf = (characteristics_of User leaf).attribute_type
 
--- the leaf that stands for an attribute with these sub-attributes: the attribute itself where it has none, else its `value`
+-- the leaf compared for an attribute with these sub-attributes: the attribute itself if it has none, else
+-- its `value`
 abbrev pub leaf_for : Attribute → List SubAttribute → Option Leaf
 leaf_for a [] = Some (simple a)
 leaf_for a (b ∷ bs) = if list_any (sameb the_sub_attribute Value) (b ∷ bs) then Some (leaf_at a Value) else None
 
--- the leaf whose cells are compared
+-- the leaf whose cells are compared or sorted by, if there is one
 abbrev pub compared_leaf : Meant → Option Leaf
 compared_leaf meant.Nothing = None
 compared_leaf (meant.Attribute a) = leaf_for a (sub_attributes a)
 compared_leaf (meant.SubAttribute a b) = Some (leaf_at a b)
 
--- equal or not equal
+-- whether the operator is `eq` or `ne`
 abbrev pub is_equality : Operator → Bool
 is_equality Eq = true
 is_equality Ne = true
 is_equality _ = false
 
--- contains, starts with, ends with
+-- whether the operator is `co`, `sw` or `ew`
 abbrev pub is_part_test : Operator → Bool
 is_part_test Co = true
 is_part_test Sw = true
 is_part_test Ew = true
 is_part_test _ = false
 
--- the truth value that a text spells, in any ASCII case
+-- the boolean that a text spells, in any ASCII case
 abbrev pub truth_in : List ℕ → Option Bool
 truth_in text = if is_word (codes "true") text then Some true else if is_word (codes "false") text then Some false else None
 
--- there is a value
+-- whether there is a value
 abbrev pub is_some : {A : Type 0} → Option A → Bool
 is_some None = false
 is_some (Some x) = true
@@ -70,29 +71,31 @@ suits String op (literal.Text text) = true
 suits Reference op (literal.Text text) = true
 suits _ _ _ = false
 
--- the leaf is there, and its type suits
+-- whether there is a leaf, and the operator may compare its cells with this value
 abbrev pub suits_leaf : Option Leaf → Operator → Literal → Bool
 suits_leaf None op x = false
 suits_leaf (Some leaf) op x = suits (type_of leaf) op x
 
--- null is only tested for equality; with what names nothing anything else may be compared
+-- whether a comparison suits the type of what is named: null may only be tested with `eq` and `ne`, and a
+-- name that the kind doesn't have may be compared with any other value
 abbrev pub fits_comparison : Meant → Operator → Literal → Bool
 fits_comparison m op literal.Null = is_equality op
 fits_comparison meant.Nothing op x = true
 fits_comparison m op x = suits_leaf (compared_leaf m) op x
 
--- there is no sub-attribute
+-- whether there is no sub-attribute
 abbrev pub is_empty : List SubAttribute → Bool
 is_empty [] = true
 is_empty (b ∷ bs) = false
 
--- values have sub-attributes, so a value path names no simple attribute
+-- whether a value path may be on what is named: a simple attribute or a sub-attribute has no sub-attributes
 abbrev pub may_have_values : Meant → Bool
 may_have_values meant.Nothing = true
 may_have_values (meant.Attribute a) = not (is_empty (sub_attributes a))
 may_have_values (meant.SubAttribute a b) = false
 
--- each value is of the type of what it is compared with
+-- whether each comparison in a tree suits the type of its attribute, and no value path is on an attribute
+-- without sub-attributes
 abbrev pub fits : Tree → Bool
 fits (Or a b) = fits a && fits b
 fits (And a b) = fits a && fits b

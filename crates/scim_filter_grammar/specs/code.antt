@@ -1,3 +1,3 @@
--- How the readers of filters and of paths go on.
+-- Definitions for the code that reads filters and paths.
 pub mod Cuts
 pub mod Inside

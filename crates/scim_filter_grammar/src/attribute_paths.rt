@@ -1,4 +1,4 @@
-//! The paths of attributes (RFC 7644 section 3.10).
+//! Reads the paths of attributes (RFC 7644 section 3.10).
 ghost use Rattle.std.specs.Prelude.{◌≡◌, ◌≤◌, length, MatchOption, option_map};
 ghost use Rattle.scim_filter_grammar.specs.Bytes as spec;
 ghost use Rattle.scim_filter_grammar.specs.declared.tree.Path.{Path};
@@ -10,8 +10,9 @@ use crate::names::meant;
 use crate::tree::{Meant, Scope};
 use scim_schema::{Kind, LONGEST_FILTER};
 
-/// The one word of a text, without the spaces round it; None where there is not just one. A word has no
-/// space, no quote and no bracket.
+/// The only word of a text, without the spaces around it. `None` if the text has anything else.
+///
+/// A word has no space, quote or bracket.
 pub fn lone_word(text: &str) -> Option<&[u8]>
     ensures { option_map (λ w. w.now) result ≡ spec.lone_word text.now }
 {
@@ -19,13 +20,14 @@ pub fn lone_word(text: &str) -> Option<&[u8]>
     skip_spaces(rest).is_empty().then_some(word)
 }
 
-/// What a path such as `name.familyName`, with a URN before it or not and with spaces round it, names in
-/// the attribute table of a kind; None where the text is no path, or has more than 4,096 bytes. It takes no
-/// memory.
+/// Returns what an attribute path names in the attribute table of `kind`, as `name.familyName`, with or
+/// without a URN before it and spaces around it.
+///
+/// `None` if the text isn't a path, or has more than 4,096 bytes.
 pub fn attribute_path(kind: Kind, text: &str) -> Option<Meant>
     ensures spelled { MatchOption result ((path : Path) → length text.now ≤ LONGEST_FILTER → ¬ (IsWritten kind 0 text.now (Plain path)))
         (λ m. (path : Path) × (length text.now ≤ LONGEST_FILTER) × IsWritten kind 0 text.now (Plain path) × (path.meant ≡ m)) }
-    // The same by the function that gives what a text spells.
+    // `path_in` returns the path that a text spells.
     ensures same { result ≡ option_map (λ (path : Path). path.meant) (path_in kind text.now) }
 {
     if text.len() > LONGEST_FILTER {

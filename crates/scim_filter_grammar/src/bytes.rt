@@ -1,18 +1,18 @@
-//! Spaces and words at the front of bytes.
+//! Splits spaces, words and names off the start of a byte slice.
 
 ghost use Rattle.std.specs.Prelude.{◌≡◌, ◌↔◌, IsTrue, Bool, ℕ, map, option_map, IfSome, length, ◌<◌, ◌≤◌};
 ghost use Rattle.std.specs.Prelude.{drop};
 ghost use Rattle.scim_filter_grammar.specs.Bytes.{is_space, is_word_byte, is_no_colon, front, behind, is_word, past_quote};
 ghost use Rattle.scim_filter_grammar.specs.code.Cuts.{is_no_dot, past_gap, past_join, names_in, urn_in};
 
-/// Whether the byte is one of a word: no space, no quote and no bracket.
+/// Whether the byte may be part of a word: no space, quote or bracket.
 fn is_word_byte_at(byte: u8) -> bool
     ensures { result ≡ is_word_byte byte }
 {
     !matches!(byte, b' ' | b'"' | b'(' | b')' | b'[' | b']')
 }
 
-/// What is behind the spaces in front.
+/// The bytes after leading spaces.
 pub fn skip_spaces(bytes: &[u8]) -> &[u8]
     ensures rest { result.now ≡ behind is_space bytes.now }
     ensures shorter { length result.now ≤ length bytes.now }
@@ -24,7 +24,7 @@ pub fn skip_spaces(bytes: &[u8]) -> &[u8]
     rest
 }
 
-/// The longest word in front, and what is behind it.
+/// Splits off the longest word at the start.
 pub fn split_word(bytes: &[u8]) -> (&[u8], &[u8])
     ensures word { result.0.now ≡ front is_word_byte bytes.now }
     ensures rest { result.1.now ≡ behind is_word_byte bytes.now }
@@ -37,7 +37,7 @@ pub fn split_word(bytes: &[u8]) -> (&[u8], &[u8])
     bytes.split_at(end)
 }
 
-/// What stands before the first dot, and the rest from the dot on.
+/// Splits before the first dot; the rest begins with the dot, or is empty.
 pub fn split_name(bytes: &[u8]) -> (&[u8], &[u8])
     ensures name { result.0.now ≡ front is_no_dot bytes.now }
     ensures rest { result.1.now ≡ behind is_no_dot bytes.now }
@@ -49,14 +49,14 @@ pub fn split_name(bytes: &[u8]) -> (&[u8], &[u8])
     bytes.split_at(end)
 }
 
-/// Whether a text is this keyword, in any ASCII case.
+/// Whether `text` is the keyword, in any ASCII case.
 pub fn is_keyword(keyword: &[u8], text: &[u8]) -> bool
     ensures { result ≡ is_word keyword.now text.now }
 {
     text.eq_ignore_ascii_case(keyword)
 }
 
-/// What stands before the first colon.
+/// The bytes before the first colon, or all bytes if there is none.
 pub fn before_colon(bytes: &[u8]) -> &[u8]
     ensures { result.now ≡ front is_no_colon bytes.now }
 {
@@ -67,7 +67,7 @@ pub fn before_colon(bytes: &[u8]) -> &[u8]
     bytes.split_at(end).0
 }
 
-/// What stands behind the last colon, or the whole word where it has none.
+/// The bytes after the last colon, or the whole word if there is none.
 pub fn skip_urn(word: &[u8]) -> &[u8]
     ensures { result.now ≡ names_in word.now }
 {
@@ -82,7 +82,7 @@ pub fn skip_urn(word: &[u8]) -> &[u8]
     names
 }
 
-/// What stands before the last colon, if there is one.
+/// The bytes before the last colon. `None` if there is no colon.
 pub fn urn_before(word: &[u8]) -> Option<&[u8]>
     ensures { option_map (λ u. u.now) result ≡ urn_in word.now }
 {
@@ -94,7 +94,7 @@ pub fn urn_before(word: &[u8]) -> Option<&[u8]>
     }
 }
 
-/// What is behind the first byte, if there is one.
+/// The bytes without the first one. An empty slice stays empty.
 pub fn skip_one(bytes: &[u8]) -> &[u8]
     ensures rest { result.now ≡ drop 1 bytes.now }
     ensures shorter { length result.now ≤ length bytes.now }
@@ -105,7 +105,9 @@ pub fn skip_one(bytes: &[u8]) -> &[u8]
     }
 }
 
-/// What is behind the quote that closes a string, behind its first quote.
+/// The bytes after the closing quote of a string whose opening quote is already skipped.
+///
+/// `None` if the string isn't closed. A backslash escapes the next byte.
 pub fn skip_string(bytes: &[u8]) -> Option<&[u8]>
     ensures rest { option_map (λ r. r.now) result ≡ past_quote bytes.now }
     ensures shorter { IfSome result (λ r. length r.now ≤ length bytes.now) }
@@ -124,7 +126,7 @@ pub fn skip_string(bytes: &[u8]) -> Option<&[u8]>
     None
 }
 
-/// What is behind one or more spaces.
+/// The bytes after one or more leading spaces. `None` if there is no space.
 pub fn skip_gap(bytes: &[u8]) -> Option<&[u8]>
     ensures rest { option_map (λ r. r.now) result ≡ past_gap bytes.now }
     ensures shorter { IfSome result (λ r. length r.now < length bytes.now) }
@@ -135,7 +137,7 @@ pub fn skip_gap(bytes: &[u8]) -> Option<&[u8]>
     }
 }
 
-/// What is behind a keyword with spaces on both sides.
+/// The bytes after a keyword with spaces on both sides. `None` if `bytes` doesn't begin with these.
 pub fn skip_join<'a>(keyword: &[u8], bytes: &'a [u8]) -> Option<&'a [u8]>
     ensures rest { option_map (λ r. r.now) result ≡ past_join keyword.now bytes.now }
     ensures shorter { IfSome result (λ r. length r.now < length bytes.now) }

@@ -1,15 +1,17 @@
-//! Why a filter could not be read.
+//! Faults of filters and tokens.
 use thiserror::Error;
 
-/// Why a filter could not be read.
+/// Why a filter can't be read.
 #[derive(Clone, Copy, Debug, PartialEq, Eq, Error)]
 pub enum FilterFault {
-    /// The text is no filter. The byte is at most the length of the text. Of a filter that is read it
-    /// hints at where reading stopped, and no more is promised; of tokens it is where a string begins that
-    /// isn't closed.
+    /// The text isn't a filter.
+    ///
+    /// From `read_tokens` the byte is where an unclosed string begins. From `read_filter` it hints at where
+    /// reading stopped; only that it is at most the length of the text is guaranteed.
     #[error("the text is no filter, about byte {0}")]
     Syntax(usize),
-    /// A value is compared that is not of the attribute's type.
+    /// A comparison doesn't suit the type of its attribute, or a value path is on an attribute without
+    /// sub-attributes.
     #[error("a value is not of the type of its attribute")]
     WrongType,
     /// More than 32 brackets are open at one place.
@@ -20,11 +22,11 @@ pub enum FilterFault {
     TooLong,
 }
 
-/// Why a reader stopped.
+/// Why a reader of a rule of the grammar stopped.
 #[derive(Clone, Copy)]
 pub(crate) enum ReadError {
-    /// What is left, of this many bytes, is not what is due.
+    /// The bytes left, this many, don't begin with what the rule needs.
     Syntax(usize),
-    /// More brackets are open than may be.
+    /// More than 32 brackets are open.
     TooDeep,
 }

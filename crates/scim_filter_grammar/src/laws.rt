@@ -1,20 +1,21 @@
-//! What holds of all texts of filters and paths.
+//! Laws about all texts of filters and paths.
 ghost use Rattle.scim_filter_grammar.specs.Spelled.{FiltersAreSpelled, PathsAreSpelled, OnePathIsSpelled};
 
-/// The filter that a text spells, as a function of it, is what the grammar says. So what
-/// [`crate::read_filter`] reads is the one filter that the text spells.
+/// The function `filter_in` returns a tree exactly if the text spells it by the grammar.
+///
+/// So [`crate::read_filter`] returns the only filter that the text spells.
 pub fn filters_are_spelled()
     ensures { FiltersAreSpelled }
 {}
 
-/// The path of an attribute that a text of at most 4,096 bytes spells, as a function of it, is what the
-/// grammar says.
+/// The function `path_in` returns a path exactly if the text spells it by the grammar, within 4,096 bytes.
 pub fn paths_are_spelled()
     ensures { PathsAreSpelled }
 {}
 
-/// A text spells one path of a change at most, value paths too. So what
-/// [`crate::written_path`] reads is the one path that the text spells.
+/// A text spells at most one path of a change, value paths included.
+///
+/// So [`crate::written_path`] returns the only path that the text spells.
 pub fn one_path_is_spelled()
     ensures { OnePathIsSpelled }
 {}

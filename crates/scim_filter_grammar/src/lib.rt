@@ -1,5 +1,7 @@
-//! The grammar of filters and of the paths in them (RFC 7644 sections 3.4.2.2 and 3.10): texts are read as typed trees and cut into
-//! tokens.
+//! Reads filters and attribute paths (RFC 7644 sections 3.4.2.2 and 3.10) into typed trees, and cuts their
+//! texts into tokens.
+//!
+//! Cases: `crates/cases/data/filter_texts.jsonl` and `filter_parts.jsonl`.
 #![tactic(auto)]
 
 mod attribute_paths;

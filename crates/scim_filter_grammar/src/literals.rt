@@ -1,4 +1,4 @@
-//! The literals in a filter.
+//! Reads the literals in a filter.
 ghost use Rattle.std.specs.Prelude.{◌≡◌, ◌≤◌, ◌==◌, IfOk, length, slice_index};
 ghost use Rattle.scim_filter_grammar.specs.Reading.{Gives, integer_of, number_of, word_literal, string_of, string_at, literal_at};
 
@@ -11,13 +11,14 @@ use serde_json::Value;
 use std::alloc::Global;
 use std::str;
 
+/// Whether a word begins with `+`, which JSON numbers may not.
 fn starts_with_plus(word: &[u8]) -> bool
     ensures { result ≡ (slice_index word.now 0 == 43) }
 {
     matches!(word, [b'+', ..])
 }
 
-/// The integer that a word spells, within 64 bits.
+/// The integer that a word spells, if it is one that fits a signed 64-bit integer.
 fn integer(word: &[u8]) -> Option<i64>
     ensures { result ≡ integer_of word.now }
 {
@@ -33,6 +34,9 @@ fn integer(word: &[u8]) -> Option<i64>
     }
 }
 
+/// Reads a word as an integer.
+///
+/// Syntax with `left` if it isn't one.
 #[tactic(auto, unfolding(crate::specs::Reading::number_of))]
 fn number(word: &[u8], left: usize) -> Result<Literal, Failed<ReadError>>
     ensures { Gives (λ x. x) result (number_of word.now) }
@@ -43,6 +47,9 @@ fn number(word: &[u8], left: usize) -> Result<Literal, Failed<ReadError>>
     }
 }
 
+/// Reads a word as `true`, `false`, `null` or a number.
+///
+/// Syntax with `left` if it is none of these.
 #[tactic(auto, unfolding(crate::specs::Reading::word_literal))]
 fn one_word(word: &[u8], left: usize) -> Result<Literal, Failed<ReadError>>
     ensures { Gives (λ x. x) result (word_literal word.now) }
@@ -58,7 +65,9 @@ fn one_word(word: &[u8], left: usize) -> Result<Literal, Failed<ReadError>>
     }
 }
 
-/// The text that a JSON string stands for.
+/// Reads a JSON string.
+///
+/// Syntax with `left` if it isn't one.
 #[tactic(auto, unfolding(crate::specs::Reading::string_of))]
 fn unquoted(alloc: Global, string: &[u8], left: usize) -> Result<StringLiteral, Failed<ReadError>>
     ensures { Gives (λ t. t) result (string_of string.now) }
@@ -78,6 +87,7 @@ fn unquoted(alloc: Global, string: &[u8], left: usize) -> Result<StringLiteral, 
     }
 }
 
+/// Reads the JSON string at the start, and returns it with the bytes after it.
 #[tactic(auto, unfolding(crate::specs::Reading::string_at))]
 fn quoted(alloc: Global, bytes: &[u8]) -> Result<(Literal, &[u8]), Failed<ReadError>>
     ensures gives { Gives (λ x. (x.0, x.1.now)) result (string_at bytes.now) }
@@ -91,7 +101,9 @@ fn quoted(alloc: Global, bytes: &[u8]) -> Result<(Literal, &[u8]), Failed<ReadEr
     Ok((Literal::Text(text), rest))
 }
 
-/// The literal in front, and what is behind it.
+/// Reads the literal at the start, and returns it with the bytes after it.
+///
+/// Syntax if there is none.
 #[tactic(auto, unfolding(crate::specs::Reading::literal_at))]
 pub fn literal(alloc: Global, bytes: &[u8]) -> Result<(Literal, &[u8]), Failed<ReadError>>
     ensures gives { Gives (λ x. (x.0, x.1.now)) result (literal_at bytes.now) }

@@ -1,4 +1,4 @@
-//! The names that a filter mentions.
+//! Lists the names that a filter mentions.
 ghost use Rattle.std.specs.Prelude.{◌≡◌, ◌++◌, ◌∷◌, [], IfOk, OnOk};
 ghost use Rattle.std.specs.List.{list_all};
 ghost use Rattle.scim_filter_grammar.specs.Mentions as spec;
@@ -11,18 +11,17 @@ use scim_schema::Attribute;
 use scim_text::{NoMemory, push};
 use std::alloc::Global;
 
-/// A name in a filter.
+/// A name in a filter, with the attribute that it refers to.
 #[derive(Drop)]
 pub struct Named {
-    /// The name as it is written, with its URN and the name of a sub-attribute.
+    /// The name as written, with its URN and its sub-attribute.
     pub text: Text,
-    /// The attribute that is named, or whose sub-attribute is; None where the kind has no such attribute
-    /// or sub-attribute.
+    /// The attribute named, or the one whose sub-attribute is named. `None` if the kind doesn't have it.
     pub attribute: Option<Attribute>,
 }
 
 impl Meant {
-    /// The attribute that is named, or whose sub-attribute is.
+    /// The attribute named, or the one whose sub-attribute is named.
     pub fn mentioned_attribute(self) -> Option<Attribute>
         ensures { result ≡ spec.mentioned_attribute self }
     {
@@ -33,6 +32,7 @@ impl Meant {
     }
 }
 
+/// The path as written.
 fn text_of(alloc: Global, path: &Path) -> Result<Text, NoMemory>
     ensures { IfOk result (λ t. t ≡ path_text path.now.urn (names_text path.now.name path.now.sub_name)) }
 {
@@ -49,6 +49,7 @@ fn text_of(alloc: Global, path: &Path) -> Result<Text, NoMemory>
     Ok(Text::new(text))
 }
 
+/// Appends the name of a path to `names`.
 fn add_name(alloc: Global, path: &Path, names: &mut Vec<Named>) -> Result<(), NoMemory>
     ensures { OnOk result (names.new.items ≡ names.old.items ++ (spec.named path.now ∷ [])) }
 {
@@ -60,6 +61,7 @@ fn add_name(alloc: Global, path: &Path, names: &mut Vec<Named>) -> Result<(), No
     Ok(())
 }
 
+/// Appends the names in a tree to `names`, in the order of the text.
 fn add_names(alloc: Global, node: &Node, names: &mut Vec<Named>) -> Result<(), NoMemory>
     ensures { OnOk result (names.new.items ≡ names.old.items ++ spec.mentioned_names (view node.now)) }
 {
@@ -77,8 +79,7 @@ fn add_names(alloc: Global, node: &Node, names: &mut Vec<Named>) -> Result<(), N
     }
 }
 
-/// The names in a filter, in the order of its text, those between the brackets of a value path too;
-/// NoMemory where none was to be had.
+/// Lists the names in a filter in the order of its text, including those in the brackets of value paths.
 pub fn mentioned_names(alloc: Global, filter: &Filter) -> Result<Vec<Named>, NoMemory>
     ensures { IfOk result (λ v. v.items ≡ spec.mentioned_names (tree_of filter.now)) }
 {
@@ -87,7 +88,7 @@ pub fn mentioned_names(alloc: Global, filter: &Filter) -> Result<Vec<Named>, NoM
     Ok(found)
 }
 
-/// Whether the kind has what each name in a filter names.
+/// Whether the kind has every attribute and sub-attribute that a filter names.
 pub fn knows_names(node: &Node) -> bool
     ensures { result ≡ list_all spec.is_known (spec.mentioned_names (view node.now)) }
 {

@@ -1,4 +1,4 @@
-//! The names in a filter, and what they name.
+//! Reads the names in a filter, and looks them up in the attribute table.
 ghost use Rattle.std.specs.Prelude.{◌≡◌, option_map, ok_or, IfOk};
 ghost use Rattle.std.specs.Result.{result_ok};
 ghost use Rattle.std.specs.List.{list_all};
@@ -18,24 +18,28 @@ use scim_text::{Failed, NoMemory};
 use std::alloc::Global;
 use std::str;
 
+/// Whether the byte is an ASCII letter.
 fn is_letter_at(b: u8) -> bool
     ensures { result ≡ is_letter b }
 {
     matches!(b, b'A'..=b'Z' | b'a'..=b'z')
 }
 
+/// Whether the byte may be part of a name.
 fn is_name_byte_at(b: u8) -> bool
     ensures { result ≡ is_name_byte b }
 {
     is_letter_at(b) || matches!(b, b'0'..=b'9' | b'$' | b'-' | b'_')
 }
 
+/// Whether all bytes may be part of a name.
 fn are_name_bytes(bytes: &[u8]) -> bool
     ensures { result ≡ list_all is_name_byte bytes.now }
 {
     bytes.iter().all(|b| is_name_byte_at(*b))
 }
 
+/// Whether a word is a name by RFC 7643 section 2.1.
 fn is_plain_name_at(word: &[u8]) -> bool
     ensures { result ≡ is_plain_name word.now }
 {
@@ -45,31 +49,35 @@ fn is_plain_name_at(word: &[u8]) -> bool
     }
 }
 
+/// Whether a word is a name, or `$ref`.
 fn is_name_at(word: &[u8]) -> bool
     ensures { result ≡ is_name word.now }
 {
     is_plain_name_at(word) || is_keyword(b"$ref", word)
 }
 
+/// Whether the byte may be part of a URN.
 fn is_urn_byte_at(b: u8) -> bool
     ensures { result ≡ is_urn_byte b }
 {
     is_name_byte_at(b) || matches!(b, b'.' | b':')
 }
 
+/// Whether all bytes may be part of a URN.
 fn are_urn_bytes(bytes: &[u8]) -> bool
     ensures { result ≡ list_all is_urn_byte bytes.now }
 {
     bytes.iter().all(|b| is_urn_byte_at(*b))
 }
 
+/// Whether a text is a URN.
 fn is_urn_at(text: &[u8]) -> bool
     ensures { result ≡ is_urn text.now }
 {
     is_keyword(b"urn", before_colon(text)) && are_urn_bytes(text)
 }
 
-/// The name that a word is, if it is one.
+/// The word as a name. `None` if it isn't one.
 #[tactic(auto, unfolding(crate::specs::Reading::name_of))]
 pub(crate) fn name(word: &[u8]) -> Option<&str>
     ensures { ok_or (option_map (λ t. t.now) result) Syntax ≡ name_of word.now }
@@ -83,7 +91,7 @@ pub(crate) fn name(word: &[u8]) -> Option<&str>
     }
 }
 
-/// The URN that stands before a colon, if there is a colon; None where what stands there is no URN.
+/// The text before a colon as a URN, if there is a colon. `None` if it isn't a URN.
 #[tactic(auto, unfolding(crate::specs::Reading::urn_of))]
 fn urn(before: Option<&[u8]>) -> Option<Option<&str>>
     ensures { ok_or (option_map (λ o. option_map (λ t. t.now) o) result) Syntax ≡ urn_of (option_map (λ t. t.now) before.entry) }
@@ -100,7 +108,7 @@ fn urn(before: Option<&[u8]>) -> Option<Option<&str>>
     }
 }
 
-/// The name that stands behind a dot, if there is a dot; None where what stands there is no name.
+/// The text after a dot as a name, if there is a dot. `None` if it isn't a name.
 #[tactic(auto, unfolding(crate::specs::Reading::sub_of))]
 fn sub_name(behind: &[u8]) -> Option<Option<&str>>
     ensures { ok_or (option_map (λ o. option_map (λ t. t.now) o) result) Syntax ≡ sub_of behind.now }
@@ -111,7 +119,7 @@ fn sub_name(behind: &[u8]) -> Option<Option<&str>>
     }
 }
 
-/// Whether names may stand so: between brackets a name stands alone.
+/// Whether names may be combined so in `scope`: in the brackets of a value path a name stands alone.
 fn may_stand(scope: Scope, urn: Option<&str>, sub: Option<&str>) -> bool
     ensures { result ≡ fits_scope scope (option_map (λ t. t.now) urn.entry) (option_map (λ t. t.now) sub.entry) }
 {
@@ -121,6 +129,7 @@ fn may_stand(scope: Scope, urn: Option<&str>, sub: Option<&str>) -> bool
     }
 }
 
+/// The attribute with this name, in the schema of the URN if there is one.
 fn attribute_of(kind: Kind, urn: Option<&str>, name: &str) -> Option<Attribute>
     ensures { result ≡ attribute_by kind (option_map (λ t. t.now) urn.entry) name.now }
 {
@@ -130,6 +139,7 @@ fn attribute_of(kind: Kind, urn: Option<&str>, name: &str) -> Option<Attribute>
     }
 }
 
+/// The sub-attribute with this name in `attribute`.
 fn sub_attribute_of(attribute: Attribute, name: &str) -> Meant
     ensures { result ≡ sub_meant attribute (sub_attribute_named attribute name.now) }
 {
@@ -139,6 +149,7 @@ fn sub_attribute_of(attribute: Attribute, name: &str) -> Meant
     }
 }
 
+/// Returns what an attribute and a sub-attribute's name refer to.
 fn named_in(attribute: Option<Attribute>, sub: Option<&str>) -> Meant
     ensures { result ≡ meant_in attribute (option_map (λ t. t.now) sub.entry) }
 {
@@ -149,6 +160,7 @@ fn named_in(attribute: Option<Attribute>, sub: Option<&str>) -> Meant
     }
 }
 
+/// Returns what the names of a path refer to in `scope`.
 fn named(scope: Scope, urn: Option<&str>, name: &str, sub: Option<&str>) -> Meant
     ensures { result ≡ meant_by scope (option_map (λ t. t.now) urn.entry) name.now (option_map (λ t. t.now) sub.entry) }
 {
@@ -158,6 +170,7 @@ fn named(scope: Scope, urn: Option<&str>, name: &str, sub: Option<&str>) -> Mean
     }
 }
 
+/// Copies the text, if there is one.
 fn copy_of(alloc: Global, text: Option<&str>) -> Result<Option<Text>, NoMemory>
     ensures { IfOk result (λ t. t ≡ option_map (λ t. t.now) text.entry) }
 {
@@ -167,7 +180,8 @@ fn copy_of(alloc: Global, text: Option<&str>) -> Result<Option<Text>, NoMemory>
     }
 }
 
-/// The URN, the name and the name of a sub-attribute in a path that is a whole word, if it is one.
+/// Splits a whole word into the URN, the name and the sub-attribute's name of a path. `None` if it isn't a
+/// path.
 #[tactic(auto, unfolding(crate::specs::Reading::path_of))]
 fn parts(scope: Scope, word: &[u8]) -> Option<(Option<&str>, &str, Option<&str>)>
     ensures { ok_or (option_map (λ x. path_for scope (option_map (λ t. t.now) x.0) x.1.now (option_map (λ t. t.now) x.2)) result) Syntax ≡ path_of scope word.now }
@@ -179,7 +193,7 @@ fn parts(scope: Scope, word: &[u8]) -> Option<(Option<&str>, &str, Option<&str>)
     may_stand(scope, urn, sub).then_some((urn, name, sub))
 }
 
-/// What a path that is a whole word names, if it is one.
+/// Returns what a path refers to. `None` if the word isn't a path.
 pub(crate) fn meant(scope: Scope, word: &[u8]) -> Option<Meant>
     ensures { result ≡ option_map (λ (path : Path). path.meant) (result_ok (path_of scope word.now)) }
 {
@@ -187,7 +201,9 @@ pub(crate) fn meant(scope: Scope, word: &[u8]) -> Option<Meant>
     Some(named(scope, urn, name, sub))
 }
 
-/// The path that a whole word is; a fault with `left` bytes left where it is none.
+/// Reads a whole word as a path.
+///
+/// Syntax with `left` if it isn't one.
 pub(crate) fn path(
     alloc: Global,
     scope: Scope,

@@ -1,4 +1,8 @@
-//! A reader for each rule of the grammar, over the bytes that are left (RFC 7644 section 3.4.2.2).
+//! Reads filters by recursive descent, with a function for each rule of the grammar (RFC 7644 section
+//! 3.4.2.2).
+//!
+//! Each takes the bytes left, and returns a tree with the bytes after it. `depth` limits how many more
+//! brackets may be opened.
 ghost use Rattle.std.specs.Prelude.{◌≡◌, ◌⊎◌, Some, None, Ok, ℕ, IsErrOf, MatchResult, ◌<◌, ◌≤◌, true, false, length, IfOk};
 ghost use Rattle.scim_text.specs.Failures.{IfFault};
 ghost use Rattle.scim_text.specs.declared.memory.Failed.{Failed};
@@ -20,7 +24,9 @@ use scim_schema::{Kind, LONGEST_FILTER};
 use scim_text::Failed;
 use std::alloc::Global;
 
-/// The operator that a word spells; a fault with `left` bytes left where it spells none.
+/// Reads a word as a comparison operator.
+///
+/// Syntax with `left` if it isn't one.
 #[tactic(auto, unfolding(crate::specs::Reading::operator_of))]
 fn operator(word: &[u8], left: usize) -> Result<Operator, Failed<ReadError>>
     ensures { Gives (λ x. x) result (operator_of word.now) }
@@ -48,7 +54,7 @@ fn operator(word: &[u8], left: usize) -> Result<Operator, Failed<ReadError>>
     }
 }
 
-/// What stands behind a path and a gap.
+/// Reads what follows a path and a space: `pr`, or an operator and a literal.
 #[tactic(auto, unfolding(crate::specs::Reading::relation_at))]
 fn relation(alloc: Global, path: Path, bytes: &[u8]) -> Result<(Node, &[u8]), Failed<ReadError>>
     ensures gives { Gives (λ x. (view x.0, x.1.now)) result (relation_at path bytes.now) }
@@ -66,7 +72,7 @@ fn relation(alloc: Global, path: Path, bytes: &[u8]) -> Result<(Node, &[u8]), Fa
     Ok((Node::Compare(path, op, literal), rest))
 }
 
-/// What stands behind an open bracket, up to the one that closes it.
+/// Reads a filter after an opening bracket, up to and including the closing bracket `close`.
 #[cycle(filter)]
 #[tactic(auto, unfolding(crate::specs::Reading::enclosed_at))]
 fn enclosed(
@@ -86,7 +92,9 @@ fn enclosed(
     }
 }
 
-/// What stands between the brackets of a value path.
+/// Reads the filter in the brackets of a value path, after the opening bracket.
+///
+/// Syntax within another value path, since brackets of value paths don't nest.
 #[cycle(filter)]
 #[tactic(auto, unfolding(crate::specs::Reading::listed_at))]
 pub(crate) fn listed(
@@ -109,7 +117,7 @@ pub(crate) fn listed(
     }
 }
 
-/// What stands behind a path.
+/// Reads what follows a path: a filter in brackets, or a space and a test.
 #[cycle(filter)]
 #[tactic(auto, unfolding(crate::specs::Reading::behind_path_at))]
 fn behind_path(
@@ -131,7 +139,7 @@ fn behind_path(
     relation(alloc, path, rest)
 }
 
-/// A term that begins with a word.
+/// Reads a term that begins with a word: `not (..)`, or a path and its test.
 #[cycle(filter)]
 #[tactic(auto, unfolding(crate::specs::Reading::worded_at))]
 fn worded(
@@ -154,7 +162,7 @@ fn worded(
     behind_path(alloc, depth, scope, path, behind)
 }
 
-/// A term in front.
+/// Reads a term: a filter in brackets, or one that begins with a word.
 #[cycle(filter)]
 #[tactic(auto, unfolding(crate::specs::Reading::term_at))]
 fn term(
@@ -172,7 +180,7 @@ fn term(
     }
 }
 
-/// That both trees hold.
+/// The tree of a conjunction.
 fn both(alloc: Global, first: Node, second: Node) -> Result<Node, Failed<ReadError>>
     ensures { Gives view result (Ok (And (view first) (view second))) }
 {
@@ -180,7 +188,7 @@ fn both(alloc: Global, first: Node, second: Node) -> Result<Node, Failed<ReadErr
     Ok(Node::And(first, Box::new(alloc, second)?))
 }
 
-/// That one of the trees holds.
+/// The tree of a disjunction.
 fn either(alloc: Global, first: Node, second: Node) -> Result<Node, Failed<ReadError>>
     ensures { Gives view result (Ok (Or (view first) (view second))) }
 {
@@ -188,7 +196,7 @@ fn either(alloc: Global, first: Node, second: Node) -> Result<Node, Failed<ReadE
     Ok(Node::Or(first, Box::new(alloc, second)?))
 }
 
-/// Terms with `and` between them.
+/// Reads terms joined by `and`.
 #[cycle(filter)]
 fn conjunction(
     alloc: Global,
@@ -209,7 +217,7 @@ fn conjunction(
     }
 }
 
-/// Conjunctions with `or` between them.
+/// Reads conjunctions joined by `or`.
 #[cycle(filter)]
 fn disjunction(
     alloc: Global,
@@ -230,7 +238,9 @@ fn disjunction(
     }
 }
 
-/// A filter in less than this many brackets.
+/// Reads a filter, with fewer than `depth` brackets open at one place.
+///
+/// TooDeep if `depth` or more are open.
 #[cycle(filter)]
 fn filter(
     alloc: Global,
@@ -247,7 +257,7 @@ fn filter(
     disjunction(alloc, depth - 1, scope, bytes)
 }
 
-/// A whole filter, with nothing but spaces behind it.
+/// Reads a whole filter, with only spaces around it.
 #[tactic(auto, unfolding(crate::specs::Reading::all_of))]
 fn all(alloc: Global, scope: Scope, bytes: &[u8]) -> Result<Node, Failed<ReadError>>
     ensures { Gives view result (all_of scope bytes.now) }
@@ -259,28 +269,27 @@ fn all(alloc: Global, scope: Scope, bytes: &[u8]) -> Result<Node, Failed<ReadErr
     Ok(node)
 }
 
-/// The filter on resources of a kind that a text spells, within 4,096 bytes and 32 open brackets
-/// (RFC 7644 section 3.4.2.2).
+/// Reads the filter that a text spells on resources of `kind`, within 4,096 bytes and 32 open brackets (RFC
+/// 7644 section 3.4.2.2).
 ///
-/// Fails with `Syntax` where the text is no filter however many brackets may be open, with a byte that is at
-/// most the length of the text (it hints at where reading stopped, and no more is promised of it); with
-/// `WrongType` where a value is not of the type of what it is compared with; with `TooDeep` and `TooLong`
-/// beyond the limits; and with `NoMemory`.
+/// Syntax if the text isn't a filter at any depth; the byte hints at where reading stopped and is at most
+/// the length of the text. WrongType if a comparison doesn't suit the type of its attribute, or a value
+/// path is on an attribute without sub-attributes. TooDeep and TooLong beyond the limits.
 #[tactic(auto, using(crate::proofs::NestingLemmas::all_deep))]
 pub fn read_filter(alloc: Global, kind: Kind, text: &str) -> Result<Filter, Failed<FilterFault>>
-    // What is read is spelled so, and its values are of the types of what they are compared with.
+    // The text spells the tree returned, which has the right types.
     ensures found { IfOk result (λ f. (length text.now ≤ LONGEST_FILTER) × IsFilter kind 32 text.now (tree_of f) × (fits (tree_of f) ≡ true)) }
-    // What is spelled within the limits and types is read so, unless memory runs out.
+    // A tree that the text spells within the limits, with the right types, is returned, or NoMemory.
     ensures only { (tree : Tree) → length text.now ≤ LONGEST_FILTER → IsFilter kind 32 text.now tree → fits tree ≡ true
         → MatchResult result (λ f. tree_of f ≡ tree) (λ e. e ≡ Failed.NoMemory) }
-    // A fault comes only where its cause stands.
+    // Each fault is returned only if its cause holds.
     ensures syntax { IfFault result (λ e. (at : ℕ) → e ≡ FilterFault.Syntax at
         → (at ≤ length text.now) × ((n : ℕ) (tree : Tree) → ¬ (IsFilter kind n text.now tree))) }
     ensures wrong_type { IsErrOf result (Failed.Because FilterFault.WrongType) → (tree : Tree) × IsFilter kind 32 text.now tree × (fits tree ≡ false) }
     ensures too_deep { IsErrOf result (Failed.Because FilterFault.TooDeep) → (tree : Tree) → ¬ (IsFilter kind 32 text.now tree) }
     ensures nested { IsErrOf result (Failed.Because FilterFault.TooDeep) → IsDeeper 32 text.now }
     ensures too_long { IsErrOf result (Failed.Because FilterFault.TooLong) → LONGEST_FILTER < length text.now }
-    // The same by the function that gives what a text spells.
+    // `filter_in` returns the filter that a text spells.
     ensures same { MatchResult result (λ f. filter_in kind text.now ≡ Some (tree_of f)) (λ e. (e ≡ Failed.NoMemory) ⊎ (filter_in kind text.now ≡ None)) }
 {
     let bytes = text.as_bytes();

@@ -8,15 +8,14 @@ use scim_text::{NoMemory, Reading, fold, read_moment};
 use std::alloc::Global;
 use std::marker::Model;
 
-/// The text that a JSON string in a filter stands for. It is folded, and read as a moment, once for all
-/// resources that it is compared with. Contracts see the text.
+/// A string literal, with its folded text and its moment computed once for all comparisons. Its contracts
+/// speak of the text only.
 pub struct StringLiteral {
     text: Text,
     folded: Text,
     moment: Option<Reading>,
 }
 
-/// One call, wherever a literal is dropped, in place of a look at all that it has.
 impl Drop for StringLiteral {
     fn drop(self) {
         let StringLiteral {
@@ -38,7 +37,7 @@ impl Model for StringLiteral {
     ghost invariant = { IsSoundLiteral };
 }
 
-/// The moment that a text spells, if it spells one.
+/// The moment that a text spells, if it is one.
 fn moment_of(text: &str) -> Option<Reading>
     ensures { result ≡ moment_in text.now }
 {
@@ -46,7 +45,7 @@ fn moment_of(text: &str) -> Option<Reading>
 }
 
 impl StringLiteral {
-    /// A string that stands for this text; NoMemory where none was to be had.
+    /// Makes a string literal with a copy of `text`.
     pub fn copy_of(alloc: Global, text: &str) -> Result<StringLiteral, NoMemory>
         ensures { IfOk result (λ s. s ≡ text.now) }
     {
@@ -59,22 +58,22 @@ impl StringLiteral {
         })
     }
 
-    /// The text.
+    /// The text that the string stands for.
     pub fn as_str(&self) -> &str
         ensures { result.now ≡ self.now }
     {
         self.text.as_str()
     }
 
-    /// The text in full case folding, by which attributes that aren't `caseExact` are compared
-    /// (RFC 7643 section 2.2).
+    /// The text in full case folding, by which attributes that aren't `caseExact` are compared (RFC 7643
+    /// section 2.2).
     pub fn folded(&self) -> &str
         ensures { result.now ≡ folded self.now }
     {
         self.folded.as_str()
     }
 
-    /// The moment that the text spells, if it spells one (RFC 7643 section 2.3.5).
+    /// The moment that the text spells, if it is one (RFC 7643 section 2.3.5).
     pub fn moment(&self) -> Option<Reading>
         ensures { result ≡ moment_in self.now }
     {

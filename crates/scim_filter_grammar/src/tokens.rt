@@ -1,4 +1,4 @@
-//! The tokens of a filter's text (RFC 7644 section 3.4.2.2).
+//! Cuts a filter's text into tokens (RFC 7644 section 3.4.2.2).
 ghost use Rattle.std.specs.Prelude.{◌≡◌, ◌≢◌, ◌<◌, ◌≤◌, List, ℕ, All, IfOk, IsErrOf, IfSome, option_map, length};
 ghost use Rattle.scim_filter_grammar.specs.Bytes.{behind, is_word_byte};
 ghost use Rattle.scim_filter_grammar.specs.Tokens.{past_token, Span, spans, Tokens, Unclosed, IsSlice};
@@ -12,16 +12,18 @@ use scim_schema::LONGEST_FILTER;
 use scim_text::{Failed, push};
 use std::alloc::Global;
 
-/// A token of a filter's text, from its first byte up to the one behind its last.
+/// A token of a filter's text, from byte `start` up to but not including byte `end`.
 #[derive(Clone, Copy)]
 pub struct Token<'a> {
     pub start: usize,
     pub end: usize,
-    /// The text between.
+    /// The text of the token.
     pub slice: &'a str,
 }
 
-/// What is behind the token in front, which is no space; None where a string isn't closed.
+/// The bytes after a token that begins with `first`, which isn't a space, and goes on with `others`.
+///
+/// `None` if the token is a string that isn't closed.
 fn skip_token(first: u8, others: &[u8]) -> Option<&[u8]>
     ensures rest { option_map (λ r. r.now) result ≡ past_token first others.now }
     ensures shorter { IfSome result (λ r. length r.now ≤ length others.now) }
@@ -33,17 +35,14 @@ fn skip_token(first: u8, others: &[u8]) -> Option<&[u8]>
     }
 }
 
-/// The tokens of a text, in order: each bracket, each JSON string up to the quote that closes it, and each
-/// longest run of other bytes but spaces.
+/// Cuts a text into its tokens, in order: brackets, JSON strings, and runs of other bytes without spaces.
 ///
-/// Fails with `Syntax` where a string isn't closed, which begins at that byte, with `TooLong` above 4,096
-/// bytes, and with `NoMemory`.
+/// Syntax with the byte where an unclosed string begins. TooLong above 4,096 bytes.
 pub fn read_tokens<'a>(alloc: Global, text: &'a str) -> Result<Vec<Token<'a>>, Failed<FilterFault>>
-    // What is found are all tokens of the text, in order, each with the text of its span.
+    // The tokens returned are all tokens of the text, in order, each with the text of its span.
     ensures found { IfOk result (λ v. (length text.now ≤ LONGEST_FILTER) × Tokens (length text.now) text.now (spans v.items)) }
     ensures slices { IfOk result (λ v. All (IsSlice text.now) v.items) }
-    // A text within the limit whose strings all close is refused for want of memory alone: `Syntax` says where
-    // a string isn't closed, and then no list is that of its tokens.
+    // Syntax means that a string isn't closed at that byte, so the text has no list of tokens.
     ensures syntax { IfFault result (λ e. (at : ℕ) → e ≡ FilterFault.Syntax at
         → (at < length text.now) × ((ts : List Span) → ¬ (Tokens (length text.now) text.now ts))) }
     ensures unclosed { IfFault result (λ e. (at : ℕ) → e ≡ FilterFault.Syntax at → Unclosed (length text.now) text.now at) }

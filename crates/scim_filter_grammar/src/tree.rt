@@ -7,7 +7,7 @@ use crate::string_literals::StringLiteral;
 use scim_cell::Text;
 use scim_schema::{Attribute, Kind, SubAttribute};
 
-/// How values are compared (RFC 7644 section 3.4.2.2, table 3).
+/// A comparison operator (RFC 7644 section 3.4.2.2, table 3).
 #[derive(Clone, Copy, Debug, PartialEq, Eq)]
 pub enum Operator {
     Eq,
@@ -24,16 +24,15 @@ pub enum Operator {
     Le,
 }
 
-/// What values are compared with.
+/// A value to compare with.
 pub enum Literal {
-    /// What a JSON string stands for.
+    /// A JSON string.
     Text(StringLiteral),
     Number(i64),
     Truth(bool),
     Null,
 }
 
-/// One call, wherever a literal is dropped, in place of a look at all that it has.
 impl Drop for Literal {
     fn drop(self) {
         match self {
@@ -45,17 +44,18 @@ impl Drop for Literal {
     }
 }
 
-/// What a path names in the attribute table of a kind.
+/// An attribute or sub-attribute that a path names in the attribute table of a kind.
 #[derive(Clone, Copy, PartialEq, Eq)]
 pub enum Meant {
-    /// The kind has no such attribute or sub-attribute.
+    /// The kind doesn't have the attribute or sub-attribute.
     Nothing,
     Attribute(Attribute),
     SubAttribute(Attribute, SubAttribute),
 }
 
 impl Meant {
-    /// The attribute whose sub-attributes may be named between brackets; None at a sub-attribute.
+    /// The attribute whose sub-attributes may be named in brackets after the path. `None` for a
+    /// sub-attribute.
     pub fn attribute(self) -> Option<Attribute>
         ensures { result ≡ attribute_meant self }
     {
@@ -66,18 +66,17 @@ impl Meant {
     }
 }
 
-/// A path, with its names as they are written.
+/// An attribute path, with its names as written.
 pub struct Path {
-    /// The URN before the last colon.
+    /// The URN, before the last colon.
     pub urn: Option<Text>,
-    /// The name of an attribute; between the brackets of a value path that of a sub-attribute.
+    /// The name of an attribute, or of a sub-attribute in the brackets of a value path.
     pub name: Text,
     /// The name of a sub-attribute, after a dot.
     pub sub_name: Option<Text>,
     pub meant: Meant,
 }
 
-/// One call, wherever a path is dropped, in place of a look at which of its names are there.
 impl Drop for Path {
     fn drop(self) {
         let Path {
@@ -89,28 +88,28 @@ impl Drop for Path {
     }
 }
 
-/// Whose names stand in a filter.
+/// The names that may be used at a place of a filter.
 #[derive(Clone, Copy)]
 pub(crate) enum Scope {
-    /// The attributes of a kind.
+    /// The names of a kind's attributes.
     Attributes(Kind),
-    /// The sub-attributes of the attribute before a bracket; None where that names no attribute.
+    /// The names of the sub-attributes of the attribute before the bracket. `None` if that attribute is
+    /// unknown.
     SubAttributes(Option<Attribute>),
 }
 
-/// A filter, or a part of one.
+/// A node of a filter's tree.
 pub enum Node {
     Or(Box<Node>, Box<Node>),
     And(Box<Node>, Box<Node>),
     Not(Box<Node>),
-    /// `pr`
+    /// `pr`: the attribute has a value.
     Present(Path),
     Compare(Path, Operator, Literal),
-    /// A value path: the filter between its brackets.
+    /// A value path, with the filter in its brackets.
     Values(Path, Box<Node>),
 }
 
-/// One call, wherever a node is dropped, in place of a look at each form that it may have.
 impl Drop for Node {
     fn drop(self) {
         match self {
@@ -123,12 +122,11 @@ impl Drop for Node {
     }
 }
 
-/// A filter that was read.
+/// A filter whose text was read.
 pub struct Filter {
     node: Node,
 }
 
-/// One call, wherever a filter is dropped, in place of a look at each form that its tree may have.
 impl Drop for Filter {
     fn drop(self) {
         let Filter { node: _node } = self;
@@ -136,14 +134,14 @@ impl Drop for Filter {
 }
 
 impl Filter {
-    /// The filter of this tree.
+    /// The filter with this tree.
     pub(crate) fn of(node: Node) -> Filter
         ensures { tree_of result ≡ view node }
     {
         Filter { node }
     }
 
-    /// The tree of the filter. `or` and `and` nest to the right.
+    /// The tree of the filter. Rows of `or` and of `and` nest to the right.
     pub fn tree(&self) -> &Node
         ensures { view result.now ≡ tree_of self.now }
     {

@@ -1,4 +1,4 @@
-//! Which values a filter may compare with which attributes (RFC 7644 section 3.4.2.2).
+//! Checks which values a filter may compare with which attributes (RFC 7644 section 3.4.2.2).
 ghost use Rattle.std.specs.Prelude.{◌≡◌};
 ghost use Rattle.scim_schema.specs.Table as table_spec;
 ghost use Rattle.scim_filter_grammar.specs.Tree.{tree_of, view};
@@ -10,12 +10,14 @@ use scim_schema::{
     Attribute, AttributeType, Kind, Leaf, SubAttribute, characteristics_of, sub_attributes,
 };
 
+/// The type of a leaf, which is the same for both kinds.
 fn type_of(leaf: Leaf) -> AttributeType
     ensures { result ≡ spec.type_of leaf }
 {
     characteristics_of(Kind::User, leaf).attribute_type
 }
 
+/// The leaf compared if `attribute` is named alone.
 fn leaf_for(attribute: Attribute) -> Option<Leaf>
     ensures { result ≡ spec.leaf_for attribute (table_spec.sub_attributes attribute) }
 {
@@ -30,9 +32,10 @@ fn leaf_for(attribute: Attribute) -> Option<Leaf>
 }
 
 impl Meant {
-    /// The leaf whose cells are compared where this is named: a simple attribute or a sub-attribute
-    /// itself, and of a complex attribute that is named alone its `value` (RFC 7644 sections 3.4.2.2 and
-    /// 3.4.2.3). None where a complex attribute has no `value`, and where nothing is named.
+    /// The leaf whose cells are compared or sorted by: a simple attribute, a sub-attribute, or the `value`
+    /// of a complex attribute that is named alone (RFC 7644 sections 3.4.2.2 and 3.4.2.3).
+    ///
+    /// `None` if a complex attribute has no `value`, or if nothing is named.
     pub fn compared_leaf(self) -> Option<Leaf>
         ensures { result ≡ spec.compared_leaf self }
     {
@@ -46,7 +49,7 @@ impl Meant {
     }
 }
 
-/// The truth value that a text spells, in any ASCII case.
+/// The boolean that a text spells, in any ASCII case.
 pub fn truth_of(text: &str) -> Option<bool>
     ensures { result ≡ spec.truth_in text.now }
 {
@@ -59,13 +62,14 @@ pub fn truth_of(text: &str) -> Option<bool>
     }
 }
 
+/// Whether the operator is `eq` or `ne`.
 fn is_equality(operator: Operator) -> bool
     ensures { result ≡ spec.is_equality operator }
 {
     matches!(operator, Operator::Eq | Operator::Ne)
 }
 
-/// Contains, starts with, ends with.
+/// Whether the operator is `co`, `sw` or `ew`.
 fn is_part_test(operator: Operator) -> bool
     ensures { result ≡ spec.is_part_test operator }
 {
@@ -90,6 +94,7 @@ fn suits(attribute_type: AttributeType, operator: Operator, literal: &Literal) -
     }
 }
 
+/// Whether the operator may compare cells of this leaf with this value. False if there is no leaf.
 fn suits_leaf(leaf: Option<Leaf>, operator: Operator, literal: &Literal) -> bool
     ensures { result ≡ spec.suits_leaf leaf operator literal.now }
 {
@@ -99,6 +104,8 @@ fn suits_leaf(leaf: Option<Leaf>, operator: Operator, literal: &Literal) -> bool
     }
 }
 
+/// Whether a comparison suits the type of what is named. A name that the kind doesn't have may be compared
+/// with anything.
 fn fits_comparison(meant: Meant, operator: Operator, literal: &Literal) -> bool
     ensures { result ≡ spec.fits_comparison meant operator literal.now }
 {
@@ -112,7 +119,7 @@ fn fits_comparison(meant: Meant, operator: Operator, literal: &Literal) -> bool
     }
 }
 
-/// Whether a value path may name this: a simple attribute has no sub-attributes.
+/// Whether a value path may be on what is named: a simple attribute has no sub-attributes.
 fn may_have_values(meant: Meant) -> bool
     ensures { result ≡ spec.may_have_values meant }
 {
@@ -123,7 +130,8 @@ fn may_have_values(meant: Meant) -> bool
     }
 }
 
-/// Whether each value in a filter is of the type of what it is compared with.
+/// Whether each comparison in a tree suits the type of its attribute, and each value path is on an
+/// attribute that may have values.
 pub(crate) fn fits(node: &Node) -> bool
     ensures { result ≡ spec.fits (view node.now) }
 {
@@ -137,7 +145,8 @@ pub(crate) fn fits(node: &Node) -> bool
 }
 
 impl Filter {
-    /// Whether each value is of the type of what it is compared with, as `read_filter` gives filters.
+    /// Whether each comparison suits the type of its attribute, and no value path is on an attribute
+    /// without sub-attributes. So it is in all filters that `read_filter` returns.
     pub fn has_right_types(&self) -> bool
         ensures { result ≡ spec.fits (tree_of self.now) }
     {

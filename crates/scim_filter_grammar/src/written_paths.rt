@@ -1,4 +1,4 @@
-//! The paths of changes as they are written (RFC 7644 section 3.5.2).
+//! Reads the paths of PATCH operations (RFC 7644 section 3.5.2).
 ghost use Rattle.std.specs.Prelude.{◌≡◌, ◌≤◌, length, IfOk, IfSome, IsSomeAnd};
 ghost use Rattle.scim_filter_grammar.specs.Reading.{Gives};
 ghost use Rattle.scim_filter_grammar.specs.PathReading.{ended_at, sub_at, filtered_at, behind_names_at, written_at};
@@ -16,16 +16,18 @@ use scim_schema::{Kind, LONGEST_FILTER};
 use scim_text::{Failed, NoMemory};
 use std::alloc::Global;
 
-/// The path of a change as it is written.
+/// The path of a PATCH operation, as written.
 #[derive(Drop)]
 pub enum WrittenPath {
     /// The path of an attribute or of a sub-attribute.
     Plain(Path),
-    /// A filter that is a value path, and the name of a sub-attribute behind its bracket.
+    /// A value path, with the name of a sub-attribute after its brackets.
     Filtered(Filter, Option<Text>),
 }
 
-/// The path, where nothing but spaces is left.
+/// Returns the path if only spaces are left.
+///
+/// Syntax if not.
 #[tactic(auto, unfolding(crate::specs::PathReading::ended_at))]
 fn ended(path: WrittenPath, bytes: &[u8]) -> Result<WrittenPath, Failed<ReadError>>
     ensures { Gives written_of result (ended_at (written_of path) bytes.now) }
@@ -36,7 +38,7 @@ fn ended(path: WrittenPath, bytes: &[u8]) -> Result<WrittenPath, Failed<ReadErro
     Ok(path)
 }
 
-/// What stands behind the bracket that closes a value path.
+/// Reads what follows the closing bracket of a value path: a dot and a name, or nothing.
 #[tactic(auto, unfolding(crate::specs::PathReading::sub_at))]
 fn with_sub_attribute(
     alloc: Global,
@@ -56,7 +58,7 @@ fn with_sub_attribute(
     ended(WrittenPath::Filtered(filter, Some(sub_name)), rest)
 }
 
-/// What stands behind a path and an open bracket.
+/// Reads what follows a path and an opening bracket.
 #[tactic(auto, unfolding(crate::specs::PathReading::filtered_at))]
 fn filtered(
     alloc: Global,
@@ -70,7 +72,7 @@ fn filtered(
     with_sub_attribute(alloc, Filter::of(node), rest)
 }
 
-/// What stands behind a path.
+/// Reads what follows a path: a filter in brackets, or nothing.
 #[tactic(auto, unfolding(crate::specs::PathReading::behind_names_at))]
 fn behind_names(
     alloc: Global,
@@ -86,6 +88,7 @@ fn behind_names(
     }
 }
 
+/// Reads a path after leading spaces.
 #[tactic(auto, unfolding(crate::specs::PathReading::written_at))]
 fn written(alloc: Global, kind: Kind, bytes: &[u8]) -> Result<WrittenPath, Failed<ReadError>>
     ensures { Gives written_of result (written_at 32 kind bytes.now) }
@@ -95,13 +98,14 @@ fn written(alloc: Global, kind: Kind, bytes: &[u8]) -> Result<WrittenPath, Faile
     behind_names(alloc, kind, path, behind)
 }
 
-/// The path that a text spells, within 4,096 bytes and 32 open brackets: `path`, `path[filter]` or
-/// `path[filter].name`, with spaces round it; None where it spells none. The names between the brackets
-/// are those of sub-attributes. NoMemory where none was to be had.
+/// Reads the path that a text spells, within 4,096 bytes and 32 open brackets: `path`, `path[filter]` or
+/// `path[filter].name`, with spaces around it. Names in the brackets are those of sub-attributes.
+///
+/// `None` if the text isn't such a path.
 pub fn written_path(alloc: Global, kind: Kind, text: &str) -> Result<Option<WrittenPath>, NoMemory>
-    // What is read is spelled so.
+    // The text spells the path returned.
     ensures found { IfOk result (λ o. IfSome o (λ w. (length text.now ≤ LONGEST_FILTER) × IsWritten kind 32 text.now (written_of w))) }
-    // What is spelled within the limits is read so.
+    // A path that the text spells within the limits is returned.
     ensures only { (w : Written) → length text.now ≤ LONGEST_FILTER → IsWritten kind 32 text.now w
         → IfOk result (λ o. IsSomeAnd o (λ p. written_of p ≡ w)) }
 {

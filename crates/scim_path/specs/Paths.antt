@@ -1,4 +1,4 @@
--- What the text of a path names (RFC 7644 section 3.5.2).
+-- The target that a path of a PATCH operation names (RFC 7644 section 3.5.2).
 use Rattle.std.specs.Prelude.{nat_le, ◌≡◌, ◌≤◌, ℕ, Bool, List, length, find, Option, Some, None, option_and_then, MatchOption, Result, Ok, Err, if◌then◌else◌}
 use Rattle.std.specs.List.{list_all}
 use Rattle.scim_schema.specs.declared.Kind.{Kind}
@@ -21,68 +21,69 @@ use Rattle.scim_path.specs.declared.faults.PathFault.TheVariants.{Syntax, Unknow
 use Rattle.scim_path.specs.declared.paths.Path.{Path}
 use Rattle.scim_path.specs.declared.paths.Path.TheVariants as path
 
--- what a path names: all of an extension, an attribute, a sub-attribute, or values of a multi-valued attribute, as a
--- filter that is a value path chooses them, and a sub-attribute of these values or none
+-- a target: all of an extension, an attribute, a sub-attribute, or the values of a multi-valued attribute
+-- that a value path selects, with an optional sub-attribute of them
 pub data PathTarget : Type 0 where
   OfExtension : Schema → PathTarget
   OfAttribute : Attribute → PathTarget
   OfSubAttribute : Attribute → SubAttribute → PathTarget
   OfValues : Attribute → Tree → Option SubAttribute → PathTarget
 
--- a path without where its filter lies in memory
+-- the target of a path, without pointers
 abbrev pub path_target : Path → PathTarget
 path_target (path.Extension schema) = OfExtension schema
 path_target (path.Attribute a) = OfAttribute a
 path_target (path.SubAttribute a b) = OfSubAttribute a b
 path_target (path.Values v) = OfValues v.attribute (tree_of v.filter) v.sub_attribute
 
--- the extension of a kind whose URN stands alone in a text of at most 4,096 bytes
+-- the extension of a kind whose URN is the whole text, of at most 4,096 bytes
 abbrev pub extension_named : Kind → List ℕ → Option Schema
 extension_named kind text = if nat_le (length text) LONGEST_FILTER then option_and_then (λ word. find (λ s. is_word (urn s) word) (extensions kind)) (lone_word text) else None
 
--- what a path of names alone names
+-- the target of a path without a filter
 abbrev pub names_target : Meant → Result PathTarget PathFault
 names_target meant.Nothing = Err Unknown
 names_target (meant.Attribute a) = Ok (OfAttribute a)
 names_target (meant.SubAttribute a b) = Ok (OfSubAttribute a b)
 
--- the kind has what each name in a filter names
+-- whether the kind has every name in a filter
 abbrev pub knows : Tree → Bool
 knows tree = list_all is_known (mentioned_names tree)
 
--- the sub-attribute of the values that a filter chooses, where there is one
+-- the target of a value path with a sub-attribute, if the look-up found it
 abbrev pub chosen_at : Attribute → Tree → Option SubAttribute → Result PathTarget PathFault
 chosen_at a tree None = Err Unknown
 chosen_at a tree (Some b) = Ok (OfValues a tree (Some b))
 
--- the values that a filter chooses of an attribute, and the sub-attribute named behind it or none
+-- the target of a value path on an attribute, with the name of a sub-attribute after its brackets or none
 abbrev pub chosen : Attribute → Tree → Option (List ℕ) → Result PathTarget PathFault
 chosen a tree None = Ok (OfValues a tree None)
 chosen a tree (Some name) = chosen_at a tree (sub_attribute_named a name)
 
--- a filter chooses values of an attribute that is multi-valued, by values of the right types and names that there are
+-- the target of a value path: its attribute must be multi-valued, its comparisons of the right types, and
+-- its names known
 abbrev pub filtered_target : Meant → Tree → Option (List ℕ) → Result PathTarget PathFault
 filtered_target meant.Nothing tree sub = Err Unknown
 filtered_target (meant.SubAttribute a b) tree sub = Err Syntax
 filtered_target (meant.Attribute a) tree sub =
     if is_multi_valued a then (if fits tree then (if knows tree then chosen a tree sub else Err Unknown) else Err Syntax) else Err Syntax
 
--- what a written path names, or why it names nothing
+-- the target of a written path, or its fault
 abbrev pub written_target : Written → Result PathTarget PathFault
 written_target (Plain p) = names_target p.meant
 written_target (Filtered (Values p inner) sub) = filtered_target p.meant (Values p inner) sub
 written_target (Filtered _ sub) = Err Syntax
 
--- what a text names or why it names nothing, where no extension's URN stands in it alone: what the path names that it
--- spells within 4,096 bytes and 32 open brackets; where it spells none it is no path
+-- the result for a text that isn't the URN of an extension: the target of the path that it spells within
+-- 4,096 bytes and 32 open brackets, or Syntax if it spells none
 pub data Reads (kind : Kind) (text : List ℕ) : Result PathTarget PathFault → Type 0 where
   spelled : (w : Written) → length text ≤ LONGEST_FILTER → IsWritten kind 32 text w → Reads kind text (written_target w)
   unspelled : ((w : Written) → length text ≤ LONGEST_FILTER → ¬ (IsWritten kind 32 text w)) → Reads kind text (Err Syntax)
 
--- what a text names, or why it names nothing
+-- the result for a text: its target or its fault
 abbrev pub Names : Kind → List ℕ → Result PathTarget PathFault → Type 0
 Names kind text r = MatchOption (extension_named kind text) (Reads kind text r) (λ schema. r ≡ Ok (OfExtension schema))
 
--- a text names one thing or has one fault, and not both
+-- a text has one target or one fault, never both
 abbrev pub TextsNameOneThing : Type 0
 TextsNameOneThing = (kind : Kind) (text : List ℕ) (r s : Result PathTarget PathFault) → Names kind text r → Names kind text s → r ≡ s

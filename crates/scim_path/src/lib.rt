@@ -1,4 +1,6 @@
-//! The paths of changes (RFC 7644 section 3.5.2): what their texts name.
+//! Reads the paths of PATCH operations (RFC 7644 section 3.5.2) and looks up what they name.
+//!
+//! Cases: `crates/cases/data/paths.jsonl`.
 #![tactic(auto)]
 
 mod faults;

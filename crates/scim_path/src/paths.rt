@@ -1,27 +1,27 @@
-//! Paths.
+//! The targets of PATCH operations.
 use scim_filter_grammar::Filter;
 use scim_schema::{Attribute, Schema, SubAttribute};
 
-/// What a change is made to (RFC 7644 section 3.5.2).
+/// The target of a PATCH operation (RFC 7644 section 3.5.2).
 #[derive(Drop)]
 pub enum Path {
-    /// All attributes of an extension: its URN alone.
+    /// All attributes of an extension, named by its URN alone.
     Extension(Schema),
     /// An attribute.
     Attribute(Attribute),
-    /// A sub-attribute of an attribute; of all its values where it is multi-valued.
+    /// A sub-attribute of an attribute. If the attribute is multi-valued, that of all its values.
     SubAttribute(Attribute, SubAttribute),
-    /// Those values of a multi-valued attribute of which a filter holds.
+    /// The values of a multi-valued attribute that match a filter.
     Values(ValuePath),
 }
 
-/// Those values of a multi-valued attribute of which a filter holds.
+/// The values of a multi-valued attribute that match a filter.
 #[derive(Drop)]
 pub struct ValuePath {
     /// The attribute.
     pub attribute: Attribute,
-    /// The value path, of which `scim_filter::holds_at` tells whether it holds of a value.
+    /// The value path. `scim_filter::holds_at` evaluates it on a value.
     pub filter: Filter,
-    /// The sub-attribute that is named behind it; without one the whole values are meant.
+    /// The sub-attribute named after the brackets. `None` means the whole values.
     pub sub_attribute: Option<SubAttribute>,
 }

@@ -1,4 +1,4 @@
-//! Reading a path.
+//! Reads paths.
 ghost use Rattle.std.specs.Prelude.{◌≡◌, ℕ, List, Option, option_map};
 ghost use Rattle.scim_text.specs.Failures.{UnlessMemory};
 ghost use Rattle.scim_filter_grammar.specs.Tree.{Tree, tree_of};
@@ -17,9 +17,11 @@ use scim_schema::{
 use scim_text::Failed;
 use std::alloc::Global;
 
-/// The extension of the kind whose URN stands alone in a text of at most 4,096 bytes, in any ASCII case and
-/// with spaces round it or not: such a text names all attributes of the extension (RFC 7644 section 3.5.2).
-/// None for any other text. It takes no memory.
+/// The extension of `kind` whose URN is the whole text, in any ASCII case and with or without spaces around
+/// it.
+///
+/// Such a text names all attributes of the extension (RFC 7644 section 3.5.2). `None` for any other text,
+/// and for one of more than 4,096 bytes.
 pub fn extension_named(kind: Kind, text: &str) -> Option<Schema>
     ensures { result ≡ spec.extension_named kind text.now }
 {
@@ -33,7 +35,9 @@ pub fn extension_named(kind: Kind, text: &str) -> Option<Schema>
         .find(|s| word.eq_ignore_ascii_case(s.urn().as_bytes()))
 }
 
-/// What a path of names alone names.
+/// The target of a path without a filter.
+///
+/// Unknown if the path names nothing.
 fn path_of_names(meant: Meant) -> Result<Path, PathFault>
     ensures { target_read result ≡ spec.names_target meant }
 {
@@ -46,7 +50,9 @@ fn path_of_names(meant: Meant) -> Result<Path, PathFault>
     }
 }
 
-/// The sub-attribute with the name that stands behind a filter, if one does.
+/// The sub-attribute named after the brackets, if there is a name.
+///
+/// Unknown if `attribute` doesn't have it.
 fn chosen(attribute: Attribute, sub_name: Option<&Text>) -> Result<Option<SubAttribute>, PathFault>
     ensures { (tree : Tree) → values_read tree attribute result ≡ spec.chosen attribute tree (option_map (λ t. t.now) sub_name.entry) }
 {
@@ -59,7 +65,10 @@ fn chosen(attribute: Attribute, sub_name: Option<&Text>) -> Result<Option<SubAtt
     }
 }
 
-/// The attribute of which a filter chooses values, where the path before its bracket names this.
+/// The attribute before the brackets, checked for a filter on its values.
+///
+/// Unknown if the kind lacks an attribute or sub-attribute named. Syntax if the attribute isn't
+/// multi-valued, or a comparison in the filter doesn't suit its attribute's type.
 fn filtered_attribute(meant: Meant, filter: &Filter) -> Result<Attribute, PathFault>
     ensures { (sub : Option (List ℕ)) → chosen_read (tree_of filter.now) sub result ≡ spec.filtered_target meant (tree_of filter.now) sub }
 {
@@ -77,7 +86,7 @@ fn filtered_attribute(meant: Meant, filter: &Filter) -> Result<Attribute, PathFa
     Ok(attribute)
 }
 
-/// What the path before a filter's bracket names; None where the filter is no value path.
+/// What the path before the brackets names. `None` if the filter isn't a value path.
 fn meant_before(filter: &Filter) -> Option<Meant>
     ensures { (sub : Option (List ℕ)) → filtered_read (tree_of filter.now) sub result ≡ spec.written_target (Filtered (tree_of filter.now) sub) }
 {
@@ -87,7 +96,7 @@ fn meant_before(filter: &Filter) -> Option<Meant>
     }
 }
 
-/// What a filter chooses values of, and which sub-attribute of these.
+/// The attribute and the sub-attribute that a value path names.
 fn parts_of(
     filter: &Filter,
     sub_name: Option<&Text>,
@@ -100,7 +109,7 @@ fn parts_of(
     Ok((attribute, sub_attribute))
 }
 
-/// What a filter names, and the name of a sub-attribute behind it.
+/// The target of a value path and the name after its brackets.
 fn filtered(filter: Filter, sub_name: Option<&Text>) -> Result<Path, PathFault>
     ensures { target_read result ≡ spec.written_target (Filtered (tree_of filter) (option_map (λ t. t.now) sub_name.entry)) }
 {
@@ -114,7 +123,7 @@ fn filtered(filter: Filter, sub_name: Option<&Text>) -> Result<Path, PathFault>
     }
 }
 
-/// What a written path names.
+/// The target of a written path.
 fn written(path: WrittenPath) -> Result<Path, PathFault>
     ensures { target_read result ≡ spec.written_target (written_of path) }
 {
@@ -124,13 +133,14 @@ fn written(path: WrittenPath) -> Result<Path, PathFault>
     }
 }
 
-/// The path that a text names for a kind (RFC 7644 section 3.5.2): `attribute`, `attribute.subAttribute`,
-/// `attribute[filter]` or `attribute[filter].subAttribute`, each with a URN and a colon before it or not,
-/// or the URN of an extension alone; with spaces round it. A filter stands only behind a multi-valued
-/// attribute. Names are read in any ASCII case.
+/// Reads a path of a PATCH operation (RFC 7644 section 3.5.2): `attribute`, `attribute.subAttribute`,
+/// `attribute[filter]` or `attribute[filter].subAttribute`, each with or without a URN and a colon before
+/// it, or the URN of an extension alone.
 ///
-/// Fails with `Syntax` where the text is no such path, with `Unknown` where it names what the kind
-/// doesn't have, and with `NoMemory`.
+/// Spaces around it are allowed, and names match in any ASCII case. Only a multi-valued attribute may have
+/// a filter.
+///
+/// Syntax if the text isn't such a path. Unknown if it names what the kind doesn't have.
 pub fn read_path(alloc: Global, kind: Kind, text: &str) -> Result<Path, Failed<PathFault>>
     ensures { UnlessMemory (λ r. spec.Names kind text.now (target_read r)) result }
 {

@@ -1,4 +1,4 @@
--- What a client may do with a resource that is there, and what a change of it would open.
+-- A client's rights on an existing resource, and the rights that a change would add.
 use Rattle.std.specs.Prelude.{ℕ, not, ◌&&◌, List, [], ◌∷◌, ◌++◌, map, filter, find, Option, None, Some, if◌then◌else◌}
 use Rattle.std.specs.List.{flat_map}
 use Rattle.scim_schema.specs.declared.Kind.{Kind}
@@ -14,19 +14,20 @@ use Rattle.scim_policy.specs.declared.rules.Decision.{Decision}
 use Rattle.scim_policy.specs.Rules.{Rule}
 use Rattle.scim_policy.specs.Decide.{decide}
 
--- what is decided of reading, of modifying and of deleting a resource, at each leaf
+-- the decisions on reading, modifying and deleting a resource, for each leaf
 pub record Access : Type 0 where
   pub read : Leaf → Decision
   pub modify : Leaf → Decision
   pub delete : Leaf → Decision
 
--- by a policy, of a client
+-- the rights that a policy gives a client on a resource
 abbrev pub access : List Rule → List ℕ → Content → Access
 access policy client c = record { read = decide policy client Read c; modify = decide policy client Modify c; delete = decide policy client Delete c }
 
 -- ---- which units may be written
 
--- what it takes to write a leaf, in order: leave to modify it, and leave to read it unless it is writeOnly, which nobody reads
+-- the decisions that writing a leaf needs, in order: on modifying it, and on reading it unless it is
+-- writeOnly, which can't be read
 abbrev pub needed : Kind → Access → Leaf → List (Leaf × Decision)
 needed kind a l = (l, a.modify l) ∷ (if is_write_only kind l then [] else (l, a.read l) ∷ [])
 
@@ -34,26 +35,28 @@ needed kind a l = (l, a.modify l) ∷ (if is_write_only kind l then [] else (l, 
 abbrev pub leaves_of : Kind → AttributeUnit → List Leaf
 leaves_of kind u = filter (λ l. is_same_unit (unit_of l) u) (leaves kind)
 
--- the first leaf at which a unit may not be written, with the decision that denies it; none, where it may be written
+-- the first leaf of a unit that may not be written, with the decision that denies it; None if the unit may
+-- be written
 unfoldable pub forbidding : Kind → Access → AttributeUnit → Option (Leaf × Decision)
 forbidding kind a u = find (λ (d : Leaf × Decision). not d.1.allow) (flat_map (needed kind a) (leaves_of kind u))
 
 -- ---- what a change would open
 
--- the leaves at which an operation is allowed after a change and wasn't before, in order, each with the decision after
+-- the leaves on which an operation is denied before a change and allowed after it, in order, each with the
+-- decision after it
 abbrev pub opened : Kind → Op → (Leaf → Decision) → (Leaf → Decision) → List (Op × Leaf × Decision)
 opened kind op before after = map (λ l. (op, l, after l)) (filter (λ l. (after l).allow && not (before l).allow) (leaves kind))
 
--- all that a change of a resource of the kind would open: to reading, to modifying, and to deleting
+-- all rights that a change of a resource of the kind would add: on reading, on modifying, and on deleting
 abbrev pub widenings : Kind → Access → Access → List (Op × Leaf × Decision)
 widenings kind before after =
     opened kind Read before.read after.read ++ (opened kind Modify before.modify after.modify ++ opened kind Delete before.delete after.delete)
 
--- the first of some
+-- the first element, if there is one
 abbrev pub first : {X : Type 0} → List X → Option X
 first [] = None
 first (x ∷ xs) = Some x
 
--- the first of them; none, where the change opens nothing
+-- the first right that a change would add; None if it adds none
 unfoldable pub widening : Kind → Access → Access → Option (Op × Leaf × Decision)
 widening kind before after = first (widenings kind before after)

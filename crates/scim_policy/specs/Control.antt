@@ -1,4 +1,4 @@
--- What the decisions of a policy rest on: of a resource its kind, and the values of the attributes that targets name.
+-- The values of a resource that the decisions of a policy depend on.
 use Rattle.std.specs.Prelude.{◌≡◌, ◌||◌, ℕ, Bool, List, filter, Some}
 use Rattle.std.specs.List.{list_any}
 use Rattle.std.specs.Option.{option_eq}
@@ -19,19 +19,19 @@ use Rattle.scim_policy.specs.Decide.{decide}
 abbrev pub names_attribute : Attribute → Target → Bool
 names_attribute a t = list_any (λ (n : Named). option_eq is_same_attribute n.attribute (Some a)) (mentioned_names t.tree)
 
--- whether a target of one of the rules does
+-- whether a target of one of the rules names the attribute
 abbrev pub is_named_in : List Rule → Attribute → Bool
 is_named_in policy a = list_any (λ (r : Rule). list_any (names_attribute a) r.targets) policy
 
--- whether no two resources of the kind have one value of the attribute (RFC 7643 section 2.2, uniqueness)
+-- whether the attribute is unique among the resources of the kind (RFC 7643 section 2.2, uniqueness)
 abbrev pub is_unique : Kind → Attribute → Bool
 is_unique kind a = list_any (λ (l : Leaf). is_same_attribute l.attribute a) (unique_leaves kind)
 
--- the values of a resource by which a policy tells what may be done with it, and by which names are told apart
+-- the values of a resource that a policy's targets name, or that must be unique
 unfoldable pub control : List Rule → Content → List Row
 control policy c = filter (λ (r : Row). is_named_in policy r.unit.attribute || is_unique c.kind r.unit.attribute) (rows c)
 
--- on resources of one kind with equal values there, a policy decides alike
+-- a policy decides alike on two resources of one kind with equal control values
 abbrev pub DecisionsRestOnControl : Type 0
 DecisionsRestOnControl =
     (policy : List Rule) (client : List ℕ) (op : Op) (a b : Content) (l : Leaf)

@@ -1,4 +1,4 @@
--- Which rule decides.
+-- Which rule of a policy decides.
 use Rattle.std.specs.Prelude.{ℕ, Bool, true, false, ◌&&◌, ◌||◌, not, ◌==◌, List, [], ◌∷◌, length, nat_eq, filter, Option, None, Some, if◌then◌else◌}
 use Rattle.std.specs.List.{list_any, enumerate_from}
 use Rattle.std.specs.Cmp.Lexicographic.{pointwise}
@@ -22,36 +22,36 @@ use Rattle.scim_policy.specs.declared.misfits.Misfit.{Misfit}
 use Rattle.scim_policy.specs.declared.misfits.Misfit.TheVariants as misfit
 use Rattle.scim_policy.specs.Rules.{Target, KindPaths, Rule}
 
--- whether a rule's client name is that of the client
+-- whether a rule's client name is the client's, or `*`
 abbrev pub names : List ℕ → ClientName → Bool
 names client Everyone = true
 names client (Named name) = pointwise nat_eq name client
 
--- whether a path covers a leaf: by `*`, by its attribute, or by itself
+-- whether a path covers a leaf: as `*`, as its attribute, or as the leaf itself
 abbrev pub covers : Leaf → PolicyPath → Bool
 covers l Everything = true
 covers l (Attribute a) = sameb the_attribute l.attribute a
 covers l (SubAttribute a b) = is_same_leaf l (leaf_at a b)
 
--- the paths for a kind; none where the rule isn't for the kind
+-- the paths for a kind; none if the rule isn't for the kind
 abbrev pub paths_on : Kind → List KindPaths → List PolicyPath
 paths_on k [] = []
 paths_on k (p ∷ ps) = if sameb the_kind k p.kind then p.paths else paths_on k ps
 
--- whether the rule covers a leaf of a resource: by one of its paths for the resource's kind
+-- whether a rule covers a leaf of a resource, by a path for the resource's kind
 abbrev pub covers_in : Content → Leaf → Rule → Bool
 covers_in c l r = list_any (covers l) (paths_on c.kind r.paths)
 
--- whether the target for the resource's kind holds on its rows
+-- whether the target for the resource's kind matches the resource; false if no target is for that kind
 abbrev pub holds_on : Content → List Target → Bool
 holds_on c [] = false
 holds_on c (t ∷ ts) = if sameb the_kind c.kind t.kind then truth t.tree (rows c) else holds_on c ts
 
--- whether the rule has no target, or its target holds on the resource
+-- whether the rule has no target, or its target matches the resource
 abbrev pub is_target_met : Content → Rule → Bool
 is_target_met c r = (length r.targets == 0) || holds_on c r.targets
 
--- whether the rule speaks of the client, the operation and the resource
+-- whether the rule is for the client, the operation and the resource
 unfoldable pub speaks_of : List ℕ → Op → Content → Rule → Bool
 speaks_of client op c r =
     list_any (names client) r.clients && (list_any (sameb the_op op) r.ops && (list_any (sameb the_kind c.kind) r.kinds && is_target_met c r))
@@ -60,24 +60,26 @@ speaks_of client op c r =
 abbrev pub is_about : List ℕ → Op → Kind → Rule → Bool
 is_about client op k r = list_any (names client) r.clients && (list_any (sameb the_op op) r.ops && list_any (sameb the_kind k) r.kinds)
 
--- whether the rule names the client, the operation and the kind, and has a target, so that whether it speaks of a resource depends on it
+-- whether the rule names the client, the operation and the kind and has a target, so that it depends on the
+-- resource whether the rule applies
 abbrev pub has_target_for : List ℕ → Op → Kind → Rule → Bool
 has_target_for client op k r = is_about client op k r && not (length r.targets == 0)
 
--- whether the rule fits: it speaks of them, and covers the leaf
+-- whether the rule fits: it is for the client, the operation and the resource, and covers the leaf
 abbrev pub fits : List ℕ → Op → Content → Leaf → Rule → Bool
 fits client op c l r = speaks_of client op c r && covers_in c l r
 
--- what the first of some numbered rules decides; where there is none, rule 0 denies
+-- the decision of the first of some numbered rules; if there is none, rule 0 denies
 abbrev pub first_of : List (ℕ × Rule) → Decision
 first_of [] = record { rule = 0; allow = false }
 first_of (numbered ∷ more) = record { rule = numbered.0; allow = numbered.1.allow }
 
--- of the rules that fit, each with its number, the first decides
+-- the decision of the policy: of the rules that fit, numbered from 1, the first decides
 unfoldable pub decide : List Rule → List ℕ → Op → Content → Leaf → Decision
 decide policy client op c l = first_of (filter (λ (numbered : ℕ × Rule). fits client op c l numbered.1) (enumerate_from 1 policy))
 
--- what of a rule is the first that doesn't fit: its clients, operations, kinds, paths or target; none where it fits
+-- the first part of a rule that doesn't fit, of its clients, operations, kinds, paths and target; None if
+-- the rule fits
 abbrev pub misfit_of : List ℕ → Op → Content → Leaf → Rule → Option Misfit
 misfit_of client op c l r =
     if list_any (names client) r.clients

@@ -1,4 +1,4 @@
--- What rules that are picked for many resources decide of one.
+-- The decisions of rules that were selected once for many resources.
 use Rattle.std.specs.Prelude.{ℕ, Bool, ◌&&◌, filter, map}
 use Rattle.scim_schema.specs.declared.Leaf.{Leaf}
 use Rattle.scim_cell.specs.Content.{Content}
@@ -8,14 +8,15 @@ use Rattle.scim_policy.specs.declared.rules_about.RulesAbout.{RulesAbout}
 use Rattle.scim_policy.specs.Rules.{Rule}
 use Rattle.scim_policy.specs.Decide.{covers_in, is_target_met, first_of}
 
--- a picked rule with its number
+-- a selected rule with its number
 abbrev pub numbered_rule : NumberedRule → ℕ × Rule
 numbered_rule n = (n.number, n.rule.now)
 
--- whether a rule's target is met and it covers the leaf, so that it fits where it names the client, the operation and the kind
+-- whether a rule's target matches the resource and the rule covers the leaf; for a selected rule, whether
+-- it fits
 abbrev pub is_met_at : Content → Leaf → (ℕ × Rule) → Bool
 is_met_at c l numbered = is_target_met c numbered.1 && covers_in c l numbered.1
 
--- of the picked rules whose target is met and that cover the leaf the first decides
+-- the decision of the first selected rule whose target matches the resource and that covers the leaf
 unfoldable pub decided_by : RulesAbout → Content → Leaf → Decision
 decided_by picked c l = first_of (filter (is_met_at c l) (map numbered_rule picked.rules.items))

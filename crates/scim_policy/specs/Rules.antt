@@ -1,4 +1,4 @@
--- What a policy is: rules, numbered from 1 by their place.
+-- Policies: lists of rules, numbered from 1.
 use Rattle.std.specs.Prelude.{Bool, List}
 use Rattle.scim_schema.specs.declared.Kind.{Kind}
 use Rattle.scim_schema.specs.declared.Op.{Op}
@@ -6,17 +6,18 @@ use Rattle.scim_filter_grammar.specs.Tree.{Tree}
 use Rattle.scim_policy.specs.declared.rules.ClientName.{ClientName}
 use Rattle.scim_policy.specs.declared.rules.PolicyPath.{PolicyPath}
 
--- the filter that a target is on resources of a kind
+-- the target of a rule for resources of a kind: the filter that they must match
 pub record Target : Type 0 where
   pub kind : Kind
   pub tree : Tree
 
--- what a rule's paths cover on resources of a kind
+-- the paths of a rule for resources of a kind
 pub record KindPaths : Type 0 where
   pub kind : Kind
   pub paths : List PolicyPath
 
--- whether the rule allows or denies, whom and what it is for, and for each of its kinds its target and what it covers; no target is no list
+-- a rule: whether it allows or denies, its clients, operations and kinds, and its target and paths for each
+-- kind; the list of targets is empty if it has no target
 pub record Rule : Type 0 where
   pub allow : Bool
   pub clients : List ClientName

@@ -1,4 +1,4 @@
--- What a table of decisions says of a leaf.
+-- The decisions in a decision table.
 use Rattle.std.specs.Prelude.{ℕ, zero, suc, false, List, [], ◌∷◌, Option, None, Some, if◌then◌else◌}
 use denote.Enum.Bare.{sameb}
 use denote.Enum.Declared.{tag_of}
@@ -12,39 +12,42 @@ use Rattle.scim_policy.specs.declared.decisions.Decisions.{Decisions}
 use Rattle.scim_policy.specs.declared.access.Rights.{Rights}
 use Rattle.scim_policy.specs.Access.{Access}
 
--- the first of two that there is
+-- the first of two optional values that is present
 abbrev pub or_else : {Y : Type 0} → Option Y → Option Y → Option Y
 or_else None o = o
 or_else (Some y) o = Some y
 
--- what is decided of a sub-attribute alone
+-- the decision on a single sub-attribute, if any
 abbrev pub at_sub_attribute : SubAttribute → List (SubAttribute × Decision) → Option Decision
 at_sub_attribute b [] = None
 at_sub_attribute b (pair ∷ more) = if sameb the_sub_attribute pair.0 b then Some pair.1 else at_sub_attribute b more
 
+-- the decision on a leaf's sub-attribute alone, if it is one and has a decision
 abbrev pub alone : Option SubAttribute → List (SubAttribute × Decision) → Option Decision
 alone None pairs = None
 alone (Some b) pairs = at_sub_attribute b pairs
 
--- what is decided of a leaf by the entry of its attribute: alone, or with the whole attribute
+-- the decision on a leaf in the entry of its attribute: on the sub-attribute alone, or else on the whole
+-- attribute
 abbrev pub in_attribute : Option SubAttribute → AttributeDecisions → Option Decision
 in_attribute sub e = or_else (alone sub e.sub_attributes.items) e.whole
 
--- what is decided of a leaf by the entries of attributes, each at its attribute's number
+-- the decision on a leaf in the entries of attributes, each at its attribute's number
 abbrev pub in_attributes : ℕ → Option SubAttribute → List AttributeDecisions → Option Decision
 in_attributes n sub [] = None
 in_attributes zero sub (e ∷ es) = in_attribute sub e
 in_attributes (suc n) sub (e ∷ es) = in_attributes n sub es
 
--- what is decided of a leaf so far
+-- the decision on a leaf so far, if any
 unfoldable pub decided : Decisions → Leaf → Option Decision
 decided ds l = or_else (in_attributes (tag_of the_attribute l.attribute) l.sub_attribute ds.attributes.items) ds.rest
 
+-- the decision, or rule 0's denial if there is none
 abbrev pub or_denied : Option Decision → Decision
 or_denied None = record { rule = 0; allow = false }
 or_denied (Some d) = d
 
--- the decision on a leaf: where nothing is decided, rule 0 denies
+-- the decision on a leaf; if none was made, rule 0 denies
 unfoldable pub decision : Decisions → Leaf → Decision
 decision ds l = or_denied (decided ds l)
 

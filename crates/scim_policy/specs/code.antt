@@ -1,3 +1,4 @@
+-- Definitions for the code that computes decisions.
 pub mod Inside
 pub mod Steps
 pub mod Walk

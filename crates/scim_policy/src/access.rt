@@ -1,4 +1,4 @@
-//! What a client may do with a resource that is there, and what a change of it would open.
+//! A client's rights on an existing resource, and the rights that a change would add.
 ghost use Rattle.std.specs.Prelude.{◌≡◌, ◌≤◌, ◌&&◌, None, find, is_some, length, not, IfOk, OnOk};
 ghost use Rattle.scim_schema.specs.declared.limits.TheConstants.{MOST_RULES};
 ghost use Rattle.scim_schema.specs.declared.Leaf.{Leaf};
@@ -15,16 +15,15 @@ use scim_text::NoMemory;
 use scim_value::Resource;
 use std::alloc::Global;
 
-/// What a policy decides of a client's reading, modifying and deleting of one resource, leaf by leaf.
+/// A client's rights on one resource: the decisions on reading, modifying and deleting each leaf.
 ///
-/// Made in one walk over the rules, which tries each rule's target at most once.
+/// They are computed in one pass over the rules, which evaluates each rule's target at most once.
 pub struct Rights {
     read: Decisions,
     modify: Decisions,
     delete: Decisions,
 }
 
-/// One call, wherever rights are dropped, in place of a look at each decision.
 impl Drop for Rights {
     fn drop(self) {
         let Rights {
@@ -36,8 +35,7 @@ impl Drop for Rights {
 }
 
 impl Policy {
-    /// What the policy decides of the client's reading, modifying and deleting of the resource, at each
-    /// leaf. NoMemory where none was to be had.
+    /// Computes the client's rights on the resource.
     pub fn rights(
         &self,
         alloc: Global,
@@ -51,8 +49,10 @@ impl Policy {
         Ok(rights)
     }
 
-    /// The first leaf at which the client may not write the unit of the resource, with the decision that
-    /// denies it; None where the unit may be written. NoMemory where none was to be had.
+    /// Checks whether the client may write `unit` of the resource.
+    ///
+    /// Returns the first leaf of the unit that it may not write, with the decision that denies it, or
+    /// `None` if it may write the unit.
     pub fn may_write(
         &self,
         alloc: Global,
@@ -67,9 +67,10 @@ impl Policy {
         Ok(rights.forbidding(resource.kind(), unit))
     }
 
-    /// The first operation and leaf that the client is allowed on the resource after a change and wasn't
-    /// before it, with the decision after it; None where the change opens nothing. NoMemory where none was
-    /// to be had.
+    /// Checks whether a change adds to the client's own rights on a resource.
+    ///
+    /// Returns the first operation and leaf that the client is allowed after the change but wasn't before,
+    /// with the decision after the change, or `None` if there is none.
     pub fn widens(
         &self,
         alloc: Global,
@@ -87,18 +88,18 @@ impl Policy {
 }
 
 impl Rights {
-    /// What is decided of reading.
+    /// The decisions on reading.
     pub fn read(&self) -> &Decisions
         ensures { (l : Leaf) → table.decision result.now l ≡ (access_in self.now).read l }
     {
         &self.read
     }
 
-    /// The first leaf at which the unit of a resource of the kind may not be written, with the decision
-    /// that denies it; None where the unit may be written.
+    /// The first leaf of `unit` that may not be written, with the decision that denies it. `None` if the
+    /// unit may be written.
     ///
-    /// To write a leaf takes leave to modify it and to read it; to modify it alone, where it is writeOnly
-    /// (RFC 7643 section 2.2).
+    /// Writing a leaf needs the right to modify it and the right to read it. A writeOnly leaf needs only
+    /// the right to modify it, since it can't be read (RFC 7643 section 2.2).
     #[tactic(auto, unfolding(crate::specs::Access::forbidding))]
     pub fn forbidding(&self, kind: Kind, unit: Unit) -> Option<(Leaf, Decision)>
         ensures { result ≡ spec.forbidding kind (access_in self.now) unit }
@@ -114,9 +115,10 @@ impl Rights {
         None
     }
 
-    /// The first operation, of reading, modifying and deleting, and the first leaf at which these rights to
-    /// a resource of the kind deny it and those after a change allow it, with the decision after the change;
-    /// None where the change opens nothing.
+    /// The first operation and leaf that `self` denies and `after` allows, with the decision in `after`.
+    /// `None` if there is none.
+    ///
+    /// Reading comes before modifying, and modifying before deleting.
     #[tactic(auto, unfolding(crate::specs::Access::widening))]
     pub fn widening(&self, kind: Kind, after: &Rights) -> Option<(Op, Leaf, Decision)>
         ensures { result ≡ spec.widening kind (access_in self.now) (access_in after.now) }
@@ -130,7 +132,7 @@ impl Rights {
         first_opened(kind, Op::Delete, &self.delete, &after.delete)
     }
 
-    /// Nothing is decided yet.
+    /// Rights with no decision made.
     fn none(alloc: Global) -> Rights
         ensures read { (l : Leaf) → table.decided result.read l ≡ None }
         ensures modify { (l : Leaf) → table.decided result.modify l ≡ None }
@@ -143,15 +145,14 @@ impl Rights {
         }
     }
 
-    /// Whether each leaf is decided, for each operation.
+    /// Whether each table has a decision on the rest, so that every leaf is decided for each operation.
     fn is_complete(&self) -> bool
         ensures { result ≡ (is_some self.now.read.rest && (is_some self.now.modify.rest && is_some self.now.delete.rest)) }
     {
         self.read.has_rest() && self.modify.has_rest() && self.delete.has_rest()
     }
 
-    /// Decides by each of the rules in turn, numbered from 1, what it covers and isn't decided yet.
-    /// NoMemory where none was to be had.
+    /// Adds the decisions of `rules`, numbered from 1, for leaves that have none.
     fn add_rules(
         &mut self,
         alloc: Global,
@@ -178,8 +179,8 @@ impl Rights {
         Ok(())
     }
 
-    /// Decides by the rule, where it is for the client and the resource, what it covers and isn't decided
-    /// yet, for each operation that it is for. NoMemory where none was to be had.
+    /// Adds the decisions of one rule for leaves that have none, if the rule is for the client and the
+    /// resource.
     fn add_rule(
         &mut self,
         alloc: Global,
@@ -206,7 +207,8 @@ impl Rights {
             .add_rule_for(alloc, rule, Op::Delete, kind, number)
     }
 
-    /// What of writing the leaf is denied first; None where the leaf may be written.
+    /// The decision that denies writing `leaf`: on modifying if that is denied, else on reading. `None` if
+    /// the leaf may be written.
     fn forbidden(&self, kind: Kind, leaf: Leaf) -> Option<(Leaf, Decision)>
         ensures { result ≡ find (λ d. not d.1.allow) (spec.needed kind (access_in self.now) leaf) }
     {
@@ -222,8 +224,8 @@ impl Rights {
     }
 }
 
-/// The first leaf of the kind at which the operation is allowed after a change and wasn't before, with
-/// the decision after it.
+/// The first leaf on which the operation is denied before a change and allowed after it, with the decision
+/// after it.
 fn first_opened(
     kind: Kind,
     op: Op,

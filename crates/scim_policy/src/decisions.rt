@@ -1,4 +1,4 @@
-//! What a policy decides.
+//! Decision tables: what a policy decides for each leaf of a resource.
 ghost use Rattle.std.specs.Prelude.{◌≡◌, ◌<◌, ◌≤◌, ℕ, length, None, Some, Option, is_some, IfOk, OnOk};
 ghost use Rattle.scim_schema.specs.declared.limits.TheConstants.{MOST_RULES};
 ghost use Rattle.scim_schema.specs.declared.Leaf.{Leaf};
@@ -17,16 +17,15 @@ use scim_text::{NoMemory, push};
 use scim_value::Resource;
 use std::alloc::Global;
 
-/// What a policy decides of a client's operation on one resource, leaf by leaf.
+/// A decision table for a client's operation on one resource.
 ///
-/// It is made at once for all leaves, since a rule that fits the client, the operation and the
-/// resource fits them for each leaf that it covers.
+/// It is computed for all leaves at once, since a rule that fits the client, the operation and the resource
+/// decides every leaf that it covers.
 pub struct Decisions {
     attributes: Vec<AttributeDecisions>,
     rest: Option<Decision>,
 }
 
-/// One call, wherever decisions are dropped, in place of a look at all that there are.
 impl Drop for Decisions {
     fn drop(self) {
         let Decisions {
@@ -36,7 +35,7 @@ impl Drop for Decisions {
     }
 }
 
-/// What is decided of an attribute: of sub-attributes alone, and after them of the whole.
+/// The decisions on one attribute: those on single sub-attributes, which come first, and that on the whole.
 #[derive(Drop)]
 struct AttributeDecisions {
     sub_attributes: Vec<(SubAttribute, Decision)>,
@@ -44,8 +43,9 @@ struct AttributeDecisions {
 }
 
 impl Policy {
-    /// What the policy decides of the client's operation on the resource, at each leaf: the first rule
-    /// that fits decides, and where none fits rule 0 denies. NoMemory where none was to be had.
+    /// Computes the decision table for the client's operation on the resource.
+    ///
+    /// The first rule that fits decides a leaf; if none fits, rule 0 denies.
     pub fn decisions(
         &self,
         alloc: Global,
@@ -61,8 +61,8 @@ impl Policy {
         Ok(decisions)
     }
 
-    /// What the policy decides of the client's operation on one leaf of the resource. To ask of more
-    /// than one leaf, take `decisions`. NoMemory where none was to be had.
+    /// Decides the client's operation on one leaf of the resource. For several leaves, call `decisions`
+    /// once.
     pub fn decide(
         &self,
         alloc: Global,
@@ -92,7 +92,7 @@ impl Decisions {
         }
     }
 
-    /// Nothing is decided yet.
+    /// A table with no decision made.
     #[tactic(auto, unfolding(crate::specs::Table::decided))]
     pub(crate) fn none(alloc: Global) -> Decisions
         ensures { (l : Leaf) → table.decided result l ≡ None }
@@ -103,7 +103,7 @@ impl Decisions {
         }
     }
 
-    /// What is decided of a leaf so far.
+    /// The decision made on a leaf so far, if any.
     fn decided(&self, leaf: Leaf) -> Option<Decision>
         ensures { result ≡ table.decided self.now leaf }
     {
@@ -117,8 +117,7 @@ impl Decisions {
         }
     }
 
-    /// Decides by each of the rules in turn, numbered from 1, what it covers and isn't decided yet.
-    /// NoMemory where none was to be had.
+    /// Adds the decisions of `rules`, numbered from 1, for leaves that have none.
     fn add_rules(
         &mut self,
         alloc: Global,
@@ -144,15 +143,15 @@ impl Decisions {
         Ok(())
     }
 
-    /// Whether each leaf is decided, since there is a decision on the rest.
+    /// Whether there is a decision on the rest, so that every leaf is decided.
     pub(crate) fn has_rest(&self) -> bool
         ensures { result ≡ is_some self.now.rest }
     {
         self.rest.is_some()
     }
 
-    /// Decides by the rule, where it is for the operation, what it covers on resources of the kind and isn't
-    /// decided yet. NoMemory where none was to be had.
+    /// Adds the decisions of `rule` on resources of `kind` for leaves that have none, if the rule is for
+    /// the operation.
     pub(crate) fn add_rule_for(
         &mut self,
         alloc: Global,
@@ -169,8 +168,7 @@ impl Decisions {
         Ok(())
     }
 
-    /// Decides by the rule what it covers on resources of the kind and isn't decided yet. NoMemory where
-    /// none was to be had.
+    /// Adds the decisions of `rule` on resources of `kind` for leaves that have none.
     pub(crate) fn add_rule(
         &mut self,
         alloc: Global,
@@ -188,7 +186,7 @@ impl Decisions {
         self.add_paths(alloc, rule.paths_on(kind), decision)
     }
 
-    /// Decides what the paths cover and isn't decided yet. NoMemory where none was to be had.
+    /// Adds the decision for the leaves that `paths` cover and that have none.
     fn add_paths(
         &mut self,
         alloc: Global,
@@ -204,7 +202,7 @@ impl Decisions {
         Ok(())
     }
 
-    /// Decides what the path covers and isn't decided yet. NoMemory where none was to be had.
+    /// Adds the decision for the leaves that `path` covers and that have none.
     fn add_path(
         &mut self,
         alloc: Global,
@@ -227,7 +225,8 @@ impl Decisions {
         Ok(())
     }
 
-    /// Decides a whole attribute, where it isn't decided yet. NoMemory where none was to be had.
+    /// Adds the decision for the leaves of an attribute that have none. The table must have no decision on
+    /// the rest.
     fn add_attribute(
         &mut self,
         alloc: Global,
@@ -244,8 +243,8 @@ impl Decisions {
         Ok(())
     }
 
-    /// Decides a sub-attribute, where neither it nor the whole attribute is decided yet. NoMemory
-    /// where none was to be had.
+    /// Adds the decision for a sub-attribute that has none, alone or with its whole attribute. The table
+    /// must have no decision on the rest.
     fn add_sub_attribute(
         &mut self,
         alloc: Global,
@@ -263,7 +262,7 @@ impl Decisions {
     }
 }
 
-/// What the entry at a number decides of a leaf of its attribute.
+/// The decision that the entry at `number` makes on a leaf of its attribute.
 fn at_number(
     entries: &[AttributeDecisions],
     number: usize,
@@ -278,8 +277,7 @@ fn at_number(
     }
 }
 
-/// Makes entries that decide nothing, until there is one at the number. NoMemory where none was to
-/// be had.
+/// Appends entries without decisions until there is one at `number`.
 fn grow(alloc: Global, entries: &mut Vec<AttributeDecisions>, number: usize) -> Result<(), NoMemory>
     ensures long { OnOk result (number < length entries.new.items) }
     ensures same { OnOk result ((n : ℕ) (sub : Option SubAttribute)
@@ -296,7 +294,7 @@ fn grow(alloc: Global, entries: &mut Vec<AttributeDecisions>, number: usize) -> 
 }
 
 impl AttributeDecisions {
-    /// What is decided of a leaf of the attribute so far.
+    /// The decision made on a leaf of the attribute so far, if any.
     fn decided(&self, sub_attribute: Option<SubAttribute>) -> Option<Decision>
         ensures { result ≡ table.in_attribute sub_attribute self.now }
     {
@@ -310,7 +308,7 @@ impl AttributeDecisions {
         }
     }
 
-    /// Decides the whole attribute, where it isn't decided yet.
+    /// Adds the decision for the whole attribute, if it has none.
     fn add_whole(&mut self, decision: Decision)
         ensures { (sub : Option SubAttribute) → table.in_attribute sub self.new
             ≡ or_else (table.in_attribute sub self.old) (Some decision) }
@@ -320,8 +318,7 @@ impl AttributeDecisions {
         }
     }
 
-    /// Decides a sub-attribute, where neither it nor the whole attribute is decided yet. NoMemory
-    /// where none was to be had.
+    /// Adds the decision for a sub-attribute that has none, alone or with the whole attribute.
     fn add_alone(&mut self, sub_attribute: SubAttribute, decision: Decision) -> Result<(), NoMemory>
         ensures { OnOk result ((sub : Option SubAttribute) → table.in_attribute sub self.new
             ≡ or_else (table.in_attribute sub self.old) (walk.by_name sub_attribute decision sub)) }
@@ -333,7 +330,7 @@ impl AttributeDecisions {
     }
 }
 
-/// What is decided of a sub-attribute alone.
+/// The decision on a single sub-attribute, if any.
 fn alone(pairs: &[(SubAttribute, Decision)], sub_attribute: SubAttribute) -> Option<Decision>
     ensures { result ≡ table.at_sub_attribute sub_attribute pairs.now }
 {

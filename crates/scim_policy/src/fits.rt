@@ -1,4 +1,4 @@
-//! Whether a rule fits.
+//! Decides whether a rule fits a request.
 ghost use Rattle.std.specs.Prelude.{◌≡◌, IfOk};
 ghost use Rattle.std.specs.List.{list_any};
 ghost use denote.Enum.Bare.{sameb};
@@ -15,8 +15,7 @@ use scim_value::Resource;
 use std::alloc::Global;
 
 impl Rule {
-    /// Whether it speaks of the client, the operation and the resource. NoMemory where none was to be
-    /// had.
+    /// Whether the rule is for the client, the operation and the resource.
     pub(crate) fn speaks_of(
         &self,
         alloc: Global,
@@ -29,15 +28,14 @@ impl Rule {
         Ok(self.is_about(client, op, resource.kind()) && self.is_target_met(alloc, resource)?)
     }
 
-    /// Whether it names the client, the operation and the kind.
+    /// Whether the rule names the client, the operation and the kind.
     pub(crate) fn is_about(&self, client: &str, op: Op, kind: Kind) -> bool
         ensures { result ≡ spec.is_about client.now op kind self.now }
     {
         is_op(self.ops(), op) && is_kind(self.kinds(), kind) && is_named(self.clients(), client)
     }
 
-    /// Whether it is for the client and the resource, whatever the operation. NoMemory where none was to be
-    /// had.
+    /// Whether the rule is for the client and the resource, with any operation.
     pub(crate) fn is_for(
         &self,
         alloc: Global,
@@ -53,7 +51,7 @@ impl Rule {
         )
     }
 
-    /// Whether it has no target, or its target holds on the resource. NoMemory where none was to be had.
+    /// Whether the rule has no target, or its target matches the resource.
     pub(crate) fn is_target_met(&self, alloc: Global, resource: &Resource) -> Result<bool, NoMemory>
         ensures { IfOk result (λ b. b ≡ spec.is_target_met resource.now self.now) }
     {
@@ -62,7 +60,7 @@ impl Rule {
     }
 }
 
-/// Whether the target for the resource's kind holds on it. NoMemory where none was to be had.
+/// Whether the target for the resource's kind matches it. False if no target is for that kind.
 fn holds_on(alloc: Global, targets: &[Target], resource: &Resource) -> Result<bool, NoMemory>
     ensures { IfOk result (λ b. b ≡ spec.holds_on resource.now targets.now) }
 {
@@ -74,28 +72,28 @@ fn holds_on(alloc: Global, targets: &[Target], resource: &Resource) -> Result<bo
     Ok(false)
 }
 
-/// Whether a name is that of the client.
+/// Whether any of the names is the client's.
 pub(crate) fn is_named(names: &[ClientName], client: &str) -> bool
     ensures { result ≡ list_any (spec.names client.now) names.now }
 {
     names.iter().any(|name| name.names(client))
 }
 
-/// Whether the operation is among them.
+/// Whether the operation is in the list.
 pub(crate) fn is_op(ops: &[Op], op: Op) -> bool
     ensures { result ≡ list_any (sameb the_op op) ops.now }
 {
     ops.iter().any(|own| op == *own)
 }
 
-/// Whether the kind is among them.
+/// Whether the kind is in the list.
 pub(crate) fn is_kind(kinds: &[Kind], kind: Kind) -> bool
     ensures { result ≡ list_any (sameb the_kind kind) kinds.now }
 {
     kinds.iter().any(|own| kind == *own)
 }
 
-/// Whether a path covers the leaf.
+/// Whether any path covers the leaf.
 pub(crate) fn covers(paths: &[PolicyPath], leaf: Leaf) -> bool
     ensures { result ≡ list_any (spec.covers leaf) paths.now }
 {
@@ -103,7 +101,7 @@ pub(crate) fn covers(paths: &[PolicyPath], leaf: Leaf) -> bool
 }
 
 impl ClientName {
-    /// Whether it is that of the client.
+    /// Whether this is the client's name, or `*`.
     fn names(&self, client: &str) -> bool
         ensures { result ≡ spec.names client.now self.now }
     {
@@ -115,7 +113,7 @@ impl ClientName {
 }
 
 impl PolicyPath {
-    /// Whether it covers the leaf: by `*`, by its attribute, or by itself.
+    /// Whether the path covers the leaf: as `*`, as its attribute, or as the leaf itself.
     fn covers(self, leaf: Leaf) -> bool
         ensures { result ≡ spec.covers leaf self }
     {

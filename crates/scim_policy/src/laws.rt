@@ -1,8 +1,8 @@
-//! What decisions rest on.
+//! A law about the decisions of a policy.
 ghost use Rattle.scim_policy.specs.Control.{DecisionsRestOnControl};
 
-/// On two resources of one kind whose values agree where a target of the policy names them, and where
-/// names are unique, the policy decides alike at every leaf.
+/// A policy decides alike on two resources of one kind that agree on the attributes that its targets name
+/// and on the attributes that must be unique.
 pub fn decisions_rest_on_control()
     ensures { DecisionsRestOnControl }
 {}

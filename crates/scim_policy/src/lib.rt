@@ -1,8 +1,10 @@
-//! Policies: who may do what with which resources and attributes.
+//! Decides which client may do which operation on which attributes of which resources.
 //!
-//! A policy is a list of rules, numbered from 1. A rule allows or denies some clients some operations
-//! on some attributes of some kinds of resources, of all or of those for which its target holds; of the
-//! rules that fit the first decides, and where none fits the answer is no.
+//! A policy is a list of rules, numbered from 1. A rule allows or denies some clients some operations on
+//! some attributes of some kinds of resources, either of all or of those that match its target. The first
+//! rule that fits decides; if none fits, rule 0 denies.
+//!
+//! Cases: `crates/cases/data/policy.jsonl`.
 #![tactic(auto)]
 
 mod access;

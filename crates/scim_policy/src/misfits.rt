@@ -1,4 +1,4 @@
-//! Why a rule doesn't fit.
+//! Explains why a rule doesn't fit.
 ghost use Rattle.std.specs.Prelude.{◌≡◌, ◌≤◌, ◌-◌, IfOk, Some, length, not, is_some, option_map, slice_get};
 ghost use Rattle.scim_policy.specs.Decide as spec;
 
@@ -9,26 +9,25 @@ use scim_text::NoMemory;
 use scim_value::Resource;
 use std::alloc::Global;
 
-/// What of a rule doesn't fit.
+/// The part of a rule that doesn't fit a request, in the order of checking.
 #[derive(Clone, Copy, Debug, PartialEq, Eq)]
 pub enum Misfit {
-    /// It is for other clients.
+    /// The rule is for other clients.
     Client,
-    /// It is for other operations.
+    /// The rule is for other operations.
     Op,
-    /// It is for other kinds of resources.
+    /// The rule is for other kinds of resources.
     Kind,
-    /// It doesn't cover the attribute or the sub-attribute of a resource of that kind.
+    /// The rule doesn't cover the leaf on resources of this kind.
     Path,
-    /// Its target doesn't hold on the resource.
+    /// The rule's target doesn't match the resource.
     Target,
 }
 
 impl Policy {
-    /// What of the rule with this number, from 1, is the first that doesn't fit, as [`Rule::misfit`] tells.
-    /// NoMemory where none was to be had.
+    /// The first part of a rule that doesn't fit, as [`Rule::misfit`] returns it.
     ///
-    /// There is a rule with this number.
+    /// `rule` is the rule's number, from 1 to the number of rules.
     pub fn misfit(
         &self,
         alloc: Global,
@@ -48,8 +47,9 @@ impl Policy {
 }
 
 impl Rule {
-    /// The first of these that doesn't fit, in the order of [`Misfit`]; None where the rule fits the
-    /// client, the operation and the resource, and covers the leaf. NoMemory where none was to be had.
+    /// The first part of the rule that doesn't fit, in the order of [`Misfit`].
+    ///
+    /// `None` if the rule is for the client, the operation and the resource, and covers the leaf.
     #[tactic(auto, unfolding(crate::specs::Decide::speaks_of))]
     pub fn misfit(
         &self,

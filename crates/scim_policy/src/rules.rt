@@ -11,19 +11,19 @@ use scim_schema::{Attribute, Kind, Op, SubAttribute};
 use std::fmt;
 use std::marker::Model;
 
-/// Whom a rule is for.
+/// A client, or all clients, that a rule is for.
 #[derive(Drop)]
 pub enum ClientName {
     /// Any client: `*`.
     Everyone,
-    /// The client of this name.
+    /// The client with this name.
     Named(Text),
 }
 
-/// What a path of a rule covers of a resource.
+/// The leaves that a path of a rule covers.
 #[derive(Clone, Copy, Debug, PartialEq, Eq)]
 pub enum PolicyPath {
-    /// All of it: `*`.
+    /// All leaves: `*`.
     Everything,
     /// A whole attribute, with its sub-attributes.
     Attribute(Attribute),
@@ -31,30 +31,32 @@ pub enum PolicyPath {
     SubAttribute(Attribute, SubAttribute),
 }
 
-/// Which rule decided, from 1, and whether it allows. Where no rule fits it is rule 0, which denies.
+/// The number of the rule that decided, from 1, and whether it allows. If no rule fits it is rule 0, which
+/// denies.
 #[derive(Clone, Copy, PartialEq, Eq)]
 pub struct Decision {
     pub rule: u32,
     pub allow: bool,
 }
 
-/// The filter that a rule's target is on resources of one kind. Contracts see the kind and the tree.
+/// A rule's target for resources of one kind: the filter that they must match. Its contracts speak of the
+/// kind and the tree.
 #[derive(Drop)]
 pub struct Target {
     kind: Kind,
     filter: Filter,
 }
 
-/// What a rule's paths cover on resources of one kind: of a path that names nothing on that kind,
-/// nothing. Contracts see the kind and the list of paths.
+/// The leaves that a rule covers on resources of one kind. Paths that name nothing on that kind are left
+/// out. Its contracts speak of the kind and the paths.
 #[derive(Drop)]
 pub struct KindPaths {
     kind: Kind,
     paths: Vec<PolicyPath>,
 }
 
-/// Whether some clients may or may not do some operations on some kinds of resources for which a target
-/// holds, and on which attributes of them.
+/// A rule: it allows or denies some clients some operations on some attributes of the resources of some
+/// kinds that match its targets.
 #[derive(Drop)]
 pub struct Rule {
     allow: bool,
@@ -65,7 +67,7 @@ pub struct Rule {
     paths: Vec<KindPaths>,
 }
 
-/// Rules, numbered from 1 by their place; at most 1,000. Contracts see the list of rules.
+/// A list of at most 1,000 rules, numbered from 1. Its contracts speak of the list.
 #[derive(Drop)]
 pub struct Policy {
     rules: Vec<Rule>,
@@ -140,7 +142,7 @@ impl Model for Policy {
 }
 
 impl Target {
-    /// The target that is this filter on resources of the kind.
+    /// Makes a target for resources of `kind`.
     pub fn new(kind: Kind, filter: Filter) -> Target
         ensures kind { result.kind ≡ kind }
         ensures tree { result.tree ≡ tree_of filter }
@@ -148,14 +150,14 @@ impl Target {
         Target { kind, filter }
     }
 
-    /// The kind of resources that it is on.
+    /// The kind of resources that the target is for.
     pub fn kind(&self) -> Kind
         ensures { result ≡ self.now.kind }
     {
         self.kind
     }
 
-    /// The filter that a resource of its kind has to meet.
+    /// The filter that a resource must match.
     pub fn filter(&self) -> &Filter
         ensures { tree_of result.now ≡ self.now.tree }
     {
@@ -164,7 +166,7 @@ impl Target {
 }
 
 impl KindPaths {
-    /// What these paths cover on resources of the kind.
+    /// Makes the paths for resources of `kind`.
     pub fn new(kind: Kind, paths: Vec<PolicyPath>) -> KindPaths
         ensures kind { result.kind ≡ kind }
         ensures paths { result.paths ≡ paths.items }
@@ -172,7 +174,7 @@ impl KindPaths {
         KindPaths { kind, paths }
     }
 
-    /// The kind of resources that they are on.
+    /// The kind of resources that the paths are for.
     pub fn kind(&self) -> Kind
         ensures { result ≡ self.now.kind }
     {
@@ -188,7 +190,7 @@ impl KindPaths {
 }
 
 impl Rule {
-    /// The rule that says and covers this.
+    /// Makes a rule.
     pub fn new(
         allow: bool,
         clients: Vec<ClientName>,
@@ -214,49 +216,49 @@ impl Rule {
         }
     }
 
-    /// Whether it allows what it covers; else it denies it.
+    /// Whether the rule allows what it covers. If not, it denies it.
     pub fn allows(&self) -> bool
         ensures { result ≡ self.now.allow }
     {
         self.allow
     }
 
-    /// The clients that it is for.
+    /// The clients that the rule is for.
     pub fn clients(&self) -> &[ClientName]
         ensures { result.now ≡ self.now.clients }
     {
         self.clients.as_slice()
     }
 
-    /// The operations that it is for.
+    /// The operations that the rule is for.
     pub fn ops(&self) -> &[Op]
         ensures { result.now ≡ self.now.ops }
     {
         self.ops.as_slice()
     }
 
-    /// The kinds of resources that it is for.
+    /// The kinds of resources that the rule is for.
     pub fn kinds(&self) -> &[Kind]
         ensures { result.now ≡ self.now.kinds }
     {
         self.kinds.as_slice()
     }
 
-    /// What its target is for each of its kinds; empty where it has no target.
+    /// The rule's target for each of its kinds. Empty if it has no target.
     pub fn targets(&self) -> &[Target]
         ensures { result.now ≡ self.now.targets }
     {
         self.targets.as_slice()
     }
 
-    /// What it covers, for each of its kinds.
+    /// The rule's paths for each of its kinds.
     pub fn paths(&self) -> &[KindPaths]
         ensures { result.now ≡ self.now.paths }
     {
         self.paths.as_slice()
     }
 
-    /// What it covers of a resource of the kind; nothing where it isn't for the kind.
+    /// The rule's paths for resources of `kind`. Empty if it isn't for the kind.
     pub fn paths_on(&self, kind: Kind) -> &[PolicyPath]
         ensures { result.now ≡ paths_on kind self.now.paths }
     {
@@ -270,7 +272,7 @@ impl Rule {
 }
 
 impl Policy {
-    /// The policy of these rules, at most 1,000.
+    /// Makes a policy of at most 1,000 rules.
     pub fn of(rules: Vec<Rule>) -> Policy
         requires { length rules.items ≤ MOST_RULES }
         ensures { result ≡ rules.items }
@@ -278,7 +280,7 @@ impl Policy {
         Policy { rules }
     }
 
-    /// How many rules there are.
+    /// The number of rules.
     pub fn rule_count(&self) -> usize
         ensures { result ≡ length self.now }
     {

@@ -1,4 +1,4 @@
-//! The rules that may decide on the resources of a kind, picked once for many of them.
+//! Selects the rules for a client, an operation and a kind once, to decide on many resources of the kind.
 ghost use Rattle.std.specs.Prelude.{◌≡◌, IfOk};
 ghost use Rattle.scim_schema.specs.declared.Leaf.{Leaf};
 ghost use Rattle.scim_cell.specs.Content.{Content};
@@ -13,13 +13,13 @@ use scim_text::{NoMemory, push};
 use scim_value::Resource;
 use std::alloc::Global;
 
-/// The rules of a policy that name a client, an operation and a kind, in order: picked once, they decide
-/// on each resource of the kind.
+/// The rules of a policy that name a client, an operation and a kind, in order.
+///
+/// They decide on each resource of the kind as the whole policy does.
 pub struct RulesAbout<'p> {
     rules: Vec<NumberedRule<'p>>,
 }
 
-/// One call, wherever picked rules are dropped, in place of a look at all that there are.
 impl Drop for RulesAbout<'_> {
     fn drop(self) {
         let RulesAbout { rules: _rules } = self;
@@ -34,9 +34,10 @@ struct NumberedRule<'p> {
 }
 
 impl Policy {
-    /// The rules that name the client, the operation and the kind. Of each resource of the kind they decide
-    /// what the policy decides: to ask of one resource alone, take [`Policy::decisions`]. NoMemory where
-    /// none was to be had.
+    /// Selects the rules that name the client, the operation and the kind.
+    ///
+    /// On each resource of the kind they decide as the policy. To decide on only one resource, call
+    /// [`Policy::decisions`].
     pub fn rules_about(
         &self,
         alloc: Global,
@@ -60,9 +61,11 @@ impl Policy {
 }
 
 impl RulesAbout<'_> {
-    /// What these rules decide of the resource, at each leaf: the first whose target is met and that covers
-    /// the leaf decides, and where there is none rule 0 denies. Targets are tried in the order of the rules,
-    /// none behind the rule with which each leaf is decided. NoMemory where none was to be had.
+    /// Computes the decision table of these rules for a resource.
+    ///
+    /// The first rule whose target matches and that covers a leaf decides it; if there is none, rule 0
+    /// denies. Targets are evaluated in the order of the rules, up to the first rule that matches and
+    /// covers everything.
     pub fn decisions(&self, alloc: Global, resource: &Resource) -> Result<Decisions, NoMemory>
         ensures { IfOk result (λ ds. (l : Leaf) → decision ds l ≡ decided_by self.now resource.now l) }
     {

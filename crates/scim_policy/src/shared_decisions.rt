@@ -1,4 +1,4 @@
-//! What a policy decides alike of all resources of a kind.
+//! Decision tables that hold for all resources of a kind.
 ghost use Rattle.std.specs.Prelude.{◌≡◌, true, IfOk, IfSome, IfNone};
 ghost use Rattle.std.specs.List.{list_any};
 ghost use Rattle.scim_schema.specs.declared.Leaf.{Leaf};
@@ -13,9 +13,10 @@ use scim_text::NoMemory;
 use std::alloc::Global;
 
 impl Policy {
-    /// What the policy decides of the client's operation on whatever resource of the kind, at each leaf, as
-    /// [`Policy::decisions`], where that is the same for all of them; None where a rule that may decide has a
-    /// target, so that it depends on the resource. NoMemory where none was to be had.
+    /// The decision table for the client's operation on any resource of the kind, as [`Policy::decisions`],
+    /// if it doesn't depend on the resource.
+    ///
+    /// `None` if a rule that may decide has a target, so that the decisions depend on the resource.
     pub fn decisions_on_all(
         &self,
         alloc: Global,

@@ -1,4 +1,4 @@
--- What a policy file says, or where and why it is faulty.
+-- The policy that a policy file gives, or its first fault.
 use Rattle.std.specs.Prelude.{ℕ, ◌+◌, Bool, true, ◌&&◌, ◌||◌, not, ◌==◌, nat_lt, List, [], ◌∷◌, length, codes, Option, None, Some, option_map, option_and_then, Result, Ok, Err, if◌then◌else◌}
 use Rattle.std.specs.List.{list_any}
 use Rattle.json.specs.Json.{Json, Items, no_items, item, Members, no_members, member, document}
@@ -14,42 +14,43 @@ use Rattle.scim_policy_file.specs.Lists.{each}
 use Rattle.scim_policy_file.specs.Paths.{client_named, paths_named}
 use Rattle.scim_policy_file.specs.Targets.{◌>>=◌, or_name, targets_for}
 
--- what is said, or the number of the faulty rule, 0 for the file, and why it is faulty
+-- the result of reading a part of a file: a value, or a fault with the number of the faulty rule, 0 for the
+-- file
 abbrev pub Says : Type 0 → Type 0
 Says X = Result X PolicyFault
 
 -- ---- shapes
 
--- each key of an object is one of these words
+-- whether each key of an object is one of these words
 abbrev pub has_only : List (List ℕ) → Members → Bool
 has_only words no_members = true
 has_only words (member k d ms) = list_any (is_same_text k) words && has_only words ms
 
--- the items of an array
+-- the items of an array, as a list
 abbrev pub listed : Items → List Json
 listed no_items = []
 listed (item d ds) = d ∷ listed ds
 
--- a list that isn't empty
+-- the list, if it isn't empty
 abbrev pub filled : {X : Type 0} → List X → Option (List X)
 filled [] = None
 filled (x ∷ xs) = Some (x ∷ xs)
 
--- the values of an array that isn't empty
+-- the items of a non-empty array
 abbrev pub items_in : Json → Option (List Json)
 items_in d = option_and_then (λ ds. filled (listed ds)) (as_array d)
 
--- the texts of an array of texts that isn't empty
+-- the texts of a non-empty array of texts
 abbrev pub texts_in : Json → Option (List (List ℕ))
 texts_in d = option_and_then (each as_str) (items_in d)
 
--- an object that has no other keys than these
+-- the object, if it has no other keys than these
 abbrev pub object_of_only : List (List ℕ) → Json → Option Json
 object_of_only words d = option_and_then (λ ms. if has_only words ms then Some d else None) (as_object d)
 
 -- ---- rules
 
--- a rule as it is written
+-- the texts of a rule
 pub record RuleTexts : Type 0 where
   pub allow : Bool
   pub clients : List (List ℕ)
@@ -58,112 +59,129 @@ pub record RuleTexts : Type 0 where
   pub target : Option (List ℕ)
   pub paths : List (List ℕ)
 
+-- the keys of a rule
 abbrev pub rule_keys : List (List ℕ)
 rule_keys = codes "allow" ∷ codes "clients" ∷ codes "ops" ∷ codes "types" ∷ codes "target" ∷ codes "paths" ∷ []
 
+-- the value of `allow`, if it is a boolean
 abbrev pub allow_in : Json → Option Bool
 allow_in d = option_and_then as_bool (get (codes "allow") d)
 
+-- the texts of the non-empty array at a key
 abbrev pub texts_at : List ℕ → Json → Option (List (List ℕ))
 texts_at key d = option_and_then texts_in (get key d)
 
--- the text of a target, or that there is none
+-- the text of an optional target, Some None if there is no target, or None if it isn't a text
 abbrev pub target_text : Option Json → Option (Option (List ℕ))
 target_text None = Some None
 target_text (Some d) = option_map (λ t. Some t) (as_str d)
 
+-- the text of a rule's target, Some None if it has no target, or None if it isn't a text
 abbrev pub target_in : Json → Option (Option (List ℕ))
 target_in d = target_text (get (codes "target") d)
 
+-- the texts of a rule, whatever other keys it has; None if a key is missing or a value has the wrong type
 abbrev pub rule_fields : Json → Option RuleTexts
 rule_fields d =
     option_and_then (λ allow. option_and_then (λ clients. option_and_then (λ ops. option_and_then (λ types. option_and_then (λ target. option_map (λ paths.
     record { allow = allow; clients = clients; ops = ops; types = types; target = target; paths = paths })
     (texts_at (codes "paths") d)) (target_in d)) (texts_at (codes "types") d)) (texts_at (codes "ops") d)) (texts_at (codes "clients") d)) (allow_in d)
 
--- the object of a rule: its keys are there, `target` or not, and no other, with values of their types
+-- the texts of a rule: all its keys but `target` are required, others are refused, and values have their
+-- types
 unfoldable pub rule_texts : Json → Option RuleTexts
 rule_texts d = option_and_then rule_fields (object_of_only rule_keys d)
 
--- the rule that is written so, or the first cause against it: its words, its target, its paths
+-- the rule that these texts give, or the cause of its first fault: of its clients, operations and types, of
+-- its target, of its paths
 unfoldable pub rule_named : RuleTexts → Result Rule Cause
 rule_named t =
     or_name (each client_named t.clients) >>= λ clients. or_name (each operation_named t.ops) >>= λ ops. or_name (each kind_named t.types) >>= λ kinds.
     targets_for kinds t.target >>= λ targets. or_name (paths_named kinds t.paths) >>= λ paths.
     Ok (record { allow = t.allow; clients = clients; ops = ops; kinds = kinds; targets = targets; paths = paths })
 
--- the rule, or its fault
+-- the rule, or its fault with the rule's number
 abbrev pub named_or_fault : ℕ → Result Rule Cause → Says Rule
 named_or_fault n (Err cause) = Err (record { rule = n; cause = cause })
 named_or_fault n (Ok r) = Ok r
 
+-- the rule that optional texts give, or its fault; None is the fault Shape
 abbrev pub shaped_or_fault : ℕ → Option RuleTexts → Says Rule
 shaped_or_fault n None = Err (record { rule = n; cause = Shape })
 shaped_or_fault n (Some t) = named_or_fault n (rule_named t)
 
--- what the n-th rule says
+-- the n-th rule, or its fault
 abbrev pub rule_of : ℕ → Json → Says Rule
 rule_of n d = shaped_or_fault n (rule_texts d)
 
+-- a rule before other rules, or the first fault
 abbrev pub and_then : Says Rule → Says (List Rule) → Says (List Rule)
 and_then (Err f) rest = Err f
 and_then (Ok r) (Err f) = Err f
 and_then (Ok r) (Ok rs) = Ok (r ∷ rs)
 
--- what the rules say from the n-th on, or the fault of the first that has one
+-- the rules from the n-th on, or the fault of the first faulty rule
 abbrev pub rules_from : ℕ → List Json → Says (List Rule)
 rules_from n [] = Ok []
 rules_from n (d ∷ ds) = and_then (rule_of n d) (rules_from (n + 1) ds)
 
 -- ---- files
 
--- the text of the version, and the rules of a file
+-- the text of the version and the rules of a file
 pub record Parts : Type 0 where
   pub version : List ℕ
   pub rules : List Json
 
+-- the keys of a policy file
 abbrev pub file_keys : List (List ℕ)
 file_keys = codes "version" ∷ codes "rules" ∷ []
 
--- `.`, `e` and `E`, with which the fraction and the exponent of a number begin
+-- whether the byte begins the fraction or the exponent of a number: `.`, `e` or `E`
 abbrev pub begins_part : ℕ → Bool
 begins_part b = (b == 46) || ((b == 101) || (b == 69))
 
--- a number is an integer, of any size, where it is written without a fraction and an exponent (RFC 8259 section 6)
+-- whether a number is an integer, of any size: it is written without a fraction and an exponent (RFC 8259
+-- section 6)
 abbrev pub is_integer : List ℕ → Bool
 is_integer t = not (list_any begins_part t)
 
+-- the text of an integer
 abbrev pub integer_in : Json → Option (List ℕ)
 integer_in d = option_and_then (λ n. if is_integer n then Some n else None) (as_number d)
 
+-- the version and the rules of a file, whatever other keys it has
 abbrev pub parts_in : Json → Option Parts
 parts_in d =
     option_and_then (λ version. option_map (λ rules. record { version = version; rules = rules })
     (option_and_then items_in (get (codes "rules") d))) (option_and_then integer_in (get (codes "version") d))
 
--- the object of a file: its two keys are there and no other, with an integer and a list that isn't empty
+-- the version and the rules of a file: both keys are required, others are refused, the version is an
+-- integer, and the rules are a non-empty list
 unfoldable pub file_parts : Json → Option Parts
 file_parts d = option_and_then parts_in (object_of_only file_keys d)
 
--- the version is 1, which JSON spells in one way, and there are at most 1,000 rules
+-- the rules of a file, if its version is 1, which JSON spells in one way, and it has at most 1,000 rules
 abbrev pub rules_or_fault : Parts → Says (List Rule)
 rules_or_fault p =
     if is_same_text p.version (codes "1")
     then (if nat_lt MOST_RULES (length p.rules) then Err (record { rule = 0; cause = TooManyRules }) else rules_from 1 p.rules)
     else Err (record { rule = 0; cause = Version })
 
+-- the rules of a file's optional parts; None is the fault Shape
 abbrev pub parts_or_fault : Option Parts → Says (List Rule)
 parts_or_fault None = Err (record { rule = 0; cause = Shape })
 parts_or_fault (Some p) = rules_or_fault p
 
--- what a JSON value says as a policy file
+-- the rules that a JSON value gives as a policy file, or its first fault
 abbrev pub policy_in : Json → Says (List Rule)
 policy_in d = parts_or_fault (file_parts d)
 
+-- the rules of an optional JSON value; None is the fault Json
 abbrev pub value_or_fault : Option Json → Says (List Rule)
 value_or_fault None = Err (record { rule = 0; cause = cause.Json })
 value_or_fault (Some d) = policy_in d
 
--- what a text says as a policy file: the rules, or the first fault, of the file before those of its rules in turn
+-- the rules that a text gives as a policy file, or its first fault, of the file before those of its rules
+-- in turn
 unfoldable pub policy_of : List ℕ → Says (List Rule)
 policy_of text = value_or_fault (document text)

@@ -1,4 +1,4 @@
--- The words of a policy file: names of clients, and paths.
+-- The clients and paths in a policy file.
 use Rattle.std.specs.Prelude.{ℕ, Bool, ◌&&◌, ◌||◌, ◌==◌, nat_le, List, length, map, filter_map, codes, Option, None, Some, is_some, option_and_then, if◌then◌else◌}
 use Rattle.std.specs.List.{list_any, list_all}
 use Rattle.scim_schema.specs.declared.Kind.{Kind}
@@ -13,41 +13,42 @@ use Rattle.scim_policy.specs.declared.rules.PolicyPath.{PolicyPath}
 use Rattle.scim_policy.specs.declared.rules.PolicyPath.TheVariants.{Everything, Attribute, SubAttribute}
 use Rattle.scim_policy.specs.Rules.{KindPaths}
 
--- a letter or digit of ASCII, `-`, `_` or `.`
+-- whether the byte may be part of a client's name: an ASCII letter or digit, `-`, `_` or `.`
 abbrev pub is_client_byte : ℕ → Bool
 is_client_byte b =
     (nat_le 48 b && nat_le b 57) || ((nat_le 65 b && nat_le b 90) || ((nat_le 97 b && nat_le b 122) || ((b == 45) || ((b == 95) || (b == 46)))))
 
--- the name of a client: 1 to 64 of these
+-- whether a text is a client's name: 1 to 64 such bytes
 unfoldable pub is_client_name : List ℕ → Bool
 is_client_name t = nat_le 1 (length t) && (nat_le (length t) 64 && list_all is_client_byte t)
 
--- whom a word of `clients` names: everyone by `*`, else the client of that name
+-- the client that an entry of `clients` names: everyone for `*`, else the client with that name
 abbrev pub client_named : List ℕ → Option ClientName
 client_named t = if is_same_text t (codes "*") then Some Everyone else (if is_client_name t then Some (Named t) else None)
 
--- what a path covers that names this
+-- the path for the attribute or sub-attribute named, if there is one
 abbrev pub covered_by : Meant → Option PolicyPath
 covered_by meant.Nothing = None
 covered_by (meant.Attribute a) = Some (Attribute a)
 covered_by (meant.SubAttribute a b) = Some (SubAttribute a b)
 
--- what a path covers on resources of a kind (RFC 7644 section 3.10)
+-- the path that a text names on resources of a kind (RFC 7644 section 3.10)
 abbrev pub path_on : List ℕ → Kind → Option PolicyPath
 path_on t kind = option_and_then (λ (path : Path). covered_by path.meant) (path_in kind t)
 
--- what a word of `paths` covers on resources of a kind: everything by `*`, else the attribute or sub-attribute of the kind that it names
+-- the path that an entry of `paths` names on resources of a kind: everything for `*`, else an attribute or
+-- sub-attribute of the kind
 abbrev pub path_named : List ℕ → Kind → Option PolicyPath
 path_named t kind = if is_same_text t (codes "*") then Some Everything else path_on t kind
 
--- whether one of these kinds has what a word names
+-- whether one of the kinds has what an entry names
 abbrev pub is_path : List Kind → List ℕ → Bool
 is_path kinds t = list_any (λ k. is_some (path_named t k)) kinds
 
--- what words cover on resources of a kind: of a word that names nothing there, nothing
+-- the paths of all entries on resources of a kind, without entries that name nothing there
 abbrev pub paths_for : List (List ℕ) → Kind → KindPaths
 paths_for texts kind = record { kind = kind; paths = filter_map (λ t. path_named t kind) texts }
 
--- what the words of `paths` cover for a rule on these kinds, on each kind by itself, if each word names something on one of them
+-- the paths for a rule on each of these kinds; None if none of the kinds has what an entry names
 abbrev pub paths_named : List Kind → List (List ℕ) → Option (List KindPaths)
 paths_named kinds texts = if list_all (is_path kinds) texts then Some (map (paths_for texts) kinds) else None

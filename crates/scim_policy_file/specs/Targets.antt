@@ -14,59 +14,62 @@ use Rattle.scim_policy_file.specs.declared.faults.Cause.TheVariants as cause
 use Rattle.scim_policy.specs.Rules.{Target}
 use Rattle.scim_policy_file.specs.Lists.{each}
 
--- what follows from what stands, or the first cause against it
+-- the second step on the result of the first, or the first step's fault
 infixl 10 ◌>>=◌
 abbrev pub ◌>>=◌ : {A B : Type 0} → Result A Cause → (A → Result B Cause) → Result B Cause
 (Ok x) >>= f = f x
 (Err e) >>= f = Err e
 
+-- the value, or the fault Name if there is none
 abbrev pub or_name : {A : Type 0} → Option A → Result A Cause
 or_name o = ok_or o cause.Name
 
--- the filter that a text is on resources of a kind
+-- the filter that a text spells on resources of a kind, as a target
 abbrev pub target_on : List ℕ → Kind → Option Target
 target_on text kind = option_map (λ tree. record { kind = kind; tree = tree }) (filter_in kind text)
 
+-- whether there is a name, and it is known
 abbrev pub is_known_name : Option Named → Bool
 is_known_name None = false
 is_known_name (Some n) = is_known n
 
--- whether the name at a place, from 0, names an attribute
+-- whether the name at a place, from 0, refers to an attribute
 abbrev pub is_known_at : ℕ → List Named → Bool
 is_known_at i ns = is_known_name (slice_get ns i)
 
--- whether each name, the first of them at the i-th place, names an attribute in one of the lists
+-- whether each name, the first of them at place i, refers to an attribute in one of the lists
 abbrev pub are_known_from : ℕ → List (List Named) → List Named → Bool
 are_known_from i lists [] = true
 are_known_from i lists (n ∷ ns) = list_any (is_known_at i) lists && are_known_from (i + 1) lists ns
 
--- of lists of the same names, each read for another kind: whether each name names an attribute of one of the kinds
+-- whether each name refers to an attribute of one of the kinds; the lists have the same names, each read
+-- for another kind
 abbrev pub are_known : List (List Named) → Bool
 are_known [] = true
 are_known (ns ∷ more) = are_known_from 0 (ns ∷ more) ns
 
--- `groups`, `password` and `meta`
+-- whether the attribute is `groups`, `password` or `meta`
 abbrev pub is_withheld : Option Attribute → Bool
 is_withheld None = false
 is_withheld (Some a) = sameb the_attribute a Groups || (sameb the_attribute a Password || sameb the_attribute a Meta)
 
--- whether one of the names names such an attribute
+-- whether one of the names refers to `groups`, `password` or `meta`
 abbrev pub name_withheld : List Named → Bool
 name_withheld ns = list_any (λ (n : Named). is_withheld n.attribute) ns
 
--- the targets of these names, or the first cause against them
+-- the targets, if their names are known and allowed, or the cause of the first fault
 abbrev pub allowed : List (List Named) → List Target → Result (List Target) Cause
 allowed lists ts = if are_known lists then (if list_any name_withheld lists then Err cause.TargetNames else Ok ts) else Err cause.Name
 
--- what the targets on each kind name
+-- the names in the targets, one list for each kind
 abbrev pub names_of : List Target → List (List Named)
 names_of ts = map (λ (t : Target). mentioned_names t.tree) ts
 
--- what a target is for these kinds, or the first cause against it
+-- the targets that a text gives on these kinds, or the cause of its first fault
 unfoldable pub targets_in : List Kind → List ℕ → Result (List Target) Cause
 targets_in kinds text = ok_or (each (target_on text) kinds) cause.Target >>= λ ts. allowed (names_of ts) ts
 
--- no target is none for any kind
+-- the targets of an optional text; no targets if there is no text
 abbrev pub targets_for : List Kind → Option (List ℕ) → Result (List Target) Cause
 targets_for kinds None = Ok []
 targets_for kinds (Some text) = targets_in kinds text

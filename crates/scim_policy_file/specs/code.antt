@@ -1,1 +1,2 @@
+-- Definitions for the code that reads policy files.
 pub mod Written

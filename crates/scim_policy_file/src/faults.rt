@@ -1,14 +1,14 @@
-//! Why a policy file is refused.
+//! Faults of policy files.
 use thiserror::Error;
 
-/// Why a policy file is refused, or a rule of it.
+/// The cause of a fault in a policy file or in one of its rules.
 #[derive(Clone, Copy, Debug, PartialEq, Eq, Error)]
 pub enum Cause {
-    /// The file is no JSON.
+    /// The file isn't JSON.
     #[error("json")]
     Json,
-    /// A value of another type than is due (as a version that is no integer), an empty list, a key that is
-    /// missing or isn't known.
+    /// A value has the wrong type (as a version that isn't an integer), a list is empty, or a key is
+    /// missing or unknown.
     #[error("shape")]
     Shape,
     /// The version is an integer other than 1, of any size.
@@ -17,19 +17,19 @@ pub enum Cause {
     /// There are more than 1,000 rules.
     #[error("too many rules")]
     TooManyRules,
-    /// A client, an operation, a type or a path that isn't one, or a target with a name that none of the
+    /// A client, an operation, a type or a path is invalid, or a target has a name that none of the rule's
     /// types has.
     #[error("name")]
     Name,
-    /// A target that is no filter on one of the types.
+    /// A target isn't a filter on each of the rule's types.
     #[error("target")]
     Target,
-    /// A target that names `groups`, `password` or `meta`.
+    /// A target names `groups`, `password` or `meta`.
     #[error("target names groups, password or meta")]
     TargetNames,
 }
 
-/// Why a policy file is refused: `rule` is the number of the faulty rule, from 1, or 0 where the fault is the
+/// Why a policy file is refused. `rule` is the number of the faulty rule, from 1, or 0 if the fault is the
 /// file's.
 #[derive(Clone, Copy, Debug, PartialEq, Eq, Error)]
 #[error("rule {rule}: {cause}")]

@@ -1,4 +1,6 @@
-//! Policy files: what they say, or where and why they are faulty.
+//! Reads policy files, or reports the first fault and the rule that has it.
+//!
+//! Cases: `crates/cases/data/policy.jsonl` and `targets.jsonl`.
 #![tactic(auto)]
 
 mod faults;

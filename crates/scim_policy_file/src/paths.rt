@@ -1,4 +1,4 @@
-//! The words of a policy file: names of clients, and paths.
+//! Reads the clients and paths in a policy file.
 ghost use Rattle.std.specs.Prelude.{◌≡◌, IfOk, map, option_map};
 ghost use Rattle.std.specs.List.{list_all};
 ghost use Rattle.scim_policy_file.specs.Paths as spec;
@@ -11,7 +11,7 @@ use scim_schema::Kind;
 use scim_text::{NoMemory, push};
 use std::alloc::Global;
 
-/// Whether the text may be the name of a client: 1 to 64 ASCII letters, digits, `-`, `_` and `.`.
+/// Whether the text may be a client's name: 1 to 64 ASCII letters, digits, `-`, `_` and `.`.
 #[tactic(auto, unfolding(crate::specs::Paths::is_client_name))]
 pub fn is_client_name(text: &str) -> bool
     ensures { result ≡ spec.is_client_name text.now }
@@ -19,19 +19,21 @@ pub fn is_client_name(text: &str) -> bool
     1 <= text.len() && text.len() <= 64 && has_only_client_bytes(text)
 }
 
+/// Whether all bytes may be part of a client's name.
 fn has_only_client_bytes(text: &str) -> bool
     ensures { result ≡ list_all spec.is_client_byte text.now }
 {
     text.as_bytes().iter().all(|byte| is_client_byte(*byte))
 }
 
+/// Whether the byte may be part of a client's name.
 fn is_client_byte(byte: u8) -> bool
     ensures { result ≡ spec.is_client_byte byte }
 {
     byte.is_ascii_alphanumeric() || byte == b'-' || byte == b'_' || byte == b'.'
 }
 
-/// Whom a word of `clients` names.
+/// Reads an entry of `clients`: `*` or a client's name. `None` if it is neither.
 pub(crate) fn client_named(alloc: Global, text: &str) -> Result<Option<ClientName>, NoMemory>
     ensures { IfOk result (λ o. o ≡ spec.client_named text.now) }
 {
@@ -44,7 +46,7 @@ pub(crate) fn client_named(alloc: Global, text: &str) -> Result<Option<ClientNam
     }
 }
 
-/// What a path covers that names this.
+/// The path for an attribute or sub-attribute. `None` if nothing is named.
 fn covered_by(meant: Meant) -> Option<PolicyPath>
     ensures { result ≡ spec.covered_by meant }
 {
@@ -57,14 +59,14 @@ fn covered_by(meant: Meant) -> Option<PolicyPath>
     }
 }
 
-/// What a path covers on resources of a kind.
+/// Reads an attribute path on resources of a kind. `None` if the kind doesn't have what it names.
 fn path_on(text: &str, kind: Kind) -> Option<PolicyPath>
     ensures { result ≡ spec.path_on text.now kind }
 {
     covered_by(attribute_path(kind, text)?)
 }
 
-/// What a word of `paths` covers on resources of a kind.
+/// Reads an entry of `paths` on resources of a kind: `*` or an attribute path. `None` if it is neither.
 fn path_named(text: &str, kind: Kind) -> Option<PolicyPath>
     ensures { result ≡ spec.path_named text.now kind }
 {
@@ -75,14 +77,14 @@ fn path_named(text: &str, kind: Kind) -> Option<PolicyPath>
     }
 }
 
-/// Whether one of these kinds has what a word names.
+/// Whether one of the kinds has what an entry of `paths` names.
 fn is_path(kinds: &[Kind], text: &str) -> bool
     ensures { result ≡ spec.is_path kinds.now text.now }
 {
     kinds.iter().any(|kind| path_named(text, *kind).is_some())
 }
 
-/// Whether each word names something on one of these kinds.
+/// Whether for each entry one of the kinds has what it names.
 fn are_paths(kinds: &[Kind], texts: &[&str]) -> bool
     ensures { result ≡ list_all (spec.is_path kinds.now) (map text_at texts.now) }
 {
@@ -94,7 +96,7 @@ fn are_paths(kinds: &[Kind], texts: &[&str]) -> bool
     true
 }
 
-/// What words cover on resources of a kind. NoMemory where none was to be had.
+/// The paths of all entries on resources of a kind. Entries that name nothing on that kind are left out.
 fn paths_for(alloc: Global, texts: &[&str], kind: Kind) -> Result<KindPaths, NoMemory>
     ensures { IfOk result (λ p. p ≡ spec.paths_for (map text_at texts.now) kind) }
 {
@@ -107,8 +109,8 @@ fn paths_for(alloc: Global, texts: &[&str], kind: Kind) -> Result<KindPaths, NoM
     Ok(KindPaths::new(kind, paths))
 }
 
-/// What the words of `paths` cover for a rule on these kinds, if each names something on one of them.
-/// NoMemory where none was to be had.
+/// Reads the entries of `paths` for a rule on these kinds. `None` if none of the kinds has what an entry
+/// names.
 pub(crate) fn paths_named(
     alloc: Global,
     kinds: &[Kind],

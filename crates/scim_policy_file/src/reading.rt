@@ -1,4 +1,4 @@
-//! Reading a policy file.
+//! Reads policy files.
 ghost use Rattle.std.specs.Prelude.{◌≡◌, ◌≤◌, ℕ, length, map, Some, Ok, Err, IfOk, IfErr, option_map};
 ghost use Rattle.std.specs.List.{list_any};
 ghost use Rattle.json.specs.Json.{document};
@@ -20,17 +20,17 @@ use scim_schema::{Kind, MOST_RULES, Op};
 use scim_text::{Failed, NoMemory, push};
 use std::alloc::Global;
 
-/// A word that isn't one.
+/// The fault of a name that isn't valid.
 const NO_NAME: Failed<Cause> = Failed::Because(Cause::Name);
 
-/// The text of the version, and the rules of a file.
+/// The parts of a policy file: the text of its version, and its rules as JSON.
 #[derive(Clone, Copy)]
 struct FileParts<'v, 't> {
     version: &'t str,
     rules: &'v [Value<'t>],
 }
 
-/// A rule as it is written.
+/// A rule as it is written in the file.
 #[derive(Drop)]
 struct WrittenRule<'v> {
     allow: bool,
@@ -41,17 +41,18 @@ struct WrittenRule<'v> {
     paths: Vec<&'v str>,
 }
 
-/// The policy that the text is a file of: a JSON object with `version` 1 and `rules`, a list of at most
-/// 1,000 rules. A rule is an object with `allow` (a boolean), `clients` (names, or `*` for everyone),
-/// `ops` (`read`, `create`, `modify`, `delete`), `types` (`User`, `Group`) and `paths` (`*`, an
-/// attribute, or `attribute.subAttribute`, with a URN before it or not and with spaces round it; the
-/// names in any ASCII case). All these keys are there, and no list is empty. It may have a `target`, a
-/// filter on each of the types, and no other key. A target names what one of the types has, but neither
-/// `groups` nor `password` nor `meta`; in a type that lacks it a name has no value.
+/// Reads a policy file: a JSON object with `version` 1 and `rules`, a list of at most 1,000 rules.
 ///
-/// Faulty with the first fault: of the file (rule 0) the causes in the order of [`Cause`], then of the
-/// rules in turn `Shape`, `Name` of the clients, the operations and the types, `Target`, `Name` and
-/// `TargetNames` of the target, and `Name` of the paths. NoMemory where none was to be had.
+/// A rule is an object with `allow` (a boolean), `clients` (names, or `*` for everyone), `ops` (`read`,
+/// `create`, `modify`, `delete`), `types` (`User`, `Group`) and `paths` (`*`, an attribute, or
+/// `attribute.subAttribute`, with or without a URN before it and spaces around it; names match in any ASCII
+/// case). These keys are required, and no list may be empty. The optional key `target` is a filter on each
+/// of the types; other keys are faults. Each name in a target must be known to one of the types, and must
+/// not be `groups`, `password` or `meta`; on a type that lacks it, it has no value.
+///
+/// The fault returned is the first one: those of the file (rule 0) in the order of [`Cause`], then those of
+/// each rule in turn. In a rule the order is `Shape`; `Name` of the clients, the operations and the types;
+/// `Target`, `Name` and `TargetNames` of the target; and `Name` of the paths.
 #[tactic(auto, unfolding(crate::specs::File::policy_of))]
 pub fn read_policy(alloc: Global, text: &str) -> Result<Policy, Failed<PolicyFault>>
     ensures { UnlessMemory (λ r. spec.policy_of text.now ≡ r) result }
@@ -64,7 +65,9 @@ pub fn read_policy(alloc: Global, text: &str) -> Result<Policy, Failed<PolicyFau
     }
 }
 
-/// The JSON value of a text.
+/// Parses the file as JSON.
+///
+/// Errors: `Json` of rule 0 if it isn't JSON.
 #[tactic(auto, unfolding(crate::specs::File::policy_of))]
 fn parse<'t>(
     alloc: Global,
@@ -84,7 +87,9 @@ fn parse<'t>(
     }
 }
 
-/// The rules of a file as they stand there, or why the file is faulty.
+/// The rules of a file as JSON, at most 1,000.
+///
+/// Errors: the cause of the first fault of the file itself.
 fn file_rules<'v, 't>(value: &'v Value<'t>) -> Result<&'v [Value<'t>], Cause>
     ensures rules { IfOk result (λ vs. spec.policy_in (value_view value.now) ≡ spec.rules_from 1 (map value_view vs.now)) }
     ensures few { IfOk result (λ vs. length vs.now ≤ MOST_RULES) }
@@ -103,8 +108,8 @@ fn file_rules<'v, 't>(value: &'v Value<'t>) -> Result<&'v [Value<'t>], Cause>
     Ok(parts.rules)
 }
 
-/// The version and the rules of a file, where it has its keys and no other, with an integer and a list
-/// that isn't empty.
+/// The version and the rules of a file. `None` if a key is missing or unknown, the version isn't an
+/// integer, or the rules aren't a non-empty list.
 #[tactic(auto, unfolding(crate::specs::File::file_parts))]
 fn file_parts<'v, 't>(value: &'v Value<'t>) -> Option<FileParts<'v, 't>>
     ensures { option_map parts_view result ≡ spec.file_parts (value_view value.now) }
@@ -117,7 +122,7 @@ fn file_parts<'v, 't>(value: &'v Value<'t>) -> Option<FileParts<'v, 't>>
     Some(FileParts { version, rules })
 }
 
-/// The members of an object.
+/// The members of an object. `None` if the value isn't one.
 fn members_in<'v, 't>(value: &'v Value<'t>) -> Option<&'v [(&'t str, Value<'t>)]>
     ensures { option_map (λ ms. members_view ms.now) result ≡ as_object (value_view value.now) }
 {
@@ -127,7 +132,7 @@ fn members_in<'v, 't>(value: &'v Value<'t>) -> Option<&'v [(&'t str, Value<'t>)]
     }
 }
 
-/// Whether each key is one that a file has.
+/// Whether all keys are keys of a policy file.
 fn has_only_file_keys(members: &[(&str, Value<'_>)]) -> bool
     ensures { result ≡ spec.has_only spec.file_keys (members_view members.now) }
 {
@@ -139,13 +144,14 @@ fn has_only_file_keys(members: &[(&str, Value<'_>)]) -> bool
     true
 }
 
+/// Whether the key is one of a policy file.
 fn is_file_key(key: &str) -> bool
     ensures { result ≡ list_any (is_same_text key.now) spec.file_keys }
 {
     key == "version" || key == "rules"
 }
 
-/// The text of a number, where it is an integer.
+/// The text of an integer. `None` if the value isn't one.
 fn integer_in<'t>(value: &Value<'t>) -> Option<&'t str>
     ensures { option_map text_at result ≡ spec.integer_in (value_view value.now) }
 {
@@ -157,28 +163,28 @@ fn integer_in<'t>(value: &Value<'t>) -> Option<&'t str>
     }
 }
 
-/// Whether a number of this text has neither a fraction nor an exponent.
+/// Whether a number's text has neither a fraction nor an exponent.
 fn is_integer(number: &str) -> bool
     ensures { result ≡ spec.is_integer number.now }
 {
     !has_part(number)
 }
 
-/// Whether a number of this text has a fraction or an exponent.
+/// Whether a number's text has a fraction or an exponent.
 fn has_part(number: &str) -> bool
     ensures { result ≡ list_any spec.begins_part number.now }
 {
     number.as_bytes().iter().any(|byte| begins_part(*byte))
 }
 
-/// Whether a fraction or an exponent begins with the byte.
+/// Whether the byte begins a fraction or an exponent.
 fn begins_part(byte: u8) -> bool
     ensures { result ≡ spec.begins_part byte }
 {
     byte == b'.' || byte == b'e' || byte == b'E'
 }
 
-/// The values of an array.
+/// The items of an array. `None` if the value isn't one.
 fn array_in<'v, 't>(value: &'v Value<'t>) -> Option<&'v [Value<'t>]>
     ensures { option_map (λ vs. items_view vs.now) result ≡ as_array (value_view value.now) }
 {
@@ -188,7 +194,7 @@ fn array_in<'v, 't>(value: &'v Value<'t>) -> Option<&'v [Value<'t>]>
     }
 }
 
-/// The values of an array that isn't empty.
+/// The items of a non-empty array. `None` if the value isn't one.
 fn items_in<'v, 't>(value: &'v Value<'t>) -> Option<&'v [Value<'t>]>
     ensures { option_map (λ vs. map value_view vs.now) result ≡ spec.items_in (value_view value.now) }
 {
@@ -199,7 +205,9 @@ fn items_in<'v, 't>(value: &'v Value<'t>) -> Option<&'v [Value<'t>]>
     Some(items)
 }
 
-/// The rules that these values say.
+/// Reads all rules, numbered from 1.
+///
+/// Errors: the fault of the first faulty rule.
 fn read_rules(alloc: Global, values: &[Value<'_>]) -> Result<Vec<Rule>, Failed<PolicyFault>>
     requires { length values.now ≤ MOST_RULES }
     ensures rules { IfOk result (λ v. spec.rules_from 1 (map value_view values.now) ≡ Ok v.items) }
@@ -215,7 +223,9 @@ fn read_rules(alloc: Global, values: &[Value<'_>]) -> Result<Vec<Rule>, Failed<P
     Ok(rules)
 }
 
-/// What the rule of that number says.
+/// Reads the rule with this number.
+///
+/// Errors: the first fault of the rule.
 fn read_rule(alloc: Global, value: &Value<'_>, number: u32) -> Result<Rule, Failed<PolicyFault>>
     ensures rule { IfOk result (λ r. spec.rule_of number (value_view value.now) ≡ Ok r) }
     ensures faulty { IfFault result (λ fault. spec.rule_of number (value_view value.now) ≡ Err fault) }
@@ -236,7 +246,7 @@ fn read_rule(alloc: Global, value: &Value<'_>, number: u32) -> Result<Rule, Fail
     }
 }
 
-/// The rule as it is written, where it has its keys and no other, with values of their types.
+/// The texts of a rule. `None` if a key is missing or unknown, or a value has the wrong type.
 #[tactic(auto, unfolding(crate::specs::File::rule_texts))]
 fn written_rule<'t>(alloc: Global, value: &Value<'t>) -> Result<Option<WrittenRule<'t>>, NoMemory>
     ensures { IfOk result (λ o. option_map rule_view o ≡ spec.rule_texts (value_view value.now)) }
@@ -247,7 +257,7 @@ fn written_rule<'t>(alloc: Global, value: &Value<'t>) -> Result<Option<WrittenRu
     }
 }
 
-/// Whether each key is one that a rule has.
+/// Whether all keys are keys of a rule.
 fn has_only_rule_keys(members: &[(&str, Value<'_>)]) -> bool
     ensures { result ≡ spec.has_only spec.rule_keys (members_view members.now) }
 {
@@ -259,6 +269,7 @@ fn has_only_rule_keys(members: &[(&str, Value<'_>)]) -> bool
     true
 }
 
+/// Whether the key is one of a rule.
 fn is_rule_key(key: &str) -> bool
     ensures { result ≡ list_any (is_same_text key.now) spec.rule_keys }
 {
@@ -270,7 +281,8 @@ fn is_rule_key(key: &str) -> bool
         || key == "paths"
 }
 
-/// The rule as it is written, where its keys are there with values of their types.
+/// The texts of a rule, whatever other keys it has. `None` if a key is missing or a value has the wrong
+/// type.
 fn rule_fields<'t>(alloc: Global, value: &Value<'t>) -> Result<Option<WrittenRule<'t>>, NoMemory>
     ensures { IfOk result (λ o. option_map rule_view o ≡ spec.rule_fields (value_view value.now)) }
 {
@@ -302,13 +314,14 @@ fn rule_fields<'t>(alloc: Global, value: &Value<'t>) -> Result<Option<WrittenRul
     }))
 }
 
+/// The value of `allow`. `None` if it is missing or not a boolean.
 fn allow_in(value: &Value<'_>) -> Option<bool>
     ensures { result ≡ spec.allow_in (value_view value.now) }
 {
     value.get("allow")?.as_bool()
 }
 
-/// The text of the target, or that there is none.
+/// The text of the target, or `Some(None)` if there is no target. `None` if it isn't a text.
 fn target_in<'t>(value: &Value<'t>) -> Option<Option<&'t str>>
     ensures { option_map (λ o. option_map text_at o) result ≡ spec.target_in (value_view value.now) }
 {
@@ -318,7 +331,7 @@ fn target_in<'t>(value: &Value<'t>) -> Option<Option<&'t str>>
     }
 }
 
-/// The texts of the array with this key.
+/// The texts of the non-empty array at this key. `None` if there is no such array.
 fn texts_at<'t>(
     alloc: Global,
     value: &Value<'t>,
@@ -332,7 +345,7 @@ fn texts_at<'t>(
     }
 }
 
-/// The texts of an array of texts that isn't empty.
+/// The texts of a non-empty array of texts. `None` if the value isn't one.
 fn texts_in<'t>(alloc: Global, value: &Value<'t>) -> Result<Option<Vec<&'t str>>, NoMemory>
     ensures { IfOk result (λ o. option_map texts_view o ≡ spec.texts_in (value_view value.now)) }
 {
@@ -342,7 +355,7 @@ fn texts_in<'t>(alloc: Global, value: &Value<'t>) -> Result<Option<Vec<&'t str>>
     }
 }
 
-/// The texts of these values, where all are texts.
+/// The texts of these values. `None` if one isn't a text.
 fn texts_of<'t>(alloc: Global, items: &[Value<'t>]) -> Result<Option<Vec<&'t str>>, NoMemory>
     ensures { IfOk result (λ o. option_map texts_view o ≡ each as_str (map value_view items.now)) }
 {
@@ -356,7 +369,9 @@ fn texts_of<'t>(alloc: Global, items: &[Value<'t>]) -> Result<Option<Vec<&'t str
     Ok(Some(texts))
 }
 
-/// The rule that is written so: its words, then its target, then its paths.
+/// Reads a rule from its texts: its clients, operations and types, then its target, then its paths.
+///
+/// Errors: the cause of the first fault in that order.
 #[tactic(auto, unfolding(crate::specs::File::rule_named))]
 fn rule_named(alloc: Global, written: &WrittenRule<'_>) -> Result<Rule, Failed<Cause>>
     ensures { Gives (λ r. r) result (spec.rule_named (rule_view written.now)) }
@@ -377,7 +392,7 @@ fn rule_named(alloc: Global, written: &WrittenRule<'_>) -> Result<Rule, Failed<C
     Ok(Rule::new(written.allow, clients, ops, kinds, targets, paths))
 }
 
-/// Whom the texts name, where each names someone.
+/// Reads the clients. `None` if one is invalid.
 fn clients_named(alloc: Global, texts: &[&str]) -> Result<Option<Vec<ClientName>>, NoMemory>
     ensures { IfOk result (λ o. option_map (λ v. v.items) o ≡ each client_named (map text_at texts.now)) }
 {
@@ -391,7 +406,7 @@ fn clients_named(alloc: Global, texts: &[&str]) -> Result<Option<Vec<ClientName>
     Ok(Some(clients))
 }
 
-/// The operations that the texts name, where each names one.
+/// Reads the operations. `None` if one is unknown.
 fn ops_named(alloc: Global, texts: &[&str]) -> Result<Option<Vec<Op>>, NoMemory>
     ensures { IfOk result (λ o. option_map (λ v. v.items) o ≡ each operation_named (map text_at texts.now)) }
 {
@@ -405,7 +420,7 @@ fn ops_named(alloc: Global, texts: &[&str]) -> Result<Option<Vec<Op>>, NoMemory>
     Ok(Some(ops))
 }
 
-/// The kinds that the texts name, where each names one.
+/// Reads the kinds. `None` if one is unknown.
 fn kinds_named(alloc: Global, texts: &[&str]) -> Result<Option<Vec<Kind>>, NoMemory>
     ensures { IfOk result (λ o. option_map (λ v. v.items) o ≡ each kind_named (map text_at texts.now)) }
 {

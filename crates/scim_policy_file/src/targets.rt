@@ -1,4 +1,4 @@
-//! Reading the target of a rule.
+//! Reads the target of a rule.
 ghost use Rattle.std.specs.Prelude.{◌≡◌, IfOk, map, option_map};
 ghost use Rattle.std.specs.List.{list_any};
 ghost use Rattle.scim_policy_file.specs.Lists.{each};
@@ -12,7 +12,9 @@ use scim_schema::{Attribute, Kind};
 use scim_text::{Failed, NoMemory, push};
 use std::alloc::Global;
 
-/// What a target is for a rule on these kinds; nothing where there is no target.
+/// Reads an optional target for a rule on these kinds. Empty if there is no target.
+///
+/// Errors: as `targets_in`.
 pub(crate) fn targets_for(
     alloc: Global,
     kinds: &[Kind],
@@ -26,7 +28,10 @@ pub(crate) fn targets_for(
     }
 }
 
-/// The filters that a text is on these kinds, where it may be a target.
+/// Reads a target for a rule on these kinds, as a filter on each of them.
+///
+/// Target if the text isn't a filter on each kind. Name if none of the kinds has what a name refers to.
+/// TargetNames if it names `groups`, `password` or `meta`.
 #[tactic(auto, unfolding(crate::specs::Targets::targets_in))]
 fn targets_in(alloc: Global, kinds: &[Kind], text: &str) -> Result<Vec<Target>, Failed<Cause>>
     ensures { Gives (λ v. v.items) result (spec.targets_in kinds.now text.now) }
@@ -44,7 +49,7 @@ fn targets_in(alloc: Global, kinds: &[Kind], text: &str) -> Result<Vec<Target>, 
     Ok(targets)
 }
 
-/// The filters that a text is on each of these kinds, if it is one on each.
+/// Reads the text as a filter on each of the kinds. `None` if it isn't a filter on one of them.
 fn targets_on(alloc: Global, kinds: &[Kind], text: &str) -> Result<Option<Vec<Target>>, NoMemory>
     ensures { IfOk result (λ o. option_map (λ v. v.items) o ≡ each (spec.target_on text.now) kinds.now) }
 {
@@ -58,7 +63,7 @@ fn targets_on(alloc: Global, kinds: &[Kind], text: &str) -> Result<Option<Vec<Ta
     Ok(Some(targets))
 }
 
-/// The filter that a text is on resources of a kind, if it is one.
+/// Reads the text as a filter on resources of a kind. `None` if it isn't one.
 fn target_on(alloc: Global, kind: Kind, text: &str) -> Result<Option<Target>, NoMemory>
     ensures { IfOk result (λ o. o ≡ spec.target_on text.now kind) }
 {
@@ -69,7 +74,7 @@ fn target_on(alloc: Global, kind: Kind, text: &str) -> Result<Option<Target>, No
     }
 }
 
-/// What the targets on each kind name.
+/// The names in the targets, one list for each kind.
 fn names_of(alloc: Global, targets: &[Target]) -> Result<Vec<Vec<Named>>, NoMemory>
     ensures { IfOk result (λ v. map (λ ns. ns.items) v.items ≡ spec.names_of targets.now) }
 {
@@ -80,8 +85,8 @@ fn names_of(alloc: Global, targets: &[Target]) -> Result<Vec<Vec<Named>>, NoMemo
     Ok(lists)
 }
 
-/// Of lists of the same names, each read for another kind: whether each name names an attribute of one
-/// of the kinds.
+/// Whether each name is known to one of the kinds. The lists have the same names in the same order, each
+/// read for another kind.
 fn are_known(lists: &[Vec<Named>]) -> bool
     ensures { result ≡ spec.are_known (map (λ ns. ns.items) lists.now) }
 {
@@ -91,7 +96,7 @@ fn are_known(lists: &[Vec<Named>]) -> bool
     }
 }
 
-/// Whether each of these names names an attribute in one of the lists.
+/// Whether each of `names` is known in one of the lists, at the same place.
 fn are_all_known(lists: &[Vec<Named>], names: &[Named]) -> bool
     ensures { result ≡ spec.are_known_from 0 (map (λ ns. ns.items) lists.now) names.now }
 {
@@ -105,7 +110,7 @@ fn are_all_known(lists: &[Vec<Named>], names: &[Named]) -> bool
     true
 }
 
-/// Whether the name at a place names an attribute in one of the lists.
+/// Whether the name at `place` is known in one of the lists.
 fn is_known(lists: &[Vec<Named>], place: usize) -> bool
     ensures { result ≡ list_any (spec.is_known_at place) (map (λ ns. ns.items) lists.now) }
 {
@@ -117,7 +122,7 @@ fn is_known(lists: &[Vec<Named>], place: usize) -> bool
     false
 }
 
-/// Whether the name at a place names an attribute.
+/// Whether the name at `place` refers to an attribute of the list's kind.
 fn is_known_at(names: &[Named], place: usize) -> bool
     ensures { result ≡ spec.is_known_at place names.now }
 {
@@ -127,7 +132,7 @@ fn is_known_at(names: &[Named], place: usize) -> bool
     }
 }
 
-/// Whether one of the names in one of the lists names `groups`, `password` or `meta`.
+/// Whether any name refers to `groups`, `password` or `meta`.
 fn is_one_withheld(lists: &[Vec<Named>]) -> bool
     ensures { result ≡ list_any spec.name_withheld (map (λ ns. ns.items) lists.now) }
 {
@@ -139,13 +144,14 @@ fn is_one_withheld(lists: &[Vec<Named>]) -> bool
     false
 }
 
+/// Whether one of the names refers to `groups`, `password` or `meta`.
 fn has_withheld(names: &[Named]) -> bool
     ensures { result ≡ spec.name_withheld names.now }
 {
     names.iter().any(|name| is_withheld(name.attribute))
 }
 
-/// `groups`, `password` and `meta`.
+/// Whether the attribute is `groups`, `password` or `meta`.
 fn is_withheld(attribute: Option<Attribute>) -> bool
     ensures { result ≡ spec.is_withheld attribute }
 {

@@ -1,4 +1,4 @@
--- The rules of a policy, each in a sentence.
+-- The rules of a policy as sentences.
 use Rattle.std.specs.Prelude.{ℕ, List, [], ◌++◌, map, codes, Option, None, Some}
 use Rattle.std.specs.List.{flat_map, enumerate_from}
 use Rattle.scim_schema.specs.declared.Kind.{Kind}
@@ -15,35 +15,36 @@ use Rattle.scim_policy_sentences.specs.Lists.{joined, listed}
 use Rattle.scim_policy_sentences.specs.Targets.{target_on, tree_text}
 use Rattle.scim_explain.specs.Texts.{effect_word, rule_line}
 
--- the words for whom a rule is for
+-- the word for a client, or for all clients
 abbrev pub client_word : ClientName → List ℕ
 client_word Everyone = codes "any client"
 client_word (Named name) = name
 
--- the word for what a path covers
+-- the word for a path
 abbrev pub path_word : PolicyPath → List ℕ
 path_word Everything = codes "everything"
 path_word (Attribute a) = leaf_path (simple a)
 path_word (SubAttribute a b) = leaf_path (leaf_at a b)
 
--- what is said of a target, if there is one
+-- the words for a target, if there is one
 abbrev pub target_clause : Option Target → List ℕ
 target_clause None = []
 target_clause (Some t) = codes " where " ++ tree_text t.tree
 
--- what is said of a rule's target on resources of a kind
+-- the words for a rule's target on resources of a kind
 abbrev pub target_words : Rule → Kind → List ℕ
 target_words r k = target_clause (target_on k r.targets)
 
--- what a rule covers of resources of a kind
+-- the clause of a rule for a kind: the kind, the target if there is one, and the paths
 abbrev pub kind_clause : Rule → Kind → List ℕ
 kind_clause r k = kind_name k ++ target_words r k ++ codes ": " ++ listed (map path_word (paths_on k r.paths))
 
--- what it covers of each of its kinds
+-- the clauses of a rule for each of its kinds
 abbrev pub kind_clauses : Rule → List ℕ
 kind_clauses r = joined (codes "; ") (codes "; ") (map (kind_clause r) r.kinds)
 
--- what a rule says: whether it allows or denies whom to do what, and with what of which resources
+-- the sentence of a rule: whether it allows or denies, the clients, the operations, and the clauses for its
+-- kinds
 abbrev pub sentence : Rule → List ℕ
 sentence r =
     effect_word r.allow ++ codes " " ++ listed (map client_word r.clients) ++ codes " to " ++ listed (map op_name r.ops) ++ codes " " ++ kind_clauses r
@@ -52,10 +53,10 @@ sentence r =
 abbrev pub sentence_line : ℕ → Rule → List ℕ
 sentence_line number r = rule_line number (sentence r)
 
--- a line for each rule, of those from a number on
+-- the lines of rules, the first of them with this number
 abbrev pub sentence_lines : ℕ → List Rule → List ℕ
 sentence_lines first rules = flat_map (λ (numbered : ℕ × Rule). sentence_line numbered.0 numbered.1) (enumerate_from first rules)
 
--- a line for each rule of a policy
+-- the lines of all rules of a policy
 abbrev pub rule_sentences : List Rule → List ℕ
 rule_sentences policy = sentence_lines 1 policy

@@ -1,4 +1,6 @@
-//! The rules of a policy, each in a sentence.
+//! Prints each rule of a policy as a sentence.
+//!
+//! Cases: `crates/cases/data/explain.jsonl`.
 #![tactic(auto)]
 
 mod lists;

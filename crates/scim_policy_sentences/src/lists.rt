@@ -5,16 +5,15 @@ ghost use Rattle.scim_policy_sentences.specs.Lists as spec;
 use scim_text::NoMemory;
 use std::alloc::Global;
 
-/// The words with commas between them, and `and` before the last; `nothing` where there is none. NoMemory
-/// where none was to be had.
+/// Joins words as a sentence does: `a`, `a and b`, `a, b and c`, or `nothing` if there are none.
 pub(crate) fn listed(alloc: Global, words: &[String]) -> Result<String, NoMemory>
     ensures { IfOk result (λ text. string_bytes text ≡ spec.listed (map string_bytes words.now)) }
 {
     joined(alloc, words, ", ", " and ")
 }
 
-/// The words with a mark between two, and another before the last; `nothing` where there is none. NoMemory
-/// where none was to be had.
+/// Joins words with `mark` between them and `last` before the last one. Returns `nothing` if there are
+/// none.
 pub(crate) fn joined(
     alloc: Global,
     words: &[String],
@@ -31,7 +30,7 @@ pub(crate) fn joined(
     Ok(text)
 }
 
-/// Puts the words behind a first one. NoMemory where none was to be had; the text then has a part of them.
+/// Appends words after a first one. On an error `text` has some of them.
 fn push_further(text: &mut String, words: &[String], mark: &str, last: &str) -> Result<(), NoMemory>
     ensures { OnOk result (string_bytes text.new
         ≡ string_bytes text.old ++ spec.further mark.now last.now (map string_bytes words.now)) }
@@ -43,7 +42,7 @@ fn push_further(text: &mut String, words: &[String], mark: &str, last: &str) -> 
     Ok(())
 }
 
-/// What stands before the word at a place.
+/// The mark before the word at `index`.
 fn mark_before<'m>(index: usize, count: usize, mark: &'m str, last: &'m str) -> &'m str
     requires { index < count }
     ensures { result.now ≡ (if index + 1 == count then last.entry.now else mark.entry.now) }

@@ -1,4 +1,4 @@
-//! The rules of a policy, each in a sentence.
+//! Prints each rule of a policy as a sentence.
 ghost use Rattle.std.specs.Prelude.{◌≡◌, IfOk, map, string_bytes};
 ghost use Rattle.scim_schema.specs.Names.{op_name};
 ghost use Rattle.scim_policy_sentences.specs.Lists.{listed as listed_words};
@@ -15,11 +15,11 @@ use scim_schema::{Kind, Leaf, Op};
 use scim_text::{NoMemory, push};
 use std::alloc::Global;
 
-/// The rules of the policy in lines, each with a line feed at its end: `rule N: `, and whether it allows or
-/// denies whom to do what, and with what of which resources, as `rule 3: allow mail to read User: id and
-/// emails`, and `rule 2: deny mail to read User where userType eq "Contractor": everything`.
+/// Prints the rules of the policy, each on a line.
 ///
-/// The only error is [`NoMemory`].
+/// A line is `rule N: `, then whether the rule allows or denies, the clients, the operations, and for each
+/// type the target and the paths, as `rule 3: allow mail to read User: id and emails` and `rule 2: deny
+/// mail to read User where userType eq "Contractor": everything`.
 pub fn rule_sentences(alloc: Global, policy: &Policy) -> Result<String, NoMemory>
     ensures { IfOk result (λ text. string_bytes text ≡ spec.rule_sentences policy.now) }
 {
@@ -32,7 +32,7 @@ pub fn rule_sentences(alloc: Global, policy: &Policy) -> Result<String, NoMemory
     Ok(text)
 }
 
-/// The line of a rule.
+/// The line of a rule, with its line feed.
 fn sentence_line(alloc: Global, number: usize, rule: &Rule) -> Result<String, NoMemory>
     ensures { IfOk result (λ line. string_bytes line ≡ spec.sentence_line number rule.now) }
 {
@@ -40,7 +40,7 @@ fn sentence_line(alloc: Global, number: usize, rule: &Rule) -> Result<String, No
     rule_line(alloc, number, sentence.as_str())
 }
 
-/// What a rule says.
+/// The sentence of a rule.
 fn sentence(alloc: Global, rule: &Rule) -> Result<String, NoMemory>
     ensures { IfOk result (λ text. string_bytes text ≡ spec.sentence rule.now) }
 {
@@ -51,7 +51,7 @@ fn sentence(alloc: Global, rule: &Rule) -> Result<String, NoMemory>
     Ok(format!(in alloc; "{effect} {clients} to {ops} {kinds}")?)
 }
 
-/// The clients that a rule is for.
+/// The clients of a rule, as a list of words.
 fn clients_text(alloc: Global, clients: &[ClientName]) -> Result<String, NoMemory>
     ensures { IfOk result (λ text. string_bytes text ≡ listed_words (map spec.client_word clients.now)) }
 {
@@ -62,7 +62,7 @@ fn clients_text(alloc: Global, clients: &[ClientName]) -> Result<String, NoMemor
     listed(alloc, words.as_slice())
 }
 
-/// The words for whom a rule is for.
+/// The word for a client, or for all clients.
 fn client_word(client: &ClientName) -> &str
     ensures { result.now ≡ spec.client_word client.now }
 {
@@ -72,7 +72,7 @@ fn client_word(client: &ClientName) -> &str
     }
 }
 
-/// The operations that a rule is for.
+/// The operations of a rule, as a list of words.
 fn ops_text(alloc: Global, ops: &[Op]) -> Result<String, NoMemory>
     ensures { IfOk result (λ text. string_bytes text ≡ listed_words (map op_name ops.now)) }
 {
@@ -83,7 +83,7 @@ fn ops_text(alloc: Global, ops: &[Op]) -> Result<String, NoMemory>
     listed(alloc, words.as_slice())
 }
 
-/// What a rule covers of each of its kinds.
+/// The clauses of a rule for each of its kinds, with semicolons between them.
 fn kinds_text(alloc: Global, rule: &Rule) -> Result<String, NoMemory>
     ensures { IfOk result (λ text. string_bytes text ≡ spec.kind_clauses rule.now) }
 {
@@ -95,7 +95,7 @@ fn kinds_text(alloc: Global, rule: &Rule) -> Result<String, NoMemory>
     joined(alloc, clauses.as_slice(), "; ", "; ")
 }
 
-/// What a rule covers of resources of a kind.
+/// The clause of a rule for a kind: the kind, the target if there is one, and the paths.
 fn kind_clause(alloc: Global, rule: &Rule, kind: Kind) -> Result<String, NoMemory>
     ensures { IfOk result (λ text. string_bytes text ≡ spec.kind_clause rule.now kind) }
 {
@@ -104,7 +104,7 @@ fn kind_clause(alloc: Global, rule: &Rule, kind: Kind) -> Result<String, NoMemor
     Ok([kind.name(), target.as_str(), ": ", paths.as_str()].concat(alloc)?)
 }
 
-/// What is said of a rule's target on resources of a kind, where it has one.
+/// The words for a rule's target on resources of a kind. Empty if it has none.
 fn target_words(alloc: Global, rule: &Rule, kind: Kind) -> Result<String, NoMemory>
     ensures { IfOk result (λ text. string_bytes text ≡ spec.target_words rule.now kind) }
 {
@@ -117,14 +117,14 @@ fn target_words(alloc: Global, rule: &Rule, kind: Kind) -> Result<String, NoMemo
     }
 }
 
-/// The target on resources of a kind.
+/// The target on resources of a kind, if there is one.
 fn target_on(targets: &[Target], kind: Kind) -> Option<&Target>
     ensures { option_copied result ≡ target_of kind targets.now }
 {
     targets.iter().find(|target| kind == target.kind())
 }
 
-/// What paths cover.
+/// The paths of a rule, as a list of words.
 fn paths_text(alloc: Global, paths: &[PolicyPath]) -> Result<String, NoMemory>
     ensures { IfOk result (λ text. string_bytes text ≡ listed_words (map spec.path_word paths.now)) }
 {
@@ -135,7 +135,7 @@ fn paths_text(alloc: Global, paths: &[PolicyPath]) -> Result<String, NoMemory>
     listed(alloc, words.as_slice())
 }
 
-/// The word for what a path covers.
+/// The word for a path.
 fn path_word(alloc: Global, path: PolicyPath) -> Result<String, NoMemory>
     ensures { IfOk result (λ text. string_bytes text ≡ spec.path_word path) }
 {

@@ -1,4 +1,4 @@
-//! The targets of rules as texts, in the words of a policy file.
+//! Prints the targets of rules, in the syntax of policy files.
 ghost use Rattle.std.specs.Prelude.{◌≡◌, ◌++◌, codes, IfOk, OnOk, string_bytes, if◌then◌else◌, []};
 ghost use Rattle.serde_json.specs.Written.{compact_text};
 ghost use Rattle.scim_filter_grammar.specs.Tree.{tree_of, view};
@@ -9,7 +9,7 @@ use scim_text::NoMemory;
 use serde_json::{Number, Value};
 use std::alloc::Global;
 
-/// The word of an operator.
+/// The keyword of an operator.
 fn operator_word(operator: Operator) -> &'static str
     ensures { result.now ≡ spec.operator_word operator }
 {
@@ -26,7 +26,7 @@ fn operator_word(operator: Operator) -> &'static str
     }
 }
 
-/// What is compared with, as JSON. NoMemory where none was to be had.
+/// A literal as JSON text.
 fn literal_text(alloc: Global, literal: &Literal) -> Result<String, NoMemory>
     ensures { IfOk result (λ text. string_bytes text ≡ compact_text (spec.literal_data literal.now)) }
 {
@@ -39,7 +39,7 @@ fn literal_text(alloc: Global, literal: &Literal) -> Result<String, NoMemory>
     Ok(value.to_string(alloc)?)
 }
 
-/// Adds a path, as it was written. NoMemory where none was to be had.
+/// Appends a path as it was written. On an error `text` has a part of it.
 fn push_path(path: &Path, text: &mut String) -> Result<(), NoMemory>
     ensures { OnOk result (string_bytes text.new ≡ string_bytes text.old ++ spec.path_words path.now) }
 {
@@ -55,7 +55,7 @@ fn push_path(path: &Path, text: &mut String) -> Result<(), NoMemory>
     Ok(())
 }
 
-/// Adds a comparison. NoMemory where none was to be had.
+/// Appends a comparison. On an error `text` may have a part of it.
 fn push_comparison(
     alloc: Global,
     path: &Path,
@@ -75,19 +75,21 @@ fn push_comparison(
     Ok(())
 }
 
+/// Whether the node is an `or`.
 fn is_or(node: &Node) -> bool
     ensures { result ≡ spec.is_or (view node.now) }
 {
     matches!(node, Node::Or(_, _))
 }
 
+/// Whether the node is an `or` or an `and`.
 fn is_join(node: &Node) -> bool
     ensures { result ≡ spec.is_join (view node.now) }
 {
     matches!(node, Node::Or(_, _) | Node::And(_, _))
 }
 
-/// Adds a mark, where it is needed. NoMemory where none was to be had.
+/// Appends `mark` if it is needed.
 fn push_if(needs: bool, mark: &str, text: &mut String) -> Result<(), NoMemory>
     ensures { OnOk result (string_bytes text.new ≡ string_bytes text.old ++ (if needs then mark.now else [])) }
 {
@@ -97,7 +99,7 @@ fn push_if(needs: bool, mark: &str, text: &mut String) -> Result<(), NoMemory>
     Ok(())
 }
 
-/// Adds a tree, with brackets where what nests needs them. NoMemory where none was to be had.
+/// Appends a tree, with brackets where the nesting needs them. On an error `text` may have a part of it.
 fn push_tree(alloc: Global, node: &Node, text: &mut String) -> Result<(), NoMemory>
     ensures { OnOk result (string_bytes text.new ≡ string_bytes text.old ++ spec.tree_text (view node.now)) }
 {
@@ -139,7 +141,7 @@ fn push_tree(alloc: Global, node: &Node, text: &mut String) -> Result<(), NoMemo
     }
 }
 
-/// The text of a filter: one that is read as this filter. NoMemory where none was to be had.
+/// The text of a filter, with brackets where the nesting needs them.
 pub(crate) fn filter_text(alloc: Global, filter: &Filter) -> Result<String, NoMemory>
     ensures { IfOk result (λ text. string_bytes text ≡ spec.tree_text (tree_of filter.now)) }
 {

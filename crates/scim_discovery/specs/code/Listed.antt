@@ -1,4 +1,4 @@
--- Which attributes of a kind the code takes for a schema.
+-- How the code selects the attributes of a schema.
 use Rattle.std.specs.Prelude.{Bool, true, false, not, ◌&&◌}
 use Rattle.scim_schema.specs.declared.Kind.{Kind}
 use Rattle.scim_schema.specs.declared.Attribute.{Attribute}
@@ -6,13 +6,13 @@ use Rattle.scim_schema.specs.declared.Attribute.TheVariants.{Id, ExternalId, Met
 use Rattle.scim_schema.specs.declared.schemas.Schema.{Schema}
 use Rattle.scim_schema.specs.Schemas.{schema_of, is_same_schema}
 
--- whether each resource has the attribute, whatever its schemas are (RFC 7643 section 3.1)
+-- whether every resource has the attribute, whatever its schemas (RFC 7643 section 3.1)
 abbrev pub is_common : Attribute → Bool
 is_common Id = true
 is_common ExternalId = true
 is_common Meta = true
 is_common _ = false
 
--- whether an attribute of a kind stands in a schema of it, and not in each resource
+-- whether a schema lists an attribute of a kind
 abbrev pub is_listed : Kind → Schema → Attribute → Bool
 is_listed kind schema a = not (is_common a) && is_same_schema (schema_of kind a) schema

@@ -1,4 +1,4 @@
--- The cells that a filter looks at, by value.
+-- The cells that a filter is evaluated on, as specified.
 use Rattle.std.specs.Prelude.{List, []}
 use Rattle.scim_cell.specs.Rows.{Row, rows, attribute_rows}
 use Rattle.scim_filter.specs.declared.truth.Cells.{Cells}

@@ -1,9 +1,9 @@
--- How the strings in a filter are kept.
+-- How string literals are stored.
 use Rattle.std.specs.Prelude.{◌≡◌}
 use Rattle.scim_text.specs.Names.{folded}
 use Rattle.scim_filter_grammar.specs.declared.string_literals.StringLiteral.TheInside.{Inside as LiteralInside}
 use Rattle.scim_text.specs.MomentIn.{moment_in}
 
--- the text with its folding, and the moment that it spells
+-- the invariant of a stored string literal: its folded text and its moment are those of its text
 abbrev pub IsSoundLiteral : LiteralInside → Type 0
 IsSoundLiteral s = (s.folded ≡ folded s.text) × (s.moment ≡ moment_in s.text)

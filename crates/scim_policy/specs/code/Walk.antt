@@ -1,4 +1,4 @@
--- What the rules say of a leaf, one after the other.
+-- What each rule adds to a decision table.
 use Rattle.std.specs.Prelude.{◌≡◌, ℕ, ◌+◌, Bool, ◌&&◌, List, [], ◌∷◌, Option, None, Some, if◌then◌else◌}
 use denote.Enum.Bare.{sameb}
 use Rattle.scim_schema.specs.declared.Leaf.{Leaf}
@@ -18,35 +18,36 @@ use Rattle.scim_policy.specs.declared.decisions.Decisions.{Decisions}
 use Rattle.scim_policy.specs.Decide.{covers, names, paths_on, is_target_met, speaks_of}
 use Rattle.scim_policy.specs.Table.{or_else, decided}
 
--- what a path decides of a leaf: the decision where it covers the leaf
+-- the decision of a path on a leaf: the given one if it covers the leaf
 abbrev pub by_path : PolicyPath → Decision → Leaf → Option Decision
 by_path path d l = if covers l path then Some d else None
 
--- what paths decide of a leaf
+-- the decision of paths on a leaf: the given one if any of them covers the leaf
 abbrev pub by_paths : List PolicyPath → Decision → Leaf → Option Decision
 by_paths paths d l = if list_any (covers l) paths then Some d else None
 
--- what is decided of a leaf by a decision on a sub-attribute
+-- the decision on a leaf's sub-attribute: the given one if it is the named sub-attribute
 abbrev pub by_name : SubAttribute → Decision → Option SubAttribute → Option Decision
 by_name b d sub = if option_eq (sameb the_sub_attribute) sub (Some b) then Some d else None
 
--- what a numbered rule decides of a leaf, where it speaks of the client, the operation and the resource
+-- the decision of a numbered rule on a leaf, if the rule is for the client, the operation and the resource
 abbrev pub by_rule : List ℕ → Op → Content → Leaf → ℕ → Rule → Option Decision
 by_rule client op c l n r = if speaks_of client op c r then by_paths (paths_on c.kind r.paths) (record { rule = n; allow = r.allow }) l else None
 
--- what rules numbered from n decide of a leaf
+-- the decision on a leaf of the first rule that makes one, of rules numbered from n
 abbrev pub by_rules : List ℕ → Op → Content → Leaf → ℕ → List Rule → Option Decision
 by_rules client op c l n [] = None
 by_rules client op c l n (r ∷ rs) = or_else (by_rule client op c l n r) (by_rules client op c l (n + 1) rs)
 
--- whether the rule is for the client and the resource, whatever the operation
+-- whether the rule is for the client and the resource, with any operation
 abbrev pub is_for : List ℕ → Content → Rule → Bool
 is_for client c r = list_any (names client) r.clients && (list_any (sameb the_kind c.kind) r.kinds && is_target_met c r)
 
--- what a numbered rule that is for the client and the resource decides of a leaf, where it is for the operation
+-- the decision on a leaf of a numbered rule that is for the client and the resource, if it is for the
+-- operation
 abbrev pub by_op : Op → Kind → ℕ → Rule → Leaf → Option Decision
 by_op op kind n r l = if list_any (sameb the_op op) r.ops then by_paths (paths_on kind r.paths) (record { rule = n; allow = r.allow }) l else None
 
--- one table decides what another did, and of the rest what is added
+-- the new table has the old decisions, and the added ones for leaves without a decision
 abbrev pub Adds : (Leaf → Option Decision) → Decisions → Decisions → Type 0
 Adds added old new = (l : Leaf) → decided new l ≡ or_else (decided old l) (added l)

@@ -1,4 +1,4 @@
--- What a file says in the words of the code that reads it.
+-- The specified form of what the code reads from a policy file.
 use Rattle.std.specs.Prelude.{◌≡◌, ℕ, List, map, Vec, option_map, Result, Ok, Err}
 use Rattle.std.specs.declared.alloc.Global.{Global}
 use Rattle.json.specs.Value.{value_view}
@@ -10,24 +10,24 @@ use Rattle.scim_policy_file.specs.declared.reading.WrittenRule.{WrittenRule}
 use Rattle.scim_policy_file.specs.declared.faults.Cause.{Cause}
 use Rattle.scim_policy_file.specs.File.{Parts, RuleTexts}
 
--- what a function returned, in other words, is what is said, unless memory ran out
+-- a function returned the specified result, seen through `words`, or NoMemory
 abbrev pub Gives : {X Y : Type 0} → (X → Y) → Result X (Failed Cause) → Result Y Cause → Type 0
 Gives words (Ok x) said = said ≡ Ok (words x)
 Gives words (Err (Because cause)) said = said ≡ Err cause
 Gives words (Err NoMemory) said = Unit {0}
 
--- a text that is borrowed
+-- a borrowed text, by value
 abbrev pub text_at : Bor (List ℕ) → List ℕ
 text_at t = t.now
 
--- texts that are borrowed
+-- borrowed texts, by value
 abbrev pub texts_view : Vec (Bor (List ℕ)) Global → List (List ℕ)
 texts_view v = map text_at v.items
 
--- a rule as it is written
+-- the texts of a rule, by value
 abbrev pub rule_view : WrittenRule → RuleTexts
 rule_view w = record { allow = w.allow; clients = texts_view w.clients; ops = texts_view w.ops; types = texts_view w.types; target = option_map text_at w.target; paths = texts_view w.paths }
 
--- the version and the rules of a file
+-- the version and the rules of a file, by value
 abbrev pub parts_view : FileParts → Parts
 parts_view p = record { version = p.version.now; rules = map value_view p.rules.now }
