@@ -8,11 +8,12 @@ use Rattle.scim_view.specs.View.{Viewer, sees}
 use Rattle.scim_view.specs.Groups.{seen}
 use Rattle.scim_shelf.specs.Stores.{has_name}
 
--- whether a unique name is in use
+-- Whether a unique name is in use.
 abbrev pub is_in_use : List Content → Name → Bool
 is_in_use cs name = list_any (has_name name) cs
 
--- resources are alike for a viewer where it sees the same of both, the policy decides on what it sees by the same values, and the same unique names are in use
+-- Two stores are alike for a viewer if it sees the same resources in both, the values of these on which
+-- decisions or uniqueness rest are the same, and the same unique names are in use.
 pub record IsAlike (v : Viewer) (s t : List Content) : Type 0 where
   pub same_view : seen v s ≡ seen v t
   pub same_control : map (control v.policy) (filter (sees v) s) ≡ map (control v.policy) (filter (sees v) t)

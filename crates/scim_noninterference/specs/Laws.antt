@@ -1,4 +1,4 @@
--- What a client can infer of what it may not see: nothing. Stores that are alike for it answer it alike and stay alike.
+-- The laws of noninterference: stores that are alike for a client give it equal replies and stay alike.
 use Rattle.std.specs.Prelude.{◌≡◌, ℕ, List, filter, All, Contains}
 use Rattle.scim_schema.specs.declared.Leaf.{Leaf}
 use Rattle.scim_cell.specs.Content.{Content}
@@ -13,7 +13,8 @@ use Rattle.scim_noninterference.specs.Cells.{IsHiddenAt}
 use Rattle.scim_service.specs.Requests.{IsTurn, IsFree}
 use Rattle.scim_noninterference.specs.Lists.{is_of, run, replies_to, AreTurns, Round, first_list, second_list, AreOthers, IsRound, LeadAlike, IsQuiet, AreQuiet}
 
--- one request of a client, over two stores that are alike for it: it is answered alike, and they stay alike
+-- One request of a client, over two stores that are alike for it, gets equal replies, and the stores stay
+-- alike.
 abbrev pub OneRequest : Type 0
 OneRequest =
     (policy : List Rule) (base : List ℕ) (turn : Turn) (s t : Store)
@@ -21,7 +22,8 @@ OneRequest =
     → ((plan policy base turn s).reply ≡ (plan policy base turn t).reply)
     × IsAlike (viewer_at policy base turn) (next_store policy base turn s).resources (next_store policy base turn t).resources
 
--- the same turns of a client in two lists, from two stores that are alike for it, with whatever turns of others in between that lead from what is alike to what is alike: all that it is answered is the same, and the stores are alike in the end
+-- Two lists with the same turns of a client, from two stores that are alike for it, give it equal replies and
+-- end in alike stores, if at each point the turns of others take alike stores to alike ones.
 abbrev pub TwoLists : Type 0
 TwoLists =
     (v : Viewer) (s t : Store) (rounds : List Round) (first second : List Turn)
@@ -32,18 +34,19 @@ TwoLists =
     → (replies_to v.policy v.base v.client s (first_list rounds first) ≡ replies_to v.policy v.base v.client t (second_list rounds second))
     × IsAlike v (run v.policy v.base s (first_list rounds first)).resources (run v.policy v.base t (second_list rounds second)).resources
 
--- where all that others do is quiet for a client, it is answered as if they had done nothing
+-- If all changes by others are quiet for a client, it gets the replies that it would get without them.
 abbrev pub QuietOthers : Type 0
 QuietOthers =
     (v : Viewer) (store : Store) (turns : List Turn)
     → IsStore v.base store → AreTurns v.policy v.base v.client store turns → AreTurns v.policy v.base v.client store (filter (is_of v.client) turns) → AreQuiet v store turns
     → replies_to v.policy v.base v.client store turns ≡ replies_to v.policy v.base v.client store (filter (is_of v.client) turns)
 
--- what is asked of a store holds after each turn, where it held before
+-- A turn leaves a valid store, if it was one before.
 abbrev pub TurnsLeaveStores : Type 0
 TurnsLeaveStores = (policy : List Rule) (base : List ℕ) (turn : Turn) (store : Store) → IsStore base store → IsTurn turn → IsStore base (next_store policy base turn store)
 
--- a change of nothing but cells that the viewer may not read, on which neither a decision nor uniqueness rests, is quiet
+-- A change is quiet if it is only of cells that the viewer may not read and on which neither a decision nor
+-- uniqueness rests.
 abbrev pub HiddenCellsAreQuiet : Type 0
 HiddenCellsAreQuiet =
     (v : Viewer) (before after : List Content) (old new : Content)

@@ -1,4 +1,4 @@
--- Turns of several clients, one after another.
+-- Turns of several clients in a list, and changes that are quiet for a client.
 use Rattle.std.specs.Prelude.{◌≡◌, ⊤, ◌⊎◌, ℕ, Bool, true, false, List, [], ◌∷◌, ◌++◌, flat_map, nat_eq, All, Contains, if◌then◌else◌}
 use Rattle.std.specs.Cmp.Lexicographic.{pointwise}
 use Rattle.scim_cell.specs.Content.{Content}
@@ -13,22 +13,23 @@ use Rattle.scim_service.specs.Step.{plan, next_store}
 use Rattle.scim_noninterference.specs.Alike.{IsAlike, is_in_use}
 use Rattle.scim_service.specs.Requests.{IsTurn, IsFree}
 
--- whether a turn is this client's
+-- Whether a turn is this client's.
 abbrev pub is_of : List ℕ → Turn → Bool
 is_of client turn = pointwise nat_eq turn.request.client client
 
--- the store after turns, one after another
+-- The store after all turns of a list.
 abbrev pub run : List Rule → List ℕ → Store → List Turn → Store
 run policy base store [] = store
 run policy base store (turn ∷ more) = run policy base (next_store policy base turn store) more
 
--- what one of the clients is answered to turns
+-- The replies to one client's turns in a list.
 abbrev pub replies_to : List Rule → List ℕ → List ℕ → Store → List Turn → List Reply
 replies_to policy base client store [] = []
 replies_to policy base client store (turn ∷ more) =
     (if is_of client turn then (plan policy base turn store).reply ∷ [] else []) ++ replies_to policy base client (next_store policy base turn store) more
 
--- turns come one after another, and where one of the client makes a resource, no resource has the id for it
+-- Each turn is valid, and if it is the client's and creates a resource, the id for it is unused at that
+-- point.
 abbrev pub AreTurns : List Rule → List ℕ → List ℕ → Store → List Turn → Type 0
 AreTurns policy base client store [] = ⊤
 AreTurns policy base client store (turn ∷ more) =
@@ -36,39 +37,44 @@ AreTurns policy base client store (turn ∷ more) =
 
 -- ---- two lists with the same turns of a client
 
--- a turn of the client, with what others do before it in the one list and in the other
+-- A turn of the client, with the turns of others before it in the first list and in the second.
 pub record Round : Type 0 where
   pub first : List Turn
   pub second : List Turn
   pub own : Turn
 
--- the whole of each list: the rounds, and what others do at the end
+-- The first list: the first turns of each round, each time with the client's turn after them, and the turns
+-- of others at the end.
 abbrev pub first_list : List Round → List Turn → List Turn
 first_list rounds last = flat_map (λ (r : Round). r.first ++ r.own ∷ []) rounds ++ last
 
+-- The second list: the second turns of each round, each time with the client's turn after them, and the turns
+-- of others at the end.
 abbrev pub second_list : List Round → List Turn → List Turn
 second_list rounds last = flat_map (λ (r : Round). r.second ++ r.own ∷ []) rounds ++ last
 
--- turns of others alone
+-- No turn is the client's.
 abbrev pub AreOthers : List ℕ → List Turn → Type 0
 AreOthers client turns = All (λ turn. is_of client turn ≡ false) turns
 
--- a round is the client's turn, among others' alone
+-- A round has one turn of the client, and only turns of others before it.
 pub record IsRound (client : List ℕ) (r : Round) : Type 0 where
   pub own : is_of client r.own ≡ true
   pub first : AreOthers client r.first
   pub second : AreOthers client r.second
 
--- from what is alike to the viewer, what others do in the one list and in the other leads to what is alike, at each place where they do it
+-- At each point where others come, their turns in the two lists take stores that are alike for the viewer to
+-- alike ones.
 abbrev pub LeadAlike : Viewer → Store → Store → List Round → List Turn → List Turn → Type 0
 LeadAlike v s t [] first second = IsAlike v s.resources t.resources → IsAlike v (run v.policy v.base s first).resources (run v.policy v.base t second).resources
 LeadAlike v s t (r ∷ rounds) first second =
     (IsAlike v s.resources t.resources → IsAlike v (run v.policy v.base s r.first).resources (run v.policy v.base t r.second).resources)
     × LeadAlike v (next_store v.policy v.base r.own (run v.policy v.base s r.first)) (next_store v.policy v.base r.own (run v.policy v.base t r.second)) rounds first second
 
--- ---- what a client doesn't notice
+-- ---- changes that are quiet for a client
 
--- one resource is made, changed or removed that the viewer sees neither before nor after, and the same unique names stay in use
+-- One resource is created, changed or removed that the viewer sees neither before nor after, and the same
+-- unique names stay in use.
 pub record IsUnseen (v : Viewer) (before after : List Content) : Type 0 where
   pub id : List ℕ
   pub others : without id before ≡ without id after
@@ -76,7 +82,8 @@ pub record IsUnseen (v : Viewer) (before after : List Content) : Type 0 where
   pub unseen_after : All (λ c. c.id ≡ id → sees v c ≡ false) after
   pub names : (name : Name) → is_in_use before name ≡ is_in_use after name
 
--- one resource is changed, in nothing that the viewer may see of it, and in nothing that decisions rest on or that is unique
+-- One resource is changed so that what the viewer sees of it and the values on which decisions or uniqueness
+-- rest stay the same.
 pub record IsHidden (v : Viewer) (before after : List Content) : Type 0 where
   pub old : Content
   pub new : Content
@@ -87,11 +94,12 @@ pub record IsHidden (v : Viewer) (before after : List Content) : Type 0 where
   pub same_visible : visible v old ≡ visible v new
   pub same_control : control v.policy old ≡ control v.policy new
 
--- what a turn changes is quiet for the viewer: nothing, a resource that it doesn't see, or what it doesn't see of one
+-- A change is quiet for a viewer: it is none, or of a resource that the viewer doesn't see, or of a part that
+-- the viewer doesn't see.
 abbrev pub IsQuiet : Viewer → List Content → List Content → Type 0
 IsQuiet v before after = (before ≡ after) ⊎ (IsUnseen v before after ⊎ IsHidden v before after)
 
--- what others' turns change is quiet for the viewer, at each place where they come
+-- At each turn of others, its change is quiet for the viewer.
 abbrev pub AreQuiet : Viewer → Store → List Turn → Type 0
 AreQuiet v store [] = ⊤
 AreQuiet v store (turn ∷ more) =

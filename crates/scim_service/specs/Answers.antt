@@ -1,4 +1,4 @@
--- What a service answers to turns, faults included.
+-- The replies of a service to turns, including its failures.
 use Rattle.std.specs.Prelude.{◌≡◌, ◌⊎◌, ◌<◌, ⊤, ℕ, List, length, zip, Err}
 use Rattle.std.specs.List.{FoldsTo}
 use Rattle.scim_text.specs.declared.memory.Failed.{Failed}
@@ -13,29 +13,30 @@ use Rattle.scim_service.specs.declared.replies.Reply.{Reply}
 use Rattle.scim_service.specs.declared.replies.Reply.TheVariants.{Refused, Failed as Failure}
 use Rattle.scim_service.specs.Step.{plan, next_store}
 
--- why a turn failed: the count of the device's failures rose, or the last number of the audit is in use; else memory was wanting
+-- The cause of a failed turn: the device's count of failures rose (or was at its maximum), the last audit
+-- number is in use, or memory ran out.
 pub record IsCause (before now : ℕ) (store : Store) (fault : Failed ShelfFault) : Type 0 where
   pub device : fault ≡ Because Device → (before < now) ⊎ (before ≡ 18446744073709551615)
   pub full : fault ≡ Because Full → length store.audit ≡ last_number
 
--- the turn is answered as it is planned, and done
+-- The turn has the planned reply, and its plan is carried out.
 abbrev pub IsDone : List Rule → List ℕ → Turn → Store → Reply → Store → Type 0
 IsDone policy base turn store reply next = (reply ≡ (plan policy base turn store).reply) × (next ≡ next_store policy base turn store)
 
--- it failed for a cause, and nothing was done
+-- The turn failed for a cause, and nothing was done.
 abbrev pub HasFailed : (Failed ShelfFault → Type 0) → Store → Reply → Store → Type 0
 HasFailed Cause store reply next = (fault : Failed ShelfFault) × (reply ≡ Failure fault) × Cause fault × (next ≡ store)
 
--- memory was wanting before the request could be told, which is answered and not noted
+-- Memory ran out before the request could be read, which is answered and not audited.
 abbrev pub WasNotTold : Turn → Store → Reply → Store → Type 0
 WasNotTold turn store reply next = (turn.request.ask ≡ Err NoStore) × (reply ≡ Refused NoStore) × (next ≡ store)
 
--- what a turn is answered, over a store, and the store after it
+-- The reply to a turn, over a store, and the store after it.
 abbrev pub Answered : List Rule → List ℕ → (Failed ShelfFault → Type 0) → Turn → Store → Reply → Store → Type 0
 Answered policy base Cause turn store reply next =
     WasNotTold turn store reply next ⊎ (IsDone policy base turn store reply next ⊎ HasFailed Cause store reply next)
 
--- what turns are answered one after another, and the store after the last
+-- The replies to turns in order, and the store after the last.
 abbrev pub Runs : List Rule → List ℕ → Store → List Turn → List Reply → Store → Type 0
 Runs policy base store turns replies next =
     FoldsTo (λ s (pair : Turn × Reply) t. Answered policy base (λ _. ⊤) pair.0 s pair.1 t) store (zip turns replies) next

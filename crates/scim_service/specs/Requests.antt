@@ -1,4 +1,4 @@
--- What is known of a turn that reaches the service.
+-- The turns that reach the service.
 use Rattle.std.specs.Prelude.{◌≡◌, ◌≤◌, ⊤, ℕ, false, List, Result, Ok}
 use Rattle.scim_text.specs.Moments.{last_moment}
 use Rattle.scim_cell.specs.Content.{Content}
@@ -12,24 +12,25 @@ use Rattle.scim_service.specs.declared.requests.Ask.{Ask}
 use Rattle.scim_service.specs.declared.requests.Ask.TheVariants.{Create, Replace, Patch}
 use Rattle.scim_service.specs.declared.requests.Turn.{Turn}
 
--- what a request gives is a draft or a patch, as the readers of bodies make them
+-- The draft or the patch of a request is one that the readers of bodies return.
 abbrev pub IsAsk : Result Ask Refusal → Type 0
 IsAsk (Ok (Create draft wanted)) = IsDraft draft
 IsAsk (Ok (Replace draft wanted)) = IsDraft draft
 IsAsk (Ok (Patch patch wanted)) = IsPatch (patch_of patch)
 IsAsk _ = ⊤
 
--- no resource has the id that a resource is to be made with
+-- The id for a resource to create isn't in use.
 abbrev pub FindsFree : List Content → List ℕ → Result Ask Refusal → Type 0
 FindsFree cs id (Ok (Create draft wanted)) = is_used cs id ≡ false
 FindsFree cs id _ = ⊤
 
--- what holds of each turn: what it asks was read so, its id for a new resource is an id, and its moment one that can be written
+-- A valid turn: its draft or patch was read by the readers of bodies, its id for a new resource is an id, and
+-- its moment can be written.
 pub record IsTurn (turn : Turn) : Type 0 where
   pub ask : IsAsk turn.request.ask
   pub id : IsId turn.fresh
   pub moment : turn.moment ≤ last_moment
 
--- where a turn makes a resource, no resource has the id for it
+-- The id for the resource that a turn creates, if it creates one, isn't in use.
 abbrev pub IsFree : List Content → Turn → Type 0
 IsFree cs turn = FindsFree cs turn.fresh turn.request.ask

@@ -1,4 +1,4 @@
--- One request: what it is answered, what it changes, and what the audit says of it (RFC 7644 section 3).
+-- The plan of one request: its reply, its change and its audit row (RFC 7644 section 3).
 use Rattle.std.specs.Prelude.{ℕ, Bool, not, ◌&&◌, ◌||◌, List, [], ◌∷◌, filter, find, Option, None, Some, is_none, option_and_then, Result, Ok, Err, if◌then◌else◌}
 use Rattle.std.specs.List.{list_any}
 use denote.Enum.Bare.{sameb}
@@ -57,7 +57,8 @@ use Rattle.scim_service.specs.declared.replies.Reply.{Reply}
 use Rattle.scim_service.specs.declared.replies.Reply.TheVariants.{Shown, Created, Done, Refused}
 use Rattle.scim_service.specs.declared.plans.Plan.{Plan}
 
--- a row of the audit: of the turn its moment, client, operation and kind, and what is said of it
+-- The audit row of a turn: its moment, client, operation and kind, with this id, decision, rule, leaf and
+-- refusal.
 abbrev pub row_of : Turn → Option (List ℕ) → Decided → Option ℕ → Option Leaf → Option Refusal → AuditRow
 row_of turn id decided rule leaf refusal = record {
   moment = turn.moment;
@@ -71,84 +72,95 @@ row_of turn id decided rule leaf refusal = record {
   refusal = refusal;
 }
 
--- ---- what is refused: it changes nothing, and its row names the id that the request has
+-- ---- refusals: they change nothing, and their audit rows have the id of the request
 
+-- The plan of a refusal, with this decision, rule and leaf in its audit row.
 abbrev pub refused_as : Turn → Decided → Option ℕ → Option Leaf → Refusal → Plan
 refused_as turn how rule leaf refusal = record { reply = Refused refusal; change = Nothing; row = row_of turn turn.request.id how rule leaf (Some refusal) }
 
--- for what the request says: no rule decides it
+-- The plan of a refusal for a cause in the request itself, which no rule decides.
 unfoldable pub refused : Turn → Refusal → Plan
 refused turn refusal = refused_as turn decided.Refused None None refusal
 
--- since there is no such resource
+-- The plan of a request for a resource that doesn't exist.
 unfoldable pub absent : Turn → Plan
 absent turn = refused_as turn decided.Absent None None NotFound
 
--- since the client doesn't see the resource, by this decision on reading its `id`: it is answered as if there were none
+-- The plan of a request for a resource that the client doesn't see, by this decision on reading its `id`; its
+-- reply is that of `absent`.
 unfoldable pub hidden : Turn → Decision → Plan
 hidden turn d = refused_as turn decided.Hidden (Some d.rule) (Some (simple Id)) NotFound
 
--- refused by this decision at a leaf, which denies the request there, or would let the client see something that it doesn't see
+-- The plan of a refusal by this decision at a leaf, which denies the request there, or would let the client
+-- do there what it couldn't before.
 unfoldable pub denied : Turn → Decision → Leaf → Refusal → Plan
 denied turn d l refusal = refused_as turn decided.Deny (Some d.rule) (Some l) refusal
 
--- ---- what is done
+-- ---- GET, search and DELETE
 
--- the row of what a rule allows
+-- The audit row of a request that a rule allows.
 abbrev pub allowed : Turn → ℕ → AuditRow
 allowed turn rule = row_of turn turn.request.id decided.Allow (Some rule) None None
 
--- a resource is shown as the client sees it, with its groups among these, and of that what is wanted (RFC 7644 section 3.4.1)
+-- The JSON of a resource as the client sees it, with its groups among `groups`, projected to the wanted
+-- attributes (RFC 7644 section 3.4.1).
 unfoldable pub resource_text : Viewer → List Content → Wanted → Content → List ℕ
 resource_text v groups wanted c = compact_text (part_data (shown wanted (with_groups v groups c)))
 
+-- The plan of a GET of a resource that the client sees.
 unfoldable pub got : Viewer → Turn → List Content → Wanted → Content → Plan
 got v turn cs wanted c = record { reply = Shown (resource_text v (of_kind Group cs) wanted c); change = Nothing; row = allowed turn (read_decision v c (simple Id)).rule }
 
--- the client is shown what the query finds of what it sees, and nothing of what it doesn't (RFC 7644 section 3.4.2); no one rule allows that
+-- The client's view of the resources of the request's kind: those that it sees, as it sees them.
 abbrev pub view_of_kind : Viewer → Turn → List Content → List Content
 view_of_kind v turn cs = views v (of_kind Group cs) (of_kind turn.request.kind cs)
 
+-- The JSON of the page of a query over a client's view (RFC 7644 section 3.4.2).
 abbrev pub list_text : Query → List Content → List ℕ
 list_text query view = compact_text (list_data (total_of query view) (first_position query.start) (shown_items query view))
 
+-- The plan of a search; its audit row names no rule, since no single rule decides it.
 unfoldable pub listed : Viewer → Turn → List Content → Query → Plan
 listed v turn cs query = record { reply = Shown (list_text query (view_of_kind v turn cs)); change = Nothing; row = row_of turn None decided.Allow None None None }
 
--- the policy's decision on removing a resource: that on deleting its `id`
+-- The policy's decision on deleting a resource: that at its `id`.
 abbrev pub delete_decision : Viewer → Content → Decision
 delete_decision v c = decide v.policy v.client Delete c (simple Id)
 
--- the resource goes, if the policy lets the client delete it (RFC 7644 section 3.6)
+-- The plan of a DELETE of a resource that the client sees: it is removed if the policy lets the client delete
+-- it (RFC 7644 section 3.6).
 unfoldable pub removed : Viewer → Turn → Content → Plan
 removed v turn c =
     if (delete_decision v c).allow
     then record { reply = Done; change = TakeOut c.kind c.id; row = allowed turn (delete_decision v c).rule }
     else denied turn (delete_decision v c) (simple Id) Denied
 
--- ---- what is made
+-- ---- create (RFC 7644 section 3.3)
 
--- the resource that a draft makes at the turn
+-- The resource that a draft makes, with the turn's id and moment.
 abbrev pub new_resource : Viewer → Turn → Draft → Content
 new_resource v turn d = created d turn.fresh turn.moment v.base
 
--- the policy's decision on making a resource, at a leaf; the targets of rules are tried on the new resource
+-- The policy's decision on creating a resource, at a leaf; the targets of rules are tested on the new
+-- resource.
 abbrev pub create_decision : Viewer → Content → Leaf → Decision
 create_decision v c l = decide v.policy v.client Create c l
 
--- whether it is decided at a leaf: at `id`, and at those of the units that the body gives
+-- Whether creating from a draft is decided at a leaf: at `id`, and at the leaves of the units that the body
+-- gives.
 abbrev pub is_decided : Draft → Leaf → Bool
 is_decided d l = is_same_leaf l (simple Id) || list_any (is_same_unit (unit_of l)) d.given
 
--- the first of these, in leaf order, at which the policy denies it
+-- The first leaf, in leaf order, at which creating the resource from the draft is decided and denied.
 abbrev pub first_denied : Viewer → Draft → Content → Option Leaf
 first_denied v d c = find (λ l. is_decided d l && not (create_decision v c l).allow) (leaves d.kind)
 
--- what the client is shown of a resource that is kept, among the others; nothing, where it doesn't see it then
+-- The JSON of a stored resource as the client sees it, among the resources `cs`; None if the client doesn't
+-- see it.
 abbrev pub kept_text : Viewer → List Content → Wanted → Content → Option (List ℕ)
 kept_text v cs wanted c = if (read_decision v c (simple Id)).allow then Some (resource_text v (of_kind Group (keep c cs)) wanted c) else None
 
--- the resource is kept, with what the client is shown of it, as the rule allows
+-- The plan that stores a new resource, with this rule in its audit row and this text in its reply.
 abbrev pub made_with : Viewer → Turn → Content → ℕ → Option (List ℕ) → Plan
 made_with v turn c rule text = record {
   reply = Created (location v.base c.kind c.id) text;
@@ -156,120 +168,132 @@ made_with v turn c rule text = record {
   row = row_of turn (Some c.id) decided.Allow (Some rule) None None;
 }
 
+-- The plan that stores a new resource, with its JSON as the client sees it in the reply.
 abbrev pub made : Viewer → Turn → List Content → Wanted → Content → Plan
 made v turn cs wanted c = made_with v turn c (create_decision v c (simple Id)).rule (kept_text v cs wanted c)
 
--- it needs a name and an id that no resource has, be it seen or not (RFC 7644 section 3.3)
+-- The plan of a create that the policy allows: refused if a resource, seen or not, has its unique name or its
+-- id, and stored otherwise.
 abbrev pub made_if_free : Viewer → Turn → List Content → Wanted → Content → Plan
 made_if_free v turn cs wanted c =
     if is_taken cs c then refused turn Taken else (if is_used cs c.id then refused turn IdInUse else made v turn cs wanted c)
 
--- and the policy's leave
+-- The plan of a create: denied at a leaf, if one is given, and otherwise allowed by the policy.
 abbrev pub made_if_allowed : Viewer → Turn → List Content → Wanted → Content → Option Leaf → Plan
 made_if_allowed v turn cs wanted c None = made_if_free v turn cs wanted c
 made_if_allowed v turn cs wanted c (Some l) = denied turn (create_decision v c l) l Denied
 
--- whether the draft is of the request's kind, and was read to make a resource
+-- Whether a draft is of the request's kind and was read to create a resource.
 abbrev pub is_for : Turn → Draft → Bool
 is_for turn d = sameb the_kind d.kind turn.request.kind && sameb the_use_for d.use_for Creating
 
+-- The plan of a create from a draft.
 unfoldable pub creating : Viewer → Turn → List Content → Draft → Wanted → Plan
 creating v turn cs d wanted =
     if is_for turn d then made_if_allowed v turn cs wanted (new_resource v turn d) (first_denied v d (new_resource v turn d)) else refused turn MessageValue
 
--- ---- what is replaced (RFC 7644 section 3.5.1)
+-- ---- PUT (RFC 7644 section 3.5.1)
 
--- what the policy lets the client do with a resource that is there
+-- The client's access to a stored resource, by the policy.
 abbrev pub access_to : Viewer → Content → Access
 access_to v c = access v.policy v.client c
 
--- why a body may not give what it gives of a unit, where this is seen of the resource: the unit may not be written, and what is given isn't what is seen there
+-- The leaf that is denied and the decision, if the client may not write a unit and the body gives it other
+-- values than the client sees.
 abbrev pub unit_denied : Access → Draft → Content → AttributeUnit → Option (Leaf × Decision)
 unit_denied a d seen u = if is_fixed d.kind u || (not (gives d u) || agrees d u seen) then None else forbidding d.kind a u
 
--- the first of these units for which there is a reason: the leaf that is denied, and the decision
+-- The leaf that is denied and the decision, for the first of these units that is denied.
 abbrev pub first_unit_denied : Access → Draft → Content → List AttributeUnit → Option (Leaf × Decision)
 first_unit_denied a d seen [] = None
 first_unit_denied a d seen (u ∷ us) = or_else (unit_denied a d seen u) (first_unit_denied a d seen us)
 
--- whether a unit may be written: it isn't readOnly, and no leaf forbids it
+-- Whether the client may write a unit: it isn't readOnly, and no leaf of it is forbidden.
 abbrev pub is_writable : Kind → Access → AttributeUnit → Bool
 is_writable kind a u = not (is_fixed kind u) && is_none (forbidding kind a u)
 
--- the units that may be written, in order
+-- The units that the client may write, in order.
 abbrev pub writable : Kind → Access → List AttributeUnit
 writable kind a = filter (is_writable kind a) (units kind)
 
--- what is shown, or that it is done where there is nothing to show
+-- The reply to a change: the text, or 204 without one.
 abbrev pub shown_or_done : Option (List ℕ) → Reply
 shown_or_done None = Done
 shown_or_done (Some text) = Shown text
 
--- the change of a resource, or none where it is as it was
+-- The change that stores a resource, or no change if it is as before.
 abbrev pub kept_if : Bool → Content → Change
 kept_if changed c = if changed then Keep c else Nothing
 
--- the resource is kept, with what the client is shown of it, as the rule allows
+-- The plan that stores a changed resource, with this rule in its audit row and this text in its reply.
 abbrev pub kept_with : Turn → ℕ → Bool → Content → Option (List ℕ) → Plan
 kept_with turn rule changed c text = record { reply = shown_or_done text; change = kept_if changed c; row = allowed turn rule }
 
--- it is shown as the client then sees it; `a` is what the client could do before, by which it saw the resource
+-- The plan that stores a changed resource, with its JSON as the client then sees it in the reply; `a` is the
+-- client's access before the change, by which it saw the resource.
 abbrev pub changed_with : Viewer → Turn → List Content → Wanted → Access → Bool → Content → Plan
 changed_with v turn cs wanted a changed c = kept_with turn (a.read (simple Id)).rule changed c (kept_text v cs wanted c)
 
--- unless a rule would let the client do at a leaf what it may not do there before
+-- The plan of a change: denied if it widens the client's access at a leaf, and stored otherwise.
 abbrev pub changed_if_narrow : Viewer → Turn → List Content → Wanted → Access → Bool → Content → Option (Op × Leaf × Decision) → Plan
 changed_if_narrow v turn cs wanted a changed c None = changed_with v turn cs wanted a changed c
 changed_if_narrow v turn cs wanted a changed c (Some (op, l, d)) = denied turn d l Widens
 
--- and unless another resource has a unique name of it, be it seen or not
+-- The plan of a change: refused if another resource, seen or not, has one of its unique names, denied if it
+-- widens the client's access, and stored otherwise.
 abbrev pub changed_if_free : Viewer → Turn → List Content → Wanted → Access → Bool → Content → Plan
 changed_if_free v turn cs wanted a changed c =
     if is_taken (without c.id cs) c then refused turn Taken else changed_if_narrow v turn cs wanted a changed c (widening c.kind a (access_to v c))
 
--- and unless it would lack what its kind requires
+-- The plan of a change: refused if the result lacks a required attribute (None), and otherwise that of
+-- `changed_if_free`.
 abbrev pub changed_if_complete : Viewer → Turn → List Content → Wanted → Access → Bool → Option Content → Plan
 changed_if_complete v turn cs wanted a changed None = refused turn ResultValue
 changed_if_complete v turn cs wanted a changed (Some c) = changed_if_free v turn cs wanted a changed c
 
--- the units that may be written take what the draft has
+-- The plan of a PUT that writes the draft's values to the units `us`.
 abbrev pub written : Viewer → Turn → List Content → Draft → Wanted → Content → List AttributeUnit → Plan
 written v turn cs d wanted c us = changed_if_complete v turn cs wanted (access_to v c) (changes d us (rows c)) (replaced d us turn.moment c)
 
--- unless the body gives one that may not be written something else than is seen there
+-- The plan of a PUT: denied at a leaf, if one is given, and otherwise writing to all units that the client
+-- may write.
 abbrev pub written_if_allowed : Viewer → Turn → List Content → Draft → Wanted → Content → Option (Leaf × Decision) → Plan
 written_if_allowed v turn cs d wanted c (Some (l, decision)) = denied turn decision l Denied
 written_if_allowed v turn cs d wanted c None = written v turn cs d wanted c (writable c.kind (access_to v c))
 
+-- The plan of a PUT of a draft to a resource that the client sees.
 unfoldable pub replacing : Viewer → Turn → List Content → Draft → Wanted → Content → Plan
 replacing v turn cs d wanted c =
     if sameb the_kind d.kind c.kind
     then written_if_allowed v turn cs d wanted c (first_unit_denied (access_to v c) d (visible v c) (units d.kind))
     else refused turn MessageValue
 
--- ---- what is patched (RFC 7644 section 3.5.2)
+-- ---- PATCH (RFC 7644 section 3.5.2)
 
--- the first of these units that the policy forbids: the leaf that is denied, and the decision
+-- The leaf that is denied and the decision, for the first of these units that the client may not write.
 abbrev pub first_forbidden : Kind → Access → List AttributeUnit → Option (Leaf × Decision)
 first_forbidden kind a [] = None
 first_forbidden kind a (u ∷ us) = or_else (forbidding kind a u) (first_forbidden kind a us)
 
--- what a step that is refused is answered
+-- The refusal for the fault of a step.
 abbrev pub step_refusal : StepFault → Refusal
 step_refusal fault.Mutability = Mutability
 step_refusal fault.NoTarget = NoTarget
 step_refusal fault.Value = ResultValue
 
--- the steps make this of the resource, or one of them is refused
+-- The plan of a PATCH with this result: refused for a faulty step, and otherwise the change to the resource
+-- that the steps make.
 abbrev pub patched_with : Viewer → Turn → List Content → Wanted → Content → Result (Content × Bool) StepFault → Plan
 patched_with v turn cs wanted c (Err e) = refused turn (step_refusal e)
 patched_with v turn cs wanted c (Ok (x, changed)) = changed_if_free v turn cs wanted (access_to v c) changed x
 
--- unless one is about a unit that may not be written, they are applied to the resource as it is kept, whatever of it is seen
+-- The plan of a PATCH: denied at a leaf, if one is given, and otherwise with its steps applied to the stored
+-- resource, including what the client doesn't see of it.
 abbrev pub patched_if_allowed : Viewer → Turn → List Content → Patch → Wanted → Content → Option (Leaf × Decision) → Plan
 patched_if_allowed v turn cs p wanted c (Some (l, d)) = denied turn d l Denied
 patched_if_allowed v turn cs p wanted c None = patched_with v turn cs wanted c (applied p turn.moment c)
 
+-- The plan of a PATCH to a resource that the client sees.
 unfoldable pub patching : Viewer → Turn → List Content → Patch → Wanted → Content → Plan
 patching v turn cs p wanted c =
     if sameb the_kind p.kind c.kind
@@ -278,16 +302,17 @@ patching v turn cs p wanted c =
 
 -- ---- all requests
 
--- the resource that a request names
+-- The resource that a request names, if it exists.
 abbrev pub sought : Turn → List Content → Option Content
 sought turn cs = option_and_then (λ id. find (is_at turn.request.kind id) cs) turn.request.id
 
--- what becomes of a request for a resource: it has to be there, and the client has to see it
+-- The plan of a request for a resource: absent, hidden, or the one that `plan` gives for a resource that the
+-- client sees.
 abbrev pub at_seen : Viewer → Turn → (Content → Plan) → Option Content → Plan
 at_seen v turn plan None = absent turn
 at_seen v turn plan (Some c) = if (read_decision v c (simple Id)).allow then plan c else hidden turn (read_decision v c (simple Id))
 
--- by what is asked, over these resources
+-- The plan of a request over the resources `cs`, by what it asks for.
 abbrev pub planned : Viewer → Turn → List Content → Result Ask Refusal → Plan
 planned v turn cs (Err refusal) = refused turn refusal
 planned v turn cs (Ok (Get wanted)) = at_seen v turn (got v turn cs wanted) (sought turn cs)
@@ -297,14 +322,14 @@ planned v turn cs (Ok (Replace draft wanted)) = at_seen v turn (replacing v turn
 planned v turn cs (Ok (PatchOne patch wanted)) = at_seen v turn (patching v turn cs (patch_of patch) wanted) (sought turn cs)
 planned v turn cs (Ok Remove) = at_seen v turn (removed v turn) (sought turn cs)
 
--- for whom a turn is: its client, by the policy, below the base
+-- The viewer of a turn: its client, under the policy, with this base URI.
 abbrev pub viewer_at : List Rule → List ℕ → Turn → Viewer
 viewer_at policy base turn = record { policy = policy; client = turn.request.client; base = base }
 
--- what a turn is answered, what it changes, and its row of the audit
+-- The plan of a turn: its reply, its change and its audit row.
 abbrev pub plan : List Rule → List ℕ → Turn → Store → Plan
 plan policy base turn store = planned (viewer_at policy base turn) turn store.resources turn.request.ask
 
--- the store after a turn
+-- The store after a turn.
 abbrev pub next_store : List Rule → List ℕ → Turn → Store → Store
 next_store policy base turn store = after (plan policy base turn store).change (plan policy base turn store).row store

@@ -1,4 +1,4 @@
--- How the code goes about a request.
+-- The steps by which the code plans a request.
 pub mod Others
 pub mod Questions
 pub mod Reached

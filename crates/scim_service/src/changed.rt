@@ -1,4 +1,4 @@
-//! What is to be done where a resource is changed.
+//! Plans to store a resource that a PUT or a PATCH has changed.
 ghost use Rattle.std.specs.Prelude.{◌≡◌, ℕ, List, IfOk};
 ghost use Rattle.scim_schema.specs.declared.Attribute.{Attribute};
 ghost use Rattle.scim_schema.specs.Units.{simple};
@@ -24,7 +24,7 @@ use scim_value::Resource;
 use scim_view::{Viewer, Wanted};
 use std::alloc::Global;
 
-/// What is shown, or that it is done where there is nothing to show.
+/// Returns the reply with the text, or 204 without one.
 fn shown_or_done(text: Option<Text>) -> Reply
     ensures { result ≡ spec.shown_or_done text }
 {
@@ -34,8 +34,8 @@ fn shown_or_done(text: Option<Text>) -> Reply
     }
 }
 
-/// What is to be done where the resource is kept: `text` is what the client is shown of it, and `rule` the
-/// one that let the client see it before.
+/// Returns the plan that stores a changed resource: `text` is its JSON as the client sees it, if it does, and
+/// `rule` the rule by which the client saw it before the change.
 fn changed_with(
     alloc: Global,
     turn: &Turn,
@@ -59,8 +59,8 @@ fn changed_with(
     })
 }
 
-/// The plan that refuses to keep a resource as it has become: another has its unique name, or the client could do with
-/// it what it couldn't before. None where it may be kept.
+/// Returns the plan that refuses a change because another resource has one of its unique names, or because it
+/// widens the client's rights; None if it may be stored.
 fn refusal_to_change<S: Shelf>(
     alloc: Global,
     viewer: &Viewer<'_>,
@@ -88,8 +88,8 @@ fn refusal_to_change<S: Shelf>(
     }
 }
 
-/// What is to be done where a resource has become this one, and `rights` is what the client could do with it
-/// before. The policy is asked once of the resource as it is now.
+/// Plans to store a resource after a change. `rights` are the client's rights to it before the change. The
+/// policy is evaluated once on the changed resource.
 pub(crate) fn plan_changed<S: Shelf>(
     alloc: Global,
     viewer: &Viewer<'_>,

@@ -1,4 +1,4 @@
-//! What is to be done for a request to make a resource (RFC 7644 section 3.3).
+//! Plans a create (RFC 7644 section 3.3).
 ghost use Rattle.std.specs.Prelude.{◌≡◌, ◌&&◌, ℕ, List, not, find, IfOk};
 ghost use Rattle.scim_schema.specs.declared.Attribute.{Attribute};
 ghost use Rattle.scim_schema.specs.declared.Leaf.{Leaf};
@@ -28,21 +28,22 @@ use scim_value::{Resource, location};
 use scim_view::{Viewer, Wanted};
 use std::alloc::Global;
 
-/// Whether the draft is of the request's kind, and was read to make a resource.
+/// Whether the draft is of the request's kind and was read to create a resource.
 fn is_for(turn: &Turn, draft: &Draft) -> bool
     ensures { result ≡ spec.is_for turn.now draft.now }
 {
     draft.kind() == turn.request.kind && draft.use_for() == UseFor::Creating
 }
 
-/// Whether making a resource of the draft is decided at the leaf.
+/// Whether creating from the draft is decided at the leaf: at `id`, and at the leaves of the units that the
+/// body gives.
 fn is_decided(draft: &Draft, leaf: Leaf) -> bool
     ensures { result ≡ spec.is_decided draft.now leaf }
 {
     leaf == Leaf::simple(Attribute::Id) || draft.gives(unit_of(leaf))
 }
 
-/// The first of these leaves at which the decisions deny what the draft gives.
+/// Returns the first of these leaves at which creating from the draft is decided and denied.
 fn first_denied_of(decisions: &Decisions, draft: &Draft, leaves: &[Leaf]) -> Option<Leaf>
     ensures { result ≡ find (λ l. spec.is_decided draft.now l && not (decision decisions.now l).allow) leaves.now }
 {
@@ -54,14 +55,14 @@ fn first_denied_of(decisions: &Decisions, draft: &Draft, leaves: &[Leaf]) -> Opt
     None
 }
 
-/// The first leaf, in leaf order, at which the decisions deny what the draft gives.
+/// Returns the first leaf, in leaf order, at which creating from the draft is decided and denied.
 fn first_denied(decisions: &Decisions, draft: &Draft) -> Option<Leaf>
     ensures { result ≡ find (λ l. spec.is_decided draft.now l && not (decision decisions.now l).allow) (leaves draft.now.kind) }
 {
     first_denied_of(decisions, draft, leaves(draft.kind()))
 }
 
-/// Whether a resource, of whatever kind, has the id.
+/// Whether a resource of either kind has the id.
 fn has_used_id<S: Shelf>(alloc: Global, shelf: &mut S, id: Id) -> Result<bool, Failed<ShelfFault>>
     ensures answer { IfOk result (Answers S.stands S.is_honest shelf.old shelf.new (λ store b. b ≡ is_used store.resources id)) }
     ensures read { OnlyReads S.stands S.is_honest S.failures shelf.old shelf.new result }
@@ -74,8 +75,8 @@ fn has_used_id<S: Shelf>(alloc: Global, shelf: &mut S, id: Id) -> Result<bool, F
     Ok(group.is_some())
 }
 
-/// What is to be done where the resource is made: `text` is what the client is shown of it, and `rule` the one
-/// that allows it.
+/// Returns the plan that stores a new resource: `text` is its JSON as the client sees it, if it does, and
+/// `rule` the rule that allows it.
 fn made(
     alloc: Global,
     viewer: &Viewer<'_>,
@@ -102,8 +103,8 @@ fn made(
     })
 }
 
-/// The plan that refuses to make a resource whose unique name or whose id is in use, whoever sees the other. None where
-/// both are free.
+/// Returns the plan that refuses to create a resource because another one has its unique name or its id,
+/// whether or not the client sees that one; None if both are free.
 fn refusal_to_make<S: Shelf>(
     alloc: Global,
     shelf: &mut S,
@@ -149,7 +150,7 @@ fn plan_if_free<S: Shelf>(
     Ok(made(alloc, viewer, turn, resource, rule, text)?)
 }
 
-/// What is to be done for a request to make a resource of a draft.
+/// Plans a create from a draft.
 #[tactic(auto, unfolding(crate::specs::Step::creating))]
 pub(crate) fn plan_create<S: Shelf>(
     alloc: Global,
@@ -175,7 +176,7 @@ pub(crate) fn plan_create<S: Shelf>(
     plan_if_free(alloc, viewer, shelf, turn, resource, rule, wanted)
 }
 
-/// The policy's decisions on making the resource.
+/// Returns the policy's decisions on creating the resource.
 fn create_decisions(
     alloc: Global,
     viewer: &Viewer<'_>,

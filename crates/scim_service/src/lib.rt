@@ -1,5 +1,5 @@
-//! The service: what one request of a client is answered, what it changes, and what the audit says of it; and
-//! a list of requests (RFC 7644 section 3).
+//! The service: plans a request of a client by the policy (its reply, its change and its audit row) and
+//! commits the plan, for one request or a list of them (RFC 7644 section 3).
 #![tactic(auto)]
 
 mod changed;

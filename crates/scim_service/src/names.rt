@@ -1,4 +1,4 @@
-//! Unique names that are taken (RFC 7643 section 2.2).
+//! Tests whether unique names are in use (RFC 7643 section 2.2).
 ghost use Rattle.std.specs.Prelude.{◌≡◌, ℕ, List, map, IfOk};
 ghost use Rattle.std.specs.List.{list_any};
 ghost use Rattle.scim_value.specs.Uniqueness.{name_of};
@@ -12,7 +12,7 @@ use scim_text::Failed;
 use scim_value::{Resource, UniqueName, unique_names};
 use std::alloc::Global;
 
-/// Whether the owner of a name is another resource than the one of the id.
+/// Whether a name has an owner, other than the resource with the id `own`.
 fn is_another(owner: &Option<Resource>, own: &Option<Id>) -> bool
     ensures { result ≡ spec.is_another own.now owner.now }
 {
@@ -25,7 +25,7 @@ fn is_another(owner: &Option<Resource>, own: &Option<Id>) -> bool
     }
 }
 
-/// Whether a resource, but for the one of the id, has one of the names.
+/// Whether a resource other than the one with the id `own` has one of the names.
 fn any_taken<S: Shelf>(
     alloc: Global,
     shelf: &mut S,

@@ -1,4 +1,4 @@
-//! What is to be done for a request to change a resource step by step (RFC 7644 section 3.5.2).
+//! Plans a PATCH (RFC 7644 section 3.5.2).
 ghost use Rattle.std.specs.Prelude.{◌≡◌, ℕ, List, None, IfOk};
 ghost use Rattle.scim_patch_steps.specs.Patch.{touched};
 ghost use Rattle.scim_patch_steps.specs.Kept.{patch_of};
@@ -22,7 +22,7 @@ use scim_value::Resource;
 use scim_view::{Viewer, Wanted};
 use std::alloc::Global;
 
-/// What a step that is refused is answered.
+/// Returns the refusal for the fault of a step.
 fn step_refusal(fault: StepFault) -> Refusal
     ensures { result ≡ spec.step_refusal fault }
 {
@@ -33,8 +33,8 @@ fn step_refusal(fault: StepFault) -> Refusal
     }
 }
 
-/// The first of the units that the steps are about that the client may not write: the leaf that is denied, and
-/// the decision.
+/// Returns the leaf that is denied and the decision, of the first unit in the patch that the client may not
+/// write.
 fn first_forbidden(rights: &Rights, patch: &Patch) -> Option<(Leaf, Decision)>
     ensures { result ≡ spec.first_forbidden patch.now.kind (access_in rights.now) (touched (patch_of patch.now)) }
 {
@@ -51,7 +51,7 @@ fn first_forbidden(rights: &Rights, patch: &Patch) -> Option<(Leaf, Decision)>
     None
 }
 
-/// What is to be done where the policy lets the client write all units that the steps are about.
+/// Plans a PATCH of a resource whose units in the patch the client may write.
 fn plan_allowed<S: Shelf>(
     alloc: Global,
     viewer: &Viewer<'_>,
@@ -76,7 +76,7 @@ fn plan_allowed<S: Shelf>(
     }
 }
 
-/// What is to be done for a request to patch a resource that the client sees.
+/// Plans a PATCH of a resource that the client sees.
 #[tactic(auto, unfolding(crate::specs::Step::patching))]
 fn plan_seen<S: Shelf>(
     alloc: Global,
@@ -103,7 +103,7 @@ fn plan_seen<S: Shelf>(
     }
 }
 
-/// What is to be done for a request to patch the resource that it names.
+/// Plans a PATCH of the resource that the request names.
 pub(crate) fn plan_patch<S: Shelf>(
     alloc: Global,
     viewer: &Viewer<'_>,

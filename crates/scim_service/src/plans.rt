@@ -1,4 +1,4 @@
-//! What is to be done for a turn: told by reads alone, before anything is changed.
+//! Plans a turn by reads alone, before anything is changed.
 ghost use Rattle.std.specs.Prelude.{◌≡◌, ℕ, List, Some, IfOk};
 ghost use Rattle.scim_schema.specs.declared.Kind.{Kind};
 ghost use Rattle.scim_schema.specs.declared.Leaf.{Leaf};
@@ -31,14 +31,13 @@ use scim_value::Resource;
 use scim_view::{ListingGroups, Viewer, Wanted, project};
 use std::alloc::Global;
 
-/// What is to be answered, changed and noted.
+/// The reply to a request, its change of the store and its audit row.
 pub(crate) struct Plan {
     pub(crate) reply: Reply,
     pub(crate) change: Change,
     pub(crate) row: AuditRow,
 }
 
-/// One call, wherever a plan is dropped, in place of a look at all that it may be.
 impl Drop for Plan {
     fn drop(self) {
         let Plan {
@@ -50,7 +49,7 @@ impl Drop for Plan {
 }
 
 impl Plan {
-    /// Its parts, to keep.
+    /// Returns the reply, the change and the audit row.
     pub(crate) fn into_parts(self) -> (Reply, Change, AuditRow)
         ensures { result ≡ (self.reply, self.change, self.row) }
     {
@@ -59,7 +58,7 @@ impl Plan {
     }
 }
 
-/// What of a row of the audit isn't the turn's.
+/// The part of an audit row that the turn itself doesn't give: decision, rule, leaf and refusal.
 #[derive(Clone, Copy)]
 pub(crate) struct Finding {
     pub(crate) decided: Decided,
@@ -68,6 +67,7 @@ pub(crate) struct Finding {
     pub(crate) refusal: Option<Refusal>,
 }
 
+/// Returns the audit row of a turn with this id and finding.
 pub(crate) fn row_of(
     alloc: Global,
     turn: &Turn,
@@ -90,6 +90,7 @@ pub(crate) fn row_of(
     })
 }
 
+/// Returns the plan that refuses a turn, with this decision, rule and leaf in its audit row.
 pub(crate) fn refused_as(
     alloc: Global,
     turn: &Turn,
@@ -113,6 +114,7 @@ pub(crate) fn refused_as(
     })
 }
 
+/// Returns the plan that refuses a turn for a cause in the request itself, which no rule decides.
 #[tactic(auto, unfolding(crate::specs::Step::refused))]
 pub(crate) fn refused(alloc: Global, turn: &Turn, refusal: Refusal) -> Result<Plan, NoMemory>
     ensures { IfOk result (λ plan. plan ≡ spec.refused turn.now refusal) }
@@ -120,6 +122,7 @@ pub(crate) fn refused(alloc: Global, turn: &Turn, refusal: Refusal) -> Result<Pl
     refused_as(alloc, turn, Decided::Refused, None, None, refusal)
 }
 
+/// Returns the plan that refuses a turn because there is no such resource.
 #[tactic(auto, unfolding(crate::specs::Step::absent))]
 pub(crate) fn absent(alloc: Global, turn: &Turn) -> Result<Plan, NoMemory>
     ensures { IfOk result (λ plan. plan ≡ spec.absent turn.now) }
@@ -127,6 +130,8 @@ pub(crate) fn absent(alloc: Global, turn: &Turn) -> Result<Plan, NoMemory>
     refused_as(alloc, turn, Decided::Absent, None, None, Refusal::NotFound)
 }
 
+/// Returns the plan that refuses a turn because the client doesn't see the resource, by this decision on
+/// reading its `id`. The reply is that of `absent`.
 #[tactic(auto, unfolding(crate::specs::Step::hidden))]
 pub(crate) fn hidden(alloc: Global, turn: &Turn, decision: Decision) -> Result<Plan, NoMemory>
     ensures { IfOk result (λ plan. plan ≡ spec.hidden turn.now decision) }
@@ -142,6 +147,7 @@ pub(crate) fn hidden(alloc: Global, turn: &Turn, decision: Decision) -> Result<P
     )
 }
 
+/// Returns the plan that refuses a turn because of this decision at a leaf.
 #[tactic(auto, unfolding(crate::specs::Step::denied))]
 pub(crate) fn denied(
     alloc: Global,
@@ -162,6 +168,7 @@ pub(crate) fn denied(
     )
 }
 
+/// Returns the audit row of a turn that the rule allows.
 pub(crate) fn allowed(alloc: Global, turn: &Turn, rule: u32) -> Result<AuditRow, NoMemory>
     ensures { IfOk result (λ row. row ≡ spec.allowed turn.now rule) }
 {
@@ -174,7 +181,7 @@ pub(crate) fn allowed(alloc: Global, turn: &Turn, rule: u32) -> Result<AuditRow,
     row_of(alloc, turn, turn.request.id, finding)
 }
 
-/// The resource that the turn's request names.
+/// Returns the resource that the turn's request names; None if there isn't one.
 pub(crate) fn found<S: Shelf>(
     alloc: Global,
     shelf: &mut S,
@@ -189,7 +196,8 @@ pub(crate) fn found<S: Shelf>(
     }
 }
 
-/// The JSON of a resource as it is shown, where these are the decisions on reading it.
+/// Returns the JSON of a resource as the client sees it, by these decisions on reading it and with these
+/// groups, projected to the wanted attributes.
 #[tactic(auto, unfolding(crate::specs::Step::resource_text))]
 pub(crate) fn resource_text(
     alloc: Global,
@@ -208,7 +216,8 @@ pub(crate) fn resource_text(
     Ok(Text::new(to_json(alloc, &shown)?))
 }
 
-/// The JSON of a resource as the client sees it, where these are the decisions on reading it: of what is wanted.
+/// Returns the JSON of a resource as the client sees it, by these decisions on reading it and with its groups
+/// from the shelf, projected to the wanted attributes.
 fn seen_text<S: Shelf>(
     alloc: Global,
     viewer: &Viewer<'_>,
@@ -226,8 +235,8 @@ fn seen_text<S: Shelf>(
     Ok(resource_text(alloc, viewer, decisions, &groups, resource, wanted)?)
 }
 
-/// What the client is shown of a resource that is kept, by these decisions on reading it: nothing, where it
-/// doesn't see it.
+/// Returns the JSON of a resource that the turn stores, as the client sees it by these decisions on reading
+/// it; None if the client doesn't see it.
 pub(crate) fn kept_text<S: Shelf>(
     alloc: Global,
     viewer: &Viewer<'_>,
@@ -250,7 +259,7 @@ pub(crate) fn kept_text<S: Shelf>(
     Ok(Some(text))
 }
 
-/// What is to be done for a request to show this resource.
+/// Plans a GET of this resource.
 #[tactic(auto, unfolding(crate::specs::Step::got))]
 fn plan_show<S: Shelf>(
     alloc: Global,
@@ -278,7 +287,7 @@ fn plan_show<S: Shelf>(
     })
 }
 
-/// What is to be done for a request to show the resource that it names.
+/// Plans a GET of the resource that the request names.
 fn plan_get<S: Shelf>(
     alloc: Global,
     viewer: &Viewer<'_>,
@@ -297,7 +306,7 @@ fn plan_get<S: Shelf>(
     plan_show(alloc, viewer, shelf, turn, wanted, &resource)
 }
 
-/// What is to be done for a request to remove a resource that the client sees.
+/// Plans a DELETE of a resource that the client sees.
 #[tactic(auto, unfolding(crate::specs::Step::removed))]
 fn removed(
     alloc: Global,
@@ -321,7 +330,7 @@ fn removed(
     })
 }
 
-/// What is to be done for a request to remove this resource.
+/// Plans a DELETE of this resource.
 fn removed_if_seen(
     alloc: Global,
     viewer: &Viewer<'_>,
@@ -341,7 +350,7 @@ fn removed_if_seen(
     removed(alloc, viewer, turn, resource)
 }
 
-/// What is to be done for a request to remove the resource that it names.
+/// Plans a DELETE of the resource that the request names.
 fn plan_remove<S: Shelf>(
     alloc: Global,
     viewer: &Viewer<'_>,
@@ -358,7 +367,7 @@ fn plan_remove<S: Shelf>(
     Ok(removed_if_seen(alloc, viewer, turn, &resource)?)
 }
 
-/// The JSON of a page of a client's view, each item as the query wants it.
+/// Returns the JSON of a page, each item projected to the attributes that the query wants.
 fn list_text(alloc: Global, found: Page, query: &Query) -> Result<Text, NoMemory>
     ensures { IfOk result (λ text. (view : List Content) → IsPage view query.now found → text ≡ spec.list_text query.now view) }
 {
@@ -367,7 +376,7 @@ fn list_text(alloc: Global, found: Page, query: &Query) -> Result<Text, NoMemory
     Ok(Text::new(text))
 }
 
-/// What is to be done for a search.
+/// Plans a search.
 #[tactic(auto, unfolding(crate::specs::Step::listed))]
 fn plan_search<S: Shelf>(
     alloc: Global,
@@ -395,7 +404,7 @@ fn plan_search<S: Shelf>(
     })
 }
 
-/// What is to be done for a turn, whatever it asks.
+/// Plans a turn.
 pub(crate) fn planned<S: Shelf>(
     alloc: Global,
     viewer: &Viewer<'_>,

@@ -1,4 +1,4 @@
-//! The resource that a request names, as its client reaches it.
+//! Reads the resource that a request names, if its client sees it.
 ghost use Rattle.std.specs.Prelude.{◌≡◌, ℕ, List, IfOk};
 ghost use Rattle.scim_view.specs.View.{viewer_of};
 ghost use Rattle.scim_shelf.specs.Shelves.{Answers, OnlyReads};
@@ -15,16 +15,16 @@ use scim_value::Resource;
 use scim_view::Viewer;
 use std::alloc::Global;
 
-/// A resource that the client sees, or what it is told instead.
+/// A resource that the client sees, or the plan if it doesn't see one.
 #[derive(Drop)]
 pub(crate) enum Reached {
-    /// The resource, and what the client may do with it.
+    /// The resource, and the client's rights to it.
     Seen(Resource, Rights),
-    /// What is to be done where there is none, or the client doesn't see it.
+    /// The plan if there is no such resource, or the client doesn't see it.
     Told(Plan),
 }
 
-/// The resource that the turn's request names, as its client reaches it.
+/// Reads the resource that the turn's request names, with the client's rights to it.
 pub(crate) fn reach<S: Shelf>(
     alloc: Global,
     viewer: &Viewer<'_>,

@@ -1,4 +1,4 @@
-//! What is to be done for a request to replace a resource (RFC 7644 section 3.5.1).
+//! Plans a PUT (RFC 7644 section 3.5.1).
 ghost use Rattle.std.specs.Prelude.{◌≡◌, ℕ, List, filter, None, IfOk};
 ghost use Rattle.std.specs.List.{list_any};
 ghost use Rattle.scim_schema.specs.Units.{units};
@@ -31,7 +31,7 @@ fn is_writable(rights: &Rights, kind: Kind, unit: Unit) -> bool
     mutability_of(kind, unit) != Mutability::ReadOnly && rights.forbidding(kind, unit).is_none()
 }
 
-/// Those of these units that the client may write. NoMemory where none was to be had.
+/// Returns those of these units that the client may write.
 fn writable_of(
     alloc: Global,
     rights: &Rights,
@@ -49,7 +49,7 @@ fn writable_of(
     Ok(writable)
 }
 
-/// Whether the body gives the unit, and the client may not write it.
+/// Whether the body gives the unit although the client may not write it.
 fn is_questionable(rights: &Rights, draft: &Draft, unit: Unit) -> bool
     ensures { result ≡ is_in_question (access_in rights.now) draft.now unit }
 {
@@ -58,7 +58,7 @@ fn is_questionable(rights: &Rights, draft: &Draft, unit: Unit) -> bool
         && rights.forbidding(draft.kind(), unit).is_some()
 }
 
-/// Whether the body gives one of these units that the client may not write.
+/// Whether the body gives one of these units although the client may not write it.
 fn is_any_questionable(rights: &Rights, draft: &Draft, units: &[Unit]) -> bool
     ensures { result ≡ list_any (is_in_question (access_in rights.now) draft.now) units.now }
 {
@@ -70,8 +70,8 @@ fn is_any_questionable(rights: &Rights, draft: &Draft, units: &[Unit]) -> bool
     false
 }
 
-/// Why the body may not give what it gives of the unit, where this is what the client sees of the resource.
-/// NoMemory where none was to be had.
+/// Returns the leaf that is denied and the decision, if the client may not write the unit and the body gives
+/// it other values than the client sees; `seen` is the resource as the client sees it.
 fn unit_denied(
     alloc: Global,
     rights: &Rights,
@@ -87,7 +87,7 @@ fn unit_denied(
     Ok(rights.forbidding(draft.kind(), unit))
 }
 
-/// The first of these units for which there is a reason. NoMemory where none was to be had.
+/// Returns the result of `unit_denied` for the first of these units that is denied.
 fn first_denied_among(
     alloc: Global,
     rights: &Rights,
@@ -106,8 +106,8 @@ fn first_denied_among(
     Ok(None)
 }
 
-/// The first unit for which there is a reason. What the client sees of the resource is made only where the
-/// body gives something that it may not write. NoMemory where none was to be had.
+/// Returns the result of `unit_denied` for the first unit that is denied. Computes what the client sees of
+/// the resource only if the body gives a unit that the client may not write.
 fn first_unit_denied(
     alloc: Global,
     viewer: &Viewer<'_>,
@@ -127,7 +127,7 @@ fn first_unit_denied(
     first_denied_among(alloc, rights, draft, &seen, own)
 }
 
-/// What is to be done where the policy lets the client give all that the body gives.
+/// Plans a PUT whose body the policy allows.
 fn plan_allowed<S: Shelf>(
     alloc: Global,
     viewer: &Viewer<'_>,
@@ -181,7 +181,7 @@ fn plan_seen<S: Shelf>(
     }
 }
 
-/// What is to be done for a request to replace the resource that it names.
+/// Plans a PUT to the resource that the request names.
 pub(crate) fn plan_replace<S: Shelf>(
     alloc: Global,
     viewer: &Viewer<'_>,

@@ -1,4 +1,4 @@
-//! What requests are answered.
+//! The replies to requests.
 ghost use Rattle.std.specs.Prelude.{◌≡◌};
 ghost use Rattle.std.specs.Option.{option_copied};
 ghost use Rattle.scim_service.specs.Replies as spec;
@@ -8,21 +8,20 @@ use scim_cell::Text;
 use scim_shelf::ShelfFault;
 use scim_text::Failed;
 
-/// What a request is answered.
+/// The reply to a request.
 pub enum Reply {
-    /// 200, with a JSON text: of a resource, or of a list.
+    /// 200, with the JSON of a resource or of a list.
     Shown(Text),
-    /// 201: a resource was made. Its location, and its JSON; no JSON where the client doesn't see it.
+    /// 201: a resource was created. Its location, and its JSON, or None if the client doesn't see it.
     Created(Text, Option<Text>),
-    /// 204: it is done, and there is nothing to show.
+    /// 204: the request was carried out, and there is nothing to show.
     Done,
     /// A refusal.
     Refused(Refusal),
-    /// 500: nothing was done, for this cause, which isn't told outside.
+    /// 500: nothing was done, because of this fault. The body doesn't tell which.
     Failed(Failed<ShelfFault>),
 }
 
-/// One call, wherever a reply is dropped, in place of a look at each form.
 impl Drop for Reply {
     fn drop(self) {
         match self {
@@ -34,7 +33,7 @@ impl Drop for Reply {
 }
 
 impl Reply {
-    /// The refusal that it is, if it is one.
+    /// Returns the refusal of the reply, if it is one; that of a failure is `Store`.
     pub fn refusal(&self) -> Option<Refusal>
         ensures { result ≡ spec.refusal_of self.now }
     {
@@ -45,7 +44,7 @@ impl Reply {
         }
     }
 
-    /// The body, if it has one: a JSON text.
+    /// Returns the body, if any: a JSON text.
     pub fn body(&self) -> Option<&str>
         ensures { option_copied result ≡ spec.body_of self.now }
     {
@@ -58,7 +57,7 @@ impl Reply {
         }
     }
 
-    /// Where the resource is found that was made, if one was (RFC 7644 section 3.1).
+    /// Returns the location of the resource that was created, if any (RFC 7644 section 3.1).
     pub fn location(&self) -> Option<&str>
         ensures { option_copied result ≡ spec.location_of self.now }
     {

@@ -1,4 +1,4 @@
-//! What clients ask of the service.
+//! The requests that clients send to the service.
 ghost use Rattle.scim_service.specs.Requests.{IsAsk, IsTurn};
 
 use scim_audit::Refusal;
@@ -10,27 +10,29 @@ use scim_schema::{Kind, Op};
 use scim_text::Moment;
 use scim_view::Wanted;
 
-/// What is asked of resources of a kind.
+/// The part of a request that says what to do with resources of its kind.
 pub enum Ask {
-    /// To show the resource that the request names (RFC 7644 section 3.4.1), of it what is wanted.
+    /// GET: shows the resource that the request names, projected to the wanted attributes (RFC 7644 section
+    /// 3.4.1).
     Get(Wanted),
-    /// To show those that the query finds (RFC 7644 section 3.4.2).
+    /// Search: shows the resources that the query finds (RFC 7644 section 3.4.2).
     Search(Query),
-    /// To make a resource of a draft (RFC 7644 section 3.3), and to show of it what is wanted. The draft is of
-    /// the request's kind and was read for Creating; another is answered [`Refusal::MessageValue`].
+    /// Create: makes a resource from a draft (RFC 7644 section 3.3), and shows its wanted attributes. The
+    /// draft must be of the request's kind and read for Creating; any other is refused with
+    /// [`Refusal::MessageValue`].
     Create(Draft, Wanted),
-    /// To replace the resource that the request names by what a draft gives, as far as the policy lets the client
-    /// write it (RFC 7644 section 3.5.1), and to show of it what is wanted. The draft is of the request's kind;
-    /// another is answered [`Refusal::MessageValue`].
+    /// PUT: replaces the resource that the request names by the draft, as far as the policy lets the client
+    /// write it (RFC 7644 section 3.5.1), and shows its wanted attributes. The draft must be of the request's
+    /// kind; any other is refused with [`Refusal::MessageValue`].
     Replace(Draft, Wanted),
-    /// To change the resource that the request names by the steps of a patch (RFC 7644 section 3.5.2), and to show of
-    /// it what is wanted. The patch is of the request's kind; another is answered [`Refusal::MessageValue`].
+    /// PATCH: changes the resource that the request names by the steps of a patch (RFC 7644 section 3.5.2),
+    /// and shows its wanted attributes. The patch must be of the request's kind; any other is refused with
+    /// [`Refusal::MessageValue`].
     Patch(Patch, Wanted),
-    /// To remove the resource that the request names (RFC 7644 section 3.6).
+    /// DELETE: removes the resource that the request names (RFC 7644 section 3.6).
     Remove,
 }
 
-/// One call, wherever it is dropped, in place of a look at each form.
 impl Drop for Ask {
     fn drop(self) {
         match self {
@@ -48,17 +50,17 @@ impl Drop for Ask {
 pub struct Request {
     /// The name of the client.
     pub client: Text,
-    /// What it is about to do: the operation that the policy is asked about.
+    /// The operation, as the policy decides on it.
     pub op: Op,
-    /// With which kind of resources.
+    /// The kind of the resources.
     pub kind: Kind,
-    /// The id of the resource; None where none is named, or what names it is no id. No resource is found then.
+    /// The id of the resource; None if the request names none, or by a text that isn't an id. Then no
+    /// resource is found.
     pub id: Option<Id>,
-    /// What it asks; or what is wrong with how it asks.
+    /// What to do, or the refusal of a request that can't be read.
     pub ask: Result<Ask, Refusal>,
 }
 
-/// One call, wherever a request is dropped, in place of a look at all that it may ask.
 impl Drop for Request {
     fn drop(self) {
         let Request {
@@ -71,17 +73,17 @@ impl Drop for Request {
     }
 }
 
-/// A request at its turn: with its moment, and the id for the resource that it may create.
+/// A request with its moment and an id for the resource that it may create.
 #[derive(Drop)]
 pub struct Turn {
     pub request: Request,
-    /// When it came.
+    /// The moment of the request.
     pub moment: Moment,
-    /// The id of the resource that it makes, if it makes one.
+    /// The id of the resource that the request creates, if it creates one.
     pub fresh: Id,
 }
 
-/// What a request gives was read as a draft or as a patch.
+/// Proves that the draft or the patch of a request is valid. Has no effect.
 fn ask_is_sound(ask: &Result<Ask, Refusal>)
     ensures { IsAsk ask.now }
 {
@@ -99,8 +101,8 @@ fn ask_is_sound(ask: &Result<Ask, Refusal>)
     }
 }
 
-/// Each turn is sound: what it gives was read as a draft or as a patch, the id for what it makes is an id, and
-/// its moment can be written.
+/// Proves that a turn is valid: its draft or patch was read by the readers of bodies, `fresh` is an id, and
+/// its moment can be written. Has no effect.
 pub fn turn_is_sound(turn: &Turn)
     ensures { IsTurn turn.now }
 {

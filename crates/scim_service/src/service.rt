@@ -1,4 +1,4 @@
-//! The service: turns over a shelf.
+//! The service: answers turns over a shelf.
 ghost use Rattle.std.specs.Prelude.{◌≡◌, ◌≢◌, ◌≤◌, ℕ, List, IfOk, OnErr, Err, length};
 ghost use Rattle.scim_text.specs.declared.memory.Failed.{Failed};
 ghost use Rattle.scim_view.specs.View.{viewer_of};
@@ -19,17 +19,16 @@ use scim_text::{Failed, NoMemory, push};
 use scim_view::Viewer;
 use std::alloc::Global;
 
-/// Answers clients' requests by a policy, over what a shelf keeps.
+/// Answers clients' requests by a policy, over a shelf.
 ///
-/// Each turn is planned by reads alone; then its change and its row of the audit are committed as one. So the
-/// reply is whole before anything is changed.
+/// Each turn is planned by reads alone. Then its change and its audit row are committed together, so the
+/// reply is complete before anything is changed.
 pub struct Service<S> {
     policy: Policy,
     base: Text,
     shelf: S,
 }
 
-/// One call, wherever a service is dropped, in place of a look at all that it has.
 impl<S: Drop> Drop for Service<S> {
     fn drop(self) {
         let Service {
@@ -40,7 +39,7 @@ impl<S: Drop> Drop for Service<S> {
     }
 }
 
-/// Plans a turn, commits its change with its row, and gives its reply; or a fault, and nothing is done.
+/// Plans a turn, commits its change with its audit row, and returns its reply. On an error nothing is done.
 fn answer_or_fault<S: Shelf>(
     alloc: Global,
     viewer: &Viewer<'_>,
@@ -66,8 +65,8 @@ fn answer_or_fault<S: Shelf>(
 }
 
 impl<S: Shelf> Service<S> {
-    /// A service by this policy over this shelf, whose resources stand below the base, as
-    /// `http://127.0.0.1:8080`. It takes no memory.
+    /// Returns a service with this policy, base URI and shelf. The locations of its resources are below the
+    /// base, as `http://127.0.0.1:8080`. Doesn't allocate.
     pub fn new(policy: Policy, base: Text, shelf: S) -> Service<S>
         ensures policy { result.policy ≡ policy }
         ensures base { result.base ≡ base }
@@ -80,8 +79,10 @@ impl<S: Shelf> Service<S> {
         }
     }
 
-    /// Answers one turn. Where the shelf fails or memory is wanting the reply is [`Reply::Failed`], and
-    /// nothing is done or noted.
+    /// Answers one turn. If the shelf fails or memory runs out, the reply is [`Reply::Failed`]; then nothing
+    /// is changed and no audit row is added.
+    ///
+    /// A request that is refused already with [`Refusal::Store`] is answered so, without an audit row.
     pub fn answer(&mut self, alloc: Global, turn: &Turn) -> Reply
         ensures policy { self.new.policy ≡ self.old.policy }
         ensures base { self.new.base ≡ self.old.base }
@@ -105,8 +106,8 @@ impl<S: Shelf> Service<S> {
         }
     }
 
-    /// Answers turns one after another. NoMemory where none was to be had for the replies; then no turn
-    /// was answered.
+    /// Answers turns in order. On an error, for which memory for the replies is the only cause, no turn was
+    /// answered.
     pub fn run(&mut self, alloc: Global, turns: &[Turn]) -> Result<Vec<Reply>, NoMemory>
         ensures ran { IfOk result (λ replies. (store : Store) → S.stands self.old.shelf store → S.is_honest self.new.shelf → IsStore self.old.base store
             → (next : Store) × S.stands self.new.shelf next × IsStore self.old.base next
@@ -123,14 +124,14 @@ impl<S: Shelf> Service<S> {
         Ok(replies)
     }
 
-    /// The shelf.
+    /// Returns the shelf.
     pub fn shelf(&self) -> &S
         ensures { result.now ≡ self.now.shelf }
     {
         &self.shelf
     }
 
-    /// The shelf, to keep.
+    /// Consumes the service and returns the shelf.
     pub fn into_shelf(self) -> S
         ensures { result ≡ self.shelf }
     {
@@ -143,7 +144,7 @@ impl<S: Shelf> Service<S> {
     }
 }
 
-/// So many replies, to be overwritten.
+/// Returns a list of `count` placeholder replies.
 fn reserved(alloc: Global, count: usize) -> Result<Vec<Reply>, NoMemory>
     ensures { IfOk result (λ replies. length replies.items ≡ count) }
 {

@@ -1,4 +1,4 @@
--- What a shelf has that keeps resources in memory.
+-- The state of a shelf that caches the resources of another.
 use Rattle.std.specs.Prelude.{List, Option, IfSome, IsSome}
 use Rattle.scim_cell.specs.Content.{Content}
 use Rattle.scim_shelf.specs.declared.collections.Collection.{Collection}
@@ -6,14 +6,14 @@ use Rattle.scim_shelf.specs.Stores.{Store, AreKeyed}
 use Rattle.scim_shelf.specs.Collections.{IsCollection}
 use Rattle.scim_shelf.specs.declared.caches.CachedShelf.{CachedShelf}
 
--- the resources in memory, if there are any, are those of a store
+-- The cache, if it is filled, holds the resources `cs`.
 abbrev pub AreThose : List Content → Option Collection → Type 0
 AreThose cs resources = IfSome resources (IsCollection cs)
 
--- a shelf stands for a store whose resources are in order of id and share no unique name
+-- A shelf stands for a store whose resources are in order of id and share no unique name.
 abbrev pub HasKeyed : {H : Type 0} → (H → Store → Type 0) → H → Store → Type 0
 HasKeyed Stands shelf store = Stands shelf store × AreKeyed store.resources
 
--- the resources are in memory
+-- The cache is filled.
 abbrev pub IsFilled : {S : Type 0} → CachedShelf S → Type 0
 IsFilled shelf = IsSome shelf.resources

@@ -1,4 +1,4 @@
--- What a collection of the resources of a store has.
+-- The resources that a collection in memory holds.
 use Rattle.std.specs.Prelude.{◌≡◌, ℕ, List, map, find}
 use Rattle.std.specs.Option.{option_map}
 use Rattle.scim_cell.specs.Content.{Content}
@@ -10,8 +10,8 @@ use Rattle.scim_shelf.specs.Indexed.{has_id, keyed}
 use Rattle.scim_shelf.specs.Owners.{owner}
 use Rattle.scim_shelf.specs.Members.{is_noted, is_group_in}
 
--- the collection has just these resources, by id, knows which of them has each unique name, and has a note of a group under each
--- value that it lists, and no others
+-- The collection has exactly the resources `cs` by id, finds the owner of each unique name, and has each
+-- group indexed under exactly the values that it lists.
 pub record IsCollection (cs : List Content) (collection : Collection) : Type 0 where
   pub resources : collection.by_id.entries ≡ map keyed cs
   pub keyed_apart : AreKeyed cs

@@ -1,4 +1,4 @@
--- Who has which unique name, as the code keeps it.
+-- The index of resources by unique name, as the code holds it.
 use Rattle.std.specs.Prelude.{ℕ, Bool, List, Option}
 use Rattle.std.specs.List.{list_any}
 use Rattle.std.specs.HashMap.{get, spare}
@@ -6,18 +6,18 @@ use Rattle.scim_value.specs.declared.uniqueness.UniqueName.{UniqueName}
 use Rattle.scim_value.specs.contracts.uniqueness.UniqueNamePartialEq.TheImpl as name_eq
 use Rattle.scim_shelf.specs.declared.owners.Owners.{Owners}
 
--- whether the code takes two names for one
+-- Whether the code takes two names for the same one.
 abbrev pub is_alike : UniqueName → UniqueName → Bool
 is_alike = (name_eq.ghosts).eq
 
--- whether a name is among these
+-- Whether a name is in the list.
 abbrev pub is_among : UniqueName → List UniqueName → Bool
 is_among q names = list_any (λ n. is_alike n q) names
 
--- the id of the resource that has a name
+-- The id of the resource that has a name, if any.
 abbrev pub owner : Owners → UniqueName → Option (List ℕ)
 owner owners q = get is_alike owners.by_name q
 
--- how many more names can be noted with no want of memory
+-- How many more names the index takes without allocating.
 abbrev pub room : Owners → ℕ
 room owners = spare owners.by_name

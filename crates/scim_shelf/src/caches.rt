@@ -1,4 +1,4 @@
-//! A shelf that keeps the resources of the shelf below it in memory.
+//! A shelf that caches the resources of the shelf below it in memory.
 ghost use Rattle.std.specs.Prelude.{◌≡◌, IsTrue, ◌↔◌, OnOk, OnErr};
 ghost use Rattle.std.specs.Borrow.{Lends, sem};
 ghost use Rattle.scim_shelf.specs.contracts.caches.CachedShelf.{the_row};
@@ -18,23 +18,24 @@ use scim_text::Failed;
 use scim_value::{Resource, UniqueName};
 use std::alloc::Global;
 
-/// A shelf whose resources are kept in memory too, where they are read.
+/// A shelf that caches the resources of another shelf, the shelf below, in memory.
 ///
-/// It stands for the store of the shelf below it. Once it is filled, what it is asked of the resources is answered from
-/// memory. A change is committed below first, and then made in memory; where that wants memory, the resources in memory
-/// are given up and the commit stands: the shelf below is read again, until it is filled anew. A commit that finds no
-/// memory for a copy of its change answers so, before anything is changed. Rows of the audit are kept below alone.
+/// Its store is that of the shelf below. Until it is filled, reads go to the shelf below; afterwards the
+/// cache serves them. A commit goes to the shelf below first and then updates the cache. If that update can't
+/// allocate, the commit stands, the cache is dropped, and reads go to the shelf below until the cache is
+/// filled again. A commit that can't allocate a copy of its change fails before anything is changed. Audit
+/// rows are only in the shelf below.
 ///
-/// What others write below it isn't seen: it is honest only while nobody else does.
+/// It doesn't see what others write to the shelf below: it is honest only while nobody else writes there.
 #[derive(Drop)]
 pub struct CachedShelf<S> {
-    /// None where the shelf below is read.
+    /// The cache; None while reads go to the shelf below.
     resources: Option<Collection>,
     lower: S,
 }
 
 impl<S: Shelf> CachedShelf<S> {
-    /// The shelf over another, with no resources in memory yet.
+    /// Returns a shelf over another, with an empty cache.
     pub fn over(lower: S) -> CachedShelf<S>
         ensures lower { result.lower ≡ lower }
         ensures stands { (store : Store) → S.stands lower store → ⟦<CachedShelf<S> as Shelf>⟧.stands result store }
@@ -45,11 +46,11 @@ impl<S: Shelf> CachedShelf<S> {
         }
     }
 
-    /// Reads the resources of the shelf below into memory, of which no two have one id or share a unique name
-    /// (RFC 7643 sections 2.2 and 3.1).
+    /// Reads all resources of the shelf below into the cache. No two of them may have one id or share a
+    /// unique name (RFC 7643 sections 2.2 and 3.1).
     ///
-    /// Fails by Device where the shelf below did, or where memory was wanting. Then what is in memory is as it was: with
-    /// nothing there, the shelf below is read, so a caller may go on where memory alone was wanting.
+    /// Fails with Device if the shelf below did, or with NoMemory. On any error the cache is as before: if it
+    /// was empty, reads still go to the shelf below, so a caller may go on after NoMemory.
     pub fn fill(&mut self, alloc: Global) -> Result<(), Failed<ShelfFault>>
         ensures filled { OnOk result (IsFilled self.new) }
         ensures kept { OnErr result (self.new.resources ≡ self.old.resources) }
@@ -60,15 +61,15 @@ impl<S: Shelf> CachedShelf<S> {
         Ok(())
     }
 
-    /// Whether the resources are in memory.
+    /// Whether the cache is filled.
     pub fn is_filled(&self) -> bool
         ensures { IsTrue result ↔ IsFilled self.now }
     {
         self.resources.is_some()
     }
 
-    /// The shelf below, to be asked for what it alone has, as the rows of its audit. Whoever changes its resources by this is one of those
-    /// others whose writing isn't seen.
+    /// Returns the shelf below, for what only it has, such as its audit rows. The cache doesn't follow a
+    /// change that is made through this reference: it counts as a write by others.
     pub fn lower_mut(&mut self) -> &mut S
         ensures* writes_back { sem 𝓛 (Lends (the_row S.row) S.row self.entry result (λ lower. record self.old { lower = lower })) }
         ensures shows { result.now ≡ self.old.lower }
@@ -76,7 +77,7 @@ impl<S: Shelf> CachedShelf<S> {
         &mut self.lower
     }
 
-    /// The shelf below, which has all that was committed.
+    /// Returns the shelf below, which has all committed changes.
     pub fn into_lower(self) -> S
         ensures { result ≡ self.lower }
     {

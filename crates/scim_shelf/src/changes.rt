@@ -1,4 +1,4 @@
-//! Changes of a store.
+//! Changes of the resources of a store.
 ghost use Rattle.std.specs.Prelude.{◌≡◌, IfOk};
 
 use scim_cell::Id;
@@ -7,21 +7,19 @@ use scim_text::NoMemory;
 use scim_value::Resource;
 use std::alloc::Global;
 
-/// What one request changes of the resources.
+/// The change that one request makes to the resources of a store.
 #[derive(Drop)]
 pub enum Change {
-    /// Nothing: a row of the audit is all that is added.
+    /// No change: the commit only adds its audit row.
     Nothing,
-    /// The resource is kept, instead of the one with its id where there is one.
+    /// Stores the resource, in place of the one with its id, if any.
     Keep(Resource),
-    /// The resource of the kind with the id goes.
+    /// Removes the resource of this kind with this id.
     Remove(Kind, Id),
 }
 
 impl Change {
-    /// A copy, which takes memory where a resource is kept.
-    ///
-    /// The only error is [`NoMemory`].
+    /// Returns a copy. Only a copy of `Keep` allocates.
     pub fn try_copy(&self, alloc: Global) -> Result<Change, NoMemory>
         ensures { IfOk result (λ copy. copy ≡ self.now) }
     {

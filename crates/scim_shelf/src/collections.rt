@@ -1,4 +1,4 @@
-//! The resources of a store, to be found by id, by unique name and by member.
+//! The resources of a store in memory, indexed by id, by unique name and by member.
 ghost use Rattle.std.specs.Prelude.{◌≡◌, ◌&&◌, ◌||◌, not, ℕ, List, [], true, cond, IfOk, OnOk, OnErr, map, find, filter, AllPairs};
 ghost use Rattle.std.specs.Ordering.{nat_cmp};
 ghost use Rattle.std.specs.Cmp.Lexicographic.{slice_cmp};
@@ -27,18 +27,17 @@ use scim_value::{Resource, UniqueName, unique_names};
 use std::alloc::Global;
 use std::collections::{BTreeMap, BTreeSet};
 
-/// The resources of a store in memory, to be found by id, by unique name and by member.
+/// The resources of a store in memory, indexed by id, by unique name and by member value.
 ///
-/// A resource is found by its id by halves, and by a unique name at once, as are the ids of the groups that list a
-/// value: just those, so that nobody looks at the members of a group to tell. A change looks at the resource with its
-/// id alone.
+/// A look-up by id searches a tree. One by unique name or by member value finds the ids in a hash table and
+/// then searches the tree for each, without reading the members of any group. A change reads only the
+/// resource with its id.
 pub struct Collection {
     by_id: BTreeMap<Id, Resource>,
     owners: Owners,
     members: Members,
 }
 
-/// One call, wherever a collection is dropped, in place of a look at all that it has.
 impl Drop for Collection {
     fn drop(self) {
         let Collection {
@@ -49,7 +48,7 @@ impl Drop for Collection {
     }
 }
 
-/// A copy of what was found. NoMemory where none was to be had.
+/// Copies the resource, if any.
 fn copy_of(alloc: Global, found: Option<&Resource>) -> Result<Option<Resource>, NoMemory>
     ensures { IfOk result (λ copy. copy ≡ option_copied found.entry) }
 {
@@ -59,7 +58,7 @@ fn copy_of(alloc: Global, found: Option<&Resource>) -> Result<Option<Resource>, 
     }
 }
 
-/// What was found, if it is of the kind.
+/// Returns the resource if it is of the kind, and None otherwise.
 fn if_of(kind: Kind, found: Option<&Resource>) -> Option<&Resource>
     ensures { option_copied result ≡ only_of kind (option_copied found.entry) }
 {
@@ -70,7 +69,7 @@ fn if_of(kind: Kind, found: Option<&Resource>) -> Option<&Resource>
 }
 
 impl Collection {
-    /// No resources.
+    /// Returns an empty collection.
     pub(crate) fn new(alloc: Global) -> Collection
         ensures { IsCollection [] result }
     {
@@ -81,7 +80,7 @@ impl Collection {
         }
     }
 
-    /// Just these resources, which may come in any order. NoMemory where none was to be had.
+    /// Returns the collection of these resources, which may come in any order.
     pub(crate) fn of(alloc: Global, resources: Vec<Resource>) -> Result<Collection, NoMemory>
         requires { AllPairs AreApart resources.items }
         ensures { IfOk result (λ collection. (cs : List Content) × IsPermutation resources.items cs × IsCollection cs collection) }
@@ -94,9 +93,8 @@ impl Collection {
         Ok(collection)
     }
 
-    /// A copy of the resource of the kind with the id; None where there is none (RFC 7644 section 3.4.1).
-    ///
-    /// The only error is [`NoMemory`].
+    /// Returns a copy of the resource of this kind with this id; None if there isn't one (RFC 7644 section
+    /// 3.4.1).
     pub fn resource_at(
         &self,
         alloc: Global,
@@ -108,23 +106,23 @@ impl Collection {
         copy_of(alloc, if_of(kind, self.with_id(id)))
     }
 
-    /// A copy of the resource that has the unique name; None where none has it (RFC 7643 section 2.2, uniqueness).
-    ///
-    /// The only error is [`NoMemory`].
+    /// Returns a copy of the resource that has the unique name; None if no resource has it (RFC 7643 section
+    /// 2.2, uniqueness).
     pub fn name_owner(&self, alloc: Global, name: &UniqueName) -> Result<Option<Resource>, NoMemory>
         ensures { IfOk result (λ found. (cs : List Content) → IsCollection cs self.now → found ≡ find (has_name (name_of name.now)) cs) }
     {
         copy_of(alloc, self.named(name))
     }
 
-    /// The resource with the id; None where there is none.
+    /// Returns the resource with the id, of either kind.
     fn with_id(&self, id: Id) -> Option<&Resource>
         ensures { (cs : List Content) → IsCollection cs self.now → option_copied result ≡ find (has_id id) cs }
     {
         self.by_id.get(&id)
     }
 
-    /// What there is of the id of a change, whatever its kind; None where there is none, and for a change of nothing.
+    /// Returns the resource that the id of the change has now, of either kind; None if the id is unused or
+    /// the change is `Nothing`.
     pub fn old_of(&self, change: &Change) -> Option<&Resource>
         ensures { (cs : List Content) → IsCollection cs self.now → IsOld cs change.now (option_copied result) }
     {
@@ -135,7 +133,7 @@ impl Collection {
         }
     }
 
-    /// The resource that has the name; None where none has it.
+    /// Returns the resource that has the unique name.
     fn named(&self, name: &UniqueName) -> Option<&Resource>
         ensures { (cs : List Content) → IsCollection cs self.now → option_copied result ≡ find (has_name (name_of name.now)) cs }
     {
@@ -143,8 +141,7 @@ impl Collection {
         self.with_id(id)
     }
 
-    /// The unique names of the resource with the id; none where there is no such resource. NoMemory where none
-    /// was to be had.
+    /// Returns the unique names of the resource with the id; none if there isn't one.
     fn names_at(&self, alloc: Global, id: Id) -> Result<Vec<UniqueName>, NoMemory>
         ensures { IfOk result (λ names. (cs : List Content) → IsCollection cs self.now
             → map name_of names.items ≡ names_of (find (has_id id) cs)) }
@@ -155,8 +152,8 @@ impl Collection {
         }
     }
 
-    /// The values under which the resource with the id of this one is noted and this one isn't to be; none where there
-    /// is no such resource. NoMemory where none was to be had.
+    /// Returns the member values that the stored group with this id lists and the new one doesn't: their
+    /// index entries are removed when the new one is stored.
     fn values_gone(&self, alloc: Global, new: &Resource) -> Result<Vec<Text>, NoMemory>
         ensures { IfOk result (λ gone. (cs : List Content) → IsCollection cs self.now
             → (v : List ℕ) → is_one_of v gone.items ≡ (is_group_in v (find (has_id new.now.id) cs) && not (is_group_with v new.now))) }
@@ -167,8 +164,8 @@ impl Collection {
         }
     }
 
-    /// The values under which this resource is to be noted and the one with its id isn't. NoMemory where none was to be
-    /// had.
+    /// Returns the member values that the new group lists and the stored one with its id doesn't: they get
+    /// index entries before the new one is stored.
     fn values_come(&self, alloc: Global, new: &Resource) -> Result<Vec<Text>, NoMemory>
         ensures { IfOk result (λ come. (cs : List Content) → IsCollection cs self.now
             → (v : List ℕ) → is_one_of v come.items ≡ (is_group_with v new.now && not (is_group_in v (find (has_id new.now.id) cs)))) }
@@ -177,8 +174,8 @@ impl Collection {
         self.members.values_unnoted(alloc, members, new.id())
     }
 
-    /// The members of a group after those that it begins with as the group with its id does, which is noted under
-    /// their values already; all of them where there is no such group.
+    /// Returns the members of the new group without the prefix that it shares with the stored group of its
+    /// id, which is indexed already; all members if there is no stored group.
     fn members_to_note<'a>(&self, new: &'a Resource) -> &'a [Row]
         ensures { (cs : List Content) → IsCollection cs self.now → (v : List ℕ)
             → (is_value_of v result.now || is_group_in v (find (has_id new.now.id) cs)) ≡ (is_group_with v new.now || is_group_in v (find (has_id new.now.id) cs)) }
@@ -189,10 +186,10 @@ impl Collection {
         }
     }
 
-    /// Makes the change. A resource that is to be kept has a place: none of another id shares a unique name with it,
-    /// and none of its id is of the other kind.
+    /// Makes the change. For `Keep` the caller guarantees that no resource of another id shares a unique name
+    /// with the new one, and that its id isn't used by a resource of the other kind.
     ///
-    /// The only error is [`NoMemory`]. Then nothing is changed.
+    /// On an error nothing is changed.
     pub fn make(&mut self, alloc: Global, change: Change) -> Result<(), NoMemory>
         ensures ok { OnOk result ((store : Store) → IsCollection store.resources self.old → CanKeep store change
             → IsCollection (changed change store.resources) self.new) }
@@ -205,8 +202,8 @@ impl Collection {
         }
     }
 
-    /// Keeps a resource, instead of the one with its id. NoMemory where none was to be had: no answer is
-    /// changed then.
+    /// Stores a resource, in place of the one with its id, if any. On an error every look-up returns what it
+    /// did before.
     pub(crate) fn keep(&mut self, alloc: Global, resource: Resource) -> Result<(), NoMemory>
         ensures ok { OnOk result ((cs : List Content) → IsCollection cs self.old → HasPlace cs resource
             → IsCollection (keep resource cs) self.new) }
@@ -225,8 +222,10 @@ impl Collection {
         Ok(())
     }
 
-    /// Puts the resource in the place of the one with its id, and notes it under these values, under none of which
-    /// that one is noted. NoMemory where none was to be had: nothing is changed then.
+    /// Puts the resource in the place of the one with its id, and adds it to the index under the values
+    /// `come`.
+    ///
+    /// On an error nothing is changed, provided that the id isn't indexed under any of those values before.
     fn insert(&mut self, alloc: Global, resource: Resource, come: &[Text]) -> Result<(), NoMemory>
         ensures owners { self.new.owners ≡ self.old.owners }
         ensures resources { OnOk result (self.new.by_id.entries ≡ insert_entry (slice_cmp nat_cmp) self.old.by_id.entries resource.id resource) }
@@ -246,7 +245,7 @@ impl Collection {
         }
     }
 
-    /// Lets the resource with the id go. NoMemory where none was to be had: nothing is changed then.
+    /// Removes the resource with the id, if any, of either kind. On an error nothing is changed.
     fn remove(&mut self, alloc: Global, id: Id) -> Result<(), NoMemory>
         ensures ok { OnOk result ((cs : List Content) → IsCollection cs self.old → IsCollection (without id cs) self.new) }
         ensures err { OnErr result ((cs : List Content) → IsCollection cs self.old → IsCollection cs self.new) }
@@ -260,9 +259,8 @@ impl Collection {
         Ok(())
     }
 
-    /// Shows the visitor the resources of the kind, in order of id.
-    ///
-    /// The only error is [`NoMemory`], where the visitor found none; the visitor is of no use then.
+    /// Passes the resources of the kind to the visitor, in order of id. After an error the visitor is
+    /// unusable.
     pub fn show<V: Visitor>(
         &self,
         alloc: Global,
@@ -279,10 +277,10 @@ impl Collection {
         Ok(())
     }
 
-    /// Shows the visitor the groups that list the value among their members, in order of id (RFC 7643 section 4.2). It
-    /// copies none, and looks at the members of none.
+    /// Passes the groups that list the value among their members to the visitor, in order of id (RFC 7643
+    /// section 4.2). Neither copies a group nor reads its members.
     ///
-    /// The only error is [`NoMemory`], where the visitor found none; the visitor is of no use then.
+    /// After an error the visitor is unusable.
     pub fn show_groups_with<V: Visitor>(
         &self,
         alloc: Global,
@@ -298,7 +296,7 @@ impl Collection {
         }
     }
 
-    /// Shows the visitor the resource with the id, if there is one. NoMemory where the visitor found none.
+    /// Passes the resource with the id, if any, to the visitor. After an error the visitor is unusable.
     fn show_one<V: Visitor>(&self, alloc: Global, id: Id, visitor: &mut V) -> Result<(), NoMemory>
         ensures { OnOk result ((cs : List Content) → IsCollection cs self.now
             → FoldsTo V.takes visitor.old (before (find (has_id id) cs) []) visitor.new) }
@@ -309,7 +307,8 @@ impl Collection {
         }
     }
 
-    /// Shows the visitor the resources with these ids, in order of id. NoMemory where the visitor found none.
+    /// Passes the resources with these ids to the visitor, in order of id. After an error the visitor is
+    /// unusable.
     fn show_several<V: Visitor>(
         &self,
         alloc: Global,

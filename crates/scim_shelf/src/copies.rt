@@ -1,4 +1,4 @@
-//! All resources of a shelf, copied off it.
+//! Copies of all resources of a shelf.
 ghost use Rattle.std.specs.Prelude.{◌≡◌, IfOk};
 ghost use Rattle.scim_cell.specs.Kinds.{of_kind};
 ghost use Rattle.scim_shelf.specs.Stores.{AreKeyed};
@@ -13,7 +13,7 @@ use scim_text::{Failed, NoMemory, push};
 use scim_value::Resource;
 use std::alloc::Global;
 
-/// A visitor that copies what it is shown.
+/// A visitor that copies each resource into a list.
 #[derive(Drop)]
 struct Copies {
     resources: Vec<Resource>,
@@ -31,7 +31,8 @@ impl Visitor for Copies {
     }
 }
 
-/// The resources of the kind, in order of id. Where one after another will do, `Shelf::each` copies none.
+/// Returns copies of the resources of the kind, in order of id. Where one at a time is enough, `Shelf::each`
+/// avoids the copies.
 ///
 /// Fails as `Shelf::each` does.
 pub fn all_of<S: Shelf>(
@@ -50,7 +51,7 @@ pub fn all_of<S: Shelf>(
     Ok(resources)
 }
 
-/// A visitor that keeps copies of what it is shown in a collection.
+/// A visitor that copies each resource into a collection.
 #[derive(Drop)]
 struct Collecting {
     collection: Collection,
@@ -67,7 +68,7 @@ impl Visitor for Collecting {
     }
 }
 
-/// All resources of a shelf, in memory.
+/// Returns copies of all resources of a shelf as a collection in memory.
 ///
 /// Fails as `Shelf::each` does.
 pub fn collection_of<S: Shelf>(

@@ -1,14 +1,14 @@
-//! What keeps a shelf from its work, want of memory aside.
+//! The faults of a shelf, apart from running out of memory.
 use scim_text::Failed;
 use thiserror::Error;
 
-/// What keeps a shelf from its work.
+/// A fault of a shelf.
 #[derive(Clone, Copy, Debug, PartialEq, Eq, Error)]
 pub enum ShelfFault {
-    /// The device failed or refused; the shelf's count of failures says how often that was.
+    /// The device failed or refused. The shelf's `failures` counts how often that happened.
     #[error("the store can't be read or written")]
     Device,
-    /// The last number of the audit is in use, so that nothing can be committed any more.
+    /// The last audit number is in use, so nothing can be committed.
     #[error("the audit is full")]
     Full,
 }

@@ -1,4 +1,4 @@
-//! Which values a group lists among its members (RFC 7643 section 4.2).
+//! The values that a group lists among its members (RFC 7643 section 4.2).
 ghost use Rattle.std.specs.Prelude.{◌≡◌, ◌&&◌, ◌||◌, not, ℕ, ◌≤◌, List, true, length, take, IfOk};
 ghost use Rattle.std.specs.Option.{option_copied};
 ghost use Rattle.scim_value.specs.Members.{is_text};
@@ -22,7 +22,7 @@ fn has_value(value: &str, member: &Row) -> bool
     }
 }
 
-/// The `value` of a member; None where it has none.
+/// Returns the `value` of a member; None if it has none.
 pub(crate) fn value_of(member: &Row) -> Option<&str>
     ensures { (v : List ℕ) → is_text v (value_in member.now) ≡ is_found v (option_copied result) }
 {
@@ -32,7 +32,7 @@ pub(crate) fn value_of(member: &Row) -> Option<&str>
     }
 }
 
-/// The members under whose `value`s a resource is noted: those of a group, and none of a user.
+/// Returns the members whose `value`s are indexed: those of a group; empty for a user.
 pub(crate) fn noted_members(resource: &Resource) -> &[Row]
     ensures { (v : List ℕ) → is_value_of v result.now ≡ is_group_with v resource.now }
 {
@@ -53,7 +53,7 @@ fn has_same_value(one: &Row, other: &Row) -> bool
     }
 }
 
-/// In how many members, from the first on, two lists have the same `value`s in the same order.
+/// Returns the length of the longest common prefix of two lists of members, compared by `value`.
 fn shared_members(some: &[Row], others: &[Row]) -> usize
     ensures inside { result ≤ length some.now × result ≤ length others.now }
     ensures same { (v : List ℕ) → is_value_of v (take result some.now) ≡ is_value_of v (take result others.now) }
@@ -68,8 +68,9 @@ fn shared_members(some: &[Row], others: &[Row]) -> usize
     shared
 }
 
-/// The members of a group after those that it begins with as another does: all that it may list beyond the other.
-/// Few, where a group grew or shrank at its end, however many it has. A user counts as a group of no members.
+/// Returns the members of a group behind the prefix that it shares with the other group: only these can have
+/// values that the other doesn't list. They are few if a large group grew or shrank at its end. A user counts
+/// as a group without members.
 pub(crate) fn members_beyond<'a>(other: &Resource, group: &'a Resource) -> &'a [Row]
     ensures { (v : List ℕ) → (is_value_of v result.now || is_group_with v other.now) ≡ (is_group_with v group.now || is_group_with v other.now) }
 {
@@ -78,8 +79,7 @@ pub(crate) fn members_beyond<'a>(other: &Resource, group: &'a Resource) -> &'a [
     &members[shared..]
 }
 
-/// The values that the old group lists and the new one doesn't, where a user lists none. NoMemory where none was to
-/// be had.
+/// Returns the values that the old group lists and the new one doesn't. A user lists none.
 pub(crate) fn values_beyond(
     alloc: Global,
     old: &Resource,
@@ -94,7 +94,7 @@ pub(crate) fn values_beyond(
     values_missing(alloc, members, new)
 }
 
-/// The values of these members that the group doesn't list. NoMemory where none was to be had.
+/// Returns the values of these members that the group doesn't list.
 fn values_missing(alloc: Global, members: &[Row], group: &Resource) -> Result<Vec<Text>, NoMemory>
     ensures { IfOk result (λ gone. (v : List ℕ) → is_one_of v gone.items ≡ (is_value_of v members.now && not (is_group_with v group.now))) }
 {

@@ -1,4 +1,6 @@
-//! Where a service provider keeps its resources and the rows of its audit.
+//! The store of a service provider as a trait (`Shelf`), with an implementation in memory and a cache over
+//! any other: resources by id, by unique name and by member, and the audit rows (RFC 7643 sections 2.2, 3.1
+//! and 4.2).
 #![tactic(auto)]
 
 mod caches;

@@ -1,4 +1,4 @@
-//! Which groups list a value among their members (RFC 7643 section 4.2).
+//! An index of groups by the values of their members (RFC 7643 section 4.2).
 ghost use Rattle.std.specs.Prelude.{◌≡◌, ◌&&◌, not, ℕ, List, true, false, cond, map, nat_eq, IfOk, OnOk, OnErr};
 ghost use Rattle.std.specs.Ordering.{nat_cmp};
 ghost use Rattle.std.specs.BTreeSet.{contains};
@@ -15,16 +15,16 @@ use scim_value::Resource;
 use std::alloc::Global;
 use std::collections::{BTreeSet, HashMap};
 
-/// The ids that are noted under a value, most often one.
+/// The ids of the groups that are indexed under one value, most often one.
 #[derive(Drop)]
 pub(crate) enum Holders {
-    /// This one alone, which takes no memory of its own.
+    /// One id, which needs no allocation of its own.
     One(Id),
-    /// These, which may be very many.
+    /// A set of ids, which may be large.
     Several(BTreeSet<Id>),
 }
 
-/// The set of these two ids. NoMemory where none was to be had.
+/// Returns the set of these two ids.
 fn both(alloc: Global, one: Id, other: Id) -> Result<BTreeSet<Id>, NoMemory>
     ensures { IfOk result (λ ids. (i : List ℕ) → contains (slice_cmp nat_cmp) ids i ≡ cond (is_same one i) true (is_same other i)) }
 {
@@ -35,7 +35,7 @@ fn both(alloc: Global, one: Id, other: Id) -> Result<BTreeSet<Id>, NoMemory>
 }
 
 impl Holders {
-    /// Whether the id is among them.
+    /// Whether the id is in the set.
     fn has(&self, id: Id) -> bool
         ensures { result ≡ is_holder id self.now }
     {
@@ -45,7 +45,7 @@ impl Holders {
         }
     }
 
-    /// Adds the id. NoMemory where none was to be had: nothing is changed then.
+    /// Adds the id. On an error nothing is changed.
     fn add(&mut self, alloc: Global, id: Id) -> Result<(), NoMemory>
         ensures ok { OnOk result ((i : List ℕ) → is_holder i self.new ≡ cond (is_same id i) true (is_holder i self.old)) }
         ensures err { OnErr result ((i : List ℕ) → is_holder i self.new ≡ is_holder i self.old) }
@@ -63,7 +63,7 @@ impl Holders {
         Ok(())
     }
 
-    /// Takes the id away if another is left, and answers whether none is.
+    /// Removes the id unless it is the last one, and returns whether it is.
     fn drops_last(&mut self, id: Id) -> bool
         ensures last { result ≡ true → (i : List ℕ) → cond (is_same id i) false (is_holder i self.old) ≡ false }
         ensures left { result ≡ false → (i : List ℕ) → is_holder i self.new ≡ cond (is_same id i) false (is_holder i self.old) }
@@ -78,17 +78,18 @@ impl Holders {
     }
 }
 
-/// Notes of the groups that list a value, by value: their ids.
+/// An index from member values to the ids of the groups that list them.
 ///
-/// In a collection a group is noted under each value that it lists, and under no other, and a user under none. So who
-/// reads a note needn't look at the group. A value is found at once, and an id among those of a value by halves.
+/// In a collection a group is indexed under exactly the values that it lists, and a user under no value, so a
+/// look-up needn't read the group. A value is looked up in a hash table, an id within a value's set in a
+/// tree.
 #[derive(Drop)]
 pub(crate) struct Members {
     by_value: HashMap<String, Holders>,
 }
 
 impl Members {
-    /// No notes.
+    /// Returns an empty index.
     pub(crate) fn new(alloc: Global) -> Members
         ensures { (v i : List ℕ) → is_noted result v i ≡ false }
     {
@@ -97,14 +98,14 @@ impl Members {
         }
     }
 
-    /// The ids that are noted under a value; None where there are none.
+    /// Returns the ids that are indexed under a value; None if there aren't any.
     pub(crate) fn of(&self, value: &str) -> Option<&Holders>
         ensures { option_copied result ≡ holders_at self.now value.now }
     {
         self.by_value.get(value)
     }
 
-    /// Notes the id under the value. NoMemory where none was to be had: nothing is noted then.
+    /// Adds the id under the value. On an error nothing is changed.
     fn note(&mut self, alloc: Global, value: &str, id: Id) -> Result<(), NoMemory>
         ensures ok { OnOk result ((v i : List ℕ) → is_noted self.new v i ≡ cond (pointwise nat_eq v value.now && is_same id i) true (is_noted self.old v i)) }
         ensures err { OnErr result ((v i : List ℕ) → is_noted self.new v i ≡ is_noted self.old v i) }
@@ -117,7 +118,7 @@ impl Members {
         Ok(())
     }
 
-    /// Lets the id be noted under the value no more.
+    /// Removes the id from under the value.
     fn forget(&mut self, value: &str, id: Id)
         ensures { (v i : List ℕ) → is_noted self.new v i ≡ cond (pointwise nat_eq v value.now && is_same id i) false (is_noted self.old v i) }
     {
@@ -129,7 +130,7 @@ impl Members {
         }
     }
 
-    /// Lets the id be noted under the `value` of a member no more.
+    /// Removes the id from under the `value` of a member.
     fn forget_member(&mut self, member: &Row, id: Id)
         ensures { (v i : List ℕ) → is_noted self.new v i ≡ cond (is_text v (value_in member.now) && is_same id i) false (is_noted self.old v i) }
     {
@@ -139,7 +140,7 @@ impl Members {
         }
     }
 
-    /// Whether the id is noted under the value.
+    /// Whether the id is indexed under the value.
     fn has(&self, value: &str, id: Id) -> bool
         ensures { result ≡ is_noted self.now value.now id }
     {
@@ -149,7 +150,7 @@ impl Members {
         }
     }
 
-    /// The values of these members under which the id isn't noted. NoMemory where none was to be had.
+    /// Returns the values of these members under which the id isn't indexed.
     pub(crate) fn values_unnoted(
         &self,
         alloc: Global,
@@ -169,8 +170,9 @@ impl Members {
         Ok(come)
     }
 
-    /// Notes the id under each of these values. NoMemory where none was to be had: the notes are as they were then,
-    /// where it was noted under none of these values.
+    /// Adds the id under each of these values.
+    ///
+    /// On an error the index is as before, provided that it had the id under none of these values.
     pub(crate) fn note_values(
         &mut self,
         alloc: Global,
@@ -187,8 +189,7 @@ impl Members {
         noted
     }
 
-    /// Notes the id under each of these values. NoMemory where none was to be had: it may be noted under some of them
-    /// then.
+    /// Adds the id under each of these values. On an error it may be under some of them already.
     fn note_each(&mut self, alloc: Global, values: &[Text], id: Id) -> Result<(), NoMemory>
         ensures ok { OnOk result ((v i : List ℕ) → is_noted self.new v i ≡ cond (is_one_of v values.now && is_same id i) true (is_noted self.old v i)) }
         ensures others { (v i : List ℕ) → (is_one_of v values.now && is_same id i) ≡ false → is_noted self.new v i ≡ is_noted self.old v i }
@@ -199,7 +200,7 @@ impl Members {
         Ok(())
     }
 
-    /// Lets the id be noted under no value that the group lists.
+    /// Removes the id from under each value that the group lists.
     pub(crate) fn forget_group(&mut self, group: &Resource, id: Id)
         ensures { (v i : List ℕ) → is_noted self.new v i ≡ cond (is_group_with v group.now && is_same id i) false (is_noted self.old v i) }
     {
@@ -208,7 +209,7 @@ impl Members {
         }
     }
 
-    /// Lets the id be noted under none of these values.
+    /// Removes the id from under each of these values.
     pub(crate) fn forget_values(&mut self, values: &[Text], id: Id)
         ensures { (v i : List ℕ) → is_noted self.new v i ≡ cond (is_one_of v values.now && is_same id i) false (is_noted self.old v i) }
     {

@@ -15,18 +15,17 @@ use scim_text::{Failed, NoMemory, push};
 use scim_value::{Resource, UniqueName};
 use std::alloc::Global;
 
-/// The last number that a row of the audit can have.
+/// The largest number of an audit row, 2^63 - 1.
 const LAST_NUMBER: u64 = 9_223_372_036_854_775_807;
 
-/// A shelf in memory, which has no device that could fail.
+/// A shelf in memory, with no device that could fail.
 ///
-/// It finds resources as a [`Collection`] does. No call copies a resource but those that it answers with.
+/// It finds resources as a [`Collection`] does, and copies only those that it returns.
 pub struct MemoryShelf {
     collection: Collection,
     audit: Vec<AuditRow>,
 }
 
-/// One call, wherever a shelf is dropped, in place of a look at all that it has.
 impl Drop for MemoryShelf {
     fn drop(self) {
         let MemoryShelf {
@@ -37,10 +36,8 @@ impl Drop for MemoryShelf {
 }
 
 impl MemoryShelf {
-    /// A shelf of these resources, which may come in any order, with no rows of the audit. No two have one id
-    /// or share a unique name (RFC 7643 sections 2.2 and 3.1).
-    ///
-    /// The only error is [`NoMemory`].
+    /// Returns a shelf of these resources, which may come in any order, with no audit rows. No two of them
+    /// may have one id or share a unique name (RFC 7643 sections 2.2 and 3.1).
     pub fn new(alloc: Global, resources: Vec<Resource>) -> Result<MemoryShelf, NoMemory>
         requires { AllPairs AreApart resources.items }
         ensures { IfOk result (λ shelf. (store : Store) × IsNewStore resources.items store × ⟦<MemoryShelf as Shelf>⟧.stands shelf store) }
@@ -52,7 +49,7 @@ impl MemoryShelf {
         })
     }
 
-    /// The rows of the audit, in their order: the first has number 1.
+    /// Returns the audit rows in order: the first has number 1.
     pub fn audit(&self) -> &[AuditRow]
         ensures { (store : Store) → ⟦<MemoryShelf as Shelf>⟧.stands self.now store → result.now ≡ store.audit }
     {

@@ -1,4 +1,4 @@
-//! Who has which unique name.
+//! An index of resources by unique name.
 ghost use Rattle.std.specs.Prelude.{◌≡◌, ◌≤◌, OnOk, None, Some, cond, vec_len};
 ghost use Rattle.scim_value.specs.declared.uniqueness.UniqueName.{UniqueName};
 ghost use Rattle.scim_shelf.specs.Owners.{owner, room, is_among};
@@ -9,14 +9,14 @@ use scim_value::UniqueName;
 use std::alloc::Global;
 use std::collections::HashMap;
 
-/// The ids of the resources that have unique names, by name.
+/// An index from unique names to the ids of the resources that have them.
 #[derive(Drop)]
 pub(crate) struct Owners {
     by_name: HashMap<UniqueName, Id>,
 }
 
 impl Owners {
-    /// No name has an owner.
+    /// Returns an empty index.
     pub(crate) fn new(alloc: Global) -> Owners
         ensures { (q : UniqueName) → owner result q ≡ None }
     {
@@ -25,14 +25,14 @@ impl Owners {
         }
     }
 
-    /// The id of the resource that has the name; None where none has it.
+    /// Returns the id of the resource that has the name; None if no resource has it.
     pub(crate) fn of(&self, name: &UniqueName) -> Option<Id>
         ensures { result ≡ owner self.now name.now }
     {
         self.by_name.get(name).copied()
     }
 
-    /// Makes room for this many more names. NoMemory where none was to be had.
+    /// Reserves room for `count` more names.
     pub(crate) fn reserve(&mut self, count: usize) -> Result<(), NoMemory>
         ensures same { (q : UniqueName) → owner self.new q ≡ owner self.old q }
         ensures room { OnOk result (count ≤ room self.new) }
@@ -41,7 +41,7 @@ impl Owners {
         Ok(())
     }
 
-    /// Lets these names have no owner.
+    /// Removes these names.
     pub(crate) fn forget(&mut self, names: &[UniqueName])
         ensures owners { (q : UniqueName) → owner self.new q ≡ cond (is_among q names.now) None (owner self.old q) }
         ensures room { room self.old ≤ room self.new }
@@ -51,7 +51,8 @@ impl Owners {
         }
     }
 
-    /// Lets the resource of this id have these names, for which there is room.
+    /// Adds these names for the resource with this id. There must be room for all of them, as after
+    /// `reserve`.
     pub(crate) fn note(&mut self, names: Vec<UniqueName>, id: Id)
         requires { vec_len names ≤ room self.old }
         ensures { (q : UniqueName) → owner self.new q ≡ cond (is_among q names.items) (Some id) (owner self.old q) }

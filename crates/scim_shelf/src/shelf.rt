@@ -1,4 +1,4 @@
-//! What a service asks of the place where it keeps its resources and the rows of its audit.
+//! The store of a service: where its resources and its audit rows are kept.
 ghost use Rattle.std.specs.Prelude.{◌≡◌, ℕ, List, IfOk, OnOk, find, filter};
 ghost use Rattle.std.specs.List.{FoldsTo};
 ghost use Rattle.std.specs.Option.{option_copied};
@@ -16,37 +16,35 @@ use scim_text::{Failed, NoMemory};
 use scim_value::{Resource, UniqueName};
 use std::alloc::Global;
 
-/// What is shown resources, one after another.
+/// A visitor of resources, which is passed one after another.
 pub trait Visitor {
     ghost use Rattle.scim_cell.specs.Content.{Content};
 
-    /// What a call of `take` that doesn't fail makes of it.
+    /// The relation between the visitor before a successful `take`, the resource, and the visitor after it.
     ghost takes: { Self → Content → Self → Type 0 };
 
-    /// Is shown a resource, of which it copies what it keeps.
-    ///
-    /// NoMemory where none was to be had: the visitor is of no use then.
+    /// Takes one resource, and copies the parts that it keeps. After an error the visitor is unusable.
     fn take(&mut self, alloc: Global, resource: &Resource) -> Result<(), NoMemory>
         ensures { OnOk result (takes self.old resource.now self.new) };
 }
 
-/// A place where resources and the rows of the audit are kept.
+/// A place where resources and audit rows are kept.
 ///
-/// Contracts say which store it stands for. That is a relation, since a shelf that can't be read any more
-/// goes on standing for what it last stood for.
+/// Contracts say which store it stands for. That is a relation, not a function: a shelf whose device can't be
+/// read any more still stands for the store of its last commit.
 pub trait Shelf {
-    /// It stands for this store.
+    /// The shelf stands for this store.
     ghost stands: { Self → Store → Type 0 };
 
-    /// Nobody else has written what it keeps, and its device gave back what was written.
+    /// Nobody else has written to the shelf's device, and the device returned what was written to it.
     ghost is_honest: { Self → Type 0 };
 
-    /// How often its device failed.
+    /// How often the device failed, 2^64 - 1 at most.
     ghost failures: { Self → ℕ };
 
-    /// The resource of the kind with the id; None where there is none (RFC 7644 section 3.4.1).
+    /// Returns the resource of this kind with this id; None if there isn't one (RFC 7644 section 3.4.1).
     ///
-    /// Fails by Device where the device did, or where memory was wanting, and leaves what is kept as it was.
+    /// Fails with Device if the device failed. On any error what is stored is unchanged.
     fn by_id(
         &mut self,
         alloc: Global,
@@ -56,7 +54,8 @@ pub trait Shelf {
         ensures answer { IfOk result (Answers stands is_honest self.old self.new (λ store found. found ≡ find (is_at kind id) store.resources)) }
         ensures read { OnlyReads stands is_honest failures self.old self.new result };
 
-    /// The resource that has the unique name; None where no resource has it (RFC 7643 section 2.2, uniqueness).
+    /// Returns the resource that has the unique name; None if no resource has it (RFC 7643 section 2.2,
+    /// uniqueness).
     ///
     /// Fails as `by_id` does.
     fn name_owner(
@@ -67,9 +66,10 @@ pub trait Shelf {
         ensures answer { IfOk result (Answers stands is_honest self.old self.new (λ store found. found ≡ find (has_name (name_of name.now)) store.resources)) }
         ensures read { OnlyReads stands is_honest failures self.old self.new result };
 
-    /// Shows the visitor the groups that list the value among their members, in order of id (RFC 7643 section 4.2).
+    /// Passes the groups that list the value among their members to the visitor, in order of id (RFC 7643
+    /// section 4.2).
     ///
-    /// Fails as `by_id` does, and where the visitor wants memory; the visitor is of no use then.
+    /// Fails as `by_id` does, and if the visitor can't allocate. After an error the visitor is unusable.
     fn groups_with<V: Visitor>(
         &mut self,
         alloc: Global,
@@ -80,9 +80,9 @@ pub trait Shelf {
             → FoldsTo V.takes visitor.old (filter (is_group_with value.now) store.resources) visitor.new) }
         ensures read { OnlyReads stands is_honest failures self.old self.new result };
 
-    /// Shows the visitor the resources of the kind, in order of id.
+    /// Passes the resources of the kind to the visitor, in order of id.
     ///
-    /// Fails as `by_id` does, and where the visitor wants memory; the visitor is of no use then.
+    /// Fails as `by_id` does, and if the visitor can't allocate. After an error the visitor is unusable.
     fn each<V: Visitor>(
         &mut self,
         alloc: Global,
@@ -93,13 +93,13 @@ pub trait Shelf {
             → FoldsTo V.takes visitor.old (of_kind kind store.resources) visitor.new) }
         ensures read { OnlyReads stands is_honest failures self.old self.new result };
 
-    /// Makes the change and adds the row to the audit, numbered one above the last; the first has number 1.
+    /// Makes the change and adds the row to the audit, numbered one above the last row, or 1.
     ///
-    /// No resource of another id shares a unique name with one that is to be kept, and none of its id is of
-    /// the other kind: the caller sees to that, by `name_owner` and `by_id`.
+    /// For `Change::Keep` the caller guarantees, by `name_owner` and `by_id`, that no resource of another id
+    /// shares a unique name with the new one, and that its id isn't used by a resource of the other kind.
     ///
-    /// Fails by Device where the device did, by Full where the last number of the audit is in use, or where
-    /// memory was wanting. Then nothing is changed, and no row is added.
+    /// Fails with Device if the device failed, and with Full if the last audit number, 2^63 - 1, is in use. On
+    /// any error nothing is changed and no row is added.
     fn commit(
         &mut self,
         alloc: Global,
@@ -110,8 +110,8 @@ pub trait Shelf {
             → stands self.new (after change row store)) }
         ensures commits { Commits stands is_honest failures self.old self.new result };
 
-    /// The same, by a caller who has what there is of the id of the change, whatever its kind, so that it isn't read
-    /// again. Of a change of nothing it may be anything.
+    /// As `commit`, but the caller passes the resource that the change's id has now, of either kind, so
+    /// that it isn't read again. `old` is ignored for `Change::Nothing`.
     fn commit_over(
         &mut self,
         alloc: Global,
@@ -127,14 +127,12 @@ pub trait Shelf {
         self.commit(alloc, change, row)
     }
 
-    /// How often the device failed, 2^64 - 1 at most.
+    /// Returns how often the device failed, 2^64 - 1 at most.
     fn failures(&self) -> u64
         ensures { result ≡ failures self.now };
 }
 
-/// Shows the visitor these resources, in their order.
-///
-/// The only error is [`NoMemory`], where the visitor found none; the visitor is of no use then.
+/// Passes these resources to the visitor, in their order. After an error the visitor is unusable.
 pub fn show_all<V: Visitor>(
     alloc: Global,
     resources: &[Resource],

@@ -1,4 +1,4 @@
--- What a commit leaves of a store.
+-- The store after a commit.
 use Rattle.std.specs.Prelude.{◌≡◌, ℕ, List, IsTrue, Option, length, ◌+◌}
 use Rattle.sqlite.specs.Effect.{Database}
 use Rattle.sqlite.specs.Tree.{Trees}
@@ -9,35 +9,37 @@ use Rattle.scim_shelf.specs.declared.changes.Change.{Change}
 use Rattle.scim_shelf.specs.Stores.{Store, CanKeep, IsOld, after}
 use Rattle.scim_store_rows.specs.Stands.{StandsFor}
 
--- where the connection is open, its tables stand for the store, and are committed
+-- If the connection is open, its tables stand for the store and are committed.
 pub record HasStore (base : List ℕ) (s : State) (store : Store) : Type 0 where
   pub stands : IsTrue s.is_open → StandsFor base s.now store
   pub settled : IsTrue s.is_open → s.now ≡ s.committed
 
--- a change may be made of the store, and its row of the audit has the next number
+-- A change may be made to the store, and its audit row has the next number.
 pub record IsDue (change : Change) (number : ℕ) (store : Store) : Type 0 where
   pub can : CanKeep store change
   pub next : number ≡ length store.audit + 1
 
--- the same, and this is what there is of the id of the change
+-- A change may be made to the store, its audit row has the next number, and `old` is the stored resource with
+-- the id of the change, if any.
 pub record IsDueOver (old : Option Content) (change : Change) (number : ℕ) (store : Store) : Type 0 where
   pub due : IsDue change number store
   pub was : IsOld store.resources change old
 
--- what the tables stood for, they stand for after a change with its row of the audit, where it is one that may be made
+-- If the old tables stand for a store to which the change may be made, the new ones stand for the store after
+-- the change with its audit row.
 abbrev pub Changes : List ℕ → Change → AuditRow → (Store → Type 0) → Database → Database → Type 0
 Changes base change row May old new = (store : Store) → StandsFor base old store → May store → StandsFor base new (after change row store)
 
--- these trees are the tables of the store
+-- The trees are those of tables that stand for the store.
 abbrev pub AreOf : List ℕ → Store → Trees → Type 0
 AreOf base store trees = (db : Database) × (trees ≡ db.trees) × StandsFor base db store
 
--- where the connection is open, it was, and its database and the last commit are as they were
+-- If the connection is open, it was before, and its database and the last commit are unchanged.
 pub record Stays (old new : State) : Type 0 where
   pub was_open : IsTrue new.is_open → IsTrue old.is_open
   pub now : IsTrue new.is_open → new.now ≡ old.now
   pub committed : IsTrue new.is_open → new.committed ≡ old.committed
 
--- the tables stand for no store
+-- The tables don't stand for a store.
 abbrev pub StandForNone : List ℕ → Database → Type 0
 StandForNone base db = (store : Store) → StandsFor base db store → ⊥

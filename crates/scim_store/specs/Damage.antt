@@ -1,4 +1,4 @@
--- Whether the rows of the three tables of resources are those of resources, and at which id they aren't.
+-- Whether the rows of the three tables of resources are those of resources, and the first damaged id.
 use Rattle.std.specs.Prelude.{◌≡◌, ℕ, Bool, true, List, map, filter, All, Option, IsPermutation, [], ◌∷◌}
 use Rattle.std.specs.Option.{option_to_list}
 use Rattle.std.specs.List.{flat_map, list_any, IsDistinct}
@@ -15,22 +15,22 @@ use Rattle.scim_store_rows.specs.Stands.{Entry, IsEntry, resource_row, name_rows
 use Rattle.scim_store.specs.declared.damage.Judged.{Judged}
 use Rattle.scim_store.specs.declared.damage.Judged.TheVariants.{Sound, Damaged, Foreign}
 
--- the rows of three tables, as queries tell them
+-- The rows of the three tables, as queries return them.
 pub record Tables : Type 0 where
-  -- id, kind and document
+  -- Columns id, kind and document.
   pub resources : List Row
-  -- owner, attribute and folded text of each unique name
+  -- Columns owner, attribute and folded text of each unique name.
   pub names : List Row
-  -- group and value of each member
+  -- Columns group and value of each member.
   pub members : List Row
 
--- the rows are in order, as they are read: by id; by owner, attribute and text; by group and value
+-- The rows are sorted as they are read: by id; by owner, attribute and text; by group and value.
 pub record AreOrdered (tables : Tables) : Type 0 where
   pub resources : DoNotFall (0 ∷ []) tables.resources
   pub names : DoNotFall (0 ∷ 1 ∷ 2 ∷ []) tables.names
   pub members : DoNotFall (0 ∷ 1 ∷ []) tables.members
 
--- the rows are those of these resources below the base, each table's in some order
+-- The rows are those of these resources with locations below the base URI, each table's in any order.
 pub record AreThoseOf (base : List ℕ) (entries : List Entry) (tables : Tables) : Type 0 where
   pub sound : All (IsEntry base) entries
   pub keyed : AreKeyed (map (λ e. e.content) entries)
@@ -38,50 +38,51 @@ pub record AreThoseOf (base : List ℕ) (entries : List Entry) (tables : Tables)
   pub names : IsPermutation tables.names (map owner_first (flat_map name_rows entries))
   pub members : IsPermutation tables.members (map group_first (flat_map member_rows entries))
 
--- the rows are those of some resources
+-- The rows are those of some resources.
 abbrev pub AreSound : List ℕ → Tables → Type 0
 AreSound base tables = (entries : List Entry) × AreThoseOf base entries tables
 
--- the rows of an id, in each table
+-- The rows of an id, in each table.
 abbrev pub rows_at : List ℕ → Tables → Tables
 rows_at id tables = record { resources = filter (is_of id) tables.resources; names = filter (is_of id) tables.names; members = filter (is_of id) tables.members }
 
--- the rows of an id are those of one resource, or there are none
+-- The rows of an id are empty, or those of one resource.
 abbrev pub HoldsAt : List ℕ → Tables → List ℕ → Type 0
 HoldsAt base tables id = (entry : Option Entry) × AreThoseOf base (option_to_list entry) (rows_at id tables)
 
--- the least id whose rows are neither those of one resource nor none
+-- The least id whose rows are neither empty nor those of one resource.
 pub record IsLeastDamage (base : List ℕ) (tables : Tables) (id : List ℕ) : Type 0 where
   pub is_id : IsId id
   pub here : ¬ HoldsAt base tables id
   pub before : (other : List ℕ) → IsId other → slice_cmp nat_cmp other id ≡ Less → HoldsAt base tables other
 
--- the rows of each id hold, but together they are those of no resources
+-- The rows of each id are empty or those of one resource, but together they aren't those of resources.
 pub record IsForeign (base : List ℕ) (tables : Tables) : Type 0 where
   pub holds : (id : List ℕ) → IsId id → HoldsAt base tables id
   pub unsound : ¬ AreSound base tables
 
--- what is said of the rows is so
+-- The result of the test is true of the rows.
 abbrev pub Judges : List ℕ → Tables → Judged → Type 0
 Judges base tables Sound = AreSound base tables
 Judges base tables (Damaged id) = IsLeastDamage base tables id
 Judges base tables Foreign = IsForeign base tables
 
--- a row belongs to one of these ids
+-- A row belongs to one of these ids.
 abbrev pub AreOwned : List (List ℕ) → Row → Type 0
 AreOwned ids row = list_any (λ id. is_of id row) ids ≡ true
 
--- whether two rows have one text of a name; the one attribute with unique names is `userName`
+-- Whether two rows have the same text of a name; `userName` is the only attribute with unique names.
 abbrev pub is_shared : Row → Row → Bool
 is_shared r s = is_eq (value_cmp (column r 2) (column s 2))
 
--- Where each row belongs to one of some ids, the rows of each id hold and no name has two rows, the rows are those of resources.
+-- If each row belongs to one of some ids, the rows of each id are valid and no name has two rows, then the
+-- rows are those of resources.
 abbrev pub HoldingRowsAreSound : Type 0
 HoldingRowsAreSound =
     (base : List ℕ) (tables : Tables) (ids : List (List ℕ)) → IsStrictlySortedBy (slice_cmp nat_cmp) ids → All IsId ids → All (AreOwned ids) tables.resources → All (AreOwned ids) tables.names → All (AreOwned ids) tables.members
     → ((id : List ℕ) → IsId id → HoldsAt base tables id) → IsDistinct is_shared tables.names → AreSound base tables
 
--- Where the rows are those of resources, those of each id are those of one resource, or there are none: so where an id is damaged, they are those
--- of no resources.
+-- If the rows are those of resources, those of each id are empty or those of one resource; so if an id is
+-- damaged, the rows aren't those of resources.
 abbrev pub SoundRowsHold : Type 0
 SoundRowsHold = (base : List ℕ) (tables : Tables) (id : List ℕ) → IsId id → AreSound base tables → HoldsAt base tables id

@@ -1,4 +1,4 @@
--- How a change of a store edits the rows of the tables.
+-- The edits that a change makes to the rows of the tables.
 use Rattle.std.specs.Prelude.{◌≡◌, ◌≢◌, ℕ, ◌+◌, Bool, false, ◌&&◌, not, List, [], ◌∷◌, ◌++◌, length, map, filter, AllPairs, Option, None, Some, string_bytes, ⊤}
 use Rattle.std.specs.Option.{option_map, option_to_list}
 use Rattle.std.specs.List.{list_any}
@@ -23,27 +23,27 @@ use Rattle.scim_store.specs.declared.edits.Edits.{Edits}
 use Rattle.scim_store_rows.specs.Audit.{kind_number, audit_row}
 use Rattle.scim_store_rows.specs.Stands.{StandsFor, is_among}
 
--- whether a row is that of one of these names, whoever has it
+-- Whether a row in `taken` is that of one of these names, whatever its owner.
 abbrev pub is_name : List UniqueName → Row → Bool
 is_name names row = list_any (λ n. has_texts (attribute_name n.leaf.attribute) (string_bytes n.text) row) names
 
--- whether a row is that of one of these members of a group
+-- Whether a row in `member` is that of one of these values of the group.
 abbrev pub is_member : List ℕ → List (List ℕ) → Row → Bool
 is_member group_id values row = list_any (λ v. has_texts v group_id row) values
 
--- the rows of names with their owner
+-- The rows of these names with their owner's id.
 abbrev pub rows_of_names : List ℕ → List UniqueName → List Row
 rows_of_names id names = map (λ n. name_values (attribute_name n.leaf.attribute) (string_bytes n.text) id) names
 
--- the rows of members with their group
+-- The rows of these member values with their group's id.
 abbrev pub rows_of_members : List ℕ → List (List ℕ) → List Row
 rows_of_members group_id values = map (λ v. member_values v group_id) values
 
--- the row of a resource, if it is there
+-- The row of the new document, if any.
 abbrev pub rows_of_document : Edits → List Row
 rows_of_document e = option_to_list (option_map (λ d. resource_values e.id (kind_number e.kind) (string_bytes d)) e.document)
 
--- the rows after the edits of one resource: what goes is taken out, and what comes is put in
+-- The rows after the edits of one resource: without the rows to remove, and with those to add.
 abbrev pub edited : Edits → Lists → Lists
 edited e lists = record lists {
   resources = rows_of_document e ++ without (has_text 0 e.id) lists.resources;
@@ -51,36 +51,37 @@ edited e lists = record lists {
   member = rows_of_members e.id e.members_come.items ++ without (is_member e.id e.members_gone.items) lists.member;
 }
 
--- the rows after edits, if there are any
+-- The rows after the edits, if any.
 abbrev pub edited_by : Option Edits → Lists → Lists
 edited_by None lists = lists
 edited_by (Some e) lists = edited e lists
 
--- the rows with one more of the audit
+-- The rows with one more audit row.
 abbrev pub with_row : Row → Lists → Lists
 with_row row lists = record lists { audit = row ∷ lists.audit }
 
--- the unique names of a resource, if there is one
+-- The unique names of a resource, if any.
 abbrev pub names_in : Option Content → List Name
 names_in None = []
 names_in (Some c) = unique_names c
 
--- those of some names that aren't among others
+-- The names that aren't among the others.
 abbrev pub names_beyond : List Name → List Name → List Name
 names_beyond others names = filter (λ n. not (list_any (is_same_name n) others)) names
 
--- whether a resource, if there is one, lists a value among its members
+-- Whether a resource, if any, lists a value among its members.
 abbrev pub lists_in : List ℕ → Option Content → Bool
 lists_in value None = false
 lists_in value (Some c) = lists_value value c
 
--- the edits write the document of a resource, or of none
+-- The document of the edits is one of the resource `c`, or None without a resource.
 abbrev pub IsWritten : List ℕ → Option Content → Edits → Type 0
 IsWritten base None e = e.document ≡ None
 IsWritten base (Some c) e = (e.kind ≡ c.kind) × (text : List ℕ) × (option_map string_bytes e.document ≡ Some text) × IsDocumentText base text c
 
--- The edits make of the rows of the old resource of an id those of the new one, where there is one. Of the names those go that it has no more, and
--- those come that it hadn't; of the members those go that are listed no more, and those come, each once, that weren't listed.
+-- The edits replace the rows of the old resource of an id, if any, by those of the new one, if any: they
+-- remove the names and member values that only the old one has, and add those that only the new one has, each
+-- value once.
 pub record Replaces (base : List ℕ) (id : List ℕ) (old new : Option Content) (e : Edits) : Type 0 where
   pub is_id : IsId id
   pub text : e.id ≡ id_text id
@@ -91,7 +92,7 @@ pub record Replaces (base : List ℕ) (id : List ℕ) (old new : Option Content)
   pub once : AllPairs (λ v w. v ≢ w) e.members_come.items
   pub document : IsWritten base new e
 
--- the edits are those of a change of these resources
+-- The edits are those of a change to the resources `cs`.
 abbrev pub AreEdits : List ℕ → List Content → Change → Option Edits → Type 0
 AreEdits base cs Nothing edits = edits ≡ None
 AreEdits base cs (Keep c) None = ⊥
@@ -99,12 +100,13 @@ AreEdits base cs (Keep c) (Some e) = Replaces base c.id (of_id c.id cs) (Some c)
 AreEdits base cs (Remove kind id) None = ⊥
 AreEdits base cs (Remove kind id) (Some e) = Replaces base id (of_id id cs) None e
 
--- a resource that is kept stands below the base
+-- The resource that a change stores, if any, has a location below the base URI.
 abbrev pub KeepsBelow : List ℕ → Change → Type 0
 KeepsBelow base (Keep c) = HasBase base c
 KeepsBelow base _ = ⊤
 
--- what the tables stood for, they stand for after each change that these are the edits and the row of the audit of
+-- If the old tables stand for a store, the new ones stand for the store after each change with these edits
+-- and this audit row.
 pub record Writes (edits : Option Edits) (columns : AuditColumns) (old new : Database) : Type 0 where
   pub stands : (base : List ℕ) (store : Store) (change : Change) (row : AuditRow) → StandsFor base old store → CanKeep store change → AreEdits base store.resources change edits
       → audit_values columns ≡ audit_row (length store.audit + 1) row → StandsFor base new (after change row store)

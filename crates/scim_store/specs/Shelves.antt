@@ -1,4 +1,4 @@
--- What a shelf over a connection stands for, and what comes of opening a database.
+-- The store of a shelf over a connection, and the result of opening a database.
 use Rattle.std.specs.Prelude.{◌≡◌, ◌⊎◌, ℕ, List, length, ⊤, IsTrue}
 use Rattle.sqlite.specs.Effect.{Database}
 use Rattle.sqlite.specs.Tree.{Trees}
@@ -13,27 +13,29 @@ use Rattle.scim_store.specs.Committing.{HasStore}
 use Rattle.scim_store.specs.Opening.{IsFor}
 use Rattle.scim_store_rows.specs.Stands.{StandsFor}
 
--- The store is kept in the tables, if the disk gave back what was written; and it has so many rows of the audit.
+-- The tables hold the store, if the disk returned what was written, and its audit has `rows` rows.
 pub record IsKeptIn (base : List ℕ) (s : State) (rows : ℕ) (store : Store) : Type 0 where
   pub stored : HasCleanDisk s → HasStore base s store
   pub rows_are : length store.audit ≡ rows
 
--- what an opened database holds: nothing, where it was empty, and else the store that its tables stood for
+-- The store of an opened database: an empty one if the database was empty, and otherwise the store that its
+-- tables stand for.
 abbrev pub Opens : List ℕ → Database → Store → Type 0
 Opens base db store = ((db.schema ≡ no_schema) × (store ≡ no_store)) ⊎ StandsFor base db store
 
--- a database is opened: it has this store, of which the shelf has so many rows of the audit
+-- A database is opened as this store, and the shelf's count of audit rows is right.
 pub record HasOpened (base : List ℕ) (db : Database) (s : State) (rows : ℕ) (store : Store) : Type 0 where
   pub kept : IsKeptIn base s rows store
   pub opens : Opens base db store
 
--- why a database isn't opened, where the fault is the database's
+-- The reason why a database isn't opened, if the database is the cause.
 abbrev pub Refuses : List ℕ → Database → OpenFault → Type 0
 Refuses base db WrongVersion = IsFor base db OtherVersion
 Refuses base db (Damaged id) = IsFor base db (DamagedAt id)
 Refuses base db NoStore = ⊤
 Refuses base db NoMemory = ⊤
 
--- what a crash may leave while a database is opened, beside what it could leave before: only where it was empty, and then the tables of a store that has nothing
+-- The tables that a crash during opening may leave, beside those that it could leave before: only if the
+-- database was empty, and then those of an empty store.
 abbrev pub LeavesBegun : List ℕ → State → Trees → Type 0
 LeavesBegun base s trees = (s.now.schema ≡ no_schema) × ((db : Database) × (trees ≡ db.trees) × (IsTrue s.is_open → StandsFor base db no_store))

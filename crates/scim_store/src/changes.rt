@@ -1,4 +1,4 @@
-//! The edits of a change.
+//! Computes the edits of a change.
 
 ghost use Rattle.std.specs.Prelude.{◌≡◌, ◌≢◌, ◌&&◌, not, ℕ, List, AllPairs, IfOk, Some, map};
 ghost use Rattle.std.specs.Option.{option_copied};
@@ -21,7 +21,7 @@ use scim_value::{Resource, UniqueName, unique_names};
 use std::alloc::Global;
 use std::collections::BTreeSet;
 
-/// The unique names of a resource, if there is one. NoMemory where none was to be had.
+/// Returns the unique names of a resource, if any.
 fn names_in(alloc: Global, resource: Option<&Resource>) -> Result<Vec<UniqueName>, NoMemory>
     ensures { IfOk result (λ names. map name_of names.items ≡ spec.names_in (option_copied resource.entry)) }
 {
@@ -31,7 +31,7 @@ fn names_in(alloc: Global, resource: Option<&Resource>) -> Result<Vec<UniqueName
     }
 }
 
-/// The unique names of a resource that another hasn't. NoMemory where none was to be had.
+/// Returns the unique names of a resource that the other doesn't have.
 fn names_beyond(
     alloc: Global,
     other: Option<&Resource>,
@@ -45,7 +45,7 @@ fn names_beyond(
     Ok(names)
 }
 
-/// The values that a resource lists among its members. NoMemory where none was to be had.
+/// Returns the set of the values that a resource lists among its members.
 pub(crate) fn values_of(alloc: Global, resource: &Resource) -> Result<BTreeSet<&str>, NoMemory>
     ensures { IfOk result (λ values. (v : List ℕ) → is_in v values ≡ lists_value v resource.now) }
 {
@@ -55,7 +55,7 @@ pub(crate) fn values_of(alloc: Global, resource: &Resource) -> Result<BTreeSet<&
     )
 }
 
-/// The values that a resource lists among its members, if there is one. NoMemory where none was to be had.
+/// Returns the set of the values that a resource, if any, lists among its members.
 fn values_in(alloc: Global, resource: Option<&Resource>) -> Result<BTreeSet<&str>, NoMemory>
     ensures { IfOk result (λ values. (v : List ℕ) → is_in v values ≡ spec.lists_in v (option_copied resource.entry)) }
 {
@@ -65,7 +65,7 @@ fn values_in(alloc: Global, resource: Option<&Resource>) -> Result<BTreeSet<&str
     }
 }
 
-/// The values that aren't among others, each once. NoMemory where none was to be had.
+/// Returns the values that aren't in the other set, each once.
 fn values_beyond<'v>(
     alloc: Global,
     others: &BTreeSet<&'v str>,
@@ -81,7 +81,7 @@ fn values_beyond<'v>(
     Ok(beyond)
 }
 
-/// What goes and comes where the one resource takes the place of the other. NoMemory where none was to be had.
+/// Returns the edits that replace the old resource of an id, if any, by the new one, if any.
 fn replacement<'r>(
     alloc: Global,
     id: Id,
@@ -107,7 +107,7 @@ fn replacement<'r>(
     })
 }
 
-/// The edits that keep a resource where the old one, if there is one, has its id. NoMemory where none was to be had.
+/// Returns the edits that store a resource. `old` must be the stored resource with its id, if any.
 pub(crate) fn edits_to_keep(
     alloc: Global,
     resource: &Resource,
@@ -120,10 +120,8 @@ pub(crate) fn edits_to_keep(
     replacement(alloc, part.id(), part.kind(), document, old, Some(resource))
 }
 
-/// The edits of a change, where the old resource is the one that has the id of the change, whatever its kind. A change
-/// of nothing has none.
-///
-/// The only error is [`NoMemory`].
+/// Returns the edits of a change; None for `Change::Nothing`. `old` must be the stored resource with the id
+/// of the change, of either kind, if any.
 pub fn edits_of(
     alloc: Global,
     change: &Change,

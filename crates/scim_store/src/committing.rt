@@ -1,4 +1,4 @@
-//! The commit of a change.
+//! Commits a change with its audit row.
 
 ghost use Rattle.std.specs.Prelude.{◌≡◌, ◌≢◌, ◌≤◌, ◌↔◌, false, IfOk, OnOk, OnErr, IsTrue};
 ghost use Rattle.std.specs.Option.{option_copied};
@@ -27,14 +27,14 @@ use scim_value::{Resource, location};
 use sqlite::{Alter, Connection, Error};
 use std::alloc::Global;
 
-/// What keeps a change from being committed.
+/// A reason why a change can't be committed.
 #[derive(Clone, Copy, PartialEq, Eq)]
 pub enum CommitFault {
-    /// The database gave this error.
+    /// The database failed with this error.
     Database(Error),
-    /// The resource that is to be kept stands below another base.
+    /// The resource to store has a location below another base URI.
     OtherBase,
-    /// No memory was to be had.
+    /// Memory ran out.
     NoMemory,
 }
 
@@ -60,7 +60,7 @@ impl From<NoMemory> for CommitFault {
     }
 }
 
-/// Whether the resource stands below the base. NoMemory where none was to be had.
+/// Whether the location of the resource is below the base URI.
 pub(crate) fn is_below(alloc: Global, base: &str, resource: &Resource) -> Result<bool, NoMemory>
     ensures { IfOk result (λ below. IsTrue below ↔ HasBase base.now resource.now) }
 {
@@ -71,7 +71,7 @@ pub(crate) fn is_below(alloc: Global, base: &str, resource: &Resource) -> Result
     }
 }
 
-/// Whether a resource that is kept stands below the base. NoMemory where none was to be had.
+/// Whether the location of the resource to store, if any, is below the base URI.
 fn keeps_below(alloc: Global, base: &str, change: &Change) -> Result<bool, NoMemory>
     ensures { IfOk result (λ below. IsTrue below ↔ KeepsBelow base.now change.now) }
 {
@@ -81,7 +81,7 @@ fn keeps_below(alloc: Global, base: &str, change: &Change) -> Result<bool, NoMem
     }
 }
 
-/// The resource that is there of the id of a change, whatever its kind.
+/// Returns the stored resource with the id of a change, of either kind, if any; None for `Change::Nothing`.
 fn find_old_of<S: Alter>(
     conn: &mut Connection<S>,
     alloc: Global,
@@ -101,18 +101,19 @@ fn find_old_of<S: Alter>(
     }
 }
 
-/// Makes the change and adds the row to the audit under the number, in one transaction, where it is known what there is of
-/// the id of the change, whatever its kind: the old resource, or none. Of a change of nothing it may be anything.
+/// Makes the change and adds the audit row under the number, in one transaction. `old` must be the stored
+/// resource with the id of the change, of either kind, if any; it is ignored for `Change::Nothing`.
 ///
-/// The number is one above that of the last row; the first has number 1. No resource of another id shares a unique name
-/// with one that is to be kept, and none of its id is of the other kind. The caller sees to all of that.
+/// The caller guarantees that the number is one above that of the last row (the first row has number 1), that
+/// no resource of another id shares a unique name with one to store, and that its id isn't used by a resource
+/// of the other kind.
 ///
-/// The error is OtherBase where a resource that is to be kept stands below another base, NoMemory, or the one that the
-/// database gave, among them a want of memory of its own, and a constraint where the number is in use. Then nothing is
-/// changed and no row is added, or the connection is shut.
+/// Fails with OtherBase if the resource to store has a location below another base URI, with NoMemory, or
+/// with the database's error, such as a constraint if the number is in use. Then nothing is changed and no
+/// row is added, or the connection is closed.
 ///
-/// A crash meanwhile leaves the store before or the store after, with the row; one after Ok leaves the store after, where the
-/// disk gives back what was written.
+/// A crash during the call leaves the store as before, or with the change and its row. A crash after Ok
+/// leaves the store with both, if the disk returns what was written.
 pub fn commit_over<S: Alter>(
     conn: &mut Connection<S>,
     alloc: Global,
@@ -129,10 +130,10 @@ pub fn commit_over<S: Alter>(
         → IsDueOver (option_copied old.entry) change.now number store → HasStore base.now (state S.Store conn.new) (after change.now row.now store)) }
     ensures undone { HasCleanDisk (state S.Store conn.new) → OnErr result ((store : Store) → HasStore base.now (state S.Store conn.old) store → HasStore base.now (state S.Store conn.new) store) }
 
-    // A crash leaves what it could leave before, or the tables with the change and its row of the audit.
+    // A crash leaves what it could leave before, or the tables with the change and its audit row.
     ensures crash { Survives (state S.Store conn.old) (state S.Store conn.new) (Leaves (Changes base.now change.now row.now (IsDueOver (option_copied old.entry) change.now number)) (state S.Store conn.old).now) }
 
-    // Once it has answered Ok, a crash leaves these tables.
+    // After Ok, a crash leaves these tables.
     ensures durable { HasCleanDisk (state S.Store conn.new) → OnOk result ((store : Store) → HasStore base.now (state S.Store conn.old) store
         → IsDueOver (option_copied old.entry) change.now number store → (trees : Trees) → (state S.Store conn.new).may_leave trees → AreOf base.now (after change.now row.now store) trees) }
 {
@@ -146,8 +147,8 @@ pub fn commit_over<S: Alter>(
     Ok(())
 }
 
-/// The same, where it isn't known what there is of the id of the change: it is looked up first. The database is corrupt
-/// where its document is damaged.
+/// As [`commit_over`], but looks up the stored resource with the id of the change. Fails with a corrupt
+/// database if its document isn't valid.
 pub fn commit_change<S: Alter>(
     conn: &mut Connection<S>,
     alloc: Global,
@@ -163,10 +164,10 @@ pub fn commit_change<S: Alter>(
         → IsDue change.now number store → HasStore base.now (state S.Store conn.new) (after change.now row.now store)) }
     ensures undone { HasCleanDisk (state S.Store conn.new) → OnErr result ((store : Store) → HasStore base.now (state S.Store conn.old) store → HasStore base.now (state S.Store conn.new) store) }
 
-    // A crash leaves what it could leave before, or the tables with the change and its row of the audit.
+    // A crash leaves what it could leave before, or the tables with the change and its audit row.
     ensures crash { Survives (state S.Store conn.old) (state S.Store conn.new) (Leaves (Changes base.now change.now row.now (IsDue change.now number)) (state S.Store conn.old).now) }
 
-    // Once it has answered Ok, a crash leaves these tables.
+    // After Ok, a crash leaves these tables.
     ensures durable { HasCleanDisk (state S.Store conn.new) → OnOk result ((store : Store) → HasStore base.now (state S.Store conn.old) store
         → IsDue change.now number store → (trees : Trees) → (state S.Store conn.new).may_leave trees → AreOf base.now (after change.now row.now store) trees) }
 {

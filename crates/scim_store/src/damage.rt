@@ -1,4 +1,4 @@
-//! Whether the tables of resources hold what they should, and where they don't.
+//! Tests whether the rows of the tables are those of resources, and finds the first damaged id.
 
 ghost use Rattle.std.specs.Prelude.{◌≡◌, ◌↔◌, ◌||◌, [], ◌∷◌, ℕ, List, true, false, map, IfOk, IfSome, None, IsTrue, All, AllPairs, IsPermutation};
 ghost use Rattle.std.specs.Ordering.{nat_cmp};
@@ -31,31 +31,31 @@ use std::alloc::Global;
 use std::collections::{BTreeSet, HashSet};
 use std::marker::Model;
 
-/// What the rows of the tables of resources are.
+/// The result of a test of the rows of resources.
 #[derive(Clone, Copy, PartialEq, Eq)]
 pub enum Judged {
-    /// Those of resources.
+    /// The rows are those of resources.
     Sound,
-    /// Not those of resources: the rows of this id are neither those of one resource nor none, and it is the least such
-    /// id.
+    /// The rows aren't those of resources: this is the least id whose rows are neither empty nor those of one
+    /// resource.
     Damaged(Id),
-    /// Not those of resources, though the rows of each id are: some row belongs to no id, or two resources share a
-    /// unique name.
+    /// The rows aren't those of resources, though those of each id are valid: some row belongs to no id, or
+    /// two resources share a unique name.
     Foreign,
 }
 
-/// The document of a resource is no UTF-8, so that it can't be read.
+/// The document of a resource isn't UTF-8, so it can't be read.
 #[derive(Clone, Copy, PartialEq, Eq)]
 pub struct Unreadable;
 
-/// The rows of the tables of resources, as `read_tables` of `scim_store_tables` tells them.
+/// The rows of the tables of resources, as `read_tables` of `scim_store_tables` returns them.
 #[derive(Drop)]
 pub struct ResourceRows {
-    /// Id, kind and document of each resource.
+    /// Columns id, kind and document of each resource.
     pub resources: Vec<Row>,
-    /// Owner, attribute and folded text of each unique name.
+    /// Columns owner, attribute and folded text of each unique name.
     pub names: Vec<Row>,
-    /// Group and value of each member.
+    /// Columns group and value of each member.
     pub members: Vec<Row>,
 }
 
@@ -67,14 +67,14 @@ impl Model for ResourceRows {
     ghost view = { λ t. record { resources = t.resources.items; names = t.names.items; members = t.members.items } };
 }
 
-/// Whether the values of a row are just the two texts.
+/// Whether a row is exactly these two texts.
 fn is_pair(row: &Row, first: &str, second: &str) -> bool
     ensures { result ≡ code.is_pair first.now second.now row.now }
 {
     row.column_count() == 2 && has_text(row, 0, first) && has_text(row, 1, second)
 }
 
-/// Whether the values of a row are just the three texts.
+/// Whether a row is exactly these three texts.
 fn is_triple(row: &Row, first: &str, second: &str, third: &str) -> bool
     ensures { result ≡ code.is_triple first.now second.now third.now row.now }
 {
@@ -84,7 +84,7 @@ fn is_triple(row: &Row, first: &str, second: &str, third: &str) -> bool
         && has_text(row, 2, third)
 }
 
-/// Whether the rows are those of the names of the resource with the id, in their order.
+/// Whether the rows are those of the names of the resource with the id, in the same order.
 fn are_names(rows: &[Row], id: &str, names: &[UniqueName]) -> bool
     ensures { result ≡ true ↔ rows.now ≡ map (code.owned_name id.now) (map name_of names.now) }
 {
@@ -105,7 +105,7 @@ fn are_names(rows: &[Row], id: &str, names: &[UniqueName]) -> bool
     true
 }
 
-/// Whether the rows are those of the values that the group with the id lists, in their order.
+/// Whether the rows are those of the values that the group with the id lists, in the same order.
 fn are_members(rows: &[Row], id: &str, values: &[Text]) -> bool
     ensures { result ≡ true ↔ rows.now ≡ map (code.owned_member id.now) values.now }
 {
@@ -120,7 +120,7 @@ fn are_members(rows: &[Row], id: &str, values: &[Text]) -> bool
     true
 }
 
-/// The values that a resource lists among its members, each once, in order. NoMemory where none was to be had.
+/// Returns the values that a resource lists among its members, each once, in order.
 fn listed_values(alloc: Global, resource: &Resource) -> Result<Vec<Text>, NoMemory>
     ensures listed { IfOk result (λ values. (v : List ℕ) → is_among v values.items ≡ lists_value v resource.now) }
     ensures rising { IfOk result (λ values. IsStrictlySortedBy (slice_cmp nat_cmp) values.items) }
@@ -146,7 +146,7 @@ fn has_number(row: &Row, place: usize, number: u32) -> bool
     }
 }
 
-/// Whether the row is that of the resource, with the text as its document.
+/// Whether a row is that of the resource, with this document.
 fn is_row_of(row: &Row, resource: &Resource, document: &str) -> bool
     ensures { result ≡ code.is_row (id_text resource.now.id) (spec_number resource.now.kind) document.now row.now }
 {
@@ -157,7 +157,8 @@ fn is_row_of(row: &Row, resource: &Resource, document: &str) -> bool
         && has_text(row, 2, document)
 }
 
-/// The document of the row of a resource; None where it has no text there.
+/// Returns the document in the row of a resource; None if that column isn't a text. Fails with Unreadable if
+/// it isn't UTF-8.
 fn document_of(row: &Row) -> Result<Option<&str>, Failed<Unreadable>>
     ensures { IfOk result (λ found. option_copied found ≡ code.text_in (column row.now 2)) }
 {
@@ -173,7 +174,8 @@ fn document_of(row: &Row) -> Result<Option<&str>, Failed<Unreadable>>
     }
 }
 
-/// The resource whose row it is; None where it is that of no resource below the base.
+/// Reads a resource from its row; None if the row isn't that of a resource with a location below the base
+/// URI. Fails with Unreadable if the document isn't UTF-8.
 fn read_resource(
     alloc: Global,
     base: &str,
@@ -197,7 +199,7 @@ fn read_resource(
     }
 }
 
-/// Whether the rows of names and those of members are those of the resource. NoMemory where none was to be had.
+/// Whether the rows of names and members are those of the resource.
 fn has_rows(
     alloc: Global,
     resource: &Resource,
@@ -214,7 +216,8 @@ fn has_rows(
     Ok(are_names(names, id, unique.as_slice()) && are_members(members, id, values.as_slice()))
 }
 
-/// Whether the rows are those of one resource below the base, or there are none. NoMemory where none was to be had.
+/// Whether the rows are empty, or those of one resource with a location below the base URI. Fails with
+/// Unreadable if a document isn't UTF-8.
 fn are_of_one(
     alloc: Global,
     base: &str,
@@ -235,7 +238,7 @@ fn are_of_one(
     }
 }
 
-/// Where in each table the rows behind those of the last id begin.
+/// The index in each table behind the rows of the last id.
 #[derive(Clone, Copy)]
 struct Places {
     resources: usize,
@@ -243,7 +246,8 @@ struct Places {
     members: usize,
 }
 
-/// Whether the rows of an id are those of one resource below the base, or there are none.
+/// Whether the rows of an id are empty, or those of one resource with a location below the base URI. Fails
+/// with Unreadable if a document isn't UTF-8.
 fn holds_at(
     alloc: Global,
     base: &str,
@@ -263,7 +267,8 @@ fn holds_at(
     are_of_one(alloc, base, resources, names, members)
 }
 
-/// The least id whose rows don't hold, where those of an id that isn't among these do; None where those of all ids hold.
+/// Returns the least id whose rows are neither empty nor those of one resource; None if there isn't one. Ids
+/// outside the set must have valid rows. Fails with Unreadable if a document isn't UTF-8.
 fn first_damage(
     alloc: Global,
     base: &str,
@@ -289,7 +294,7 @@ fn first_damage(
     Ok(None)
 }
 
-/// The ids that rows of the tables belong to. NoMemory where none was to be had.
+/// Returns the ids that the rows of the tables belong to.
 fn owners(alloc: Global, tables: &ResourceRows) -> Result<BTreeSet<Id>, NoMemory>
     ensures { IfOk result (λ ids. (id : List ℕ) → IsId id → contains (slice_cmp nat_cmp) ids id
         ≡ ((is_owner tables.now.resources id || is_owner tables.now.names id) || is_owner tables.now.members id)) }
@@ -301,7 +306,7 @@ fn owners(alloc: Global, tables: &ResourceRows) -> Result<BTreeSet<Id>, NoMemory
     Ok(ids)
 }
 
-/// The text of the row of a name; None where it has none.
+/// Returns the text of the row of a name; None if that column isn't a text.
 fn text_of_name(name: &Row) -> Option<&[u8]>
     ensures { option_copied result ≡ code.text_in (column name.now 2) }
 {
@@ -314,8 +319,8 @@ fn text_of_name(name: &Row) -> Option<&[u8]>
     }
 }
 
-/// Whether each row of a name has a text, and none has that of another: no resource has two names, and only one
-/// attribute has unique names. NoMemory where none was to be had.
+/// Whether each row of a name has a text, and no two have the same. The attribute isn't compared: only one
+/// attribute has unique names, and a resource has at most one such name.
 fn are_apart(alloc: Global, names: &[Row]) -> Result<bool, NoMemory>
     ensures yes { IfOk result (λ apart. apart ≡ true → IsDistinct spec.is_shared names.now) }
     ensures no { IfOk result (λ apart. apart ≡ false → All code.HasName names.now → IsDistinct spec.is_shared names.now → ⊥) }
@@ -348,7 +353,7 @@ fn are_owned(resources: &[Row], names: &[Row], members: &[Row]) -> bool
     have_owners(members)
 }
 
-/// Whether rows of which those of each id hold are those of resources. NoMemory where none was to be had.
+/// Whether rows are those of resources, given that the rows of each id are valid.
 fn are_sound(alloc: Global, tables: &ResourceRows) -> Result<bool, NoMemory>
     ensures owned { IfOk result (λ sound. sound ≡ true → code.AreAllOwned tables.now) }
     ensures apart { IfOk result (λ sound. sound ≡ true → IsDistinct spec.is_shared tables.now.names) }
@@ -365,9 +370,10 @@ fn are_sound(alloc: Global, tables: &ResourceRows) -> Result<bool, NoMemory>
     are_apart(alloc, names)
 }
 
-/// What the rows of the tables are, if they are in order, as they are read.
+/// Tests whether the rows of the tables are those of resources with locations below the base URI. They must
+/// be sorted as they are read.
 ///
-/// The error is that no memory was to be had, or that the document of a resource is no UTF-8.
+/// Fails with Unreadable if the document of a resource isn't UTF-8.
 pub fn judge(alloc: Global, base: &str, tables: &ResourceRows) -> Result<Judged, Failed<Unreadable>>
     ensures judged { spec.AreOrdered tables.now → IfOk result (spec.Judges base.now tables.now) }
 {
@@ -382,13 +388,14 @@ pub fn judge(alloc: Global, base: &str, tables: &ResourceRows) -> Result<Judged,
     }
 }
 
-/// Where the rows are those of resources, those of each id are those of one resource, or there are none. So where an id
-/// is damaged, the rows are those of no resources.
+/// Law: if the rows are those of resources, those of each id are empty or those of one resource. So if an id
+/// is damaged, the rows aren't those of resources.
 pub fn sound_rows_hold()
     ensures { spec.SoundRowsHold }
 {}
 
-/// Where each row belongs to an id, the rows of each id hold and no name has two rows, the rows are those of resources.
+/// Law: if each row belongs to an id, the rows of each id are valid and no name has two rows, then the rows
+/// are those of resources.
 pub fn holding_rows_are_sound()
     ensures { spec.HoldingRowsAreSound }
 {}

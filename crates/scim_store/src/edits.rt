@@ -1,28 +1,27 @@
-//! What a change of a store edits in the tables.
+//! The edits that a change makes to the tables.
 
 use scim_cell::Text;
 use scim_schema::Kind;
 use scim_value::UniqueName;
 
-/// What goes from the tables and comes into them, where one resource changes.
+/// The rows that the change of one resource removes from the tables and adds to them.
 pub struct Edits {
     /// The text of the resource's id.
     pub id: Text,
-    /// Its kind.
+    /// The resource's kind.
     pub kind: Kind,
-    /// Its new document; None where the resource goes.
+    /// The new document; None if the resource is removed.
     pub document: Option<String>,
-    /// The unique names that it had, and hasn't any more.
+    /// The unique names to remove: those of the old resource that the new one doesn't have.
     pub names_gone: Vec<UniqueName>,
-    /// The unique names that it has, and hadn't before.
+    /// The unique names to add: those of the new resource that the old one didn't have.
     pub names_come: Vec<UniqueName>,
-    /// The values that it listed among its members, and doesn't any more.
+    /// The member values to remove: those that the old resource listed and the new one doesn't.
     pub members_gone: Vec<Text>,
-    /// The values that it lists among its members, and didn't before, each once.
+    /// The member values to add: those that the new resource lists and the old one didn't, each once.
     pub members_come: Vec<Text>,
 }
 
-/// One call, wherever edits are dropped, in place of a look at each.
 impl Drop for Edits {
     fn drop(self) {
         let Edits {

@@ -1,4 +1,4 @@
-//! A new store in an empty database.
+//! Imports resources into an empty database.
 
 ghost use Rattle.std.specs.Prelude.{◌≡◌, ◌≢◌, ◌∷◌, ℕ, List, All, false, IfOk, OnOk, OnErr, Err, IsTrue};
 ghost use Rattle.sqlite.specs.State.{HasCleanDisk, Survives};
@@ -24,17 +24,17 @@ use scim_value::Resource;
 use sqlite::{Alter, Connection, Error, Transaction};
 use std::alloc::Global;
 
-/// What keeps resources from being brought into a database.
+/// A reason why resources can't be imported into a database.
 #[derive(Clone, Copy, PartialEq, Eq)]
 pub enum ImportFault {
-    /// The database has a table, an index or a view.
+    /// The database isn't empty: it has a table, an index or a view.
     NotEmpty,
-    /// One of the resources stands below another base.
+    /// A resource has a location below another base URI.
     OtherBase,
-    /// The database gave this error: a constraint where two resources have one id or share a unique name, or what the
-    /// disk or the memory did.
+    /// The database failed with this error: a constraint if two resources have one id or share a unique name,
+    /// or a failure of the disk or the memory.
     Database(Error),
-    /// No memory was to be had.
+    /// Memory ran out.
     NoMemory,
 }
 
@@ -60,7 +60,7 @@ impl From<NoMemory> for ImportFault {
     }
 }
 
-/// Whether all these resources stand below the base. NoMemory where none was to be had.
+/// Whether all these resources have locations below the base URI.
 fn are_below(alloc: Global, base: &str, resources: &[Resource]) -> Result<bool, NoMemory>
     ensures yes { IfOk result (λ below. IsTrue below → All (HasBase base.now) resources.now) }
     ensures no { IfOk result (λ below. below ≡ false → ¬ All (HasBase base.now) resources.now) }
@@ -73,8 +73,7 @@ fn are_below(alloc: Global, base: &str, resources: &[Resource]) -> Result<bool, 
     Ok(true)
 }
 
-/// Puts in the rows of a resource that isn't there: that of its document, and those of its unique names and of its
-/// members.
+/// Inserts the rows of a resource that isn't stored: its document, its unique names and its members.
 fn insert_rows<S: Alter>(
     tx: &mut Transaction<'_, S>,
     alloc: Global,
@@ -93,7 +92,7 @@ fn insert_rows<S: Alter>(
     Ok(())
 }
 
-/// Puts in the rows of these resources, where the tables have no rows.
+/// Inserts the rows of these resources. The tables must be empty.
 fn insert_all<S: Alter>(
     tx: &mut Transaction<'_, S>,
     alloc: Global,
@@ -113,7 +112,7 @@ fn insert_all<S: Alter>(
     Ok(())
 }
 
-/// Makes the tables, and puts in the rows of these resources.
+/// Creates the tables and inserts the rows of these resources.
 fn make_store<S: Alter>(
     tx: &mut Transaction<'_, S>,
     alloc: Global,
@@ -130,7 +129,7 @@ fn make_store<S: Alter>(
     insert_all(tx, alloc, resources)
 }
 
-/// Makes the tables in an empty database and puts in the rows of these resources, in one transaction.
+/// Creates the tables in an empty database and inserts the rows of these resources, in one transaction.
 fn fill<S: Alter>(
     conn: &mut Connection<S>,
     alloc: Global,
@@ -150,16 +149,16 @@ fn fill<S: Alter>(
     Ok(())
 }
 
-/// Makes the tables in a database that has no table, index or view, and keeps these resources, in one transaction; the
-/// audit has no rows. It takes a time that is nearly linear in the resources.
+/// Creates the tables in a database without tables, indexes and views and stores these resources, in one
+/// transaction; the audit has no rows. The time is nearly linear in the number of resources.
 ///
-/// The error is OtherBase where one of the resources stands below another base, NotEmpty where the database has a table,
-/// an index or a view, NoMemory, or the one that the database gave, among them a want of memory of its own, and a
-/// constraint where two of the resources have one id or share a unique name. Then the database is as it was or as the last
-/// commit left it, or the connection is shut.
+/// Fails with OtherBase if a resource has a location below another base URI, with NotEmpty if the database
+/// has a table, an index or a view, with NoMemory, or with the database's error, such as a constraint if two
+/// resources have one id or share a unique name. Then the database is as before or as the last commit left
+/// it, or the connection is closed.
 ///
-/// A crash meanwhile leaves what was there before, or the tables with all these resources; one after Ok leaves them,
-/// where the disk gives back what was written.
+/// A crash during the call leaves what was there before, or the tables with all these resources. A crash
+/// after Ok leaves the tables with them, if the disk returns what was written.
 pub fn import<S: Alter>(
     conn: &mut Connection<S>,
     alloc: Global,
@@ -174,10 +173,11 @@ pub fn import<S: Alter>(
     ensures not_empty { HasCleanDisk (state S.Store conn.new) → result ≡ Err ImportFault.NotEmpty → (state S.Store conn.old).now.schema ≢ no_schema }
     ensures other_base { result ≡ Err ImportFault.OtherBase → ¬ All (HasBase base.now) resources.now }
 
-    // A crash leaves what it could leave before, or, where the database was empty, the tables with all these resources.
+    // A crash leaves what it could leave before, or, if the database was empty, the tables with all these
+    // resources.
     ensures crash { Survives (state S.Store conn.old) (state S.Store conn.new) (LeavesImported base.now resources.now (state S.Store conn.old)) }
 
-    // Once it has answered Ok, a crash leaves these tables.
+    // After Ok, a crash leaves these tables.
     ensures durable { HasCleanDisk (state S.Store conn.new) → OnOk result ((store : Store) → IsNewStore resources.now store
         → (trees : Trees) → (state S.Store conn.new).may_leave trees → AreOf base.now store trees) }
 {

@@ -1,4 +1,5 @@
-//! The store in SQLite.
+//! The store of a service provider in a database of SQLite: a shelf over its tables, which are checked as a
+//! whole when a database is opened. Each change is committed in one transaction with its audit row.
 #![tactic(auto)]
 
 mod beginning;

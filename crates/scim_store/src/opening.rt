@@ -1,4 +1,4 @@
-//! What a database is to a store.
+//! The examination of a database before it is opened as a store.
 
 ghost use Rattle.std.specs.Prelude.{◌≡◌, ◌≤◌, false, IfOk, OnErr};
 ghost use Rattle.sqlite.specs.Effect.{Database};
@@ -19,22 +19,24 @@ use scim_text::{Failed, NoMemory};
 use sqlite::{Alter, Connection, Error, ErrorCode, Row};
 use std::alloc::Global;
 
-/// What a database is to a store of resources below a base.
+/// The result of examining a database as a store of resources with locations below a base URI.
 #[derive(Clone, Copy, PartialEq, Eq)]
 pub enum Examined {
     /// It has no table, index or view.
     Empty,
-    /// Its tables stand for a store, whose audit has so many rows.
+    /// Its tables stand for a store, whose audit has this many rows.
     Stands(u64),
     /// Its tables are of another version.
     WrongVersion,
-    /// Its tables stand for no store: this is the least id whose rows are neither those of one resource nor none.
+    /// Its tables don't stand for a store: this is the least id whose rows are neither empty nor those of one
+    /// resource.
     Damaged(Id),
-    /// Its tables stand for no store, though the rows of each id hold, or it belongs to another program.
+    /// Its tables don't stand for a store, though the rows of each id are valid; or it belongs to another
+    /// program.
     Foreign,
 }
 
-/// How many rows of the audit these are, numbered from 1; None where they are none.
+/// Returns the number of audit rows; None unless all of them are valid and numbered from 1.
 fn count_audit(alloc: Global, rows: &[Row]) -> Result<Option<u64>, NoMemory>
     ensures { IfOk result (spec.CountsAudit rows.now) }
 {
@@ -44,7 +46,7 @@ fn count_audit(alloc: Global, rows: &[Row]) -> Result<Option<u64>, NoMemory>
     }
 }
 
-/// What the rows of the audit tell, where those of resources are sound. The error is that no memory was to be had.
+/// Examines the audit rows, if the rows of resources are valid. Fails with out of memory only.
 fn examine_audit(alloc: Global, rows: &[Row]) -> Result<Examined, Error>
     ensures { IfOk result (spec.IsByAudit rows.now) }
 {
@@ -55,7 +57,8 @@ fn examine_audit(alloc: Global, rows: &[Row]) -> Result<Examined, Error>
     }
 }
 
-/// What the rows of resources are. The error is that no memory was to be had, or that a document is no UTF-8.
+/// Examines the rows of resources. Fails with out of memory, or with a corrupt database if a document isn't
+/// UTF-8.
 fn judge_resources(alloc: Global, base: &str, tables: &ResourceRows) -> Result<Judged, Error>
     ensures { AreOrdered tables.now → IfOk result (Judges base.now tables.now) }
 {
@@ -66,7 +69,8 @@ fn judge_resources(alloc: Global, base: &str, tables: &ResourceRows) -> Result<J
     }
 }
 
-/// What all rows of the tables tell. The error is that no memory was to be had, or that a document is no UTF-8.
+/// Examines all rows of the tables. Fails with out of memory, or with a corrupt database if a document isn't
+/// UTF-8.
 fn examine_rows(alloc: Global, base: &str, rows: TableRows) -> Result<Examined, Error>
     ensures { IfOk result (λ it. (db : Database) → Are db (shown db) → AreRowsOf (shown db) rows → spec.IsFor base.now db it) }
 {
@@ -88,11 +92,11 @@ fn examine_rows(alloc: Global, base: &str, rows: TableRows) -> Result<Examined, 
     }
 }
 
-/// What a database is to a store of resources below the base. It is read whole, in a time that is nearly linear in its
-/// rows.
+/// Examines a database as a store of resources with locations below the base URI. Reads all rows, in time
+/// nearly linear in their number.
 ///
-/// The error is the one that the database gave, that no memory was to be had, or that the database is corrupt, where the
-/// document of a resource is no UTF-8 or a key is no number. The connection is then shut, or as it was or as the last
+/// Fails with the database's error, with out of memory, or with a corrupt database if the document of a
+/// resource isn't UTF-8 or a key isn't a number. The connection is then closed, or as before, or as the last
 /// commit left it.
 pub fn examine<S: Alter>(
     conn: &mut Connection<S>,

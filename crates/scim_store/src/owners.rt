@@ -1,4 +1,4 @@
-//! Whom the rows of the tables belong to.
+//! Finds the rows that belong to a resource, by the id in their first column.
 
 ghost use Rattle.std.specs.Prelude.{◌≡◌, ◌≤◌, ◌||◌, ℕ, List, [], ◌∷◌, All, true, false, filter, length, IfSome, IfOk, OnOk, None};
 ghost use Rattle.std.specs.Ordering.{nat_cmp, is_lt, is_le};
@@ -21,7 +21,7 @@ use sqlite::types::ValueRef;
 use std::cmp::Ordering;
 use std::collections::BTreeSet;
 
-/// The value at a place of a row; NULL past its end.
+/// Returns the value at a place of a row; NULL past its end.
 pub(crate) fn value_in(row: &Row, place: usize) -> ValueRef<'_>
     ensures { owned result ≡ column row.now place }
 {
@@ -41,7 +41,7 @@ pub(crate) fn has_text(row: &Row, place: usize, text: &str) -> bool
     }
 }
 
-/// How the first value of a row compares to a text.
+/// Compares the first column of a row with a text.
 #[tactic(auto, using(crate::proofs::OwnedLemmas::text_against, crate::proofs::OwnedLemmas::high_against, crate::proofs::OwnedLemmas::low_against))]
 fn compare_owner(row: &Row, text: &str) -> Ordering
     ensures { result ≡ value_cmp (column row.now 0) (Text text.now) }
@@ -55,8 +55,8 @@ fn compare_owner(row: &Row, text: &str) -> Ordering
     }
 }
 
-/// Whether a place parts the rows that begin with less than the text from the others, if the rows are in order of what they begin
-/// with: by the two rows beside it.
+/// Whether the rows before `place` begin with less than the text and the others don't, judged by the two rows
+/// beside it. The rows must be sorted by their first column.
 fn is_start(rows: &[Row], text: &str, place: usize) -> bool
     ensures { result ≡ true → IsPartedAt (λ r. is_lt (value_cmp (column r 0) (Text text.now))) rows.now place }
 {
@@ -65,8 +65,8 @@ fn is_start(rows: &[Row], text: &str, place: usize) -> bool
         && (place == rows.len() || compare_owner(&rows[place], text).is_ge())
 }
 
-/// How many rows begin with less than the text, if the rows are in order of what they begin with. A place that it may be is tried
-/// first.
+/// Returns how many rows begin with less than the text. The rows must be sorted by their first column. Tries
+/// `near` before it searches.
 fn start_of(rows: &[Row], text: &str, near: usize) -> usize
     ensures within { result ≤ length rows.now }
     ensures start { DoNotFall (0 ∷ []) rows.now → IsPartitionPoint (λ r. is_lt (value_cmp (column r 0) (Text text.now)) ≡ true)
@@ -78,7 +78,8 @@ fn start_of(rows: &[Row], text: &str, near: usize) -> usize
     rows.partition_point(|row| compare_owner(row, text).is_lt())
 }
 
-/// How many rows begin with the text or less, if the rows are in order of what they begin with. They are gone through one by one.
+/// Returns how many rows begin with the text or less, by a linear scan. The rows must be sorted by their
+/// first column.
 fn count_of(rows: &[Row], text: &str) -> usize
     ensures within { result ≤ length rows.now }
     ensures count { DoNotFall (0 ∷ []) rows.now → IsPartitionPoint (λ r. is_le (value_cmp (column r 0) (Text text.now)) ≡ true)
@@ -92,8 +93,8 @@ fn count_of(rows: &[Row], text: &str) -> usize
     rows.len()
 }
 
-/// The rows that begin with the text, if the rows are in order of what they begin with. They are looked for at `near` first, which is
-/// moved behind them: of texts in order each is found without a search.
+/// Returns the rows whose first column is the text. The rows must be sorted by that column. Starts at `near`
+/// and leaves it behind the rows returned, so look-ups in ascending order need no search.
 pub(crate) fn rows_of<'r>(rows: &'r [Row], text: &str, near: &mut usize) -> &'r [Row]
     ensures { DoNotFall (0 ∷ []) rows.now → result.now ≡ filter (tables.has_text 0 text.now) rows.now }
 {
@@ -104,7 +105,7 @@ pub(crate) fn rows_of<'r>(rows: &'r [Row], text: &str, near: &mut usize) -> &'r 
     &rest[..count]
 }
 
-/// The id whose text the bytes are; None where they are none.
+/// Returns the id whose text the bytes are; None if they aren't the text of an id.
 fn id_of(bytes: &[u8]) -> Option<Id>
     ensures some { IfSome result (λ id. bytes.now ≡ id_text id) }
     ensures id { IfSome result IsId }
@@ -116,7 +117,7 @@ fn id_of(bytes: &[u8]) -> Option<Id>
     }
 }
 
-/// The id whose text a row begins with; None where it begins with no such text.
+/// Returns the id in a row's first column; None if that isn't the text of an id.
 fn owner_of(row: &Row) -> Option<Id>
     ensures some { IfSome result (λ id. is_of id row.now ≡ true) }
     ensures id { IfSome result IsId }
@@ -131,7 +132,7 @@ fn owner_of(row: &Row) -> Option<Id>
     }
 }
 
-/// Whether each row begins with the text of an id.
+/// Whether each row has the text of an id in its first column.
 pub(crate) fn have_owners(rows: &[Row]) -> bool
     ensures yes { result ≡ true → All HasOwner rows.now }
     ensures no { result ≡ false → All HasOwner rows.now → ⊥ }
@@ -144,7 +145,7 @@ pub(crate) fn have_owners(rows: &[Row]) -> bool
     true
 }
 
-/// Adds the ids whose texts the rows begin with. NoMemory where none was to be had.
+/// Adds the ids in the first columns of the rows to the set. After an error some of them may be in it.
 pub(crate) fn note_owners(rows: &[Row], ids: &mut BTreeSet<Id>) -> Result<(), NoMemory>
     ensures { OnOk result ((id : List ℕ) → IsId id → contains (slice_cmp nat_cmp) ids.new id ≡ (contains (slice_cmp nat_cmp) ids.old id || is_owner rows.now id)) }
 {

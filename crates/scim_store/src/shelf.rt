@@ -32,10 +32,10 @@ use scim_value::{Resource, UniqueName};
 use sqlite::{Alter, Connection, Error, ErrorCode};
 use std::alloc::Global;
 
-/// A shelf over the tables of a database, whose resources stand below one base.
+/// A shelf over the tables of a database, whose resources have locations below one base URI.
 ///
-/// It finds a resource by its id, by a unique name and by a value that it lists by the keys of the tables. A resource
-/// of another base is refused as a device refuses.
+/// It looks up resources by id, by unique name and by member value through the keys of the tables. Committing
+/// a resource with a location below another base fails with Device.
 pub struct SqlShelf<S: Alter> {
     connection: Connection<S>,
     base: Text,
@@ -47,21 +47,22 @@ pub struct SqlShelf<S: Alter> {
     ghost bounded: { rows ≤ last_number },
 }
 
-/// What keeps a database from being opened.
+/// A reason why a database can't be opened.
 #[derive(Clone, Copy, PartialEq, Eq)]
 pub enum OpenFault {
     /// Its tables are of another version.
     WrongVersion,
-    /// Its tables stand for no store: this is the least id whose rows are neither those of one resource nor none.
+    /// Its tables don't stand for a store: this is the least id whose rows are neither empty nor those of one
+    /// resource.
     Damaged(Id),
-    /// It belongs to another program, or its tables stand for no store though the rows of each id hold, or it can't be
-    /// read or written.
+    /// It belongs to another program, or its tables don't stand for a store though the rows of each id are
+    /// valid, or it can't be read or written.
     Store,
-    /// No memory was to be had.
+    /// Memory ran out.
     NoMemory,
 }
 
-/// What an error of the database is to whoever opens it.
+/// Returns the fault that an error of the database is when it is opened.
 fn open_fault_of(error: &Error) -> OpenFault
     ensures { (base : List ℕ) (db : Database) → Refuses base db result }
 {
@@ -72,7 +73,8 @@ fn open_fault_of(error: &Error) -> OpenFault
 }
 
 impl<S: Alter> SqlShelf<S> {
-    /// A shelf over the tables of a connection, whose audit has so many rows.
+    /// Returns a shelf over the tables of a connection, whose audit has `rows` rows. On an error it gives the
+    /// connection back.
     fn over(
         alloc: Global,
         connection: Connection<S>,
@@ -101,7 +103,8 @@ impl<S: Alter> SqlShelf<S> {
         }
     }
 
-    /// A shelf over an empty database, which gets its tables in one transaction.
+    /// Creates the tables in an empty database, in one transaction, and returns a shelf over them. On an
+    /// error it gives the connection back.
     fn begin(
         alloc: Global,
         connection: Connection<S>,
@@ -123,13 +126,14 @@ impl<S: Alter> SqlShelf<S> {
         }
     }
 
-    /// Opens a database for a store of resources below the base. An empty one gets its tables in one transaction. Of any
-    /// other all rows are read and checked, in a time that is nearly linear in them.
+    /// Opens a database as a store of resources with locations below the base URI. If it is empty, the tables
+    /// are created in one transaction. Otherwise all rows are read and checked, in time nearly linear in
+    /// their number.
     ///
-    /// Fails by WrongVersion and Damaged only where the tables stand for no store; by Store where they don't either,
-    /// where the connection is in a transaction, or where the device failed; or where memory was wanting. The connection is
-    /// given back then: it is shut, or its database is as it was or as the last commit left it, but that an empty one may
-    /// have got its tables.
+    /// Fails with WrongVersion or Damaged if the tables don't stand for a store; with Store if they don't
+    /// either, if the connection is in a transaction, or if the device failed; or with NoMemory. The
+    /// connection is given back with the fault: it is closed, or its database is as before or as the last
+    /// commit left it, except that an empty one may have been given its tables.
     pub fn open(
         alloc: Global,
         connection: Connection<S>,
@@ -141,7 +145,8 @@ impl<S: Alter> SqlShelf<S> {
         ensures refused { IfErr result (λ e. HasCleanDisk (state S.Store e.1) → Refuses base.now (state S.Store connection).now e.0) }
         ensures rests { IfErr result (λ e. HasCleanDisk (state S.Store e.1) → (state S.Store connection).now.schema ≢ no_schema → Rests (state S.Store connection) (state S.Store e.1)) }
 
-        // A crash leaves what it could leave before, or, where the database was empty, the tables of a store that has nothing.
+        // A crash leaves what it could leave before, or, if the database was empty, the tables of an empty
+        // store.
         ensures crash { IfOk result (λ shelf. Survives (state S.Store connection) (state S.Store shelf.connection) (LeavesBegun base.now (state S.Store connection))) }
         ensures crash_at_err { IfErr result (λ e. Survives (state S.Store connection) (state S.Store e.1) (LeavesBegun base.now (state S.Store connection))) }
     {
@@ -159,11 +164,11 @@ impl<S: Alter> SqlShelf<S> {
         }
     }
 
-    /// The rows of the audit from this number on, in order, and the first `count` of them where there are more. The
-    /// first row has number 1; from 0 counts as from there. Where a method was refused, the methods that the endpoint
-    /// has aren't kept, and those of a collection are given.
+    /// Returns the audit rows from number `from` on, in order, at most `count`. The first row has number 1,
+    /// and 0 counts as 1. Of a refused method, the methods of its endpoint aren't stored: those of a
+    /// collection are returned.
     ///
-    /// Fails by Device where the device did, or where memory was wanting, and leaves what is kept as it was.
+    /// Fails with Device if the device failed. On any error what is stored is unchanged.
     pub fn audit_rows(
         &mut self,
         alloc: Global,
@@ -177,7 +182,7 @@ impl<S: Alter> SqlShelf<S> {
         told(&mut self.failures, read)
     }
 
-    /// The connection, with the tables as they are.
+    /// Returns the connection, with the tables as they are.
     pub fn into_connection(self) -> Connection<S>
         ensures idle { result.in_transaction ≡ false }
         ensures stands { (store : Store) → ⟦<SqlShelf<S> as Shelf>⟧.stands self store → HasCleanDisk (state S.Store result) → HasStore self.base (state S.Store result) store }
@@ -192,7 +197,8 @@ impl<S: Alter> SqlShelf<S> {
     }
 }
 
-/// What a fault of the database is to a shelf: want of memory, or a failure of the device, which counts.
+/// Returns the shelf's fault for a fault of the database: NoMemory, or Device, which is counted in
+/// `failures`.
 fn fault_of(failures: &mut u64, fault: &CommitFault) -> Failed<ShelfFault>
     ensures grown { failures.old ≤ failures.new }
     ensures device { result ≡ Failed.Because ShelfFault.Device → (failures.old < failures.new) ⊎ (failures.old ≡ 18446744073709551615) }
@@ -210,7 +216,7 @@ fn fault_of(failures: &mut u64, fault: &CommitFault) -> Failed<ShelfFault>
     }
 }
 
-/// What a look into the tables is to a shelf.
+/// Returns the result of a read as the shelf's, counting a failure of the device.
 fn told<T>(failures: &mut u64, found: Result<T, Error>) -> Result<T, Failed<ShelfFault>>
     ensures same { IfOk result (λ x. found ≡ Ok x) }
     ensures counts { Counts failures.old failures.new result }
@@ -222,7 +228,7 @@ fn told<T>(failures: &mut u64, found: Result<T, Error>) -> Result<T, Failed<Shel
     }
 }
 
-/// What a commit is to a shelf, which counts the rows of its audit.
+/// Returns the result of a commit as the shelf's, counting the new audit row or a failure of the device.
 fn told_commit(
     failures: &mut u64,
     rows: &mut u64,

@@ -1,4 +1,4 @@
-//! A change of the store, written in one transaction.
+//! Writes a change and its audit row in one transaction.
 
 ghost use Rattle.std.specs.Prelude.{◌≡◌, ◌≤◌, ◌∷◌, ◌++◌, false, OnOk, OnErr};
 ghost use Rattle.sqlite.specs.State.{HasCleanDisk, Survives};
@@ -18,7 +18,7 @@ use scim_store_tables::{
 use scim_value::UniqueName;
 use sqlite::{Alter, Connection, Error, ErrorCode, Transaction};
 
-/// Takes out names.
+/// Deletes unique names.
 fn delete_names<S: Alter>(tx: &mut Transaction<'_, S>, names: &[UniqueName]) -> Result<(), Error>
     ensures same_reference { tx.new.conn.ghost_name ≡ tx.old.conn.ghost_name }
     ensures went { Goes (state S.Store tx.old.conn.now) (state S.Store tx.new.conn.now) result (λ old new.
@@ -32,7 +32,7 @@ fn delete_names<S: Alter>(tx: &mut Transaction<'_, S>, names: &[UniqueName]) -> 
     Ok(())
 }
 
-/// Puts in names with their owner.
+/// Inserts unique names with the id of their owner.
 fn insert_names<S: Alter>(
     tx: &mut Transaction<'_, S>,
     id: &str,
@@ -50,7 +50,7 @@ fn insert_names<S: Alter>(
     Ok(())
 }
 
-/// Takes out members of a group.
+/// Deletes members of a group.
 fn delete_members<S: Alter>(
     tx: &mut Transaction<'_, S>,
     group_id: &str,
@@ -68,7 +68,7 @@ fn delete_members<S: Alter>(
     Ok(())
 }
 
-/// Puts in members of a group.
+/// Inserts members of a group.
 fn insert_members<S: Alter>(
     tx: &mut Transaction<'_, S>,
     group_id: &str,
@@ -86,7 +86,7 @@ fn insert_members<S: Alter>(
     Ok(())
 }
 
-/// Puts in the row of the resource, if there is a document.
+/// Inserts the row of the resource, if there is a document.
 fn put_resource<S: Alter>(tx: &mut Transaction<'_, S>, edits: &Edits) -> Result<(), Error>
     ensures same_reference { tx.new.conn.ghost_name ≡ tx.old.conn.ghost_name }
     ensures went { Goes (state S.Store tx.old.conn.now) (state S.Store tx.new.conn.now) result (λ old new.
@@ -108,8 +108,8 @@ fn put_resource<S: Alter>(tx: &mut Transaction<'_, S>, edits: &Edits) -> Result<
     }
 }
 
-/// Writes the row of a resource: in place of the one with the id, or as a new one where there is none. The error is
-/// that several have the id, so that the database is corrupt, or the database's own.
+/// Updates the row of the resource with the id, or inserts it if there isn't one. Fails with a corrupt
+/// database if several rows have the id, or with the database's error.
 fn replace_resource<S: Alter>(
     tx: &mut Transaction<'_, S>,
     id: &str,
@@ -122,7 +122,7 @@ fn replace_resource<S: Alter>(
     ensures kept { Keeps (state S.Store tx.old.conn.now) (state S.Store tx.new.conn.now) }
     ensures survives { Survives (state S.Store tx.old.conn.now) (state S.Store tx.new.conn.now) (λ _. ⊥) }
 {
-    // A row that is changed in its place makes fewer pages dirty than one that is taken out and put in again.
+    // An update dirties fewer pages than a deletion and an insertion.
     match update_resource(tx, id, kind, document)? {
         0 => {
             insert_resource(tx, id, kind, document)?;
@@ -133,7 +133,7 @@ fn replace_resource<S: Alter>(
     }
 }
 
-/// Writes the row of the resource, if there is a document, and else takes it out.
+/// Writes the row of the resource if there is a document, and deletes it otherwise.
 fn edit_resource<S: Alter>(tx: &mut Transaction<'_, S>, edits: &Edits) -> Result<(), Error>
     ensures same_reference { tx.new.conn.ghost_name ≡ tx.old.conn.ghost_name }
     ensures went { Goes (state S.Store tx.old.conn.now) (state S.Store tx.new.conn.now) result (λ old new.
@@ -155,7 +155,7 @@ fn edit_resource<S: Alter>(tx: &mut Transaction<'_, S>, edits: &Edits) -> Result
     }
 }
 
-/// Takes out the names and members that go.
+/// Deletes the names and members that the edits remove.
 fn take_names_and_members<S: Alter>(tx: &mut Transaction<'_, S>, edits: &Edits) -> Result<(), Error>
     ensures same_reference { tx.new.conn.ghost_name ≡ tx.old.conn.ghost_name }
     ensures went { Goes (state S.Store tx.old.conn.now) (state S.Store tx.new.conn.now) result (λ old new.
@@ -170,7 +170,7 @@ fn take_names_and_members<S: Alter>(tx: &mut Transaction<'_, S>, edits: &Edits) 
     delete_members(tx, edits.id.as_str(), edits.members_gone.as_slice())
 }
 
-/// Puts in the names and members that come.
+/// Inserts the names and members that the edits add.
 fn put_names_and_members<S: Alter>(tx: &mut Transaction<'_, S>, edits: &Edits) -> Result<(), Error>
     ensures same_reference { tx.new.conn.ghost_name ≡ tx.old.conn.ghost_name }
     ensures went { Goes (state S.Store tx.old.conn.now) (state S.Store tx.new.conn.now) result (λ old new.
@@ -185,7 +185,7 @@ fn put_names_and_members<S: Alter>(tx: &mut Transaction<'_, S>, edits: &Edits) -
     insert_members(tx, edits.id.as_str(), edits.members_come.as_slice())
 }
 
-/// Puts in what comes, where the resource isn't there.
+/// Inserts all rows that the edits add. The resource must not be stored.
 pub(crate) fn put_rows<S: Alter>(tx: &mut Transaction<'_, S>, edits: &Edits) -> Result<(), Error>
     ensures same_reference { tx.new.conn.ghost_name ≡ tx.old.conn.ghost_name }
     ensures went { Goes (state S.Store tx.old.conn.now) (state S.Store tx.new.conn.now) result (λ old new.
@@ -201,7 +201,7 @@ pub(crate) fn put_rows<S: Alter>(tx: &mut Transaction<'_, S>, edits: &Edits) -> 
     put_names_and_members(tx, edits)
 }
 
-/// Takes out what goes, and puts in what comes.
+/// Deletes the rows that the edits remove, and writes those that they add.
 fn edit_rows<S: Alter>(tx: &mut Transaction<'_, S>, edits: &Edits) -> Result<(), Error>
     ensures same_reference { tx.new.conn.ghost_name ≡ tx.old.conn.ghost_name }
     ensures went { Goes (state S.Store tx.old.conn.now) (state S.Store tx.new.conn.now) result (λ old new.
@@ -214,7 +214,7 @@ fn edit_rows<S: Alter>(tx: &mut Transaction<'_, S>, edits: &Edits) -> Result<(),
     put_names_and_members(tx, edits)
 }
 
-/// Makes the edits, if there are any.
+/// Makes the edits, if any.
 fn edit_if_any<S: Alter>(tx: &mut Transaction<'_, S>, edits: &Option<Edits>) -> Result<(), Error>
     ensures same_reference { tx.new.conn.ghost_name ≡ tx.old.conn.ghost_name }
     ensures went { Goes (state S.Store tx.old.conn.now) (state S.Store tx.new.conn.now) result (λ old new.
@@ -228,7 +228,7 @@ fn edit_if_any<S: Alter>(tx: &mut Transaction<'_, S>, edits: &Option<Edits>) -> 
     }
 }
 
-/// Makes the edits and adds the row of the audit.
+/// Makes the edits, if any, and adds the audit row.
 fn write_rows<S: Alter>(
     tx: &mut Transaction<'_, S>,
     edits: &Option<Edits>,
@@ -246,11 +246,12 @@ fn write_rows<S: Alter>(
     Ok(())
 }
 
-/// Makes the edits of a change, if it has any, and adds its row to the audit, in one transaction.
+/// Makes the edits of a change, if any, and adds its audit row, in one transaction. The row's number and
+/// moment must be at most 2^63 - 1.
 ///
-/// The error is the one that the database gave: a constraint where what comes is there, or what the disk or the memory
-/// did; or that the database is corrupt, where several rows have the id. Then nothing is changed, or the connection is
-/// shut.
+/// Fails with the database's error: a constraint if a row to insert has a key that is in use, a corrupt
+/// database if several rows have the resource's id, or a failure of the disk or the memory. Then nothing is
+/// changed, or the connection is closed.
 pub fn write_change<S: Alter>(
     conn: &mut Connection<S>,
     edits: &Option<Edits>,
@@ -263,7 +264,7 @@ pub fn write_change<S: Alter>(
     ensures made { HasCleanDisk (state S.Store conn.new) → OnOk result (Became (state S.Store conn.old) (state S.Store conn.new) (Writes edits.now columns.now)) }
     ensures undone { HasCleanDisk (state S.Store conn.new) → OnErr result (Undoes (state S.Store conn.old) (state S.Store conn.new)) }
 
-    // A crash leaves what it could leave before, or the tables with the change and its row of the audit.
+    // A crash leaves what it could leave before, or the tables with the change and its audit row.
     ensures crash { Survives (state S.Store conn.old) (state S.Store conn.new) (Leaves (Writes edits.now columns.now) (state S.Store conn.old).now) }
 {
     let mut tx = conn.transaction();

@@ -1,4 +1,4 @@
--- The rows of the audit, as the table `audit` has them.
+-- Audit rows as rows of the table `audit`.
 use Rattle.std.specs.Prelude.{◌≡◌, ℕ, ◌+◌, ◌-◌, List, [], ◌∷◌}
 use Rattle.std.specs.Option.{option_map}
 use Rattle.sqlite.specs.declared.types.Value.TheVariants.{Text}
@@ -18,19 +18,19 @@ use Rattle.scim_audit.specs.Rows.{leaf_path}
 use Rattle.scim_store_tables.specs.Audit.{number}
 use Rattle.scim_store_rows.specs.declared.columns.AuditTexts.{AuditTexts}
 
--- the place of a kind among all kinds, from 0
+-- The number of a kind, counted from 0.
 abbrev pub kind_number : Kind → ℕ
 kind_number User = 0
 kind_number Group = 1
 
--- the place of an operation among all of them, from 0
+-- The number of an operation, counted from 0.
 abbrev pub op_number : Op → ℕ
 op_number Read = 0
 op_number Create = 1
 op_number Modify = 2
 op_number Delete = 3
 
--- the place of what was decided among all that may be, from 0
+-- The number of a decision, counted from 0.
 abbrev pub decided_number : Decided → ℕ
 decided_number Allow = 0
 decided_number Deny = 1
@@ -38,22 +38,22 @@ decided_number Hidden = 2
 decided_number Absent = 3
 decided_number Refused = 4
 
--- the place of a refusal among all of them, from 0; which methods the endpoint has isn't kept
+-- The number of a refusal, counted from 0; of a refused method, the methods of its endpoint aren't stored.
 abbrev pub refusal_number : Refusal → ℕ
 refusal_number refusal = number_of refusal - 1
 
--- a row of the audit with its number; what it lacks is NULL
+-- An audit row with its number, as a row of the table; a missing field is NULL.
 abbrev pub audit_row : ℕ → AuditRow → Row
 audit_row n row =
     number n ∷ number row.moment ∷ Text row.client ∷ number (op_number row.op) ∷ number (kind_number row.kind) ∷ or_null Text (option_map id_text row.id)
     ∷ number (decided_number row.decided) ∷ or_null number row.rule ∷ or_null Text (option_map leaf_path row.leaf) ∷ or_null number (option_map refusal_number row.refusal) ∷ []
 
--- rows of the audit, of which the first has this number
+-- Audit rows as rows of the table; the first has this number.
 abbrev pub audit_rows : ℕ → List AuditRow → List Row
 audit_rows n [] = []
 audit_rows n (row ∷ rows) = audit_row n row ∷ audit_rows (n + 1) rows
 
--- the texts of a row's id and leaf
+-- The texts of a row's id and leaf.
 pub record AreTexts (texts : AuditTexts) (row : AuditRow) : Type 0 where
   pub id : texts.id ≡ option_map id_text row.id
   pub leaf : texts.leaf ≡ option_map leaf_path row.leaf

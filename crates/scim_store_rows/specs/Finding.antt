@@ -1,4 +1,4 @@
--- What a look into the tables finds.
+-- The results of reads of resources.
 use Rattle.std.specs.Prelude.{◌≡◌, ℕ, List, Option, None, Some, IsTrue, find, filter}
 use Rattle.std.specs.List.{FoldsTo}
 use Rattle.sqlite.specs.State.{State, IsUnchanged}
@@ -10,38 +10,38 @@ use Rattle.scim_value.specs.Uniqueness.{Name}
 use Rattle.scim_shelf.specs.Stores.{Store, is_at, has_name, is_group_with, of_id}
 use Rattle.scim_store_rows.specs.Stands.{StandsFor}
 
--- where the connection is open, its tables stand for the store
+-- If the connection is open, its tables stand for the store.
 abbrev pub StandsIn : List ℕ → State → Store → Type 0
 StandsIn base s store = IsTrue s.is_open → StandsFor base s.now store
 
--- a document reads as a resource, and none as none
+-- A document reads as a resource, and no document as no resource.
 abbrev pub Reads : List ℕ → Option (List ℕ) → Option Content → Type 0
 Reads base None None = Unit {0}
 Reads base (Some text) (Some c) = IsDocumentText base text c
 Reads base _ _ = ⊥
 
--- what is found is this, and nothing is changed
+-- The result is `has`, and nothing is changed.
 pub record IsFound {T : Type 0} (has : T) (old new : State) (found : T) : Type 0 where
   pub is : found ≡ has
   pub unchanged : IsUnchanged old new
 
--- it is the resource of the kind and the id, if there is one, and nothing is changed
+-- The result is the resource of the kind with the id, if any, and nothing is changed.
 abbrev pub FindsById : Kind → List ℕ → Store → State → State → Option Content → Type 0
 FindsById kind id store = IsFound (find (is_at kind id) store.resources)
 
--- it is the resource that has the unique name, if one has it, and nothing is changed
+-- The result is the resource that has the unique name, if any, and nothing is changed.
 abbrev pub FindsOwner : Name → Store → State → State → Option Content → Type 0
 FindsOwner name store = IsFound (find (has_name name) store.resources)
 
--- they are the groups that list the value, in order of id, and nothing is changed
+-- The results are the groups that list the value among their members, in order of id, and nothing is changed.
 abbrev pub FindsGroups : List ℕ → Store → State → State → List Content → Type 0
 FindsGroups value store = IsFound (filter (is_group_with value) store.resources)
 
--- a visitor has been shown the resources of the kind, in order of id, and nothing is changed
+-- A visitor has taken the resources of the kind, in order of id, and nothing is changed.
 pub record Shows {V : Type 0} (Takes : V → Content → V → Type 0) (kind : Kind) (store : Store) (old new : State) (before after : V) : Type 0 where
   pub took : FoldsTo Takes before (of_kind kind store.resources) after
   pub unchanged : IsUnchanged old new
 
--- it is the resource of the id, whatever its kind, if there is one, and nothing is changed
+-- The result is the resource with the id, of either kind, if any, and nothing is changed.
 abbrev pub FindsOld : List ℕ → Store → State → State → Option Content → Type 0
 FindsOld id store = IsFound (of_id id store.resources)

@@ -1,4 +1,4 @@
--- What the tables stand for.
+-- The relation between the tables of a database and the store that they stand for.
 use Rattle.std.specs.Prelude.{◌≡◌, ◌≢◌, ℕ, Bool, nat_eq, List, map, All, AllPairs}
 use Rattle.std.specs.List.{flat_map, list_any}
 use Rattle.std.specs.Cmp.Lexicographic.{pointwise}
@@ -15,53 +15,55 @@ use Rattle.scim_shelf.specs.Stores.{Store, AreKeyed}
 use Rattle.scim_store_tables.specs.Lists.{Lists, Are, resource_values, name_values, member_values}
 use Rattle.scim_store_rows.specs.Audit.{kind_number, audit_rows}
 
--- a resource, with the text of its document and the values that it lists among its members
+-- A resource with the text of its document and the values that it lists among its members.
 pub record Entry : Type 0 where
   pub content : Content
   pub document : List ℕ
   pub members : List (List ℕ)
 
--- whether a value is among these
+-- Whether a value is in the list.
 abbrev pub is_among : List ℕ → List (List ℕ) → Bool
 is_among value values = list_any (pointwise nat_eq value) values
 
--- these are the values that a resource lists among its members, each once (RFC 7643 section 4.2)
+-- The values are those that a resource lists among its members, each once (RFC 7643 section 4.2).
 pub record AreMembers (c : Content) (values : List (List ℕ)) : Type 0 where
   pub once : AllPairs (λ v w. v ≢ w) values
   pub listed : (value : List ℕ) → is_among value values ≡ lists_value value c
 
--- the document reads as the resource, and the values are those that it lists
+-- An entry's document reads as its resource, and its values are those that the resource lists.
 pub record IsEntry (base : List ℕ) (e : Entry) : Type 0 where
   pub document : IsDocumentText base e.document e.content
   pub members : AreMembers e.content e.members
 
--- the row of a resource
+-- The row of a resource in `resource`.
 abbrev pub resource_row : Entry → Row
 resource_row e = resource_values (id_text e.content.id) (kind_number e.content.kind) e.document
 
--- the row of a unique name of the resource with an id: its attribute, and the text by which it is known
+-- The row in `taken` of a unique name of the resource with an id: its attribute and its folded text.
 abbrev pub name_row : List ℕ → Name → Row
 name_row id n = name_values (attribute_name n.leaf.attribute) n.text (id_text id)
 
--- the rows of all its unique names
+-- The rows in `taken` of all unique names of a resource.
 abbrev pub name_rows : Entry → List Row
 name_rows e = map (name_row e.content.id) (unique_names e.content)
 
--- the row of a value that the group with an id lists
+-- The row in `member` of a value that the group with an id lists.
 abbrev pub member_row : List ℕ → List ℕ → Row
 member_row id value = member_values value (id_text id)
 
--- the rows of all values that it lists
+-- The rows in `member` of all values that a group lists.
 abbrev pub member_rows : Entry → List Row
 member_rows e = map (member_row e.content.id) e.members
 
--- all rows of these resources, and of the audit
+-- All rows of these resources and of the audit.
 abbrev pub lists_of : List Entry → List AuditRow → Lists
 lists_of entries audit = record { resources = map resource_row entries; taken = flat_map name_rows entries; member = flat_map member_rows entries; audit = audit_rows 1 audit }
 
--- The database stands for a store of resources below the base. It has the five tables and nothing else. `resource` has a row for each resource,
--- whose document reads as it; `taken` has one for each unique name of each; `member` has one for each value that a group lists; and `audit` has
--- those of the store's audit, numbered from 1. The store's resources are in order of id, and no two share a unique name.
+-- A database stands for a store of resources with locations below the base URI.
+-- It has exactly the five tables. `resource` has a row for each resource, whose document reads as it; `taken`
+-- has one for each unique name of each resource; `member` has one for each value that a group lists; and
+-- `audit` has the rows of the store's audit, numbered from 1. The store's resources are in order of id, and
+-- no two share a unique name.
 pub record StandsFor (base : List ℕ) (db : Database) (store : Store) : Type 0 where
   pub entries : List Entry
   pub resources : map (λ e. e.content) entries ≡ store.resources

@@ -1,4 +1,4 @@
-//! Looks into the audit.
+//! Reads audit rows by number.
 ghost use Rattle.std.specs.Prelude.{◌≡◌, ◌≢◌, ◌≤◌, ◌+◌, ℕ, List, false, length, pos, IfOk, OnOk};
 ghost use Rattle.sqlite.specs.State.{HasCleanDisk};
 ghost use Rattle.sqlite.specs.View.{doubt};
@@ -18,11 +18,11 @@ use scim_text::NoMemory;
 use sqlite::{Alter, Connection, Error, ErrorCode, Row};
 use std::alloc::Global;
 
-/// The last number that SQL has.
+/// The largest number of an audit row, 2^63 - 1: the largest integer of SQL.
 pub const LAST_NUMBER: u64 = 9_223_372_036_854_775_807;
 
-/// The first number of the rows that are asked for, and the end, behind the last of them. SQL has no number behind its
-/// last, so the end isn't above that one, and the first number is below it.
+/// Returns the first number and the end, exclusive, of the rows to read. SQL has no number above its largest,
+/// so the end is at most that, and the first number is below it.
 fn span(from: u64, count: u64) -> (u64, u64)
     ensures { IsSpan from count result.0 result.1 }
 {
@@ -31,7 +31,7 @@ fn span(from: u64, count: u64) -> (u64, u64)
     (from.min(LAST_NUMBER - 1), end)
 }
 
-/// A number as SQL takes it.
+/// Returns a number as SQL has it.
 fn sql_number(number: u64) -> i64
     requires { number ≤ last_number }
     ensures { result ≡ pos number }
@@ -39,9 +39,9 @@ fn sql_number(number: u64) -> i64
     number as i64
 }
 
-/// The rows of the audit that a query has found between two numbers. The error is that no memory was to be had, or that
-/// the database is corrupt, where a row is none of the audit. Rows that reach the last number count as too many: there
-/// may be one more, which the query couldn't ask for.
+/// Reads the audit rows that a query found from `first` to `end`, exclusive. Fails with a corrupt database if
+/// a row isn't valid, or with out of memory. Fails with TooBig if the rows reach up to the largest number:
+/// the row with that number, which the query can't include, may be missing.
 fn read_span(alloc: Global, first: u64, end: u64, rows: &[Row]) -> Result<Vec<AuditRow>, Error>
     requires { first ≤ last_number }
     ensures read { IfOk result (λ read. audit_rows first read.items ≡ rows.now) }
@@ -57,12 +57,12 @@ fn read_span(alloc: Global, first: u64, end: u64, rows: &[Row]) -> Result<Vec<Au
     }
 }
 
-/// The rows of the audit from this number on, in order, and the first `count` of them where there are more. The first
-/// row has number 1; from 0 counts as from there. Where a method was refused, the methods that the endpoint has aren't
-/// kept, and those of a collection are given.
+/// Returns the audit rows from number `from` on, in order, at most `count`. The first row has number 1, and 0
+/// counts as 1. Of a refused method, the methods of its endpoint aren't stored: those of a collection are
+/// returned.
 ///
-/// The error is one that [`crate::find_by_id`] gives, and leaves the connection as there; the database is corrupt too
-/// where a row of the table is none of the audit. The rows are too big where they reach the last number that SQL has.
+/// Fails as [`crate::find_by_id`] does, with a corrupt database if a row of the table isn't a valid audit
+/// row, or with TooBig if the rows to return reach 2^63 - 1, the largest number.
 pub fn read_audit_rows<S: Alter>(
     conn: &mut Connection<S>,
     alloc: Global,

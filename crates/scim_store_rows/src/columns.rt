@@ -1,4 +1,4 @@
-//! The rows of the audit as columns.
+//! Converts audit rows to columns.
 ghost use Rattle.std.specs.Prelude.{◌≡◌, ◌≤◌, IfOk, option_map};
 ghost use Rattle.std.specs.Option.{option_copied};
 ghost use Rattle.scim_cell.specs.Ids.{id_text};
@@ -13,14 +13,14 @@ use scim_store_tables::AuditColumns;
 use scim_text::NoMemory;
 use std::alloc::Global;
 
-/// The texts of a row of the audit, which its columns lend.
+/// The texts of an audit row that its columns borrow.
 #[derive(Drop)]
 pub struct AuditTexts {
     id: Option<Text>,
     leaf: Option<Text>,
 }
 
-/// The text of an id, where there is one. NoMemory where none was to be had.
+/// Returns the text of an id, if any.
 fn id_of(alloc: Global, id: Option<Id>) -> Result<Option<Text>, NoMemory>
     ensures { IfOk result (λ text. text ≡ option_map id_text id) }
 {
@@ -30,7 +30,7 @@ fn id_of(alloc: Global, id: Option<Id>) -> Result<Option<Text>, NoMemory>
     }
 }
 
-/// The path of a leaf, where there is one. NoMemory where none was to be had.
+/// Returns the path of a leaf, if any.
 fn leaf_of(alloc: Global, leaf: Option<Leaf>) -> Result<Option<Text>, NoMemory>
     ensures { IfOk result (λ text. text ≡ option_map rows.leaf_path leaf) }
 {
@@ -41,9 +41,7 @@ fn leaf_of(alloc: Global, leaf: Option<Leaf>) -> Result<Option<Text>, NoMemory>
 }
 
 impl AuditTexts {
-    /// The texts of a row.
-    ///
-    /// The only error is [`NoMemory`].
+    /// Returns the texts of a row.
     pub fn of(alloc: Global, row: &AuditRow) -> Result<AuditTexts, NoMemory>
         ensures { IfOk result (λ texts. spec.AreTexts texts row.now) }
     {
@@ -53,7 +51,7 @@ impl AuditTexts {
     }
 }
 
-/// The place of a kind among all kinds, from 0.
+/// Returns the index of a kind in the list of all kinds.
 pub fn kind_number(kind: Kind) -> u32
     ensures { result ≡ spec.kind_number kind }
 {
@@ -63,7 +61,7 @@ pub fn kind_number(kind: Kind) -> u32
     }
 }
 
-/// The place of an operation among all of them, from 0.
+/// Returns the index of an operation in the list of all operations.
 fn op_number(op: Op) -> u32
     ensures { result ≡ spec.op_number op }
 {
@@ -75,7 +73,7 @@ fn op_number(op: Op) -> u32
     }
 }
 
-/// The place of what was decided among all that may be, from 0.
+/// Returns the index of a decision in the list of all decisions.
 fn decided_number(decided: Decided) -> u32
     ensures { result ≡ spec.decided_number decided }
 {
@@ -88,7 +86,7 @@ fn decided_number(decided: Decided) -> u32
     }
 }
 
-/// The place of a refusal among all of them, from 0.
+/// Returns the index of a refusal, if any, in the list of all refusals.
 fn refusal_number(refusal: Option<Refusal>) -> Option<u32>
     ensures { result ≡ option_map spec.refusal_number refusal }
 {
@@ -98,7 +96,7 @@ fn refusal_number(refusal: Option<Refusal>) -> Option<u32>
     }
 }
 
-/// The text, where there is one.
+/// Borrows the text, if any.
 fn text_in(text: &Option<Text>) -> Option<&str>
     ensures { option_copied result ≡ text.now }
 {
@@ -108,7 +106,7 @@ fn text_in(text: &Option<Text>) -> Option<&str>
     }
 }
 
-/// The columns of a row of the audit with its number. The texts are the row's.
+/// Returns the columns of an audit row with its number. `texts` must be those of the row.
 pub fn columns_of<'a>(number: u64, row: &'a AuditRow, texts: &'a AuditTexts) -> AuditColumns<'a>
     requires { spec.AreTexts texts.now row.now }
     ensures values { audit_values result ≡ spec.audit_row number row.now }

@@ -1,4 +1,4 @@
-//! The fields of a row of the audit, each from a column.
+//! Reads each field of an audit row from its column.
 ghost use Rattle.std.specs.Prelude.{◌≡◌, ◌≤◌, ◌<◌, ◌^◌, ◌↔◌, length, IsUtf8, IsTrue, IfSome, option_map};
 ghost use Rattle.std.specs.Option.{option_copied};
 ghost use Rattle.sqlite.specs.declared.types.Value.TheVariants.{Int, Text, Null};
@@ -21,7 +21,7 @@ use sqlite::Row;
 use sqlite::types::ValueRef;
 use std::str::from_utf8;
 
-/// The integer in a column. None for NULL, and for what is no integer.
+/// Returns the integer in a column; None for NULL and for other types.
 fn integer_in(row: &Row, place: usize) -> Option<i64>
     requires { place < length row.now }
     ensures { ReadsBack Any Int (column row.now place) result }
@@ -32,7 +32,7 @@ fn integer_in(row: &Row, place: usize) -> Option<i64>
     }
 }
 
-/// The number in a column. None where there is no integer, and for one below 0.
+/// Returns the number in a column; None unless it is an integer of at least 0.
 pub(crate) fn number_in(row: &Row, place: usize) -> Option<u64>
     requires { place < length row.now }
     ensures { ReadsBack Any columns.number (column row.now place) result }
@@ -40,7 +40,7 @@ pub(crate) fn number_in(row: &Row, place: usize) -> Option<u64>
     u64::try_from(integer_in(row, place)?).ok()
 }
 
-/// The text in a column. None for NULL, and for what is no text.
+/// Returns the text in a column; None for NULL, for other types, and for a text that isn't UTF-8.
 pub(crate) fn text_in(row: &Row, place: usize) -> Option<&str>
     requires { place < length row.now }
     ensures { ReadsBack IsUtf8 Text (column row.now place) (option_copied result) }
@@ -51,7 +51,7 @@ pub(crate) fn text_in(row: &Row, place: usize) -> Option<&str>
     }
 }
 
-/// The moment in a column.
+/// Returns the moment in a column; None unless it is an integer in the range of moments.
 pub(crate) fn moment_in(row: &Row, place: usize) -> Option<Moment>
     requires { place < length row.now }
     ensures { ReadsBack (λ m. m ≤ last_moment) columns.number (column row.now place) result }
@@ -59,7 +59,7 @@ pub(crate) fn moment_in(row: &Row, place: usize) -> Option<Moment>
     Moment::new(integer_in(row, place)?)
 }
 
-/// The operation whose number is in a column.
+/// Returns the operation whose number is in a column; None if no operation has it.
 pub(crate) fn op_in(row: &Row, place: usize) -> Option<Op>
     requires { place < length row.now }
     ensures { ReadsBack Any (λ op. columns.number (spec.op_number op)) (column row.now place) result }
@@ -67,7 +67,7 @@ pub(crate) fn op_in(row: &Row, place: usize) -> Option<Op>
     op_of(number_in(row, place)?)
 }
 
-/// The kind whose number is in a column.
+/// Returns the kind whose number is in a column; None if no kind has it.
 pub(crate) fn kind_in(row: &Row, place: usize) -> Option<Kind>
     requires { place < length row.now }
     ensures { ReadsBack Any (λ kind. columns.number (spec.kind_number kind)) (column row.now place) result }
@@ -75,7 +75,7 @@ pub(crate) fn kind_in(row: &Row, place: usize) -> Option<Kind>
     kind_of(number_in(row, place)?)
 }
 
-/// What was decided, by its number in a column.
+/// Returns the decision whose number is in a column; None if no decision has it.
 pub(crate) fn decided_in(row: &Row, place: usize) -> Option<Decided>
     requires { place < length row.now }
     ensures { ReadsBack Any (λ decided. columns.number (spec.decided_number decided)) (column row.now place) result }
@@ -91,7 +91,7 @@ fn is_null(row: &Row, place: usize) -> bool
     matches!(row.get_ref(place), Ok(ValueRef::Null))
 }
 
-/// The id whose text is in a column, and Some(None) for NULL.
+/// Returns the id whose text is in a column, Some(None) for NULL; None for anything else.
 pub(crate) fn id_in(row: &Row, place: usize) -> Option<Option<Id>>
     requires { place < length row.now }
     ensures { ReadsBack (λ id. IfSome id IsId) (λ id. or_null Text (option_map id_text id)) (column row.now place) result }
@@ -103,7 +103,7 @@ pub(crate) fn id_in(row: &Row, place: usize) -> Option<Option<Id>>
     Some(Some(id))
 }
 
-/// The number of a rule in a column, and Some(None) for NULL.
+/// Returns the rule number in a column, Some(None) for NULL; None for anything but an integer of 32 bits.
 pub(crate) fn rule_in(row: &Row, place: usize) -> Option<Option<u32>>
     requires { place < length row.now }
     ensures { ReadsBack (λ rule. IfSome rule (λ n. n < 2 ^ 32)) (λ rule. or_null columns.number rule) (column row.now place) result }
@@ -115,7 +115,7 @@ pub(crate) fn rule_in(row: &Row, place: usize) -> Option<Option<u32>>
     Some(Some(rule))
 }
 
-/// The leaf whose path is in a column, and Some(None) for NULL.
+/// Returns the leaf whose path is in a column, Some(None) for NULL; None for anything else.
 pub(crate) fn leaf_in(row: &Row, place: usize) -> Option<Option<Leaf>>
     requires { place < length row.now }
     ensures { ReadsBack Any (λ leaf. or_null Text (option_map leaf_path leaf)) (column row.now place) result }
@@ -127,7 +127,7 @@ pub(crate) fn leaf_in(row: &Row, place: usize) -> Option<Option<Leaf>>
     Some(Some(leaf))
 }
 
-/// The refusal whose number is in a column, and Some(None) for NULL.
+/// Returns the refusal whose number is in a column, Some(None) for NULL; None for anything else.
 pub(crate) fn refusal_in(row: &Row, place: usize) -> Option<Option<Refusal>>
     requires { place < length row.now }
     ensures { ReadsBack Any (λ refusal. or_null columns.number (option_map spec.refusal_number refusal)) (column row.now place) result }

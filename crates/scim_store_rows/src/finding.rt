@@ -1,4 +1,4 @@
-//! Looks into the tables.
+//! Finds resources in the tables by id, by unique name and by member value.
 
 ghost use Rattle.std.specs.Prelude.{◌≡◌, ◌≤◌, ℕ, List, [], ◌∷◌, true, false, None, option_map, string_bytes, IfOk, IfSome, IsTrue};
 ghost use Rattle.std.specs.List.{list_any};
@@ -25,8 +25,8 @@ use scim_value::{Resource, UniqueName};
 use sqlite::{Alter, Connection, Error, ErrorCode, Row};
 use std::alloc::Global;
 
-/// The resource of a document, if there is a document. A document that is damaged is a corrupt database; the other
-/// error is that no memory was to be had.
+/// Reads the resource of a document, if any. Fails with a corrupt database if the document isn't valid, or
+/// with out of memory.
 pub(crate) fn read_document(
     alloc: Global,
     base: &str,
@@ -44,10 +44,11 @@ pub(crate) fn read_document(
     }
 }
 
-/// The resource of the kind with the id; None where there is none (RFC 7644 section 3.4.1). It stands below the base.
+/// Returns the resource of this kind with this id; None if there isn't one (RFC 7644 section 3.4.1). Its
+/// location is below the base URI.
 ///
-/// The error is the one that the database gave, that no memory was to be had, or that the database is corrupt, where
-/// the document is damaged. The connection is then shut, or as it was or as the last commit left it.
+/// Fails with the database's error, with out of memory, or with a corrupt database if the document isn't
+/// valid. The connection is then closed, or as before, or as the last commit left it.
 pub fn find_by_id<S: Alter>(
     conn: &mut Connection<S>,
     alloc: Global,
@@ -66,7 +67,7 @@ pub fn find_by_id<S: Alter>(
     read_document(alloc, base, document)
 }
 
-/// The id of a text that the tables have. The error is that it is none, so that the database is corrupt.
+/// Reads an id from a text in the tables. Fails with a corrupt database if the text isn't an id.
 fn read_id(text: &str) -> Result<Id, Error>
     ensures value { IfOk result (λ id. text.now ≡ id_text id) }
     ensures id { IfOk result IsId }
@@ -77,14 +78,15 @@ fn read_id(text: &str) -> Result<Id, Error>
     }
 }
 
-/// Whether users have a unique name at the leaf.
+/// Whether a user's name at this leaf is unique.
 fn is_unique(leaf: Leaf) -> bool
     ensures { result ≡ list_any (λ l. is_same_leaf l leaf) (unique_leaves User) }
 {
     unique_leaves(Kind::User).contains(&leaf)
 }
 
-/// The id of the owner whose text is found for a name at the leaf. Nobody has a name at a leaf that isn't unique.
+/// Reads the id of the owner that was found for a name at the leaf. Returns None if the leaf isn't unique:
+/// then no resource has a unique name there.
 fn read_owner(leaf: Leaf, owner: Option<String>) -> Result<Option<Id>, Error>
     ensures unique { list_any (λ l. is_same_leaf l leaf) (unique_leaves User) ≡ true → IfOk result (λ id. option_map id_text id ≡ option_map string_bytes owner) }
     ensures other { list_any (λ l. is_same_leaf l leaf) (unique_leaves User) ≡ false → IfOk result (λ id. id ≡ None) }
@@ -96,7 +98,7 @@ fn read_owner(leaf: Leaf, owner: Option<String>) -> Result<Option<Id>, Error>
     }
 }
 
-/// The id of the resource that has a unique name; None where no resource has it.
+/// Returns the id of the resource that has a unique name; None if no resource has it.
 fn find_owner_id<S: Alter>(conn: &mut Connection<S>, name: &UniqueName) -> Result<Option<Id>, Error>
     ensures mode { conn.old.in_transaction ≡ false → conn.new.in_transaction ≡ false }
     ensures clean { doubt (state S.Store conn.old).is_clean ≤ doubt (state S.Store conn.new).is_clean }
@@ -109,10 +111,10 @@ fn find_owner_id<S: Alter>(conn: &mut Connection<S>, name: &UniqueName) -> Resul
     read_owner(name.leaf, owner)
 }
 
-/// The resource that has the unique name; None where no resource has it (RFC 7643 section 2.2, uniqueness). It stands
-/// below the base.
+/// Returns the resource that has the unique name; None if no resource has it (RFC 7643 section 2.2,
+/// uniqueness). Its location is below the base URI.
 ///
-/// The error is one that [`find_by_id`] gives, and leaves the connection as there.
+/// Fails as [`find_by_id`] does.
 pub fn find_owner_of_name<S: Alter>(
     conn: &mut Connection<S>,
     alloc: Global,
@@ -126,14 +128,14 @@ pub fn find_owner_of_name<S: Alter>(
     ensures rests { HasCleanDisk (state S.Store conn.new) → (store : Store) → StandsIn base.now (state S.Store conn.old) store → Rests (state S.Store conn.old) (state S.Store conn.new) }
 {
     match find_owner_id(conn, name)? {
-        // No group has a unique name.
+        // Groups have no unique names, so the owner is a user.
         Some(id) => find_by_id(conn, alloc, base, Kind::User, id),
         None => Ok(None),
     }
 }
 
-/// The group whose id is the first column of a row. The error is one that [`find_by_id`] gives; the database is corrupt
-/// where there is no such group.
+/// Returns the group whose id is in the first column of a row. Fails as [`find_by_id`] does, and with a
+/// corrupt database if there is no such group.
 fn find_group<S: Alter>(
     conn: &mut Connection<S>,
     alloc: Global,
@@ -154,7 +156,7 @@ fn find_group<S: Alter>(
     }
 }
 
-/// The groups whose ids are the first columns of the rows. The error is one that [`find_group`] gives.
+/// Returns the groups whose ids are in the first columns of the rows. Fails as [`find_group`] does.
 fn find_groups<S: Alter>(
     conn: &mut Connection<S>,
     alloc: Global,
@@ -177,10 +179,10 @@ fn find_groups<S: Alter>(
     Ok(groups)
 }
 
-/// The groups that list the value among their members, in order of id (RFC 7643 section 4.2). They stand below the
-/// base.
+/// Returns the groups that list the value among their members, in order of id (RFC 7643 section 4.2). Their
+/// locations are below the base URI.
 ///
-/// The error is one that [`find_by_id`] gives, and leaves the connection as there.
+/// Fails as [`find_by_id`] does, and with a corrupt database if an indexed group is missing.
 pub fn find_groups_with<S: Alter>(
     conn: &mut Connection<S>,
     alloc: Global,

@@ -1,4 +1,4 @@
-//! Leaves by their paths.
+//! Finds leaves by their paths.
 ghost use Rattle.std.specs.Prelude.{◌≡◌, find, bytes_eq};
 ghost use Rattle.scim_schema.specs.Names.{attribute_name, sub_attribute_name};
 ghost use Rattle.scim_audit.specs.Rows as rows;
@@ -6,14 +6,14 @@ ghost use Rattle.scim_store_rows.specs.AuditBack.{ReadsBack, Any};
 
 use scim_schema::{Attribute, Kind, Leaf, SubAttribute, attributes};
 
-/// The first of these attributes with this name. Case counts.
+/// Returns the first of these attributes that has this name. Case matters.
 fn attribute_in(attributes: &[Attribute], name: &str) -> Option<Attribute>
     ensures { result ≡ find (λ a. bytes_eq (attribute_name a) name.now) attributes.now }
 {
     attributes.iter().copied().find(|a| a.name() == name)
 }
 
-/// The attribute with this name, whichever kind has it.
+/// Returns the attribute of any kind that has this name.
 fn attribute_of(name: &str) -> Option<Attribute>
     ensures { ReadsBack Any attribute_name name.now result }
 {
@@ -23,22 +23,22 @@ fn attribute_of(name: &str) -> Option<Attribute>
     }
 }
 
-/// The first of these sub-attributes with this name. Case counts.
+/// Returns the first of these sub-attributes that has this name. Case matters.
 fn sub_attribute_in(sub_attributes: &[SubAttribute], name: &str) -> Option<SubAttribute>
     ensures { result ≡ find (λ s. bytes_eq (sub_attribute_name s) name.now) sub_attributes.now }
 {
     sub_attributes.iter().copied().find(|s| s.name() == name)
 }
 
-/// The sub-attribute with this name, whichever attribute has it.
+/// Returns the sub-attribute of any attribute that has this name.
 fn sub_attribute_of(name: &str) -> Option<SubAttribute>
     ensures { ReadsBack Any sub_attribute_name name.now result }
 {
     sub_attribute_in(SubAttribute::all(), name)
 }
 
-/// The leaf with this path, as `userName` or `emails.value`: what [`scim_audit::leaf_path`] prints, and nothing else,
-/// is read, also where no kind has the leaf.
+/// Returns the leaf with this path, as `userName` or `emails.value`. Reads exactly the paths that
+/// [`scim_audit::leaf_path`] prints, including those of leaves that no kind has.
 pub fn leaf_of_path(path: &str) -> Option<Leaf>
     ensures { ReadsBack Any rows.leaf_path path.now result }
 {

@@ -1,5 +1,5 @@
-//! What the tables of a database stand for, and looks into them: resources by id, by a unique name and by a value that
-//! they list, all of a kind in order, and rows of the audit. No look changes anything.
+//! Reads of a store from its database: resources by id, by unique name, by member value and by kind, and
+//! audit rows. Specs say which store the tables stand for. No read changes anything.
 #![tactic(auto)]
 
 mod auditing;

@@ -1,4 +1,5 @@
-//! A look into the tables ahead of a change. It changes nothing, and a crash during it leaves what it could leave before.
+//! Reads the resource that a change replaces or removes. Nothing is changed, and a crash leaves what it could
+//! leave before.
 
 ghost use Rattle.std.specs.Prelude.{◌≡◌, ◌≢◌, false, filter, option_map, string_bytes, IfOk};
 ghost use Rattle.sqlite.specs.State.{HasCleanDisk, Survives};
@@ -16,7 +17,7 @@ use scim_value::Resource;
 use sqlite::{Alter, Connection, Error, params};
 use std::alloc::Global;
 
-/// The document of the resource with an id, whatever its kind; None where there is no such resource.
+/// Returns the document of the resource with an id, of either kind; None if there isn't one.
 fn find_document<S: Alter>(conn: &mut Connection<S>, id: &str) -> Result<Option<String>, Error>
     ensures mode { conn.old.in_transaction ≡ false → conn.new.in_transaction ≡ false }
     ensures survives { Survives (state S.Store conn.old) (state S.Store conn.new) (λ _. (state S.Store conn.old).now.schema ≢ store_schema) }
@@ -32,10 +33,11 @@ fn find_document<S: Alter>(conn: &mut Connection<S>, id: &str) -> Result<Option<
     first_text(rows.as_slice())
 }
 
-/// The resource with the id, whatever its kind; None where there is none. It stands below the base.
+/// Returns the resource with the id, of either kind; None if there isn't one. Its location is below the base
+/// URI.
 ///
-/// The error is the one that the database gave, that no memory was to be had, or that the database is corrupt, where
-/// the document is damaged. The connection is then shut, or as it was or as the last commit left it.
+/// Fails with the database's error, with out of memory, or with a corrupt database if the document isn't
+/// valid. The connection is then closed, or as before, or as the last commit left it.
 pub fn find_old<S: Alter>(
     conn: &mut Connection<S>,
     alloc: Global,

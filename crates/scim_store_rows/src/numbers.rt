@@ -1,33 +1,33 @@
-//! Kinds, operations, decisions and refusals by their places, as the columns of the audit have them.
+//! Kinds, operations, decisions and refusals by their numbers in the columns of the audit.
 ghost use Rattle.scim_store_rows.specs.Audit as spec;
 ghost use Rattle.scim_store_rows.specs.AuditBack.{ReadsBack, Any};
 
 use scim_audit::{Decided, Refusal};
 use scim_schema::{Kind, Op};
 
-/// The kind at a place among all kinds, from 0.
+/// Returns the kind with this number, counted from 0; None if there isn't one.
 pub(crate) fn kind_of(number: u64) -> Option<Kind>
     ensures { ReadsBack Any spec.kind_number number result }
 {
     Kind::all().get(number as usize).copied()
 }
 
-/// The operation at a place among all of them, from 0.
+/// Returns the operation with this number, counted from 0; None if there isn't one.
 pub(crate) fn op_of(number: u64) -> Option<Op>
     ensures { ReadsBack Any spec.op_number number result }
 {
     Op::all().get(number as usize).copied()
 }
 
-/// What was decided, by its place among all that may be, from 0.
+/// Returns the decision with this number, counted from 0; None if there isn't one.
 pub(crate) fn decided_of(number: u64) -> Option<Decided>
     ensures { ReadsBack Any spec.decided_number number result }
 {
     Decided::all().get(number as usize).copied()
 }
 
-/// The refusal at a place among all of them, from 0. A method that the endpoint hasn't is refused with the methods of a
-/// collection, since those that it had aren't kept.
+/// Returns the refusal with this number, counted from 0; None if there isn't one. A refused method has the
+/// methods of a collection, since those of its endpoint aren't stored.
 pub(crate) fn refusal_of(number: u64) -> Option<Refusal>
     ensures { ReadsBack Any spec.refusal_number number result }
 {

@@ -1,4 +1,4 @@
-//! Rows of the audit, read back from rows of the table.
+//! Reads audit rows back from the rows of the table.
 ghost use Rattle.std.specs.Prelude.{◌≡◌, ◌≤◌, ℕ, length, All, IsUtf8, IfOk, option_map};
 ghost use Rattle.sqlite.specs.declared.types.Value.TheVariants.{Text as SqlText};
 ghost use Rattle.sqlite.specs.Order.{column};
@@ -15,10 +15,11 @@ use scim_text::{NoMemory, push};
 use sqlite::Row;
 use std::alloc::Global;
 
-/// The columns of a row of the table `audit`.
+/// The number of columns of the table `audit`.
 const COLUMNS: usize = 10;
 
-/// The row of the audit with this name of a client, whose other fields are in the columns.
+/// Returns the audit row with this client's name, reading all other fields from the columns; None if one
+/// isn't valid.
 fn read_fields(client: Text, row: &Row) -> Option<AuditRow>
     requires long { length row.now ≡ 10 }
     requires client { column row.now 2 ≡ SqlText client }
@@ -38,10 +39,9 @@ fn read_fields(client: Text, row: &Row) -> Option<AuditRow>
     })
 }
 
-/// The row of the audit that the table has as this row, under this number; None where it is none. Where a method was
-/// refused, the methods that the endpoint has aren't kept, and those of a collection are given.
-///
-/// The only error is [`NoMemory`].
+/// Reads the audit row with this number from a row of the table; None if the row isn't valid, or has another
+/// number. Of a refused method, the methods of its endpoint aren't stored: those of a collection are
+/// returned.
 pub fn read_audit_row(alloc: Global, number: u64, row: &Row) -> Result<Option<AuditRow>, NoMemory>
     ensures { IfOk result (ReadsBack IsSound (spec.audit_row number) row.now) }
 {
@@ -55,10 +55,8 @@ pub fn read_audit_row(alloc: Global, number: u64, row: &Row) -> Result<Option<Au
     Ok(read_fields(client, row))
 }
 
-/// The rows of the audit that the table has as these rows, of which the first has this number; None where they are
-/// none. Where methods were refused, they are read as by [`read_audit_row`].
-///
-/// The only error is [`NoMemory`].
+/// Reads audit rows from rows of the table, the first of which has the number `first`; None if one isn't
+/// valid, or isn't numbered one above the row before it. Refused methods are read as by [`read_audit_row`].
 pub fn are_audit_rows(
     alloc: Global,
     first: u64,

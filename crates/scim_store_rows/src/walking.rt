@@ -1,4 +1,4 @@
-//! A walk through the resources.
+//! Passes the resources of a kind to a visitor.
 
 ghost use Rattle.std.specs.Prelude.{◌≡◌, ◌≤◌, ◌∷◌, [], false, IfOk, OnOk};
 ghost use Rattle.std.specs.List.{FoldsTo};
@@ -20,8 +20,8 @@ use scim_value::Resource;
 use sqlite::{Alter, Connection, Error, ErrorCode, Row};
 use std::alloc::Global;
 
-/// The resource of a row, if it is of the kind. The error is that the database is corrupt, where the row or its
-/// document is damaged, or that no memory was to be had.
+/// Reads the resource of a row, if it is of the kind. Fails with a corrupt database if the document isn't
+/// valid, with the error of a column of another type, or with out of memory.
 fn read_row(alloc: Global, base: &str, kind: Kind, row: &Row) -> Result<Option<Resource>, Error>
     ensures { IfOk result (λ found. (e : Entry) → IsEntry base.now e → row.now ≡ resource_row e → option_to_list found ≡ of_kind kind (e.content ∷ [])) }
 {
@@ -33,8 +33,8 @@ fn read_row(alloc: Global, base: &str, kind: Kind, row: &Row) -> Result<Option<R
     read_document(alloc, base, Some(document))
 }
 
-/// Shows the visitor the resource of a row, if it is of the kind. The error is one that `read_row` gives, or that the
-/// visitor found no memory.
+/// Passes the resource of a row to the visitor, if it is of the kind. Fails as `read_row` does, or with out
+/// of memory if the visitor can't allocate.
 fn show_row<V: Visitor>(
     alloc: Global,
     base: &str,
@@ -53,11 +53,11 @@ fn show_row<V: Visitor>(
     }
 }
 
-/// Shows the visitor the resources of the kind, in order of id, each as soon as its row is read. They stand below the
-/// base.
+/// Passes the resources of the kind to the visitor, in order of id, each as soon as its row is read. Their
+/// locations are below the base URI.
 ///
-/// The error is one that [`crate::find_by_id`] gives, and leaves the connection as there, or the visitor found no
-/// memory; it is of no use then.
+/// Fails as [`crate::find_by_id`] does, or with out of memory if the visitor can't allocate. After an error
+/// the visitor is unusable.
 pub fn walk<S: Alter, V: Visitor>(
     conn: &mut Connection<S>,
     alloc: Global,
@@ -79,6 +79,6 @@ pub fn walk<S: Alter, V: Visitor>(
         };
         show_row(alloc, base, kind, row, visitor)?;
     }
-    // So many rows there are not.
+    // No query returns 2^64 - 1 rows.
     Err(Error::SqliteFailure(ErrorCode::OutOfMemory))
 }

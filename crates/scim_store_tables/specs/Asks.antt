@@ -1,4 +1,4 @@
--- A text as a query on one of the five tables, and its answer.
+-- SQL texts as queries on one of the five tables, and their results.
 use Rattle.std.specs.Prelude.{◌≡◌, ◌≤◌, ℕ, false, IsTrue, List, [], Result, Ok, Err, IfOk, OnOk, OnErr}
 use Rattle.std.specs.Global.{Vec}
 use Rattle.sqlite.specs.declared.error.Error.{Error}
@@ -16,25 +16,26 @@ use Rattle.sqlite_resolve.specs.declared.error.CompileError.{CompileError}
 use Rattle.scim_store_tables.specs.Tables.{store_schema}
 use Rattle.scim_store_tables.specs.Reading.{Rests, Spares}
 
--- the command that a text means, if it means one
+-- The command that a text compiles to; `Nothing` if it doesn't compile.
 abbrev pub asked : Result Compiled CompileError → Command
 asked (Ok c) = c.command
 asked (Err e) = Nothing
 
--- in the schema of the five tables the text is this query
+-- In the schema of the five tables, the text compiles to this query.
 pub record IsAsk (text : List ℕ) (q : Query) : Type 0 where
   pub names : List (List ℕ)
   pub command : asked (understood store_schema text) ≡ Select (record { lets = []; body = q }) names
   pub plain : IsPlain (understood store_schema text)
   pub unlisted : reads_listing store_schema text ≡ false
 
--- the rows answer the query, and nothing is changed
+-- The rows are a result of the query, and nothing is changed.
 pub record IsAnswered (q : Query) (params : Row) (old new : State) (rows : List Row) : Type 0 where
   pub unchanged : IsUnchanged old new
   pub answer : IsAnswer q (overlay old.now.trees []) params rows
 
--- What is left where the rows of a text were asked for: no transaction is begun. Where the text is a query on the five tables, a crash leaves no more than before, and
--- the rows are its answer. After an error the connection is shut, or as it was or as the last commit left it.
+-- Running a text begins no transaction. If the text is a query on the five tables, a crash leaves only what
+-- it could leave before, and the rows are the query's result. After an error the connection is closed, or as
+-- before, or as the last commit left it.
 pub record IsAsked (text : List ℕ) (params : Row) (old new : State) (result : Result (Vec Row) Error) : Type 0 where
   pub mode : old.in_transaction ≡ false → new.in_transaction ≡ false
   pub clean : doubt old.is_clean ≤ doubt new.is_clean

@@ -1,4 +1,4 @@
--- The rows of the audit.
+-- The rows of the audit in the database.
 use Rattle.std.specs.Prelude.{ℕ, pos, [], ◌∷◌}
 use Rattle.std.specs.Option.{option_copied}
 use Rattle.sqlite.specs.declared.types.Value.{Value}
@@ -7,15 +7,15 @@ use Rattle.sqlite.specs.Order.{Row}
 use Rattle.sqlite.specs.Values.{or_null}
 use Rattle.scim_store_tables.specs.declared.audit.AuditColumns.{AuditColumns}
 
--- the last number that SQL has
+-- The largest integer of SQL, 2^63 - 1.
 abbrev pub last_number : ℕ
 last_number = 9223372036854775807
 
--- a number as SQL has it
+-- A number as a value of SQL.
 abbrev pub number : ℕ → Value
 number n = Int (pos n)
 
--- the row of these columns; None is NULL
+-- The row with these columns; None is NULL.
 abbrev pub audit_values : AuditColumns → Row
 audit_values a =
     number a.number ∷ number a.moment ∷ Text a.client.now ∷ number a.op ∷ number a.kind ∷ or_null Text (option_copied a.id) ∷ number a.decided ∷ or_null number a.rule ∷ or_null Text (option_copied a.leaf) ∷ or_null number a.refusal ∷ []

@@ -1,4 +1,4 @@
--- What the five tables hold, as plain lists of rows.
+-- The contents of the five tables, as plain lists of rows.
 use Rattle.std.specs.Prelude.{◌≡◌, ◌≤◌, ℕ, ℤ, pos, Bool, true, false, not, ◌&&◌, codes, List, [], ◌∷◌, map, filter, length, IsPermutation}
 use Rattle.std.specs.List.{AllByRecursion}
 use Rattle.std.specs.Ordering.{is_eq, nat_cmp}
@@ -11,44 +11,45 @@ use Rattle.sqlite.specs.View.{is_int}
 use Rattle.sqlite.specs.Effect.{Database}
 use Rattle.scim_store_tables.specs.Tables.{store_schema}
 
--- what a query shows of a row of a table of two columns
+-- The row that a query returns from a table of two columns.
 abbrev pub pair : Row → Row
 pair r = column r 1 ∷ column r 2 ∷ []
 
--- what it shows of a row of a table of three columns
+-- The row that a query returns from a table of three columns.
 abbrev pub triple : Row → Row
 triple r = column r 1 ∷ column r 2 ∷ column r 3 ∷ []
 
--- what a query shows of a row of the audit; its number is the rowid, so the place of the column `number` is empty
+-- The row that a query returns from the audit; its number is the rowid, so the stored column `number` isn't
+-- read.
 abbrev pub entry : Row → Row
 entry r = column r 0 ∷ column r 2 ∷ column r 3 ∷ column r 4 ∷ column r 5 ∷ column r 6 ∷ column r 7 ∷ column r 8 ∷ column r 9 ∷ column r 10 ∷ []
 
--- each rowid is a number, and none comes twice
+-- Each rowid is a number, and none occurs twice.
 pub record AreKeyed (rows : List Row) : Type 0 where
   pub keyed : AllByRecursion (λ r. is_int (rowid r) ≡ true) rows
   pub once : (id : ℤ) → length (filter (has_rowid id) rows) ≤ 1
 
--- the rows of a table show these values, in some order, and have keys
+-- A table's rows have keys, and a query returns these values from them, in some order.
 pub record IsTableOf (shows : Row → Row) (rows values : List Row) : Type 0 where
   pub keys : AreKeyed rows
   pub same : IsPermutation (map shows rows) values
 
--- the one row of `setting`: its tables are those of version 1
+-- The one row of `setting`, which names version 1.
 abbrev pub version_values : Row
 version_values = Text (codes "version") ∷ Int (pos 1) ∷ []
 
--- what the tables hold, each in any order
+-- The contents of the tables, each in any order.
 pub record Lists : Type 0 where
-  -- id, kind and document
+  -- Columns id, kind and document.
   pub resources : List Row
-  -- attribute, folded text and id of the owner
+  -- Columns attribute, folded text and id of the owner.
   pub taken : List Row
-  -- value and id of the group
+  -- Columns value and id of the group.
   pub member : List Row
-  -- number, moment, client, op, kind, id, decided, rule, leaf and refusal
+  -- Columns number, moment, client, op, kind, id, decided, rule, leaf and refusal.
   pub audit : List Row
 
--- the database has the five tables and nothing else, and they hold these rows
+-- The database has exactly the five tables, and they hold these rows.
 pub record Are (db : Database) (lists : Lists) : Type 0 where
   pub schema : db.schema ≡ store_schema
   pub version : IsTableOf pair (db.trees 0) (version_values ∷ [])
@@ -57,35 +58,35 @@ pub record Are (db : Database) (lists : Lists) : Type 0 where
   pub member : IsTableOf pair (db.trees 6) lists.member
   pub audit : IsPermutation (map entry (db.trees 8)) lists.audit
 
--- tables with no rows
+-- The contents of tables without rows.
 abbrev pub no_rows : Lists
 no_rows = record { resources = []; taken = []; member = []; audit = [] }
 
--- the row of a resource
+-- The row of a resource.
 abbrev pub resource_values : List ℕ → ℕ → List ℕ → Row
 resource_values id kind document = Text id ∷ Int (pos kind) ∷ Text document ∷ []
 
--- the row of a unique name, with its owner
+-- The row of a unique name, with its owner's id.
 abbrev pub name_values : List ℕ → List ℕ → List ℕ → Row
 name_values attribute folded id = Text attribute ∷ Text folded ∷ Text id ∷ []
 
--- the row of a member, with its group
+-- The row of a member, with its group's id.
 abbrev pub member_values : List ℕ → List ℕ → Row
 member_values value group_id = Text value ∷ Text group_id ∷ []
 
--- whether a value is the text
+-- Whether a value is the text.
 abbrev pub is_text : List ℕ → Value → Bool
 is_text text (Text other) = is_eq (slice_cmp nat_cmp other text)
 is_text text _ = false
 
--- whether a row has the text at a place
+-- Whether a row has the text at a place.
 abbrev pub has_text : ℕ → List ℕ → Row → Bool
 has_text place text row = is_text text (column row place)
 
--- whether a row has the one text at its first place and the other at its second
+-- Whether a row has the text `first` in its first column and `second` in its second.
 abbrev pub has_texts : List ℕ → List ℕ → Row → Bool
 has_texts first second row = has_text 0 first row && has_text 1 second row
 
--- the rows that don't pass a test
+-- The rows that don't pass a test.
 abbrev pub without : (Row → Bool) → List Row → List Row
 without test = filter (λ row. not (test row))

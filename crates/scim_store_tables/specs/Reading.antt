@@ -1,4 +1,4 @@
--- What a query tells of the tables.
+-- The results of the queries on the tables.
 use Rattle.std.specs.Prelude.{◌≡◌, ◌≢◌, ◌⊎◌, ℕ, ℤ, pos, Bool, false, ◌&&◌, IsTrue, List, [], ◌∷◌, map, Option, Some, None, IsPermutation}
 use Rattle.std.specs.Ordering.{is_eq, is_lt, is_ge, ordering_then}
 use Rattle.std.specs.declared.cmp.Ordering.{Ordering}
@@ -11,73 +11,73 @@ use Rattle.sqlite.specs.Tree.{IsAscending}
 use Rattle.scim_store_tables.specs.Tables.{store_schema}
 use Rattle.scim_store_tables.specs.Lists.{Lists, Are, pair, triple, entry, has_text}
 
--- after a query that fails: the connection is shut, or it is as it was or as the last commit left it
+-- A failed query leaves the connection closed, or its database as before or as the last commit left it.
 pub record Rests (old new : State) : Type 0 where
   pub was_open : IsTrue new.is_open → IsTrue old.is_open
   pub now : IsTrue new.is_open → (new.now ≡ old.now) ⊎ (new.now ≡ old.committed)
   pub committed : IsTrue new.is_open → new.committed ≡ old.committed
 
--- where the connection is open, its database has the five tables and nothing else
+-- If the connection is open, its database has the five tables and nothing else.
 abbrev pub HasTables : State → Type 0
 HasTables s = IsTrue s.is_open → s.now.schema ≡ store_schema
 
--- under the schema of the five tables, a crash leaves no more than it could before
+-- Under the schema of the five tables, a crash leaves only what it could leave before the call.
 abbrev pub Spares : State → State → Type 0
 Spares old new = Survives old new (λ _. old.now.schema ≢ store_schema)
 
--- where the connection is open, its tables hold these rows
+-- If the connection is open, its tables hold these rows.
 abbrev pub Holds : State → Lists → Type 0
 Holds s lists = IsTrue s.is_open → Are s.now lists
 
--- what the tables show, whatever it is
+-- The rows that queries return from the five trees, whatever they hold.
 abbrev pub shown : Database → Lists
 shown db = record { resources = map triple (db.trees 2); taken = map triple (db.trees 4); member = map pair (db.trees 6); audit = map entry (db.trees 8) }
 
--- what the table `setting` shows, whatever it is
+-- The rows that a query returns from the table `setting`, whatever they hold.
 abbrev pub shown_settings : Database → List Row
 shown_settings db = map pair (db.trees 0)
 
--- the group of a member, alone
+-- The group column of a member's row, alone.
 abbrev pub group_alone : Row → Row
 group_alone v = column v 1 ∷ []
 
--- a unique name behind its owner
+-- A unique name's row with the owner's column first.
 abbrev pub owner_first : Row → Row
 owner_first v = column v 2 ∷ column v 0 ∷ column v 1 ∷ []
 
--- a member behind its group
+-- A member's row with the group's column first.
 abbrev pub group_first : Row → Row
 group_first v = column v 1 ∷ column v 0 ∷ []
 
--- by these columns, in turn
+-- Compares two rows by the columns at these places, in turn.
 abbrev pub columns_cmp : List ℕ → Row → Row → Ordering
 columns_cmp [] a b = Equal
 columns_cmp (place ∷ more) a b = ordering_then (value_cmp (column a place) (column b place)) (columns_cmp more a b)
 
--- no row is before one in front of it, by these columns
+-- Rows sorted by the columns at these places.
 abbrev pub DoNotFall : List ℕ → List Row → Type 0
 DoNotFall places = IsAscending (λ a b. is_lt (columns_cmp places b a) ≡ false)
 
--- the rows are these, in order of their columns, and nothing is changed
+-- The rows are a permutation of `values`, sorted by the columns at `places`, and nothing is changed.
 pub record Tells (places : List ℕ) (values : List Row) (old new : State) (rows : List Row) : Type 0 where
   pub unchanged : IsUnchanged old new
   pub same : IsPermutation values rows
   pub order : DoNotFall places rows
 
--- whether a row has the id at its first place and the kind at its second
+-- Whether a row has the id in its first column and the kind in its second.
 abbrev pub is_resource : List ℕ → ℕ → Row → Bool
 is_resource id kind row = has_text 0 id row && is_eq (value_cmp (column row 1) (Int (pos kind)))
 
--- whether the number at a row's first place is the first one or above it, and below the end
+-- Whether the number in a row's first column is at least `first` and below `end`.
 abbrev pub is_between : ℤ → ℤ → Row → Bool
 is_between first end row = is_ge (value_cmp (column row 0) (Int first)) && is_lt (value_cmp (column row 0) (Int end))
 
--- the text that the first row has at a place, if there is a row
+-- The text that the first row has at a place; None if there are no rows.
 abbrev pub IsTextOfFirst : ℕ → List Row → Option (List ℕ) → Type 0
 IsTextOfFirst place [] found = found ≡ None
 IsTextOfFirst place (row ∷ more) found = (text : List ℕ) × (found ≡ Some text) × (column row place ≡ Text text)
 
--- the text that one of these rows has at a place, if there is a row, and nothing is changed
+-- The text that one of the rows `values` has at a place, None if there are no rows, and nothing is changed.
 pub record Finds (place : ℕ) (values : List Row) (old new : State) (found : Option (List ℕ)) : Type 0 where
   pub unchanged : IsUnchanged old new
   pub ordered : List Row

@@ -9,15 +9,16 @@ use Rattle.sqlite_schema.specs.declared.schema.Column.{Column}
 use Rattle.sqlite.specs.Kind.TheVariants.{Integer, Text}
 use Rattle.sqlite.specs.Change.{created}
 
--- no table, index or view
+-- The schema without tables, indexes and views.
 abbrev pub no_schema : Schema
 no_schema = record { tables = []; indexes = []; views = [] }
 
--- a column of a kind, perhaps NOT NULL, with no other rule
+-- A column of this kind, with or without NOT NULL, and with no other rule.
 abbrev pub column : List ℕ → Kind → Bool → Column
 column name kind not_null = record { name = name; kind = kind; is_strict = false; not_null = not_null; default = Null; collation = Binary }
 
--- A table with these columns, a primary key of the columns at these places, counted from 1, and no other rule. Its tree is told where it is created.
+-- A table with these columns and a primary key of the columns at the places `primary`, counted from 1, with
+-- no other rule; its tree is set when it is created.
 abbrev pub table : List ℕ → List Column → List ℕ → Table
 table name columns primary = record {
   name = name;
@@ -34,23 +35,23 @@ table name columns primary = record {
   is_counted = false;
 }
 
--- settings of the file: the one row has the version of its tables
+-- The settings of the file: its one row has the version of the tables.
 abbrev pub setting_table : Table
 setting_table = table (codes "setting") (column (codes "name") Text false ∷ column (codes "number") Integer true ∷ []) (1 ∷ [])
 
--- resources, each with its kind as a number and its document
+-- The resources, each with its kind as a number and its document.
 abbrev pub resource_table : Table
 resource_table = table (codes "resource") (column (codes "id") Text false ∷ column (codes "kind") Integer true ∷ column (codes "document") Text true ∷ []) (1 ∷ [])
 
--- unique names that are taken, each with the id of its owner
+-- The unique names in use, each with the id of its owner.
 abbrev pub taken_table : Table
 taken_table = table (codes "taken") (column (codes "attribute") Text false ∷ column (codes "folded") Text false ∷ column (codes "id") Text false ∷ []) (1 ∷ 2 ∷ [])
 
--- members of groups
+-- The members of the groups.
 abbrev pub member_table : Table
 member_table = table (codes "member") (column (codes "value") Text false ∷ column (codes "group_id") Text false ∷ []) (1 ∷ 2 ∷ [])
 
--- the audit, whose number is the rowid
+-- The audit, whose number is the rowid.
 abbrev pub audit_table : Table
 audit_table = record {
   name = codes "audit";
@@ -68,6 +69,7 @@ audit_table = record {
   is_counted = false;
 }
 
--- The five tables, in this order, and nothing else. They have the trees 0, 2, 4, 6 and 8; each but the last has an index in the tree behind its own.
+-- The five tables, in this order, and nothing else; they have the trees 0, 2, 4, 6 and 8, and each but the
+-- last has an index in the tree after its own.
 abbrev pub store_schema : Schema
 store_schema = created (created (created (created (created no_schema setting_table) resource_table) taken_table) member_table) audit_table

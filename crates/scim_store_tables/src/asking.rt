@@ -1,4 +1,4 @@
-//! The queries on the tables. None changes anything, but one that fails within a transaction may roll it back.
+//! The queries on the tables. They change nothing, but one that fails inside a transaction may roll it back.
 
 ghost use Rattle.std.specs.Prelude.{◌≡◌, ◌≤◌, [], ◌∷◌, false, map, filter, string_bytes, option_map, IfOk, OnErr};
 ghost use Rattle.sqlite.specs.State.{HasCleanDisk};
@@ -14,8 +14,10 @@ use crate::queries::{Table, keys_query, rows_query};
 use sqlite::types::ValueRef;
 use sqlite::{Alter, Connection, Error, Row, params};
 
-/// All rows of a query. The error is the one that the database gave; the connection is then shut, or as it was or as the
-/// last commit left it.
+/// Runs a query and returns all its rows.
+///
+/// Fails with the database's error. The connection is then closed, or as before, or as the last commit left
+/// it.
 pub fn ask<S: Alter>(
     conn: &mut Connection<S>,
     sql: &str,
@@ -26,8 +28,8 @@ pub fn ask<S: Alter>(
     conn.query_all(sql, params)
 }
 
-/// The text of the first row, if there is a row. The error is that of a first column that is no text, or that no memory
-/// was to be had.
+/// Returns the text in the first column of the first row; None if there are no rows. Fails if that column
+/// isn't a text, or if memory runs out.
 pub fn first_text(rows: &[Row]) -> Result<Option<String>, Error>
     ensures { IfOk result (λ found. IsTextOfFirst 0 rows.now (option_map string_bytes found)) }
 {
@@ -40,8 +42,9 @@ pub fn first_text(rows: &[Row]) -> Result<Option<String>, Error>
     }
 }
 
-/// The document of the resource with an id and a kind; None where there is no such resource. The error is the one that
-/// the database gave; the connection is then shut, or as it was or as the last commit left it.
+/// Returns the document of the resource with this id and kind; None if there isn't one.
+///
+/// Fails as [`ask`] does.
 pub fn find_resource<S: Alter>(
     conn: &mut Connection<S>,
     id: &str,
@@ -61,8 +64,9 @@ pub fn find_resource<S: Alter>(
     first_text(rows.as_slice())
 }
 
-/// The id of the owner of a unique name; None where nobody has it. The error is the one that the database gave; the
-/// connection is then shut, or as it was or as the last commit left it.
+/// Returns the id of the resource that has a unique name; None if no resource has it.
+///
+/// Fails as [`ask`] does.
 pub fn find_owner<S: Alter>(
     conn: &mut Connection<S>,
     attribute: &str,
@@ -82,22 +86,24 @@ pub fn find_owner<S: Alter>(
     first_text(rows.as_slice())
 }
 
-/// All rows of a table, in order, whatever they are. The error is the one that the database gave.
+/// Reads all rows of a table, sorted. The columns aren't checked. Fails as [`ask`] does.
 pub(crate) fn read_rows<S: Alter>(conn: &mut Connection<S>, table: Table) -> Result<Vec<Row>, Error>
     ensures { OnlyAsks (λ db rows. AreRows table db rows.items) (state S.Store conn.old) (state S.Store conn.new) result }
 {
     ask(conn, rows_query(table), &[])
 }
 
-/// The keys of a table, in order. Where they rise, none comes twice. The error is the one that the database gave.
+/// Reads the keys of a table, sorted; they are strictly ascending if no key occurs twice. Fails as [`ask`]
+/// does.
 pub(crate) fn read_keys<S: Alter>(conn: &mut Connection<S>, table: Table) -> Result<Vec<Row>, Error>
     ensures { OnlyAsks (λ db keys. AreKeys table db keys.items) (state S.Store conn.old) (state S.Store conn.new) result }
 {
     ask(conn, keys_query(table), &[])
 }
 
-/// The ids of the groups that have a member of the value, in order. The error is the one that the database gave; the
-/// connection is then shut, or as it was or as the last commit left it.
+/// Returns the ids of the groups that have a member of this value, sorted.
+///
+/// Fails as [`ask`] does.
 pub fn read_groups<S: Alter>(conn: &mut Connection<S>, value: &str) -> Result<Vec<Row>, Error>
     ensures mode { conn.old.in_transaction ≡ false → conn.new.in_transaction ≡ false }
     ensures clean { doubt (state S.Store conn.old).is_clean ≤ doubt (state S.Store conn.new).is_clean }
@@ -112,8 +118,10 @@ pub fn read_groups<S: Alter>(conn: &mut Connection<S>, value: &str) -> Result<Ve
     )
 }
 
-/// The rows of the audit that are numbered from the first number on and before the end, in order, whatever they are.
-/// The error is the one that the database gave; the connection is then shut, or as it was or as the last commit left it.
+/// Returns the audit rows whose numbers are at least `first` and below `end`, sorted by number. The columns
+/// aren't checked.
+///
+/// Fails as [`ask`] does.
 pub fn read_audit_between<S: Alter>(
     conn: &mut Connection<S>,
     first: i64,

@@ -1,4 +1,4 @@
-//! The rows of the audit.
+//! Writes the rows of the audit.
 
 ghost use Rattle.std.specs.Prelude.{◌≡◌, ◌≤◌, ◌∷◌, pos};
 ghost use Rattle.sqlite.specs.State.{Survives};
@@ -9,12 +9,12 @@ ghost use Rattle.scim_store_tables.specs.Steps.{Goes, Keeps};
 
 use sqlite::{Alter, Error, Transaction, params};
 
-/// The columns of a row of the audit. What is None is NULL in the table.
+/// The columns of an audit row. None is NULL in the table.
 #[derive(Clone, Copy)]
 pub struct AuditColumns<'a> {
     /// The number of the row, which is its key.
     pub number: u64,
-    /// When it was decided, in seconds.
+    /// The moment of the request, in seconds.
     pub moment: u64,
     /// The name of the client.
     pub client: &'a str,
@@ -24,17 +24,17 @@ pub struct AuditColumns<'a> {
     pub kind: u32,
     /// The id of the resource.
     pub id: Option<&'a str>,
-    /// What was decided, as a number.
+    /// The decision, as a number.
     pub decided: u32,
-    /// The place of the rule that decided.
+    /// The number of the rule that decided, 0 if no rule fitted.
     pub rule: Option<u32>,
-    /// The leaf that decided.
+    /// The path of the leaf that the rule denied, or would have allowed anew.
     pub leaf: Option<&'a str>,
     /// The refusal, as a number.
     pub refusal: Option<u32>,
 }
 
-/// A number as SQL takes it.
+/// Returns a number as SQL has it.
 fn sql_number(number: u64) -> i64
     requires { number ≤ last_number }
     ensures { result ≡ pos number }
@@ -42,7 +42,7 @@ fn sql_number(number: u64) -> i64
     number as i64
 }
 
-/// Puts in a row of the audit, with its numbers as SQL takes them.
+/// Inserts an audit row, with its two 64-bit numbers converted for SQL.
 fn insert_columns<S: Alter>(
     tx: &mut Transaction<'_, S>,
     number: i64,
@@ -74,8 +74,11 @@ fn insert_columns<S: Alter>(
     )
 }
 
-/// Puts in a row of the audit. The error is a constraint where a row has its number, or the database's own: a want of
-/// memory, or what the disk did. Then nothing is committed, and the transaction is to be dropped.
+/// Inserts an audit row. Its number and moment must be at most 2^63 - 1.
+///
+/// Returns how many rows it wrote, as the database counts them. Fails with a constraint error if a row has
+/// the number, or with the database's error if the disk or the memory failed. Then nothing is committed, but
+/// the transaction may have been rolled back: the caller must drop it.
 pub fn insert_audit<S: Alter>(
     tx: &mut Transaction<'_, S>,
     columns: &AuditColumns<'_>,

@@ -1,4 +1,4 @@
-//! Whether keys rise.
+//! A test that keys are strictly ascending.
 
 ghost use Rattle.std.specs.Prelude.{◌≡◌, false, IfOk, IsTrue};
 ghost use Rattle.scim_store_tables.specs.code.Keys.{AreRising};
@@ -6,7 +6,7 @@ ghost use Rattle.scim_store_tables.specs.code.Keys as spec;
 
 use sqlite::{Error, Row};
 
-/// Whether a key is above the last one.
+/// Whether a key is above the last one, or the first.
 fn is_above(last: Option<i64>, key: i64) -> bool
     ensures { result ≡ spec.is_above last key }
 {
@@ -16,8 +16,10 @@ fn is_above(last: Option<i64>, key: i64) -> bool
     }
 }
 
-/// Whether rows of keys rise, as those that are read do where no key comes twice. The error is that of a first column
-/// that isn't there or is no whole number.
+/// Whether the first columns of these rows are strictly ascending. Of rows sorted by key that holds if no key
+/// occurs twice.
+///
+/// Fails if a row has no first column or one that isn't an integer.
 pub(crate) fn do_keys_rise(rows: &[Row]) -> Result<bool, Error>
     ensures yes { IfOk result (λ rise. IsTrue rise → AreRising rows.now) }
     ensures no { IfOk result (λ rise. rise ≡ false → ¬ AreRising rows.now) }

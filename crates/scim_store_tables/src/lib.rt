@@ -1,4 +1,5 @@
-//! The tables of a database file, and the statements over them. The rows of a table are seen as a plain list.
+//! The five tables of a database file, in version 1, and the SQL statements over them. Contracts see the rows
+//! of a table as a plain list.
 #![tactic(auto)]
 
 mod asking;

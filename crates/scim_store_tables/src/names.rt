@@ -1,4 +1,4 @@
-//! What the names of its tables tell of a database: whether it is empty, and what it is where it isn't ours.
+//! Classifies a database by the names of its tables, if its schema isn't that of version 1.
 
 ghost use Rattle.std.specs.Prelude.{◌≡◌, ◌≢◌, false, true, IsTrue};
 ghost use Rattle.sqlite.specs.Held.{state};
@@ -11,7 +11,7 @@ use sqlite::{Alter, Connection};
 use sqlite_schema::names::same_name;
 use sqlite_schema::schema::Schema;
 
-/// Whether a schema has a table of the name, whatever the case of ASCII letters.
+/// Whether a schema has a table of this name, ignoring the case of ASCII letters.
 fn has_table(schema: &Schema, name: &str) -> bool
     ensures { result ≡ spec.has_table schema.now name.now }
 {
@@ -22,7 +22,7 @@ fn has_table(schema: &Schema, name: &str) -> bool
         .any(|table| same_name(table.name.as_slice(), name.as_bytes()))
 }
 
-/// Whether it has each of our tables beside `setting`.
+/// Whether a schema has all four of our tables beside `setting`.
 fn has_others(schema: &Schema) -> bool
     ensures { result ≡ spec.has_others schema.now }
 {
@@ -32,7 +32,7 @@ fn has_others(schema: &Schema) -> bool
         && has_table(schema, "audit")
 }
 
-/// Whether it has one of them.
+/// Whether a schema has at least one of our four tables beside `setting`.
 fn has_another(schema: &Schema) -> bool
     ensures { result ≡ spec.has_another schema.now }
 {
@@ -42,8 +42,8 @@ fn has_another(schema: &Schema) -> bool
         || has_table(schema, "audit")
 }
 
-/// Whether a schema that isn't that of version 1 is taken for one of another version: it has all five names, or one of
-/// the four where it has no `setting`. A table that SQL here doesn't understand counts as none.
+/// Whether a schema other than that of version 1 counts as one of another version: it has all five names, or
+/// no `setting` but one of the other four. A table whose SQL the reader doesn't understand isn't counted.
 fn is_of_other_version(schema: &Schema) -> bool
     ensures { result ≡ spec.is_of_other_version schema.now }
 {
@@ -62,7 +62,7 @@ fn is_no_schema(schema: &Schema) -> bool
     schema.tables.is_empty() && schema.indexes.is_empty() && schema.views.is_empty()
 }
 
-/// What the names of its tables tell of a database whose schema isn't that of version 1.
+/// Classifies a database by the names of its tables, if its schema isn't that of version 1.
 pub(crate) fn reading_by_names(schema: &Schema) -> Reading
     ensures { IsByNames schema.now result }
 {
@@ -75,7 +75,7 @@ pub(crate) fn reading_by_names(schema: &Schema) -> Reading
     }
 }
 
-/// Whether a database has no table, index or view. No row is read.
+/// Whether a database has no table, index or view. Reads no rows.
 pub fn is_empty_database<S: Alter>(conn: &Connection<S>) -> bool
     ensures yes { IsTrue result → (state S.Store conn.now).now.schema ≡ no_schema }
     ensures no { result ≡ false → (state S.Store conn.now).now.schema ≢ no_schema }

@@ -1,4 +1,4 @@
-//! The tables in an empty database.
+//! Creates the tables in an empty database.
 
 ghost use Rattle.std.specs.Prelude.{◌≡◌, false, OnOk, OnErr};
 ghost use Rattle.sqlite.specs.State.{HasCleanDisk, Survives};
@@ -14,7 +14,7 @@ ghost use Rattle.scim_store_tables.specs.declared.queries.Table.TheVariants.{Set
 use crate::queries::Table;
 use sqlite::{Alter, Connection, Error, Transaction};
 
-/// The text that makes a table.
+/// Returns the statement that creates a table.
 fn creation(table: Table) -> &'static str
     ensures { result.now ≡ spec.creation table }
 {
@@ -35,7 +35,7 @@ fn creation(table: Table) -> &'static str
     }
 }
 
-/// Makes a table behind those that come before it.
+/// Creates a table, after those that come before it in the schema.
 fn create_table<S: Alter>(tx: &mut Transaction<'_, S>, table: Table) -> Result<usize, Error>
     ensures same_reference { tx.new.conn.ghost_name ≡ tx.old.conn.ghost_name }
     ensures made { Makes (IsBefore table) (IsBehind table) (state S.Store tx.old.conn.now) (state S.Store tx.new.conn.now) result }
@@ -43,7 +43,7 @@ fn create_table<S: Alter>(tx: &mut Transaction<'_, S>, table: Table) -> Result<u
     tx.execute(creation(table), &[])
 }
 
-/// Notes the version of the tables.
+/// Writes the version of the tables, 1, to `setting`.
 fn insert_version<S: Alter>(tx: &mut Transaction<'_, S>) -> Result<usize, Error>
     ensures same_reference { tx.new.conn.ghost_name ≡ tx.old.conn.ghost_name }
     ensures made { Makes (IsBehind Audit) (λ db. Are db no_rows) (state S.Store tx.old.conn.now) (state S.Store tx.new.conn.now) result }
@@ -54,7 +54,7 @@ fn insert_version<S: Alter>(tx: &mut Transaction<'_, S>) -> Result<usize, Error>
     )
 }
 
-/// Makes the first three tables.
+/// Creates the first three tables: `setting`, `resource` and `taken`.
 fn create_first<S: Alter>(tx: &mut Transaction<'_, S>) -> Result<usize, Error>
     ensures same_reference { tx.new.conn.ghost_name ≡ tx.old.conn.ghost_name }
     ensures made { Makes (IsBefore Setting) (IsBehind Taken) (state S.Store tx.old.conn.now) (state S.Store tx.new.conn.now) result }
@@ -64,12 +64,12 @@ fn create_first<S: Alter>(tx: &mut Transaction<'_, S>) -> Result<usize, Error>
     create_table(tx, Table::Taken)
 }
 
-/// Makes the five tables inside a transaction, in a database that has no table, index or view, and notes in `setting` that
-/// they are those of version 1.
+/// Creates the five tables inside a transaction, in a database without tables, indexes and views, and writes
+/// version 1 to `setting`.
 ///
-/// It answers how many rows it wrote, as the database counts them. The error is the one that the database gave, as where a
-/// table of one of the names is there, or where the disk or the memory failed. Then nothing is committed, and the
-/// transaction may have been rolled back, so it is to be dropped.
+/// Returns how many rows it wrote, as the database counts them. Fails with the database's error, for instance
+/// if a table of one of the names exists, or if the disk or the memory failed. Then nothing is committed, but
+/// the transaction may have been rolled back: the caller must drop it.
 pub fn make_tables<S: Alter>(tx: &mut Transaction<'_, S>) -> Result<usize, Error>
     ensures same_reference { tx.new.conn.ghost_name ≡ tx.old.conn.ghost_name }
     ensures made { Makes (λ db. db.schema ≡ no_schema) (λ db. Are db no_rows) (state S.Store tx.old.conn.now) (state S.Store tx.new.conn.now) result }
@@ -80,16 +80,18 @@ pub fn make_tables<S: Alter>(tx: &mut Transaction<'_, S>) -> Result<usize, Error
     insert_version(tx)
 }
 
-/// Makes the five tables in a database that has no table, index or view, and notes in `setting` that they are those of
-/// version 1, all in one transaction. The error is the one that the database gave, as where a table of one of the names
-/// is there, or where the disk or the memory failed; then nothing is changed, or the connection is shut.
+/// Creates the five tables in a database without tables, indexes and views, and writes version 1 to
+/// `setting`, all in one transaction.
+///
+/// Fails with the database's error, for instance if a table of one of the names exists, or if the disk or the
+/// memory failed. Then nothing is changed, or the connection is closed.
 pub fn create_tables<S: Alter>(conn: &mut Connection<S>) -> Result<(), Error>
     requires { conn.old.in_transaction ≡ false }
     ensures idle { conn.new.in_transaction ≡ false }
     ensures made { HasCleanDisk (state S.Store conn.new) → OnOk result (Became (state S.Store conn.old) (state S.Store conn.new) MakesTables) }
     ensures undone { HasCleanDisk (state S.Store conn.new) → OnErr result (Undoes (state S.Store conn.old) (state S.Store conn.new)) }
 
-    // A crash leaves what it could leave before, or the tables.
+    // A crash leaves what it could leave before, or the new tables.
     ensures crash { Survives (state S.Store conn.old) (state S.Store conn.new) (Leaves MakesTables (state S.Store conn.old).now) }
 {
     let mut tx = conn.transaction();

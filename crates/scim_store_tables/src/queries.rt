@@ -1,4 +1,4 @@
-//! The tables one by one, and the texts of the queries on a whole table.
+//! The names of the five tables, and the queries that read a whole table.
 
 ghost use Rattle.scim_store_tables.specs.Queries as spec;
 ghost use Rattle.scim_store_tables.specs.Asks.{IsAsk};
@@ -6,11 +6,11 @@ ghost use Rattle.scim_store_tables.specs.Asks.{IsAsk};
 /// One of the five tables.
 #[derive(Clone, Copy)]
 pub(crate) enum Table {
-    /// What the file is.
+    /// The settings of the file: the version of its tables.
     Setting,
     /// The resources with their documents.
     Resource,
-    /// The unique names that are taken.
+    /// The unique names in use.
     Taken,
     /// The members of the groups.
     Member,
@@ -18,10 +18,11 @@ pub(crate) enum Table {
     Audit,
 }
 
-/// The text that asks for all rows of a table, in order.
+/// Returns the query for all rows of a table, sorted.
 ///
-/// Resources are sorted by more than the key, so that the rows are taken as they lie in the file: in order of the key's index each
-/// would be looked up alone, and with ids in no order each look-up would read a page.
+/// Resources are sorted by id and kind, not by id alone, so that the database scans the table and sorts.
+/// Sorting by id alone would follow the key's index and look up each row in the table, and since ids come in
+/// no order, each look-up would read a page.
 pub(crate) fn rows_query(table: Table) -> &'static str
     ensures { IsAsk result.now (spec.rows_query table) }
 {
@@ -36,7 +37,7 @@ pub(crate) fn rows_query(table: Table) -> &'static str
     }
 }
 
-/// The text that asks for the keys of a table, in order: the numbers by which the database knows its rows.
+/// Returns the query for the keys of a table, sorted. A key is the rowid.
 pub(crate) fn keys_query(table: Table) -> &'static str
     ensures { IsAsk result.now (spec.keys_query table) }
 {

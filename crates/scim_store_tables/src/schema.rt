@@ -1,4 +1,4 @@
-//! Whether a schema is that of the five tables.
+//! A test that a schema is that of the five tables.
 
 ghost use Rattle.std.specs.Prelude.{◌≡◌, ◌≢◌, ◌⊎◌, [], ◌∷◌, ◌++◌, false, true, IsTrue, None, Some, codes};
 ghost use Rattle.scim_store_tables.specs.Tables.{column, table, setting_table, resource_table, taken_table, member_table, audit_table, store_schema};
@@ -11,6 +11,7 @@ use sqlite_schema::schema::{Column, Index, Kind, Schema, Table};
 use sqlite_value::keys::{Collation, Order};
 use sqlite_value::value::Value;
 
+/// Whether a column has this name, kind and NOT NULL flag, and no other rule.
 fn is_column(it: &Column, name: &str, kind: Kind, not_null: bool) -> bool
     ensures yes { IsTrue result → it.now ≡ column name.now kind not_null }
     ensures no { result ≡ false → it.now ≢ column name.now kind not_null }
@@ -24,6 +25,7 @@ fn is_column(it: &Column, name: &str, kind: Kind, not_null: bool) -> bool
         && it.collation == Collation::Binary
 }
 
+/// Whether a table has no rule beside its primary key.
 fn is_bare(it: &Table) -> bool
     ensures yes { IsTrue result → IsBare it.now }
     ensures no { result ≡ false → ¬ IsBare it.now }
@@ -37,7 +39,7 @@ fn is_bare(it: &Table) -> bool
         && !it.is_counted
 }
 
-/// The one UNIQUE has these places.
+/// Whether the only UNIQUE constraint is over these columns.
 fn is_only(uniques: &[Items<usize>], places: &[usize]) -> bool
     ensures yes { IsTrue result → uniques.now ≡ places.now ∷ [] }
     ensures no { result ≡ false → uniques.now ≢ places.now ∷ [] }
@@ -48,7 +50,7 @@ fn is_only(uniques: &[Items<usize>], places: &[usize]) -> bool
     }
 }
 
-/// The one order is the plain one.
+/// Whether the only index order is ascending in all columns.
 fn is_plain(orders: &[Order]) -> bool
     ensures yes { IsTrue result → orders.now ≡ record { digits = 0 } ∷ [] }
     ensures no { result ≡ false → orders.now ≢ record { digits = 0 } ∷ [] }
@@ -59,7 +61,7 @@ fn is_plain(orders: &[Order]) -> bool
     }
 }
 
-/// A table with this name, number and primary key, whatever its columns are.
+/// Whether a table has this name, tree and primary key and no other rule. Its columns aren't compared.
 fn is_keyed(it: &Table, name: &str, tree: u32, primary: &[usize]) -> bool
     ensures yes { IsTrue result → it.now ≡ record (table name.now it.now.columns primary.now) { tree = tree } }
     ensures no { result ≡ false → it.now ≢ record (table name.now it.now.columns primary.now) { tree = tree } }
@@ -131,7 +133,8 @@ fn is_member(it: &Table) -> bool
     }
 }
 
-/// The index of a primary key of texts.
+/// Whether an index is that of a primary key of texts, with this name and tree, over these columns of this
+/// table.
 fn is_index(it: &Index, name: &str, tree: u32, table: u32, columns: &[usize]) -> bool
     ensures yes { IsTrue result → it.now ≡ index name.now tree table columns.now }
     ensures no { result ≡ false → it.now ≢ index name.now tree table columns.now }
@@ -172,6 +175,7 @@ fn is_member_index(it: &Index) -> bool
     is_index(it, "sqlite_autoindex_member_1", 7, 6, &[1, 2])
 }
 
+/// Whether these are the indexes of the four tables with a primary key of texts, in order.
 fn are_indexes(all: &[Index]) -> bool
     ensures yes { IsTrue result → all.now ≡ store_indexes }
     ensures no { result ≡ false → all.now ≢ store_indexes }
@@ -187,6 +191,7 @@ fn are_indexes(all: &[Index]) -> bool
     }
 }
 
+/// Whether these are the last three columns of `audit`.
 fn are_last(all: &[Column]) -> bool
     ensures yes { IsTrue result → all.now ≡ last_columns }
     ensures no { result ≡ false → all.now ≢ last_columns }
@@ -201,6 +206,7 @@ fn are_last(all: &[Column]) -> bool
     }
 }
 
+/// Whether these are the last six columns of `audit`.
 fn are_middle(all: &[Column]) -> bool
     ensures yes { IsTrue result → all.now ≡ middle_columns }
     ensures no { result ≡ false → all.now ≢ middle_columns }
@@ -216,6 +222,7 @@ fn are_middle(all: &[Column]) -> bool
     }
 }
 
+/// Whether these are the ten columns of `audit`.
 fn are_audit_columns(all: &[Column]) -> bool
     ensures yes { IsTrue result → all.now ≡ audit_columns }
     ensures no { result ≡ false → all.now ≢ audit_columns }
@@ -232,7 +239,7 @@ fn are_audit_columns(all: &[Column]) -> bool
     }
 }
 
-/// The audit table, whatever its columns are.
+/// Whether a table is `audit`. Its columns aren't compared.
 fn is_numbered(it: &Table) -> bool
     ensures yes { IsTrue result → it.now ≡ record audit_table { tree = 8; columns = it.now.columns } }
     ensures no { result ≡ false → it.now ≢ record audit_table { tree = 8; columns = it.now.columns } }
@@ -253,6 +260,7 @@ fn is_audit(it: &Table) -> bool
     are_audit_columns(it.columns.as_slice()) && is_numbered(it)
 }
 
+/// Whether these are the five tables, in order.
 fn are_tables(all: &[Table]) -> bool
     ensures yes { IsTrue result → all.now ≡ store_tables }
     ensures no { result ≡ false → all.now ≢ store_tables }
@@ -269,7 +277,7 @@ fn are_tables(all: &[Table]) -> bool
     }
 }
 
-/// Whether a schema has the five tables of version 1, in their order, with the indexes of their keys and nothing else.
+/// Whether a schema has exactly the five tables of version 1, in order, with the indexes of their keys.
 pub fn is_store_schema(schema: &Schema) -> bool
     ensures yes { IsTrue result → schema.now ≡ store_schema }
     ensures no { result ≡ false → schema.now ≢ store_schema }

@@ -1,4 +1,4 @@
-//! All rows of the tables, where a database has those of version 1, and else what it is.
+//! Reads all rows of a database with the tables of version 1, and classifies any other database.
 
 ghost use Rattle.std.specs.Prelude.{◌≡◌, ◌≢◌, ◌≤◌, ◌∷◌, [], false, pos, IfOk, OnErr, IsTrue};
 ghost use Rattle.sqlite_value.specs.Value.{owned};
@@ -19,29 +19,29 @@ use crate::schema::is_store_schema;
 use sqlite::types::ValueRef;
 use sqlite::{Alter, Connection, Error, Row};
 
-/// The rows of the tables, each list in its order, whatever their columns hold.
+/// All rows of the tables, each list in its own order. The columns aren't checked.
 #[derive(Drop)]
 pub struct TableRows {
-    /// Id, kind and document of each resource, by id.
+    /// Columns id, kind and document of each resource, sorted by id.
     pub resources: Vec<Row>,
-    /// Owner, attribute and folded text of each unique name, in order of these.
+    /// Columns owner, attribute and folded text of each unique name, sorted by these.
     pub names: Vec<Row>,
-    /// Group and value of each member, in order of these.
+    /// Columns group and value of each member, sorted by these.
     pub members: Vec<Row>,
-    /// All columns of the audit, by number.
+    /// All columns of the audit rows, sorted by number.
     pub audit: Vec<Row>,
 }
 
-/// What a database is.
+/// The classification of a database.
 #[derive(Drop)]
 pub enum Reading {
     /// It has no table, index or view.
     Empty,
-    /// It has tables of ours, but not those of version 1.
+    /// It has some of our tables, but not those of version 1.
     WrongVersion,
-    /// It is of another program, or damaged.
+    /// It belongs to another program, or is damaged.
     Foreign,
-    /// It has the tables of version 1, and these rows.
+    /// It has the tables of version 1, with these rows.
     Tables(TableRows),
 }
 
@@ -67,7 +67,7 @@ fn is_number(value: ValueRef<'_>, number: i64) -> bool
     }
 }
 
-/// Whether a row is that of version 1.
+/// Whether a row of `setting` is the one of version 1.
 fn is_version_row(row: &Row) -> Result<bool, Error>
     ensures yes { IfOk result (λ is. IsTrue is → row.now ≡ version_values) }
     ensures no { IfOk result (λ is. is ≡ false → row.now ≢ version_values) }
@@ -80,7 +80,7 @@ fn is_version_row(row: &Row) -> Result<bool, Error>
     Ok(is_text(name, "version") && is_number(number, 1))
 }
 
-/// Whether the rows are the one of version 1.
+/// Whether these rows are exactly the one row of version 1.
 fn is_version(rows: &[Row]) -> Result<bool, Error>
     ensures yes { IfOk result (λ is. IsTrue is → rows.now ≡ version_values ∷ []) }
     ensures no { IfOk result (λ is. is ≡ false → rows.now ≢ version_values ∷ []) }
@@ -91,7 +91,7 @@ fn is_version(rows: &[Row]) -> Result<bool, Error>
     }
 }
 
-/// Whether the settings say that the tables are those of version 1, in a database with the five tables.
+/// Whether `setting` names version 1. The schema must be that of the five tables.
 fn has_version<S: Alter>(conn: &mut Connection<S>) -> Result<bool, Error>
     ensures { OnlyAsks (λ db. Decides (HasVersion db)) (state S.Store conn.old) (state S.Store conn.new) result }
 {
@@ -99,7 +99,7 @@ fn has_version<S: Alter>(conn: &mut Connection<S>) -> Result<bool, Error>
     is_version(rows.as_slice())
 }
 
-/// Whether the rows of a table have keys, none of which comes twice, in a database with the five tables.
+/// Whether each row of a table has a key and no key occurs twice. The schema must be that of the five tables.
 fn are_keyed<S: Alter>(conn: &mut Connection<S>, table: Table) -> Result<bool, Error>
     ensures { OnlyAsks (DecidesKeyed table) (state S.Store conn.old) (state S.Store conn.new) result }
 {
@@ -107,8 +107,7 @@ fn are_keyed<S: Alter>(conn: &mut Connection<S>, table: Table) -> Result<bool, E
     do_keys_rise(keys.as_slice())
 }
 
-/// Whether the rows of each table but the audit have keys, none of which comes twice, in a database with the five
-/// tables.
+/// Whether `are_keyed` holds for each table but the audit. The schema must be that of the five tables.
 fn are_all_keyed<S: Alter>(conn: &mut Connection<S>) -> Result<bool, Error>
     ensures { OnlyAsks (λ db. Decides (AreAllKeyed db)) (state S.Store conn.old) (state S.Store conn.new) result }
 {
@@ -124,7 +123,7 @@ fn are_all_keyed<S: Alter>(conn: &mut Connection<S>) -> Result<bool, Error>
     are_keyed(conn, Table::Member)
 }
 
-/// The rows of the tables, in a database with the five tables.
+/// Reads the rows of the tables. The schema must be that of the five tables.
 fn read_all_rows<S: Alter>(conn: &mut Connection<S>) -> Result<TableRows, Error>
     ensures { OnlyAsks (λ db. AreRowsOf (shown db)) (state S.Store conn.old) (state S.Store conn.new) result }
 {
@@ -140,7 +139,7 @@ fn read_all_rows<S: Alter>(conn: &mut Connection<S>) -> Result<TableRows, Error>
     })
 }
 
-/// What the rows tell of a database with the five tables.
+/// Classifies a database by its rows. The schema must be that of the five tables.
 fn reading_by_rows<S: Alter>(conn: &mut Connection<S>) -> Result<Reading, Error>
     ensures { OnlyAsks IsByRows (state S.Store conn.old) (state S.Store conn.new) result }
 {
@@ -154,16 +153,18 @@ fn reading_by_rows<S: Alter>(conn: &mut Connection<S>) -> Result<Reading, Error>
     Ok(Reading::Tables(rows))
 }
 
-/// The rows of a database that has the tables of version 1, and else whether it is empty, of another version or foreign.
+/// Reads the rows of a database with the tables of version 1, and classifies any other as empty, of another
+/// version, or foreign.
 ///
-/// A database with no table, index or view is empty. One whose schema isn't that of version 1 is of another version
-/// where it has tables of all our five names, or has none called `setting` but one of the other four, whatever the case
-/// of ASCII letters; so another program's `setting` alone makes it foreign, whatever its rows say. One with our schema
-/// is of another version where `setting` has other rows than the one of version 1, and foreign where a key comes twice,
-/// as none does in a sound file.
+/// A database without tables, indexes and views is empty. If its schema isn't that of version 1, it is of
+/// another version if it has tables of all our five names, or no `setting` but one of the other four,
+/// ignoring the case of ASCII letters; otherwise it is foreign. So a table `setting` of another program makes
+/// it foreign, whatever its rows are. If its schema is that of version 1, it is of another version if
+/// `setting` has other rows than the one of version 1, and foreign if a key occurs twice, which no valid file
+/// has.
 ///
-/// The error is the one that the database gave, or that a key is no number; the connection is then shut, or as it was
-/// or as the last commit left it. A crash leaves what it could leave before.
+/// Fails with the database's error, or if a key isn't a number. The connection is then closed, or as before,
+/// or as the last commit left it. A crash can leave only what it could leave before the call.
 pub fn read_tables<S: Alter>(conn: &mut Connection<S>) -> Result<Reading, Error>
     ensures mode { conn.old.in_transaction ≡ false → conn.new.in_transaction ≡ false }
     ensures clean { doubt (state S.Store conn.old).is_clean ≤ doubt (state S.Store conn.new).is_clean }

@@ -1,8 +1,8 @@
 //! The statements that write resources, unique names and members, each inside a transaction.
 //!
-//! Each answers how many rows it wrote, as the database counts them. Its error is the one that the database gave: a
-//! constraint where the key is in the table, or a want of memory, or what the disk did. Then nothing is committed, and
-//! the transaction may have been rolled back, so it is to be dropped.
+//! Each returns how many rows it wrote, as the database counts them. It fails with a constraint error if a
+//! row to insert has a key that is in use, or with the database's error if the disk or the memory failed.
+//! Then nothing is committed, but the transaction may have been rolled back: the caller must drop it.
 
 ghost use Rattle.std.specs.Prelude.{◌≡◌, ◌∷◌, ◌++◌, length, filter, replicate};
 ghost use Rattle.sqlite.specs.State.{Survives};
@@ -12,7 +12,8 @@ ghost use Rattle.scim_store_tables.specs.Steps.{Goes, GoesBy, Keeps};
 
 use sqlite::{Alter, Error, Transaction, params};
 
-/// Puts in the row of a resource. The error is a constraint where a row has its id, or the database's own.
+/// Inserts the row of a resource. Fails with a constraint error if a row has its id, or with the database's
+/// error.
 pub fn insert_resource<S: Alter>(
     tx: &mut Transaction<'_, S>,
     id: &str,
@@ -31,8 +32,8 @@ pub fn insert_resource<S: Alter>(
     )
 }
 
-/// Gives the resource with an id, if there is one, this kind and document in place of its own. It answers how many rows
-/// have the id. The error is the database's own.
+/// Sets the kind and the document of the resource with this id, if any. Returns how many rows have the id.
+/// Fails with the database's error.
 pub fn update_resource<S: Alter>(
     tx: &mut Transaction<'_, S>,
     id: &str,
@@ -52,7 +53,7 @@ pub fn update_resource<S: Alter>(
     )
 }
 
-/// Takes out the row of the resource with an id, if there is one. The error is the database's own.
+/// Deletes the row of the resource with this id, if any. Fails with the database's error.
 pub fn delete_resource<S: Alter>(tx: &mut Transaction<'_, S>, id: &str) -> Result<usize, Error>
     ensures same_reference { tx.new.conn.ghost_name ≡ tx.old.conn.ghost_name }
     ensures went { Goes (state S.Store tx.old.conn.now) (state S.Store tx.new.conn.now) result (λ old new.
@@ -63,8 +64,8 @@ pub fn delete_resource<S: Alter>(tx: &mut Transaction<'_, S>, id: &str) -> Resul
     tx.execute("DELETE FROM resource WHERE id = ?1", params![id])
 }
 
-/// Puts in a unique name with the id of its owner. The error is a constraint where a row has this name, or the
-/// database's own.
+/// Inserts a unique name with the id of the resource that has it. Fails with a constraint error if a row has
+/// this name, or with the database's error.
 pub fn insert_name<S: Alter>(
     tx: &mut Transaction<'_, S>,
     attribute: &str,
@@ -83,7 +84,7 @@ pub fn insert_name<S: Alter>(
     )
 }
 
-/// Takes out a unique name, if it is there. The error is the database's own.
+/// Deletes a unique name, if it is there. Fails with the database's error.
 pub fn delete_name<S: Alter>(
     tx: &mut Transaction<'_, S>,
     attribute: &str,
@@ -101,7 +102,8 @@ pub fn delete_name<S: Alter>(
     )
 }
 
-/// Puts in a member of a group. The error is a constraint where a row has this value and group, or the database's own.
+/// Inserts a member of a group. Fails with a constraint error if a row has this value and group, or with the
+/// database's error.
 pub fn insert_member<S: Alter>(
     tx: &mut Transaction<'_, S>,
     value: &str,
@@ -119,7 +121,7 @@ pub fn insert_member<S: Alter>(
     )
 }
 
-/// Takes out a member of a group, if it is there. The error is the database's own.
+/// Deletes a member of a group, if it is there. Fails with the database's error.
 pub fn delete_member<S: Alter>(
     tx: &mut Transaction<'_, S>,
     value: &str,

@@ -1,15 +1,15 @@
--- Whose names count as taken.
+-- The resources other than the one that a request changes.
 use Rattle.std.specs.Prelude.{ℕ, Bool, true, false, not, List, Option, None, Some}
 use Rattle.scim_cell.specs.Content.{Content}
 use Rattle.scim_cell.specs.Equality.{is_same_id}
 use Rattle.scim_shelf.specs.Stores.{without}
 
--- the resources but for the one of an id, if one is named
+-- The resources other than the one with an id, if one is given.
 abbrev pub beside : Option (List ℕ) → List Content → List Content
 beside None cs = cs
 beside (Some id) cs = without id cs
 
--- whether there is a resource, and it has another id than this one, if one is named
+-- Whether there is a resource that has another id than this one, if one is given.
 abbrev pub is_another : Option (List ℕ) → Option Content → Bool
 is_another own None = false
 is_another None (Some c) = true

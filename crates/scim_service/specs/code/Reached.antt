@@ -1,4 +1,4 @@
--- How a client reaches the resource that its request names.
+-- The resource that a request names, if its client sees it, as the code reads it.
 use Rattle.std.specs.Prelude.{◌≡◌, ⊤, true, List, Some}
 use Rattle.scim_schema.specs.declared.Attribute.TheVariants.{Id}
 use Rattle.scim_schema.specs.Units.{simple}
@@ -10,12 +10,12 @@ use Rattle.scim_service.specs.declared.plans.Plan.{Plan}
 use Rattle.scim_service.specs.declared.reached.Reached.{Reached}
 use Rattle.scim_service.specs.Step.{access_to, sought, at_seen}
 
--- what comes with it is what the client may do with it
+-- The rights that come with a resource are the client's access to it.
 abbrev pub HasRights : Viewer → Reached → Type 0
 HasRights v (Reached.Seen c rights) = access_in rights ≡ access_to v c
 HasRights v (Reached.Told plan) = ⊤
 
--- it is there and the client sees it; or this is planned, whatever it would become
+-- The resource exists and the client sees it, or the plan is the one of a resource that is absent or hidden.
 abbrev pub IsReached : Viewer → Turn → List Content → Reached → Type 0
 IsReached v turn cs (Reached.Seen c rights) = (Some c ≡ sought turn cs) × ((read_decision v c (simple Id)).allow ≡ true)
 IsReached v turn cs (Reached.Told plan) = (next : Content → Plan) → plan ≡ at_seen v turn next (sought turn cs)

@@ -1,4 +1,4 @@
--- What keeps a resource from being made, or from what it has become.
+-- The refusals of a create and of a change, as the code finds them.
 use Rattle.std.specs.Prelude.{◌≡◌, Bool, false, List, Option, None, Some}
 use Rattle.scim_cell.specs.Content.{Content}
 use Rattle.scim_policy.specs.Access.{Access, widening}
@@ -9,13 +9,13 @@ use Rattle.scim_service.specs.declared.requests.Turn.{Turn}
 use Rattle.scim_service.specs.declared.plans.Plan.{Plan}
 use Rattle.scim_service.specs.Step.{access_to, made_if_free, changed_if_free}
 
--- a plan is what becomes of the request to make the resource; where there is none, its unique names and its id are free
+-- A plan is that of the create of the resource `c`; without one, its unique names and its id are free.
 abbrev pub IsRefusalToMake : Viewer → Turn → List Content → Content → Option Plan → Type 0
 IsRefusalToMake v turn cs c (Some plan) = (wanted : Wanted) → plan ≡ made_if_free v turn cs wanted c
 IsRefusalToMake v turn cs c None = (is_taken cs c ≡ false) × (is_used cs c.id ≡ false)
 
--- a plan is what becomes of the request by which the resource is this now; where there is none, its unique names are free, and the client, who
--- could do `a` before, can do no more
+-- A plan is that of the change that results in `c`; without one, the unique names of `c` are free, and the
+-- client's access isn't wider than `a`, its access before.
 abbrev pub IsRefusalToChange : Viewer → Turn → List Content → Access → Content → Option Plan → Type 0
 IsRefusalToChange v turn cs a c (Some plan) = (wanted : Wanted) (changed : Bool) → plan ≡ changed_if_free v turn cs wanted a changed c
 IsRefusalToChange v turn cs a c None = (is_taken (without c.id cs) c ≡ false) × (widening c.kind a (access_to v c) ≡ None)

@@ -20,73 +20,75 @@ use Rattle.scim_store_rows.specs.Audit.{kind_number}
 use Rattle.scim_schema.specs.Names.{attribute_name}
 use Rattle.scim_value.specs.Uniqueness.{Name, unique_names}
 
--- a row of two texts, and one of three
+-- A row of two texts.
 abbrev pub pair_of : List ℕ → List ℕ → Row
 pair_of first second = Text first ∷ Text second ∷ []
 
+-- A row of three texts.
 abbrev pub triple_of : List ℕ → List ℕ → List ℕ → Row
 triple_of first second third = Text first ∷ Text second ∷ Text third ∷ []
 
--- whether a row is such a row
+-- Whether a row is exactly these two texts.
 abbrev pub is_pair : List ℕ → List ℕ → Row → Bool
 is_pair first second row = length row == 2 && (has_text 0 first row && has_text 1 second row)
 
+-- Whether a row is exactly these three texts.
 abbrev pub is_triple : List ℕ → List ℕ → List ℕ → Row → Bool
 is_triple first second third row = length row == 3 && (has_text 0 first row && (has_text 1 second row && has_text 2 third row))
 
--- the row of a unique name behind the text of its owner's id
+-- The row of a unique name, with its owner's id in the first column.
 abbrev pub owned_name : List ℕ → Name → Row
 owned_name id n = triple_of id (attribute_name n.leaf.attribute) n.text
 
--- the row of a value behind the text of the id of the group that lists it
+-- The row of a member value, with the id of the group that lists it in the first column.
 abbrev pub owned_member : List ℕ → List ℕ → Row
 owned_member id value = pair_of id value
 
--- whether a value is the number
+-- Whether a value is the number.
 abbrev pub is_number : ℕ → Value → Bool
 is_number number (Int n) = int_eq n (pos number)
 is_number number _ = false
 
--- whether a row is that of a resource with this id, kind and document
+-- Whether a row is that of a resource with this id, kind and document.
 abbrev pub is_row : List ℕ → ℕ → List ℕ → Row → Bool
 is_row id kind document row = length row == 3 && (has_text 0 id row && (is_number kind (column row 1) && has_text 2 document row))
 
--- the text that a value is, if it is one
+-- The text of a value, if it is a text.
 abbrev pub text_in : Value → Option (List ℕ)
 text_in (Text t) = Some t
 text_in _ = None
 
--- the row is that of the resource, which stands below the base, with a document of it
+-- A row is that of the resource, whose location is below the base URI, with a document that reads as it.
 abbrev pub IsRowOf : List ℕ → Row → Content → Type 0
 IsRowOf base row c = (document : List ℕ) × (row ≡ resource_values (id_text c.id) (kind_number c.kind) document) × IsDocumentText base document c
 
--- the rows of names are those of the resource, and those of members are those of the values that it lists, in order
+-- The rows of names and members are those of the resource, in order.
 abbrev pub HasRows : Content → List Row → List Row → Type 0
 HasRows c names members =
     (names ≡ map (owned_name (id_text c.id)) (unique_names c))
     × (values : List (List ℕ)) × IsStrictlySortedBy (slice_cmp nat_cmp) values × ((v : List ℕ) → is_among v values ≡ lists_value v c) × (members ≡ map (owned_member (id_text c.id)) values)
 
--- the rows are those of one resource, or there are none
+-- The rows are empty, or those of one resource.
 abbrev pub AreOfOne : List ℕ → List Row → List Row → List Row → Type 0
 AreOfOne base [] names members = (names ≡ []) × (members ≡ [])
 AreOfOne base (row ∷ []) names members = (c : Content) × IsRowOf base row c × HasRows c names members
 AreOfOne base (row ∷ other ∷ rows) names members = ⊥
 
--- the row of a name has its text
+-- The row of a name has a text.
 abbrev pub HasName : Row → Type 0
 HasName row = (text : List ℕ) × (column row 2 ≡ Text text)
 
--- each row of the tables belongs to an id
+-- Each row of the tables belongs to an id.
 pub record AreAllOwned (tables : Tables) : Type 0 where
   pub resources : All HasOwner tables.resources
   pub names : All HasOwner tables.names
   pub members : All HasOwner tables.members
 
--- whether a text is among borrowed texts
+-- Whether a text is in a set of borrowed texts.
 abbrev pub is_in : {S : Type 0} → List ℕ → HashSet (Bor (List ℕ)) S → Bool
 is_in text texts = contains_by (λ t. pointwise nat_eq text t.now) texts
 
--- a place parts the rows that pass a test from the others, as far as the rows beside it tell
+-- The row before `place` passes the test and the row at `place` doesn't, as far as there are such rows.
 pub record IsPartedAt (test : Row → Bool) (rows : List Row) (place : ℕ) : Type 0 where
   pub within : place ≤ length rows
   pub before : (d : Row) → 0 < place → test (get_or rows (place - 1) d) ≡ true

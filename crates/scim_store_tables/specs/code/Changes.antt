@@ -1,24 +1,25 @@
--- What one statement makes of one table.
+-- The effect of one statement on one table.
 use Rattle.std.specs.Prelude.{◌≡◌, ◌≢◌, ℕ, Bool, true, false, not, List, map, filter, length, IsPermutation}
 use Rattle.sqlite.specs.Order.{Row}
 use Rattle.sqlite.specs.Tree.{put_row}
 use Rattle.sqlite.specs.Edit.{is_taken, have_rowids, are_fresh, put_all, IsNoIndex}
 use Rattle.sqlite.specs.Effect.{Database}
 
--- one row is put into one table, where no row has its rowid, and no other table is changed
+-- One row is inserted into one table, whose rows don't have its rowid, and no other table is changed.
 pub record Puts (tree : ℕ) (row : Row) (old new : Database) : Type 0 where
   pub schema : new.schema ≡ old.schema
   pub rows : new.trees tree ≡ put_row row (old.trees tree)
   pub fresh : is_taken (old.trees tree) row ≡ false
   pub others : (t : ℕ) → t ≢ tree → IsNoIndex old.schema t → new.trees t ≡ old.trees t
 
--- the rows that pass the test are taken out of one table, and no other table is changed
+-- The rows that pass the test are deleted from one table, and no other table is changed.
 pub record Takes (tree : ℕ) (test : Row → Bool) (old new : Database) : Type 0 where
   pub schema : new.schema ≡ old.schema
   pub rows : new.trees tree ≡ filter (λ r. not (test r)) (old.trees tree)
   pub others : (t : ℕ) → t ≢ tree → IsNoIndex old.schema t → new.trees t ≡ old.trees t
 
--- the rows of one table that pass the test, so many, are turned into others, and no other table is changed
+-- The `count` rows of one table that pass the test are replaced by `turned` ones, and no other table is
+-- changed.
 pub record Turns (tree : ℕ) (test : Row → Bool) (turned : Row → Row) (count : ℕ) (old new : Database) : Type 0 where
   pub schema : new.schema ≡ old.schema
   pub news : List Row

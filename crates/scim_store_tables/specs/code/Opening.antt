@@ -1,4 +1,4 @@
--- The schema while the tables are made.
+-- The schema while the tables are created.
 use Rattle.std.specs.Prelude.{◌≡◌, ℕ, codes, List, [], ◌∷◌}
 use Rattle.std.specs.List.{AllByRecursion}
 use Rattle.sqlite.specs.Schema.{Schema}
@@ -8,28 +8,28 @@ use Rattle.scim_store_tables.specs.declared.queries.Table.{Table as Name}
 use Rattle.scim_store_tables.specs.declared.queries.Table.TheVariants.{Setting, Resource, Taken, Member, Audit}
 use Rattle.scim_store_tables.specs.Tables.{no_schema, store_schema, setting_table, resource_table, taken_table, member_table}
 
--- the schema with the first table
+-- The schema with the first table.
 abbrev pub schema_1 : Schema
 schema_1 = created no_schema setting_table
 
--- the schema with the first two tables
+-- The schema with the first two tables.
 abbrev pub schema_2 : Schema
 schema_2 = created schema_1 resource_table
 
--- the schema with the first three tables
+-- The schema with the first three tables.
 abbrev pub schema_3 : Schema
 schema_3 = created schema_2 taken_table
 
--- the schema with the first four tables
+-- The schema with the first four tables.
 abbrev pub schema_4 : Schema
 schema_4 = created schema_3 member_table
 
--- the database has this schema, and these trees are empty
+-- The database has this schema, and the trees `empty` have no rows.
 pub record IsMade (schema : Schema) (empty : List ℕ) (db : Database) : Type 0 where
   pub schema_is : db.schema ≡ schema
   pub none : AllByRecursion (λ t. db.trees t ≡ []) empty
 
--- the text that makes a table
+-- The statement that creates a table.
 abbrev pub creation : Name → List ℕ
 creation Setting = codes "CREATE TABLE setting (name TEXT PRIMARY KEY, number INTEGER NOT NULL)"
 creation Resource = codes "CREATE TABLE resource (id TEXT PRIMARY KEY, kind INTEGER NOT NULL, document TEXT NOT NULL)"
@@ -37,7 +37,7 @@ creation Taken = codes "CREATE TABLE taken (attribute TEXT, folded TEXT, id TEXT
 creation Member = codes "CREATE TABLE member (value TEXT, group_id TEXT, PRIMARY KEY (value, group_id))"
 creation Audit = codes "CREATE TABLE audit (number INTEGER PRIMARY KEY, moment INTEGER, client TEXT, op INTEGER, kind INTEGER, id TEXT, decided INTEGER, rule INTEGER, leaf TEXT, refusal INTEGER)"
 
--- a database with the tables in front of one, and no rows in them
+-- A database that has the tables before this one, without rows.
 abbrev pub IsBefore : Name → Database → Type 0
 IsBefore Setting = λ db. db.schema ≡ no_schema
 IsBefore Resource = IsMade schema_1 (0 ∷ [])
@@ -45,7 +45,7 @@ IsBefore Taken = IsMade schema_2 (2 ∷ 0 ∷ [])
 IsBefore Member = IsMade schema_3 (4 ∷ 2 ∷ 0 ∷ [])
 IsBefore Audit = IsMade schema_4 (6 ∷ 4 ∷ 2 ∷ 0 ∷ [])
 
--- a database with the tables up to one, and no rows in them
+-- A database that has the tables up to this one, without rows.
 abbrev pub IsBehind : Name → Database → Type 0
 IsBehind Setting = IsBefore Resource
 IsBehind Resource = IsBefore Taken

@@ -1,4 +1,4 @@
--- The parts of the schema that the code tests one by one.
+-- The parts of the schema that the code compares one by one.
 use Rattle.std.specs.Prelude.{◌≡◌, true, false, [], ◌∷◌, codes, List, ℕ}
 use Rattle.sqlite.specs.Table.{Table}
 use Rattle.sqlite_schema.specs.declared.schema.Column.{Column}
@@ -6,7 +6,7 @@ use Rattle.sqlite.specs.Kind.TheVariants.{Integer, Text}
 use Rattle.sqlite_schema.specs.declared.schema.Index.{Index}
 use Rattle.scim_store_tables.specs.Tables.{column, setting_table, resource_table, taken_table, member_table, audit_table}
 
--- no rule beside the primary key
+-- A table has no rule beside its primary key.
 pub record IsBare (table : Table) : Type 0 where
   pub checks : table.checks ≡ []
   pub references : table.references ≡ []
@@ -16,42 +16,42 @@ pub record IsBare (table : Table) : Type 0 where
   pub formats : table.stamps.formats ≡ []
   pub counted : table.is_counted ≡ false
 
--- the index of a primary key of texts
+-- The index of a primary key of texts.
 abbrev pub index : List ℕ → ℕ → ℕ → List ℕ → Index
 index name tree table columns = record { name = name; tree = tree; table = table; columns = columns; order = record { digits = 0 }; is_unique = true }
 
--- the index of `setting`
+-- The index of `setting`.
 abbrev pub setting_index : Index
 setting_index = index (codes "sqlite_autoindex_setting_1") 1 0 (1 ∷ [])
 
--- the index of `resource`
+-- The index of `resource`.
 abbrev pub resource_index : Index
 resource_index = index (codes "sqlite_autoindex_resource_1") 3 2 (1 ∷ [])
 
--- the index of `taken`
+-- The index of `taken`.
 abbrev pub taken_index : Index
 taken_index = index (codes "sqlite_autoindex_taken_1") 5 4 (1 ∷ 2 ∷ [])
 
--- the index of `member`
+-- The index of `member`.
 abbrev pub member_index : Index
 member_index = index (codes "sqlite_autoindex_member_1") 7 6 (1 ∷ 2 ∷ [])
 
--- all indexes
+-- All indexes of the schema, in order.
 abbrev pub store_indexes : List Index
 store_indexes = setting_index ∷ resource_index ∷ taken_index ∷ member_index ∷ []
 
--- all tables
+-- All tables of the schema, in order, with their trees.
 abbrev pub store_tables : List Table
 store_tables = record setting_table { tree = 0 } ∷ record resource_table { tree = 2 } ∷ record taken_table { tree = 4 } ∷ record member_table { tree = 6 } ∷ record audit_table { tree = 8 } ∷ []
 
--- the last three columns of the audit
+-- The last three columns of `audit`.
 abbrev pub last_columns : List Column
 last_columns = column (codes "rule") Integer false ∷ column (codes "leaf") Text false ∷ column (codes "refusal") Integer false ∷ []
 
--- the last six
+-- The last six columns of `audit`.
 abbrev pub middle_columns : List Column
 middle_columns = column (codes "kind") Integer false ∷ column (codes "id") Text false ∷ column (codes "decided") Integer false ∷ last_columns
 
--- all of them
+-- All ten columns of `audit`.
 abbrev pub audit_columns : List Column
 audit_columns = column (codes "number") Integer false ∷ column (codes "moment") Integer false ∷ column (codes "client") Text false ∷ column (codes "op") Integer false ∷ middle_columns

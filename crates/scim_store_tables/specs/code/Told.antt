@@ -1,4 +1,4 @@
--- What a call that only asks leaves, and what it tells.
+-- What a call that only reads leaves, and its result.
 use Rattle.std.specs.Prelude.{◌≡◌, false, Bool, IsTrue, List, [], ◌∷◌, map, Result, IfOk, OnErr}
 use Rattle.sqlite.specs.declared.error.Error.{Error}
 use Rattle.sqlite.specs.Effect.{Database}
@@ -12,20 +12,21 @@ use Rattle.scim_store_tables.specs.Whole.{AreInOrder}
 use Rattle.scim_store_tables.specs.code.Keys.{key_alone, AreRising}
 use Rattle.scim_store_tables.specs.Queries.{tree_of}
 
--- What a call that only asks leaves: it begins no transaction, and a crash leaves no more than before. Under the five tables nothing is changed, and it tells this of
--- the database, or after an error the connection is shut, or as it was or as the last commit left it.
+-- A call that only reads begins no transaction, and a crash leaves only what it could leave before. Under the
+-- five tables nothing is changed and the result fits the database, or after an error the connection is
+-- closed, or as before, or as the last commit left it.
 pub record OnlyAsks {T : Type 0} (IsTold : Database → T → Type 0) (old new : State) (result : Result T Error) : Type 0 where
   pub mode : old.in_transaction ≡ false → new.in_transaction ≡ false
   pub spares : Spares old new
   pub told : HasCleanDisk new → HasTables old → IfOk result (λ x. IsUnchanged old new × IsTold old.now x)
   pub rests : HasCleanDisk new → HasTables old → OnErr result (Rests old new)
 
--- a test has found whether this holds
+-- A test's result tells whether P holds.
 pub record Decides (P : Type 0) (found : Bool) : Type 0 where
   pub yes : IsTrue found → P
   pub no : found ≡ false → ¬ P
 
--- the rows of one table, each in the order that it is read in
+-- The rows of one table, sorted as they are read.
 abbrev pub AreRows : Table → Database → List Row → Type 0
 AreRows Setting db = AreInOrder [] (shown_settings db)
 AreRows Resource db = AreInOrder (0 ∷ []) (shown db).resources
@@ -33,12 +34,13 @@ AreRows Taken db = AreInOrder (0 ∷ 1 ∷ 2 ∷ []) (map owner_first (shown db)
 AreRows Member db = AreInOrder (0 ∷ 1 ∷ []) (map group_first (shown db).member)
 AreRows Audit db = AreInOrder (0 ∷ []) (shown db).audit
 
--- the keys of one table, in order; they rise just where each is a number and none comes twice
+-- The keys of one table, sorted; they are strictly ascending exactly if each is a number and none occurs
+-- twice.
 pub record AreKeys (table : Table) (db : Database) (rows : List Row) : Type 0 where
   pub are : AreInOrder (0 ∷ []) (map key_alone (db.trees (tree_of table))) rows
   pub sound : AreRising rows → AreKeyed (db.trees (tree_of table))
   pub complete : AreKeyed (db.trees (tree_of table)) → AreRising rows
 
--- a test has found whether one table has keys, none of which comes twice
+-- A test's result tells whether each row of a table has a key and no key occurs twice.
 abbrev pub DecidesKeyed : Table → Database → Bool → Type 0
 DecidesKeyed table db = Decides (AreKeyed (db.trees (tree_of table)))
