@@ -1,4 +1,4 @@
--- What `check` writes of a policy file.
+-- The text that `check` writes for a policy.
 use Rattle.std.specs.Prelude.{Bool, ℕ, List, [], ◌++◌, length, codes, decimal, if◌then◌else◌}
 use Rattle.scim_policy.specs.Rules.{Rule}
 use Rattle.scim_explain.specs.Idle.{idle_rules, idle_lines}
@@ -6,15 +6,16 @@ use Rattle.scim_policy_sentences.specs.Sentences.{rule_sentences}
 use Rattle.scim_command.specs.declared.faults.RunFault.{RunFault}
 use Rattle.scim_command.specs.declared.faults.RunFault.TheVariants.{Policy, Output, NoMemory}
 
--- the rules in sentences, where they are asked for
+-- the rules as sentences, if they are asked for
 abbrev pub sentences_if : Bool → List Rule → List ℕ
 sentences_if verbose rules = if verbose then rule_sentences rules else []
 
--- how many rules there are, their sentences where they are asked for, and which can never decide
+-- the text of `check`: the number of rules, the rules as sentences if they are asked for, and the rules that
+-- can never decide
 abbrev pub check_text : Bool → List Rule → List ℕ
 check_text verbose rules = codes "ok, " ++ decimal (length rules) ++ codes " rules\n" ++ sentences_if verbose rules ++ idle_lines (idle_rules rules)
 
--- what `check` may answer in place of it: that the policy file is faulty, that the lines can't be written, or want of memory
+-- the faults of `check`: an invalid policy file, a failed write, or failed allocation
 abbrev pub IsCheckFault : RunFault → Type 0
 IsCheckFault (Policy rule cause) = Unit {0}
 IsCheckFault Output = Unit {0}

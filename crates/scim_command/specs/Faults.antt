@@ -1,4 +1,4 @@
--- Faults of files and of shelves as those of a command.
+-- The faults of files and shelves as faults of a command.
 use Rattle.scim_text.specs.declared.memory.Failed.{Failed}
 use Rattle.scim_text.specs.declared.memory.Failed.TheVariants as failed
 use Rattle.scim_json.specs.declared.faults.DamagedItem.{DamagedItem}
@@ -8,20 +8,22 @@ use Rattle.scim_command.specs.declared.faults.DatabaseFault.TheVariants.{Unusabl
 use Rattle.scim_command.specs.declared.faults.RunFault.{RunFault}
 use Rattle.scim_command.specs.declared.faults.RunFault.TheVariants.{Policy, Users, Database, NoMemory}
 
+-- the fault of a command for a fault of a policy file
 abbrev pub of_policy : Failed PolicyFault → RunFault
 of_policy (failed.Because fault) = Policy fault.rule fault.cause
 of_policy failed.NoMemory = NoMemory
 
+-- the fault of a command for a fault of a users file
 abbrev pub of_document : Failed DamagedItem → RunFault
 of_document (failed.Because item) = Users item.0
 of_document failed.NoMemory = NoMemory
 
--- a shelf that fails, want of memory aside, is one over a database: that can't be used
+-- the fault of a command for a fault of a shelf: an unusable database, or `NoMemory`
 abbrev pub of_shelf : Failed ShelfFault → RunFault
 of_shelf (failed.Because fault) = Database Unusable
 of_shelf failed.NoMemory = NoMemory
 
--- a fault of the users file, or want of memory
+-- the fault is of the users file, or `NoMemory`
 abbrev pub IsOfUsers : RunFault → Type 0
 IsOfUsers (Users n) = Unit {0}
 IsOfUsers NoMemory = Unit {0}

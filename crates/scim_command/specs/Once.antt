@@ -1,4 +1,4 @@
--- What `once` writes for what it reads.
+-- The text that `once` writes for an input.
 use Rattle.std.specs.Prelude.{◌≡◌, ◌⊎◌, ⊤, ℕ, true, false, List, Some, Result, Ok, Err, IsOk}
 use Rattle.scim_audit.specs.declared.refusals.Refusal.{Refusal}
 use Rattle.scim_audit.specs.declared.refusals.Refusal.TheVariants.{Store as NoStore}
@@ -15,42 +15,44 @@ use Rattle.scim_exchange.specs.Exchanges.{Exchanged}
 use Rattle.scim_command.specs.declared.run_once.Setting.{Setting}
 use Rattle.scim_command.specs.Inputs.{OpensWith}
 
--- the text is a users file of resources below the base, of which this is a new store
+-- the text is a users file of resources below the base, and the store is the new one with these
 pub record IsStoreOf (base text : List ℕ) (store : Store) : Type 0 where
   pub resources : List Content
   pub documents : IsDocumentsText base text resources
   pub is_new : IsNewStore resources store
 
--- the message is the client's, whatever token it has, and comes at the moment that is given, with the id for what it creates
+-- the arrival of the message: from the setting's client, whatever token it has, at the setting's time and
+-- with its id
 abbrev pub arrival_of : Setting → Arrival
 arrival_of s = record { client = Some s.client; moment = s.at; fresh = s.first }
 
--- the text is that of the answer to a message that arrives so, by the policy, over a store of resources below the base; a
--- turn may fail for whatever cause
+-- the text is the answer to the message with this arrival, by the policy, over a store of resources below the
+-- base; the service may fail for any cause
 abbrev pub IsReplyTo : List Rule → List ℕ → Arrival → Store → Message → List ℕ → Type 0
 IsReplyTo policy base arrival store message text =
     (answer : Answer) × (next : Store)
     × Exchanged policy base (λ _. ⊤) arrival message store answer next
     × (text ≡ answer_text answer message.close)
 
--- the text is the reply to what an input asks first: to a message, or a refusal in its place, after which nothing is read
+-- the text is the reply to the input's first message, or the refusal
 abbrev pub IsReplyToFirst : List Rule → List ℕ → Arrival → Store → Result Message Refusal → List ℕ → Type 0
 IsReplyToFirst policy base arrival store (Ok message) text = IsReplyTo policy base arrival store message text
 IsReplyToFirst policy base arrival store (Err refusal) text = text ≡ refusal_text refusal true
 
--- the text is the answer to an input: the reply to what it asks first, or the refusal of want of memory
+-- the text is the answer to the input: the reply to its first message or refusal, or the refusal `Store` if
+-- memory runs out
 abbrev pub IsAnswer : List Rule → List ℕ → Arrival → Store → List ℕ → List ℕ → Type 0
 IsAnswer policy base arrival store input text =
     ((first : Result Message Refusal) × OpensWith input first × IsReplyToFirst policy base arrival store first text)
     ⊎ (text ≡ refusal_text NoStore false)
 
--- both files are sound: a policy file, and a users file of resources below the base
+-- both files of the setting are valid: the policy file, and the users file of resources below the base
 pub record AreSound (s : Setting) : Type 0 where
   pub policy : IsOk (policy_of s.policy.now)
   pub resources : List Content
   pub users : IsDocumentsText s.base.now s.users.now resources
 
--- the text is the answer to an input by the two files
+-- the text is the answer to the input with the policy and the users of the setting's files
 pub record Answers (s : Setting) (input text : List ℕ) : Type 0 where
   pub policy : List Rule
   pub store : Store

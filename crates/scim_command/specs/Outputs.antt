@@ -1,4 +1,4 @@
--- What is written for the results of events.
+-- The lines that `replay` writes for the results of events.
 use Rattle.std.specs.Prelude.{ℕ, List, [], ◌∷◌, ◌++◌, codes, decimal, Result, Ok, Err}
 use Rattle.std.specs.List.{flat_map}
 use Rattle.hex.specs.Hex.{encode_lower}
@@ -6,19 +6,19 @@ use Rattle.scim_hub.specs.declared.events.HubFault.{HubFault}
 use Rattle.scim_hub.specs.declared.events.HubFault.TheVariants.{AlreadyJoined, Unknown, Closed, NoMemory}
 use Rattle.scim_hub.specs.Events.{Deed, writing, shutting, Seen}
 
--- a line for what is to be done: a text that is written to a connection, in hex, or a connection that is shut
+-- the line of an output: a text that is written to a connection, in hex, or a connection that is shut
 abbrev pub deed_line : Deed → List ℕ
 deed_line (writing n text) = codes "write " ++ decimal n ++ codes " " ++ encode_lower text ++ codes "\n"
 deed_line (shutting n) = codes "close " ++ decimal n ++ codes "\n"
 
--- why an event isn't answered
+-- the reason why an event isn't answered
 abbrev pub fault_words : HubFault → List ℕ
 fault_words AlreadyJoined = codes "already joined"
 fault_words Unknown = codes "unknown"
 fault_words Closed = codes "closed"
 fault_words NoMemory = codes "out of memory"
 
--- the lines for the result of an event of a connection: what is to be done, or why nothing is
+-- the lines for the result of an event of connection n: its outputs, or its fault
 abbrev pub result_lines : ℕ → Result (List Deed) HubFault → List ℕ
 result_lines n (Ok deeds) = flat_map deed_line deeds
 result_lines n (Err fault) = codes "fault " ++ decimal n ++ codes " " ++ fault_words fault ++ codes "\n"

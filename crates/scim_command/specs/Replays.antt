@@ -1,4 +1,4 @@
--- What `replay` writes.
+-- The text that `replay` writes for a recording.
 use Rattle.std.specs.Prelude.{◌≡◌, ℕ, List, [], Result, Ok}
 use Rattle.std.specs.Str.Lines.{lines}
 use Rattle.scim_policy.specs.Rules.{Rule}
@@ -13,15 +13,15 @@ use Rattle.scim_command.specs.EventFiles.{IsEventFile}
 use Rattle.scim_command.specs.Outputs.{results_text}
 
 module _ (policy : List Rule) (base : List ℕ) (entries : List Entry) (hall : Hall) where
-  -- the text says what events are answered, one after another, from a hall on
+  -- the text is the lines for the results of these events, one after another, from the hub's state on
   pub record AreResultsOf (events : List Seen) (text : List ℕ) : Type 0 where
     pub results : List (Result (List Deed) HubFault)
     pub next : Hall
     pub runs : Runs policy base entries hall events results next
     pub text_is : text ≡ results_text events results
 
--- the text says what the events of a file are answered by the policy, over what the users file holds, and for the clients that have the
--- tokens; at first nobody has joined
+-- the text is the lines for the results of the events file, by the policy, the resources and the tokens of
+-- the other files, from no connections on
 pub record Replays (r : Recording) (text : List ℕ) : Type 0 where
   pub policy : List Rule
   pub allows : policy_of r.policy.now ≡ Ok policy

@@ -1,4 +1,4 @@
--- How the functions of the commands end.
+-- The results of the commands' functions.
 pub mod Exits
 pub mod ReplayExits
 pub mod Findings

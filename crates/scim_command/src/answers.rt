@@ -1,4 +1,4 @@
-//! The reply to a message.
+//! The texts of replies.
 ghost use Rattle.std.specs.Prelude.{◌≡◌, IfOk, string_bytes};
 ghost use Rattle.scim_audit.specs.declared.refusals.Refusal.{Refusal};
 ghost use Rattle.scim_shelf.specs.Stores.{Store, IsStore};
@@ -14,7 +14,7 @@ use scim_text::NoMemory;
 use scim_wire::Message;
 use std::alloc::Global;
 
-/// The text of the service's reply to a message that arrives so. NoMemory where none was to be had for it.
+/// Returns the text of the service's reply to a message.
 pub(crate) fn reply_text(
     alloc: Global,
     routes: &Routes,
@@ -29,7 +29,8 @@ pub(crate) fn reply_text(
     answer.text(alloc, message.close)
 }
 
-/// The text of a refusal. NoMemory where none was to be had.
+/// Returns the text of a refusal, with `Connection: close` if `close` or if the refusal closes the
+/// connection.
 pub(crate) fn refusal_text(alloc: Global, refusal: Refusal, close: bool) -> Result<String, NoMemory>
     ensures { IfOk result (λ t. string_bytes t ≡ replies.refusal_text refusal close) }
 {

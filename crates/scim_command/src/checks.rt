@@ -1,4 +1,4 @@
-//! `check`: what a policy file says.
+//! The command `check`: validates a policy file and describes its rules.
 ghost use Rattle.std.specs.Prelude.{◌≡◌, ◌≢◌, ℕ, List, Ok, Err, IfOk, IfErr, OnOk, string_bytes};
 ghost use Rattle.std.specs.Io.KnownBytes.{Appends};
 ghost use Rattle.scim_policy_file.specs.File.{policy_of};
@@ -19,11 +19,11 @@ use scim_text::NoMemory;
 use std::alloc::Global;
 use std::io::Write;
 
-/// Reads a policy file, and writes in lines that it is well and how many rules it has, and which of them can never
-/// decide; where `verbose` is set also each rule in a sentence, before these.
+/// Validates a policy file, and writes lines with the number of rules and the rules that can never decide.
 ///
-/// Policy, where the file is faulty, and NoMemory, where none was to be had: these write nothing. Output, where a write
-/// fails: then a front of the lines has been written, perhaps none or all of them, and nothing else.
+/// With `verbose` it writes each rule as a sentence between the two. Policy if the file is invalid. Output if
+/// a write fails; a prefix of the lines has been written then, perhaps empty or whole, and nothing else.
+/// After any other error nothing is written.
 pub fn check<W: Write>(
     alloc: Global,
     policy: &str,
@@ -43,9 +43,9 @@ pub fn check<W: Write>(
     write_or_fault(text.as_str(), writer)
 }
 
-/// What is told of a policy file.
+/// Returns the text that `check` writes for a policy file.
 ///
-/// Policy, where it is faulty; NoMemory where none was to be had.
+/// Policy if the file is invalid.
 fn check_text(alloc: Global, policy: &str, verbose: bool) -> Result<String, RunFault>
     ensures text { IfOk result (λ text. (rules : List Rule) × (policy_of policy.now ≡ Ok rules)
         × (string_bytes text ≡ spec.check_text verbose rules)) }
@@ -57,7 +57,7 @@ fn check_text(alloc: Global, policy: &str, verbose: bool) -> Result<String, RunF
     Ok(policy_text(alloc, &policy, verbose)?)
 }
 
-/// What is told of a policy. NoMemory where none was to be had.
+/// Returns the text that `check` writes for a policy.
 fn policy_text(alloc: Global, policy: &Policy, verbose: bool) -> Result<String, NoMemory>
     ensures { IfOk result (λ text. string_bytes text ≡ spec.check_text verbose policy.now) }
 {
@@ -68,7 +68,7 @@ fn policy_text(alloc: Global, policy: &Policy, verbose: bool) -> Result<String, 
     Ok(format!(in alloc; "ok, {count} rules\n{sentences}{idle}")?)
 }
 
-/// The rules in sentences, or nothing where they aren't asked for. NoMemory where none was to be had.
+/// Returns the rules as sentences if `verbose`, else the empty text.
 fn sentences_if(alloc: Global, policy: &Policy, verbose: bool) -> Result<String, NoMemory>
     ensures { IfOk result (λ text. string_bytes text ≡ spec.sentences_if verbose policy.now) }
 {

@@ -1,25 +1,25 @@
-//! Why a command wasn't carried out.
+//! The faults of the program's command line and commands.
 use crate::faults::RunFault;
 use std::alloc::Global;
 use std::fmt;
 
-/// Why a command wasn't carried out. Its text is one line for people.
+/// The fault that ends the program. Its `Display` text is one line for the user.
 pub enum CommandFault {
-    /// An argument isn't in UTF-8.
+    /// An argument isn't UTF-8.
     NotText,
-    /// The value of an option isn't of the form that it must have.
+    /// The value of an option is invalid.
     BadOption,
-    /// The file of this path cannot be read.
+    /// The file at this path can't be read.
     CannotRead(String),
-    /// The port can't be listened on.
+    /// The server can't listen on the port.
     CannotListen,
-    /// Connections can't be served: the system doesn't tell what happens to them, or what time it is, or gives no random bytes.
+    /// The server can't go on: the system can't report events of connections, tell the time or give random
+    /// bytes.
     CannotServe,
-    /// The command gave up.
+    /// The command failed.
     Run(RunFault),
 }
 
-/// One call, wherever a fault is dropped, in place of a look at each form.
 impl Drop for CommandFault {
     fn drop(self) {
         match self {
@@ -34,7 +34,7 @@ impl Drop for CommandFault {
 }
 
 impl CommandFault {
-    /// That the file of this path cannot be read.
+    /// Returns the fault that the file at this path can't be read.
     pub fn cannot_read(alloc: Global, path: &str) -> CommandFault {
         match String::from_str(alloc, path) {
             Ok(path) => CommandFault::CannotRead(path),
@@ -42,7 +42,7 @@ impl CommandFault {
         }
     }
 
-    /// The exit status: 2 for the command line, else 1.
+    /// Returns the exit status: 2 for a fault of the command line, else 1.
     pub fn exit_status(&self) -> u8 {
         match self {
             CommandFault::NotText | CommandFault::BadOption => 2,
@@ -67,8 +67,7 @@ impl fmt::Display for CommandFault {
     }
 }
 
-/// A text in one line: each control character, as a line feed, is escaped as in a string of Rust's, and all
-/// else stands as it is.
+/// A text printed on one line: control characters such as a line feed are escaped as in a Rust string.
 #[derive(Clone, Copy)]
 struct OneLine<'a>(&'a str);
 

@@ -1,36 +1,36 @@
-//! The command line: the commands, and what each can be given.
+//! The command line: the commands and their options.
 use clap::{Arg, ArgAction, Command};
 use std::alloc::{AllocError, Global};
 
-/// That below which resources stand where nothing else is said.
+/// The default base: the URL below which the resources have their locations.
 pub const DEFAULT_BASE: &str = "http://127.0.0.1:8080";
 
 /// The version of the program.
 const VERSION: &str = "0.1.0";
 
-/// Which command it is.
+/// A command of the program.
 #[derive(Clone, Copy)]
 pub enum CommandName {
-    /// One request is answered.
+    /// Answers one request.
     Once,
-    /// A policy file is looked through.
+    /// Validates a policy file.
     Check,
-    /// A database is served.
+    /// Serves a database.
     Serve,
-    /// The events of a file are answered.
+    /// Answers the events of a file.
     Replay,
-    /// It is said why a decision falls.
+    /// Explains a decision of the policy.
     Explain,
-    /// A users file is brought into a database.
+    /// Imports a users file into a database.
     Import,
-    /// The users file of a database is written.
+    /// Exports the users file of a database.
     Export,
-    /// Rows of the audit are written.
+    /// Prints rows of the audit.
     Audit,
 }
 
 impl CommandName {
-    /// The command of this name; None where there is none.
+    /// Returns the command with this name, if any.
     pub fn named(name: &str) -> Option<CommandName> {
         for text in COMMANDS {
             if text.name == name {
@@ -41,7 +41,7 @@ impl CommandName {
     }
 }
 
-/// A command.
+/// A command with its name, help text and options.
 #[derive(Clone, Copy)]
 struct CommandText {
     command: CommandName,
@@ -50,7 +50,7 @@ struct CommandText {
     options: &'static [OptionText],
 }
 
-/// What a command can be given.
+/// An option of a command with its name, form and help text.
 #[derive(Clone, Copy)]
 struct OptionText {
     name: &'static str,
@@ -58,16 +58,16 @@ struct OptionText {
     help: &'static str,
 }
 
-/// Whether an option has to be given, and with what. A value is called by its name in the help.
+/// The form of an option. The first text is the value's name in the help.
 #[derive(Clone, Copy)]
 enum OptionForm {
-    /// It has to be given, with a value of this name.
+    /// The option must be given with a value.
     Required(&'static str),
-    /// It has a value of this name where it is given, and else none.
+    /// The option may be given with a value.
     Optional(&'static str),
-    /// It has a value of this name, which is the second text where it isn't given.
+    /// The option has a value, by default the second text.
     WithDefault(&'static str, &'static str),
-    /// It is given or not.
+    /// The option is given without a value, or not given.
     Flag,
 }
 
@@ -246,7 +246,7 @@ const COMMANDS: [CommandText; 8] = [
     },
 ];
 
-/// The command line that is understood. AllocError where no memory was to be had.
+/// Builds the parser of the command line.
 pub fn command<'a>(alloc: Global) -> Result<Command<'a>, AllocError> {
     let mut root = Command::new(alloc, "scimd")
         .version(VERSION)
@@ -259,7 +259,7 @@ pub fn command<'a>(alloc: Global) -> Result<Command<'a>, AllocError> {
     Ok(root)
 }
 
-/// The command line with one more command, where there was memory for it.
+/// Adds a command to the command line, or returns the error of building it.
 fn with<'a>(
     root: Command<'a>,
     command: Result<Command<'a>, AllocError>,
@@ -270,7 +270,7 @@ fn with<'a>(
     }
 }
 
-/// A command with its options.
+/// Builds a command with its options.
 fn command_of<'a>(alloc: Global, text: CommandText) -> Result<Command<'a>, AllocError> {
     let mut command = Command::new(alloc, text.name).about(text.about);
     for option in text.options {
@@ -279,7 +279,7 @@ fn command_of<'a>(alloc: Global, text: CommandText) -> Result<Command<'a>, Alloc
     Ok(command)
 }
 
-/// An option, by its name behind two hyphens.
+/// Builds an option, which is given as two hyphens and its name.
 fn option_of<'a>(alloc: Global, text: OptionText) -> Arg<'a> {
     let option = Arg::new(alloc, text.name).long(text.name).help(text.help);
     match text.form {

@@ -1,27 +1,27 @@
-//! What the commands over a database are given.
+//! The options of the commands `audit`, `export` and `import`.
 use crate::command_faults::CommandFault;
 use crate::options::text_of;
 use clap::ArgMatches;
 
-/// What `audit` is given.
+/// The options of `audit`.
 #[derive(Clone, Copy)]
 pub struct AuditOptions<'a> {
     /// The path of the database.
     pub database: &'a str,
-    /// The number of the first row that is shown.
+    /// The number of the first row to print.
     pub from: u64,
-    /// How many rows are shown at most.
+    /// The maximum number of rows to print.
     pub count: u64,
 }
 
-/// What `export` is given.
+/// The options of `export`.
 #[derive(Clone, Copy)]
 pub struct ExportOptions<'a> {
     /// The path of the database.
     pub database: &'a str,
 }
 
-/// What `import` is given.
+/// The options of `import`.
 #[derive(Clone, Copy)]
 pub struct ImportOptions<'a> {
     /// The path of the database.
@@ -31,7 +31,7 @@ pub struct ImportOptions<'a> {
 }
 
 impl<'a> AuditOptions<'a> {
-    /// The options of `audit`; BadOption where a number isn't digits, or has more than 64 bits.
+    /// Reads the options of `audit`. BadOption if a number isn't digits or exceeds 64 bits.
     pub fn of(matches: &ArgMatches<'a>) -> Result<AuditOptions<'a>, CommandFault> {
         Ok(AuditOptions {
             database: text_of(matches, "db")?,
@@ -42,7 +42,7 @@ impl<'a> AuditOptions<'a> {
 }
 
 impl<'a> ExportOptions<'a> {
-    /// The options of `export`.
+    /// Reads the options of `export`.
     pub fn of(matches: &ArgMatches<'a>) -> Result<ExportOptions<'a>, CommandFault> {
         Ok(ExportOptions {
             database: text_of(matches, "db")?,
@@ -51,7 +51,7 @@ impl<'a> ExportOptions<'a> {
 }
 
 impl<'a> ImportOptions<'a> {
-    /// The options of `import`.
+    /// Reads the options of `import`.
     pub fn of(matches: &ArgMatches<'a>) -> Result<ImportOptions<'a>, CommandFault> {
         Ok(ImportOptions {
             database: text_of(matches, "db")?,
@@ -60,7 +60,7 @@ impl<'a> ImportOptions<'a> {
     }
 }
 
-/// The number that digits say; BadOption where the text is anything else, or says more than 64 bits hold.
+/// Parses a number of at most 64 bits. BadOption if the text isn't digits or the number is larger.
 pub(crate) fn number_of(text: &str) -> Result<u64, CommandFault> {
     if matches!(text.as_bytes(), [b'+', ..]) {
         return Err(CommandFault::BadOption);

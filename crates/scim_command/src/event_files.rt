@@ -1,4 +1,4 @@
-//! Events files: what happened to connections, a line for each.
+//! Reads events files, which have one event of a connection per line.
 ghost use Rattle.std.specs.Prelude.{IfOk, map};
 ghost use Rattle.std.specs.Str.Lines.{lines};
 ghost use Rattle.scim_text.specs.Failures.{IfFault};
@@ -11,21 +11,22 @@ use scim_text::{Failed, push};
 use std::alloc::Global;
 use thiserror::Error;
 
-/// Why an events file is refused: its first line that tells no event, from 1.
+/// The number, from 1, of the first invalid line of an events file.
 #[derive(Clone, Copy, Debug, PartialEq, Eq, Error)]
 #[error("line {0}")]
 pub struct FaultyLine(pub usize);
 
-/// The events of a file, in order. A line is of one of the forms
+/// Reads the events of a file, in order. Each line has one of the forms
 ///
 ///     MOMENT FIRST joined N
 ///     MOMENT FIRST piece N HEX
 ///     MOMENT FIRST left N
 ///
-/// with one space between two words: when it happened, as the server prints it; the id for what the first whole message of the
-/// event makes; the number of the connection, in digits and within 64 bits; and the bytes of a piece, one or more, in hex digits of either case.
+/// with one space between two words: the time, as the server prints it; the id for the resource that the
+/// event's first whole message creates; the connection's number, in digits and at most 64 bits; and the bytes
+/// of a piece, at least one, in hex digits of either case.
 ///
-/// The first faulty line is told; or NoMemory, where none was to be had.
+/// Fails with the first invalid line.
 pub fn read_events(alloc: Global, text: &str) -> Result<Vec<Recorded>, Failed<FaultyLine>>
     ensures events { IfOk result (λ events. IsEventFile text.now (map recorded_of events.items)) }
     ensures faulty { IfFault result (λ fault. IsFaultyAt (lines text.now) fault.0) }
@@ -34,7 +35,7 @@ pub fn read_events(alloc: Global, text: &str) -> Result<Vec<Recorded>, Failed<Fa
     events_of_lines(alloc, lines.as_slice())
 }
 
-/// The events of the lines of a file.
+/// Reads the events of the lines. Fails with the first invalid line.
 fn events_of_lines(alloc: Global, lines: &[&str]) -> Result<Vec<Recorded>, Failed<FaultyLine>>
     ensures events { IfOk result (λ events. AreEventLines (map (λ l. l.now) lines.now) (map recorded_of events.items)) }
     ensures faulty { IfFault result (λ fault. IsFaultyAt (map (λ l. l.now) lines.now) fault.0) }

@@ -1,4 +1,4 @@
-//! One line of an events file.
+//! Reads one line of an events file.
 ghost use Rattle.std.specs.Prelude.{◌≡◌, IfOk, codes};
 ghost use Rattle.scim_command.specs.EventFiles as spec;
 ghost use Rattle.scim_command.specs.EventFiles.{IsNumberText, IsHexText, IsEventLine};
@@ -11,14 +11,14 @@ use scim_hub::{Happened, Recorded, Stamp};
 use scim_text::{NoMemory, read_printed_moment};
 use std::alloc::Global;
 
-/// What happened to which connection.
+/// What occurred on which connection.
 #[derive(Drop)]
 struct Change {
     connection: u64,
     happened: Happened,
 }
 
-/// The text before the first space, and the text behind it; all of it and none, where there is no space.
+/// Splits a text at its first space; all of it and the empty text if there is no space.
 fn cut(text: &str) -> (&str, &str)
     ensures word { result.0.now ≡ spec.word text.now }
     ensures behind { result.1.now ≡ spec.behind text.now }
@@ -29,7 +29,7 @@ fn cut(text: &str) -> (&str, &str)
     }
 }
 
-/// The number in 64 bits that digits say; None where the text is anything else.
+/// Parses a number of at most 64 bits; `None` if the text isn't one.
 fn number_in(text: &str) -> Option<u64>
     ensures { Finds (λ n. n) (IsNumberText text.now) result }
 {
@@ -42,7 +42,7 @@ fn number_in(text: &str) -> Option<u64>
     }
 }
 
-/// The bytes that hex digits say, one or more; None where the text is anything else. NoMemory where none was to be had.
+/// Decodes one or more bytes in hex digits; `None` for any other text.
 fn bytes_in(alloc: Global, text: &str) -> Result<Option<Vec<u8>>, NoMemory>
     ensures { IfOk result (Finds (λ bytes. bytes.items) (IsHexText text.now)) }
 {
@@ -54,7 +54,7 @@ fn bytes_in(alloc: Global, text: &str) -> Result<Option<Vec<u8>>, NoMemory>
     }
 }
 
-/// The stamp that the texts of a moment and of an id say; None where one of them is none. NoMemory where none was to be had.
+/// Parses the time and the id of a stamp; `None` if one of them is invalid.
 fn stamp_in(alloc: Global, moment: &str, first: &str) -> Result<Option<Stamp>, NoMemory>
     ensures { IfOk result (Finds (λ stamp. stamp) (IsStampText moment.now first.now)) }
 {
@@ -67,7 +67,7 @@ fn stamp_in(alloc: Global, moment: &str, first: &str) -> Result<Option<Stamp>, N
     }
 }
 
-/// The piece of a connection that the text behind `piece` tells: a number, and hex digits. NoMemory where none was to be had.
+/// Parses the words after `piece`: a number, and the piece in hex digits. `None` if one of them is invalid.
 fn piece_in(alloc: Global, text: &str) -> Result<Option<Change>, NoMemory>
     ensures { IfOk result (Finds happening_of (IsToldBy (codes "piece") text.now)) }
 {
@@ -84,7 +84,7 @@ fn piece_in(alloc: Global, text: &str) -> Result<Option<Change>, NoMemory>
     }
 }
 
-/// What happened to the connection whose number the text is; None where it is none.
+/// Returns the occurrence on the connection with the number in `text`; `None` if `text` isn't a number.
 fn change_of(text: &str, happened: Happened) -> Option<Change>
     ensures { Finds happening_of (IsAlone (kept_happened happened) text.now) result }
 {
@@ -97,8 +97,7 @@ fn change_of(text: &str, happened: Happened) -> Option<Change>
     }
 }
 
-/// What happened to which connection, as a word and the text behind it tell it; None where they tell nothing. NoMemory where
-/// none was to be had.
+/// Parses the name of an occurrence and the text after it; `None` if they are invalid.
 fn change_in(alloc: Global, name: &str, text: &str) -> Result<Option<Change>, NoMemory>
     ensures { IfOk result (Finds happening_of (IsToldBy name.now text.now)) }
 {
@@ -110,7 +109,7 @@ fn change_in(alloc: Global, name: &str, text: &str) -> Result<Option<Change>, No
     }
 }
 
-/// The event that a line tells; None where it tells none. NoMemory where none was to be had.
+/// Parses a line of an events file; `None` if it is invalid.
 pub(crate) fn read_line(alloc: Global, line: &str) -> Result<Option<Recorded>, NoMemory>
     ensures { IfOk result (Finds recorded_of (IsEventLine line.now)) }
 {

@@ -1,4 +1,4 @@
-//! What `explain` is given.
+//! The options of the command `explain`.
 use crate::command_faults::CommandFault;
 use crate::options::text_of;
 use clap::ArgMatches;
@@ -7,28 +7,30 @@ use scim_filter_grammar::{Meant, attribute_path};
 use scim_policy_file::is_client_name;
 use scim_schema::{Kind, Leaf, Op, has_leaf};
 
-/// What `explain` is given.
+/// The options of `explain`.
 #[derive(Clone, Copy)]
 pub struct ExplainOptions<'a> {
     /// The path of the policy file.
     pub policy: &'a str,
     /// The path of the database.
     pub database: &'a str,
-    /// The name of the client that is asked about.
+    /// The name of the client whose rights are explained.
     pub client: &'a str,
-    /// What the client would do.
+    /// The operation of the client.
     pub op: Op,
     /// The kind of the resource.
     pub kind: Kind,
     /// The id of the resource.
     pub id: Id,
-    /// What of the resource; None for all of it.
+    /// The leaf of the resource; `None` for the whole resource.
     pub leaf: Option<Leaf>,
 }
 
 impl<'a> ExplainOptions<'a> {
-    /// The options of `explain`; BadOption where the client's name can be none, where there is no such operation or kind, where
-    /// the id isn't in the form in which the server prints it, or where the path isn't that of one leaf of the kind.
+    /// Reads the options of `explain`.
+    ///
+    /// BadOption if the client's name isn't valid, no operation or kind has the name, the id doesn't have the
+    /// form in which the server prints ids, or the path doesn't name one leaf of the kind.
     pub fn of(matches: &ArgMatches<'a>) -> Result<ExplainOptions<'a>, CommandFault> {
         let client = text_of(matches, "client")?;
         if !is_client_name(client) {
@@ -55,7 +57,7 @@ impl<'a> ExplainOptions<'a> {
     }
 }
 
-/// The leaf of the kind that the option gives; None where it isn't given.
+/// Returns the leaf that the option `path` names; `None` if it isn't given. BadOption if it names no leaf.
 fn leaf_given(matches: &ArgMatches<'_>, kind: Kind) -> Result<Option<Leaf>, CommandFault> {
     match matches.get_str("path") {
         Some(path) => match leaf_at(kind, path) {
@@ -66,7 +68,7 @@ fn leaf_given(matches: &ArgMatches<'_>, kind: Kind) -> Result<Option<Leaf>, Comm
     }
 }
 
-/// The leaf of the kind that a path names; None where it names none.
+/// Returns the leaf of the kind that a path names; `None` if it names no single leaf.
 fn leaf_at(kind: Kind, path: &str) -> Option<Leaf> {
     let leaf = match attribute_path(kind, path)? {
         Meant::Attribute(attribute) => Leaf::simple(attribute),

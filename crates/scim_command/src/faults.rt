@@ -1,4 +1,4 @@
-//! Why a command gave up.
+//! The faults of commands.
 use scim_cell::Id;
 use scim_json::DamagedItem;
 use scim_policy_file::{Cause, PolicyFault};
@@ -7,47 +7,48 @@ use scim_text::{Failed, NoMemory};
 use std::error::Error;
 use std::fmt;
 
-/// Why a command gave up. Which of these it may answer, each says.
+/// The fault of a command. Each command documents the faults that it returns.
 #[derive(Clone, Copy, Debug, PartialEq, Eq)]
 pub enum RunFault {
-    /// The policy file is faulty: the rule, from 1, or 0 for the file, and why.
+    /// The policy file is invalid: the number of the rule, from 1, or 0 for the whole file, and the cause.
     Policy { rule: u32, cause: Cause },
-    /// The item of the users file with this number, from 1, is no document of a user or a group or repeats
-    /// an id or a unique name; 0 where the file is no JSON list.
+    /// The users file is invalid: the number, from 1, of an item that isn't a valid user or group or that
+    /// repeats an id or a unique name; 0 if the file isn't a JSON list.
     Users(usize),
-    /// The line of the token file with this number, from 1, is faulty; 0 where the file is no text.
+    /// The token file is invalid: the number of the line, from 1; 0 if the file isn't UTF-8.
     Tokens(usize),
-    /// The line of the events file with this number, from 1, tells no event; 0 where the file is no text.
+    /// The events file is invalid: the number of the line, from 1; 0 if the file isn't UTF-8.
     Events(usize),
-    /// The input ended before the head of a request did.
+    /// The input ended before the request did.
     InputEnded,
-    /// The input could not be read.
+    /// The input can't be read.
     InputFailed,
-    /// The database isn't one that the command can work on.
+    /// The command can't use the database.
     Database(DatabaseFault),
-    /// There is no resource of the kind with the id.
+    /// No resource of the kind has the id.
     Absent,
-    /// The answer could not be written; a part of it may have been.
+    /// The output can't be written; a part of it may have been written.
     Output,
-    /// No memory was to be had.
+    /// An allocation failed.
     NoMemory,
 }
 
-/// Why a command can't work on a database.
+/// The reason why a command can't use a database.
 #[derive(Clone, Copy, Debug, PartialEq, Eq)]
 pub enum DatabaseFault {
-    /// Its tables are of another version.
+    /// The tables have another version.
     WrongVersion,
-    /// Its tables stand for no store: this is the least id whose rows are neither those of one resource nor none.
+    /// The tables are damaged: this is the smallest id that has rows which aren't those of one valid
+    /// resource.
     Damaged(Id),
-    /// It belongs to another program, or its tables stand for no store though the rows of each id hold, or it can't be
-    /// read or written.
+    /// The database belongs to another program, can't be read or written, or is damaged although the rows of
+    /// each id are valid.
     Unusable,
-    /// It has a table, an index or a view, where the command fills an empty one.
+    /// `import` needs an empty database, and this one has a table, an index or a view.
     NotEmpty,
 }
 
-/// What follows `database: ` in the line of a fault.
+/// The text after `database: ` in the message of a fault.
 impl fmt::Display for DatabaseFault {
     fn fmt<W: fmt::Write>(&self, f: &mut fmt::Formatter<W>) -> fmt::Result {
         match self {
@@ -63,12 +64,12 @@ impl fmt::Display for DatabaseFault {
     }
 }
 
-/// Writes what is faulty, and the number of its part that is.
+/// Writes the name of a part of a file and its number.
 fn numbered<W: fmt::Write>(f: &mut fmt::Formatter<W>, what: &str, number: usize) -> fmt::Result {
     write!(f, "{what} {number}")
 }
 
-/// One line for people, as it is written to standard error.
+/// The message of a fault: one line for standard error.
 impl fmt::Display for RunFault {
     fn fmt<W: fmt::Write>(&self, f: &mut fmt::Formatter<W>) -> fmt::Result {
         match self {

@@ -1,4 +1,4 @@
-//! The files that a command is given.
+//! Reads the files that a command's options name.
 use crate::command_faults::CommandFault;
 use crate::faults::RunFault;
 use crate::options::OnceOptions;
@@ -8,20 +8,20 @@ use scim_policy_file::{Cause, read_policy};
 use std::fs;
 use std::rt::Files;
 
-/// What a file that a command is given tells.
+/// The kind of a file that a command reads.
 #[derive(Clone, Copy)]
 pub enum FileKind {
-    /// The policy.
+    /// A policy file.
     Policy,
-    /// The tokens of clients.
+    /// A file of the clients' tokens.
     Tokens,
-    /// The resources that are stored.
+    /// A users file, which holds resources.
     Users,
-    /// What happened to connections.
+    /// An events file of connections.
     Events,
 }
 
-/// That such a file isn't in UTF-8.
+/// Returns the fault of a file of this kind that isn't UTF-8.
 fn not_text(kind: FileKind) -> CommandFault {
     CommandFault::Run(match kind {
         FileKind::Policy => RunFault::Policy {
@@ -34,9 +34,9 @@ fn not_text(kind: FileKind) -> CommandFault {
     })
 }
 
-/// The text of the file at a path.
+/// Returns the text of the file at a path.
 ///
-/// CannotRead, where it can't be read; where it isn't in UTF-8, the fault of the whole file that is of its kind.
+/// CannotRead if the file can't be read. If it isn't UTF-8, the fault of its kind for the whole file.
 pub fn read_file(
     rt: &(impl Files + AllocGlobal),
     kind: FileKind,
@@ -51,7 +51,7 @@ pub fn read_file(
     }
 }
 
-/// That there is a file at a path; CannotRead where there is none, or where it can't be told.
+/// Checks that a file exists. CannotRead if it doesn't or if the check fails.
 pub fn find_file(rt: &(impl Files + AllocGlobal), path: &str) -> Result<(), CommandFault> {
     match fs::exists(rt, path) {
         Ok(true) => Ok(()),
@@ -59,9 +59,9 @@ pub fn find_file(rt: &(impl Files + AllocGlobal), path: &str) -> Result<(), Comm
     }
 }
 
-/// The policy in the file at a path.
+/// Returns the policy in the file at a path.
 ///
-/// The fault is that of [`read_file`], or Policy, where the file is faulty, or NoMemory, where none was to be had.
+/// Errors: those of [`read_file`], and Policy if the policy is invalid.
 pub fn policy_at(rt: &(impl Files + AllocGlobal), path: &str) -> Result<Policy, CommandFault> {
     let text = read_file(rt, FileKind::Policy, path)?;
     match read_policy(rt.alloc(), text.as_str()) {
@@ -78,8 +78,10 @@ pub(crate) struct OnceTexts {
 }
 
 impl OnceTexts {
-    /// The texts of the files that the options name. The fault is that of the first file that has one: a faulty
-    /// policy is told before a users file that cannot be read.
+    /// Reads the files that the options name.
+    ///
+    /// Returns the fault of the first file that has one: an invalid policy comes before a users file that
+    /// can't be read.
     pub(crate) fn read(
         rt: &(impl Files + AllocGlobal),
         options: &OnceOptions<'_>,
@@ -94,7 +96,7 @@ impl OnceTexts {
         }
     }
 
-    /// What `once` answers by, with these options.
+    /// Returns the setting of `once` for these texts and options.
     pub(crate) fn setting<'a>(&'a self, options: &OnceOptions<'a>) -> Setting<'a> {
         Setting {
             policy: self.policy.as_str(),

@@ -1,4 +1,4 @@
-//! The first message of an input.
+//! Reads the first message of an input.
 ghost use Rattle.std.specs.Prelude.{◌≡◌, [], Err, IfOk, IfSome, IfNone, All};
 ghost use Rattle.scim_text.specs.declared.memory.Failed.{Failed};
 ghost use Rattle.scim_wire.specs.Wires.{StandsFor};
@@ -11,17 +11,17 @@ use scim_wire::{Item, Message, Wire};
 use std::alloc::Global;
 use std::io::Read;
 
-/// Why nothing was read that could be answered.
+/// The reason why an input has no message or refusal.
 #[derive(Clone, Copy)]
 pub(crate) enum InputFault {
-    /// The input ended before.
+    /// The input ended before the message did.
     Ended,
     /// A read failed.
     ReadFailed,
 }
 
-/// The first of the items that is answered: a message, or a refusal. Nothing is said to a client that waits to send its
-/// body.
+/// Returns the first message or refusal among the items; `None` if all are [`Item::Continue`], which is
+/// ignored.
 fn first_of(items: Vec<Item>) -> Option<Result<Message, Refusal>>
     ensures first { IfSome result (IsFirstOf items.items) }
     ensures none { IfNone result (All IsContinue items.items) }
@@ -36,8 +36,9 @@ fn first_of(items: Vec<Item>) -> Option<Result<Message, Refusal>>
     None
 }
 
-/// The first message that the reader gives, or the refusal in its place. The stream is read in blocks, so bytes that follow
-/// the message may be taken from it and dropped.
+/// Reads the first message of an input, or the refusal of bytes that aren't a message.
+///
+/// Reads in blocks, so bytes after the message may be consumed and dropped.
 pub(crate) fn read_first<R: Read>(
     alloc: Global,
     reader: &mut R,
@@ -49,7 +50,8 @@ pub(crate) fn read_first<R: Read>(
     first_through(alloc, &mut wire, reader)
 }
 
-/// The same through a wire before the first byte of its stream, which is lent: so each way out has nothing to let go.
+/// As [`read_first`], through a borrowed wire that has read no bytes: its exits drop nothing, which keeps the
+/// proof short.
 fn first_through<R: Read>(
     alloc: Global,
     wire: &mut Wire,

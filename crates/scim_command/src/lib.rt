@@ -1,5 +1,5 @@
-//! The commands of the program, each over the texts of its files, a reader and a writer; its command line, and
-//! the lines that tell faults.
+//! The commands `once`, `check` and `replay` over files, a reader and a writer; the command line and options
+//! of all commands; and the messages of their faults.
 #![tactic(auto)]
 
 mod answers;

@@ -1,4 +1,4 @@
-//! What `once` and `check` are given, and how options are read.
+//! The options of the commands `once` and `check`, and helpers to read options.
 use crate::command_faults::CommandFault;
 use crate::faults::RunFault;
 use clap::ArgMatches;
@@ -7,35 +7,37 @@ use scim_policy_file::is_client_name;
 use scim_text::{Moment, read_printed_moment};
 use std::alloc::Global;
 
-/// What `once` is given.
+/// The options of `once`.
 #[derive(Clone, Copy)]
 pub struct OnceOptions<'a> {
     /// The path of the policy file.
     pub policy: &'a str,
     /// The path of the users file.
     pub users: &'a str,
-    /// The name of the client that asks.
+    /// The name of the client that sends the request.
     pub client: &'a str,
-    /// That below which resources stand.
+    /// The URL below which the resources have their locations.
     pub base: &'a str,
-    /// When the request comes.
+    /// The time of the request.
     pub at: Moment,
     /// The id for the resource that the request may create.
     pub first: Id,
 }
 
-/// What `check` is given.
+/// The options of `check`.
 #[derive(Clone, Copy)]
 pub struct CheckOptions<'a> {
     /// The path of the policy file.
     pub policy: &'a str,
-    /// Whether each rule is said in a sentence as well.
+    /// Whether each rule is also written as a sentence.
     pub verbose: bool,
 }
 
 impl<'a> OnceOptions<'a> {
-    /// The options of `once`; BadOption where the client's name can be none, or where the moment or the id isn't in the
-    /// form in which the server prints it.
+    /// Reads the options of `once`.
+    ///
+    /// BadOption if the client's name isn't valid, or if the time or the id doesn't have the form in which
+    /// the server prints it.
     pub fn of(alloc: Global, matches: &ArgMatches<'a>) -> Result<OnceOptions<'a>, CommandFault> {
         let client = text_of(matches, "client")?;
         if !is_client_name(client) {
@@ -56,7 +58,7 @@ impl<'a> OnceOptions<'a> {
 }
 
 impl<'a> CheckOptions<'a> {
-    /// The options of `check`.
+    /// Reads the options of `check`.
     pub fn of(matches: &ArgMatches<'a>) -> Result<CheckOptions<'a>, CommandFault> {
         Ok(CheckOptions {
             policy: text_of(matches, "policy")?,
@@ -65,7 +67,7 @@ impl<'a> CheckOptions<'a> {
     }
 }
 
-/// The text of an option; BadOption where there is none.
+/// Returns the text of an option. BadOption if it isn't given.
 pub(crate) fn text_of<'a>(matches: &ArgMatches<'a>, name: &str) -> Result<&'a str, CommandFault> {
     match matches.get_str(name) {
         Some(text) => Ok(text),
@@ -73,7 +75,7 @@ pub(crate) fn text_of<'a>(matches: &ArgMatches<'a>, name: &str) -> Result<&'a st
     }
 }
 
-/// The moment that a text says; BadOption where it isn't in the form in which the server prints it.
+/// Parses a time. BadOption if it doesn't have the form in which the server prints times.
 fn moment_of(alloc: Global, text: &str) -> Result<Moment, CommandFault> {
     match read_printed_moment(alloc, text) {
         Ok(Some(moment)) => Ok(moment),

@@ -1,4 +1,4 @@
-//! What is written for the results of events.
+//! Prints the results of events as lines.
 ghost use Rattle.std.specs.Prelude.{◌≡◌, ◌++◌, IfOk, OnOk, map, length, string_bytes};
 ghost use Rattle.std.specs.List.{flat_map};
 ghost use Rattle.scim_hub.specs.Halls.{deed_of, done, seen_of};
@@ -8,7 +8,7 @@ use scim_hub::{Event, HubFault, Output};
 use scim_text::NoMemory;
 use std::alloc::Global;
 
-/// Why an event isn't answered, in words.
+/// Returns the reason why an event isn't answered.
 fn fault_words(fault: HubFault) -> &'static str
     ensures { result.now ≡ spec.fault_words fault }
 {
@@ -20,7 +20,7 @@ fn fault_words(fault: HubFault) -> &'static str
     }
 }
 
-/// The line of an output. NoMemory where none was to be had.
+/// Returns the line of an output.
 fn output_line(alloc: Global, output: &Output) -> Result<String, NoMemory>
     ensures { IfOk result (λ line. string_bytes line ≡ spec.deed_line (deed_of output.now)) }
 {
@@ -33,7 +33,7 @@ fn output_line(alloc: Global, output: &Output) -> Result<String, NoMemory>
     }
 }
 
-/// The lines of outputs. NoMemory where none was to be had.
+/// Returns the lines of outputs, in order.
 fn output_lines(alloc: Global, outputs: &[Output]) -> Result<String, NoMemory>
     ensures { IfOk result (λ text. string_bytes text ≡ flat_map spec.deed_line (map deed_of outputs.now)) }
 {
@@ -45,7 +45,7 @@ fn output_lines(alloc: Global, outputs: &[Output]) -> Result<String, NoMemory>
     Ok(text)
 }
 
-/// The lines for the result of an event of a connection. NoMemory where none was to be had.
+/// Returns the lines for the result of an event of a connection.
 fn result_lines(
     alloc: Global,
     connection: u64,
@@ -62,8 +62,11 @@ fn result_lines(
     }
 }
 
-/// The lines for the results of events, each of which has one: `write N HEX` for a text that is written to connection N, `close N` where it
-/// is shut, and `fault N` with the reason where the event isn't answered. NoMemory where none was to be had.
+/// Returns the lines for the results of events, in order.
+///
+/// `write N HEX` for a text written to connection N, `close N` if it is shut, and `fault N` with the reason
+/// if the event isn't answered. `events` and `results` have the same length; further entries of the longer
+/// one are ignored.
 pub fn results_text(
     alloc: Global,
     events: &[Event<'_>],

@@ -1,4 +1,4 @@
-//! Events that a file tells, as a hub takes them.
+//! The events of a file, for a hub.
 ghost use Rattle.std.specs.Prelude.{◌≡◌, IfOk, map};
 ghost use Rattle.scim_hub.specs.Halls.{seen_of, recorded_of};
 
@@ -6,7 +6,7 @@ use scim_hub::{Event, Recorded};
 use scim_text::NoMemory;
 use std::alloc::Global;
 
-/// The events, as a hub takes them, in the same order. NoMemory where none was to be had.
+/// Returns the events, borrowed for a hub, in the same order.
 pub fn events_of(alloc: Global, recorded: &[Recorded]) -> Result<Vec<Event<'_>>, NoMemory>
     ensures { IfOk result (λ events. map seen_of events.items ≡ map recorded_of recorded.now) }
 {

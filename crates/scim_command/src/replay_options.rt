@@ -1,9 +1,9 @@
-//! What `replay` is given.
+//! The options of the command `replay`.
 use crate::command_faults::CommandFault;
 use crate::options::text_of;
 use clap::ArgMatches;
 
-/// What `replay` is given.
+/// The options of `replay`.
 #[derive(Clone, Copy)]
 pub struct ReplayOptions<'a> {
     /// The path of the policy file.
@@ -14,12 +14,12 @@ pub struct ReplayOptions<'a> {
     pub users: &'a str,
     /// The path of the events file.
     pub events: &'a str,
-    /// That below which resources stand.
+    /// The URL below which the resources have their locations.
     pub base: &'a str,
 }
 
 impl<'a> ReplayOptions<'a> {
-    /// The options of `replay`.
+    /// Reads the options of `replay`.
     pub fn of(matches: &ArgMatches<'a>) -> Result<ReplayOptions<'a>, CommandFault> {
         Ok(ReplayOptions {
             policy: text_of(matches, "policy")?,

@@ -1,4 +1,4 @@
-//! `replay`, over the files that its options name.
+//! The command `replay` over the files that its options name.
 use crate::command_faults::CommandFault;
 use crate::files::{FileKind, read_file};
 use crate::replay_options::ReplayOptions;
@@ -19,7 +19,8 @@ struct Texts {
 }
 
 impl Texts {
-    /// The texts of the files that the options name. The fault is that of the first that cannot be read, or is no text.
+    /// Reads the files that the options name. Returns the fault of the first file that can't be read or isn't
+    /// UTF-8.
     fn read(
         rt: &(impl Files + AllocGlobal),
         options: &ReplayOptions<'_>,
@@ -33,8 +34,10 @@ impl Texts {
     }
 }
 
-/// `replay`: answers the events of a file, and writes what is to be done for each. The fault is that of the options, of the
-/// first file that cannot be read or is no text, or of [`replay`].
+/// Runs `replay`: answers the events of a file, and writes the outputs for each.
+///
+/// Errors: those of the options, then of the first file that can't be read or isn't UTF-8, then of
+/// [`replay`].
 pub fn replay_over_files<W: Write>(
     rt: &(impl Files + AllocGlobal),
     matches: &ArgMatches<'_>,
@@ -55,9 +58,9 @@ pub fn replay_over_files<W: Write>(
     }
 }
 
-/// The tokens in the file at a path.
+/// Returns the tokens in the file at a path.
 ///
-/// The fault is that of [`read_file`], or of [`read_tokens`].
+/// Errors: those of [`read_file`] and [`read_tokens`].
 pub fn tokens_at(rt: &(impl Files + AllocGlobal), path: &str) -> Result<Tokens, CommandFault> {
     let text = read_file(rt, FileKind::Tokens, path)?;
     match read_tokens(rt.alloc(), text.as_str()) {

@@ -1,4 +1,4 @@
-//! `replay`: the events of a file, answered by a hub over a users file in memory.
+//! The command `replay`: answers the events of a file by a hub over a users file in memory.
 ghost use Rattle.std.specs.Prelude.{◌≡◌, ◌≢◌, ℕ, List, [], Ok, Err, IfOk, IfErr, OnOk, map, string_bytes};
 ghost use Rattle.std.specs.Io.KnownBytes.{Appends};
 ghost use Rattle.std.specs.Str.Lines.{lines};
@@ -31,7 +31,7 @@ use scim_text::{Failed, NoMemory};
 use std::alloc::Global;
 use std::io::Write;
 
-/// What is replayed, and by what it is answered.
+/// The texts of the files of `replay`, and the base.
 #[derive(Clone, Copy)]
 pub struct Recording<'a> {
     /// The text of the policy file.
@@ -42,17 +42,16 @@ pub struct Recording<'a> {
     pub users: &'a str,
     /// The text of the events file.
     pub events: &'a str,
-    /// That below which resources stand, as `http://127.0.0.1:8080`.
+    /// The URL below which the resources have their locations, such as `http://127.0.0.1:8080`.
     pub base: &'a str,
 }
 
-/// Answers the events of a file one after another, and writes in lines what is to be done for each: `write N HEX`, `close N`, or
-/// `fault N` with the reason.
+/// Answers the events of a file one after another, and writes the results as lines: `write N HEX`, `close N`,
+/// or `fault N` with the reason.
 ///
-/// The fault is that of the first file that has one, in this order: Policy, where the policy file is faulty; Tokens, where the
-/// token file is faulty; Users, where the users file is damaged; Events, where a line of the events file tells no event. Then no event
-/// was answered, and nothing is written; nor with NoMemory, where none was to be had. Output, where a write fails: then a front of the
-/// lines has been written, perhaps none or all of them, and nothing else.
+/// The fault of the first invalid file, in this order: Policy, Tokens, Users, Events. After these and
+/// `NoMemory` nothing is written. Output if a write fails; a prefix of the lines has been written then,
+/// perhaps empty or whole, and nothing else.
 pub fn replay<W: Write>(
     alloc: Global,
     recording: &Recording<'_>,
@@ -70,7 +69,7 @@ pub fn replay<W: Write>(
     write_or_fault(text.as_str(), writer)
 }
 
-/// The lines for the events. Fails as [`replay`] does, but for Output.
+/// Returns the lines for the events. Errors: as [`replay`], except Output.
 fn replayed(alloc: Global, recording: &Recording<'_>) -> Result<String, RunFault>
     ensures told { IfOk result (λ text. Replays recording.now (string_bytes text)) }
     ensures policy { (rule : ℕ) (cause : Cause) → result ≡ Err (RunFault.Policy rule cause) → policy_of recording.now.policy.now ≡ Err (record { rule = rule; cause = cause }) }
@@ -84,10 +83,9 @@ fn replayed(alloc: Global, recording: &Recording<'_>) -> Result<String, RunFault
     Ok(answered(alloc, &mut hub, events.as_slice())?)
 }
 
-/// A hub without connections, by the policy, over what the users file holds, for the clients that have the tokens.
+/// Returns a hub without connections, with the policy, the resources and the tokens of the files.
 ///
-/// Policy, where the policy file is faulty; else Tokens, where the token file is faulty; else Users, where the users file is
-/// damaged. NoMemory where none was to be had.
+/// The fault of the first invalid file, in this order: Policy, Tokens, Users.
 fn hub_over(alloc: Global, recording: &Recording<'_>) -> Result<Hub<MemoryShelf>, RunFault>
     ensures hub { IfOk result (IsHubOver ⟦<MemoryShelf as Shelf>⟧.stands recording.now) }
     ensures policy { (rule : ℕ) (cause : Cause) → result ≡ Err (RunFault.Policy rule cause) → policy_of recording.now.policy.now ≡ Err (record { rule = rule; cause = cause }) }
@@ -102,7 +100,7 @@ fn hub_over(alloc: Global, recording: &Recording<'_>) -> Result<Hub<MemoryShelf>
     Ok(Hub::new(alloc, routes, service, tokens))
 }
 
-/// The events of a file. Events, where a line tells none; NoMemory where none was to be had.
+/// Returns the events of a file. Events if a line is invalid.
 fn recorded_in(alloc: Global, text: &str) -> Result<Vec<Recorded>, RunFault>
     ensures events { IfOk result (λ events. IsEventFile text.now (map recorded_of events.items)) }
     ensures faulty { (n : ℕ) → result ≡ Err (RunFault.Events n) → IsFaultyAt (lines text.now) n }
@@ -115,7 +113,7 @@ fn recorded_in(alloc: Global, text: &str) -> Result<Vec<Recorded>, RunFault>
     }
 }
 
-/// The lines for what a hub answers to events. NoMemory where none was to be had.
+/// Returns the lines for the results of events by a hub.
 fn answered(
     alloc: Global,
     hub: &mut Hub<MemoryShelf>,

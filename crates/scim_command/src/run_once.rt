@@ -1,4 +1,4 @@
-//! `once`: one request, answered over a users file in memory.
+//! The command `once`: answers one request over a users file in memory.
 ghost use Rattle.std.specs.Prelude.{◌≡◌, ◌≢◌, ℕ, false, List, Ok, Err, IsOk, IfOk, IfErr, IfSome, OnOk, OnErr};
 ghost use Rattle.std.specs.Io.KnownBytes.{Appends};
 ghost use Rattle.scim_json.specs.Documents.{IsDamagedAt};
@@ -31,25 +31,25 @@ use std::alloc::Global;
 use std::io::{Read, Write};
 use uuid::Uuid;
 
-/// What a request is answered by.
+/// The texts of the files of `once`, and the circumstances of the request.
 #[derive(Clone, Copy)]
 pub struct Setting<'a> {
     /// The text of the policy file.
     pub policy: &'a str,
     /// The text of the users file, which holds users and groups.
     pub users: &'a str,
-    /// The name of the client that asks.
+    /// The name of the client that sends the request.
     pub client: &'a str,
-    /// That below which resources stand, as `http://127.0.0.1:8080`.
+    /// The URL below which the resources have their locations, such as `http://127.0.0.1:8080`.
     pub base: &'a str,
-    /// When the message comes.
+    /// The time of the request.
     pub at: Moment,
-    /// The id of the resource that it creates, if it creates one.
+    /// The id of the resource that the request creates, if it creates one.
     pub first: Id,
 }
 
 impl<'a> Setting<'a> {
-    /// The message comes at the first moment, and the id for what it creates is the nil one.
+    /// Returns a setting with the first moment, 1970-01-01T00:00:00Z, and the nil id.
     pub fn new(policy: &'a str, users: &'a str, client: &'a str, base: &'a str) -> Setting<'a>
         ensures texts { (result.policy.now ≡ policy.now) × (result.users.now ≡ users.now) × (result.client.now ≡ client.now) × (result.base.now ≡ base.now) }
         ensures at { result.at ≡ 0 }
@@ -66,6 +66,7 @@ impl<'a> Setting<'a> {
     }
 }
 
+/// Returns 1970-01-01T00:00:00Z.
 fn first_moment() -> Moment
     ensures { result ≡ 0 }
 {
@@ -74,14 +75,19 @@ fn first_moment() -> Moment
 
 /// Reads one message and writes its reply, and nothing else.
 ///
-/// The message is the client's, whatever token it has: it asks for a page of discovery, or for what
-/// [`scim_exchange::answer`] says, which the policy decides on. What comes in place of a message is refused, and the
-/// connection said to be closed; want of memory is answered 500. No 100 (Continue) is written.
+/// The message counts as the client's, whatever token it has, and is answered by [`scim_exchange::answer`].
+/// Bytes that aren't a message are answered by a refusal with `Connection: close`. No 100 (Continue) is
+/// written. If memory runs out while the message is read or answered, the reply is 500.
 ///
-/// Policy, where the policy file is faulty; else Users, where the users file is damaged; else
-/// InputEnded, where the message doesn't end, and InputFailed, where a read fails. These write nothing.
-/// Output, where a write fails: then a front of the reply has been written, perhaps none or all of it, and
-/// nothing else. NoMemory where none was to be had before the message is read; it writes nothing.
+/// - Policy: the policy file is invalid.
+/// - Users: the policy file is valid, and the users file isn't.
+/// - InputEnded: the input ends before the message does.
+/// - InputFailed: a read fails.
+/// - NoMemory: memory runs out before the message is read.
+/// - Output: a write fails; a prefix of the reply has been written, perhaps empty or whole, and nothing
+///   else.
+///
+/// After any error but Output nothing is written.
 pub fn once<R: Read, W: Write>(
     alloc: Global,
     setting: &Setting<'_>,
@@ -119,10 +125,9 @@ pub fn once<R: Read, W: Write>(
     write_reply(reply, store.as_str(), writer)
 }
 
-/// The service by the policy file, over what the users file holds.
+/// Returns a service with the policy and the resources of the files.
 ///
-/// Policy, where the policy file is faulty; else Users, where the users file is damaged; NoMemory where none
-/// was to be had.
+/// Policy if the policy file is invalid; otherwise Users if the users file is invalid.
 fn service_by(alloc: Global, setting: &Setting<'_>) -> Result<Service<MemoryShelf>, RunFault>
     ensures service { IfOk result (λ service. (store : Store)
         × IsStoreOf setting.now.base.now setting.now.users.now store
@@ -139,10 +144,9 @@ fn service_by(alloc: Global, setting: &Setting<'_>) -> Result<Service<MemoryShel
     service_over(alloc, policy, setting.users, setting.base)
 }
 
-/// The reply to the message that the reader opens with; NoMemory in it stands for the reply that
-/// says so.
+/// Returns the reply to the first message of the reader; the inner `NoMemory` stands for the reply 500.
 ///
-/// InputEnded, where the message doesn't end; InputFailed, where a read fails.
+/// InputEnded if the input ends before the message does, and InputFailed if a read fails.
 fn reply_to<R: Read>(
     alloc: Global,
     routes: &Routes,
@@ -165,9 +169,9 @@ fn reply_to<R: Read>(
     }
 }
 
-/// Writes the reply, or `store`, which says that there was no memory for one.
+/// Writes the reply; or `store`, the refusal [`Refusal::Store`], if memory ran out.
 ///
-/// Output, where a write fails: then a front of it has been written, and nothing else.
+/// Output if a write fails; a prefix of the text has been written then, and nothing else.
 fn write_reply<W: Write>(
     reply: Result<String, NoMemory>,
     store: &str,

@@ -1,4 +1,4 @@
-//! `once` and `check`, over the files that their options name.
+//! The commands `once` and `check` over the files that their options name.
 use crate::checks::check;
 use crate::command_faults::CommandFault;
 use crate::files::{FileKind, OnceTexts, read_file};
@@ -8,8 +8,9 @@ use clap::ArgMatches;
 use std::io::{Read, Write};
 use std::rt::Files;
 
-/// `once`: answers one request of the reader. The fault is that of the options, of the first file that has one, or of
-/// [`once`].
+/// Runs `once`: answers one request of the reader.
+///
+/// Errors: those of the options, then of the first file that has one, then of [`once`].
 pub fn once_over_files<R: Read, W: Write>(
     rt: &(impl Files + AllocGlobal),
     matches: &ArgMatches<'_>,
@@ -24,7 +25,9 @@ pub fn once_over_files<R: Read, W: Write>(
     }
 }
 
-/// `check`: writes what a policy file says. The fault is that of the options, of the file, or of [`check`].
+/// Runs `check`: writes the report on a policy file.
+///
+/// Errors: those of the options, then of [`read_file`], then of [`check`].
 pub fn check_over_files<W: Write>(
     rt: &(impl Files + AllocGlobal),
     matches: &ArgMatches<'_>,

@@ -1,10 +1,10 @@
-//! What `serve` is given.
+//! The options of the command `serve`.
 use crate::command_faults::CommandFault;
 use crate::database_options::number_of;
 use crate::options::text_of;
 use clap::ArgMatches;
 
-/// What `serve` is given.
+/// The options of `serve`.
 #[derive(Clone, Copy)]
 pub struct ServeOptions<'a> {
     /// The path of the policy file.
@@ -13,18 +13,19 @@ pub struct ServeOptions<'a> {
     pub tokens: &'a str,
     /// The path of the database.
     pub database: &'a str,
-    /// The port on 127.0.0.1; 0 for any that is free.
+    /// The port on 127.0.0.1; 0 for any free one.
     pub port: u16,
-    /// That below which resources stand.
+    /// The URL below which the resources have their locations.
     pub base: &'a str,
-    /// After how many connections the server ends; None for never.
+    /// The number of connections after which the server ends; `None` for never.
     pub connections: Option<u64>,
-    /// Whether the resources are kept in memory too, where they are read.
+    /// Whether resources are also cached in memory.
     pub has_cache: bool,
 }
 
 impl<'a> ServeOptions<'a> {
-    /// The options of `serve`; BadOption where a number isn't digits, or has more than 64 bits, a port more than 16.
+    /// Reads the options of `serve`. BadOption if a number isn't digits, exceeds 64 bits, or is a port above
+    /// 65,535.
     pub fn of(matches: &ArgMatches<'a>) -> Result<ServeOptions<'a>, CommandFault> {
         Ok(ServeOptions {
             policy: text_of(matches, "policy")?,
@@ -38,7 +39,7 @@ impl<'a> ServeOptions<'a> {
     }
 }
 
-/// The port that digits say.
+/// Parses a port. BadOption if the text isn't digits or the number exceeds 65,535.
 fn port_of(text: &str) -> Result<u16, CommandFault> {
     match u16::try_from(number_of(text)?) {
         Ok(port) => Ok(port),
@@ -46,7 +47,7 @@ fn port_of(text: &str) -> Result<u16, CommandFault> {
     }
 }
 
-/// After how many connections the server ends; None where that isn't given.
+/// Returns the number of connections after which the server ends, if given.
 fn connections_of(matches: &ArgMatches<'_>) -> Result<Option<u64>, CommandFault> {
     match matches.get_str("connections") {
         Some(text) => Ok(Some(number_of(text)?)),

@@ -1,4 +1,4 @@
-//! Services over a users file in memory.
+//! Services over the resources of a users file in memory.
 ghost use Rattle.std.specs.Prelude.{◌≡◌, ℕ, Err, IfOk, IfErr};
 ghost use Rattle.scim_json.specs.Documents.{IsDamagedAt};
 ghost use Rattle.scim_shelf.specs.Stores.{Store};
@@ -14,9 +14,9 @@ use scim_service::Service;
 use scim_shelf::{MemoryShelf, Shelf};
 use std::alloc::Global;
 
-/// The service by a policy, over what a users file holds, below the base.
+/// Returns a service with the policy over the resources of a users file, below the base.
 ///
-/// Users, where the users file is damaged; NoMemory where none was to be had.
+/// Users if the users file is invalid.
 pub fn service_over(
     alloc: Global,
     policy: Policy,
@@ -36,9 +36,9 @@ pub fn service_over(
     Ok(Service::new(policy, base, shelf))
 }
 
-/// A shelf of the resources of a users file.
+/// Returns a shelf with the resources of a users file.
 ///
-/// Users, where it is damaged; NoMemory where none was to be had.
+/// Users if the users file is invalid.
 fn read_shelf(alloc: Global, base: &str, text: &str) -> Result<MemoryShelf, RunFault>
     ensures shelf { IfOk result (λ shelf. (store : Store)
         × IsStoreOf base.now text.now store × ⟦<MemoryShelf as Shelf>⟧.stands shelf store) }

@@ -1,4 +1,4 @@
-//! Token files, with their faults as those of a command.
+//! Reads token files for a command.
 ghost use Rattle.std.specs.Prelude.{◌≡◌, ℕ, List, [], Ok, Err, IfOk, IfErr};
 ghost use Rattle.std.specs.Str.Lines.{lines};
 ghost use Rattle.scim_token.specs.TokenFile.{Entry, entries_from};
@@ -12,9 +12,9 @@ use scim_text::Failed;
 use scim_token::{TokenFault, Tokens};
 use std::alloc::Global;
 
-/// The tokens of a file.
+/// Reads the tokens of a file.
 ///
-/// Tokens, where it is faulty: its first faulty line. NoMemory where none was to be had.
+/// Tokens with the first invalid line.
 pub fn read_tokens(alloc: Global, text: &str) -> Result<Tokens, RunFault>
     ensures tokens { IfOk result (λ tokens. (entries : List Entry) × (entries_from 1 [] (lines text.now) ≡ Ok entries) × Knows entries tokens) }
     ensures faulty { (n : ℕ) → result ≡ Err (RunFault.Tokens n) → (cause : LineFault) × (entries_from 1 [] (lines text.now) ≡ Err (record { line = n; cause = cause })) }

@@ -1,4 +1,4 @@
-//! Writing what a command answers.
+//! Writes the output of a command.
 ghost use Rattle.std.specs.Prelude.{◌≡◌, IfErr, OnOk, OnErr};
 ghost use Rattle.std.specs.Io.KnownBytes.{Appends};
 ghost use Rattle.scim_wire.specs.Streams.{AppendsFront};
@@ -8,7 +8,7 @@ use crate::faults::RunFault;
 use scim_wire::write_text;
 use std::io::Write;
 
-/// Writes the text. Output, where a write fails: then a front of it has been written, and nothing else.
+/// Writes the text. Output if a write fails; a prefix of the text has been written then, and nothing else.
 pub fn write_or_fault<W: Write>(text: &str, writer: &mut W) -> Result<(), RunFault>
     ensures whole { OnOk result (Appends (W.contents writer.old) (W.contents writer.new) text.now) }
     ensures front { OnErr result (AppendsFront (W.contents writer.old) (W.contents writer.new) text.now) }

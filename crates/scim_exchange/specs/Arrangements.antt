@@ -1,4 +1,4 @@
--- In which order resources are listed, from which on, and how many (RFC 7644 sections 3.4.2.3 and 3.4.2.4).
+-- The order and the page of a search (RFC 7644 sections 3.4.2.3 and 3.4.2.4).
 use Rattle.std.specs.Prelude.{ℕ, zero, suc, ℤ, pos, negsuc, min, Bool, true, false, List, codes, Option, None, Some, option_and_then, Result, Ok, Err, if◌then◌else◌}
 use Rattle.scim_schema.specs.declared.limits.TheConstants.{MOST_SHOWN, USUALLY_SHOWN}
 use Rattle.scim_schema.specs.declared.Kind.{Kind}
@@ -9,7 +9,8 @@ use Rattle.scim_query.specs.SortKeys.{sort_leaf}
 use Rattle.scim_exchange.specs.declared.arrangements.Arrangement.{Arrangement}
 use Rattle.scim_exchange.specs.Refused.{◌>>=◌}
 
--- whether the last comes first, by the text of `sortOrder` in any ASCII case; the first does where none is given (RFC 7644 section 3.4.2.3)
+-- whether the order is descending, by `sortOrder` in any ASCII case; ascending if it isn't given (RFC 7644
+-- section 3.4.2.3)
 abbrev pub is_descending : Option (List ℕ) → Result Bool Refusal
 is_descending None = Ok false
 is_descending (Some text) =
@@ -17,20 +18,23 @@ is_descending (Some text) =
     else if is_same_name text (codes "ascending") then Ok false
     else Err MessageValue
 
--- the position of the first that is shown, by `startIndex`: below 1 it is 1, and so where none is given (RFC 7644 section 3.4.2.4)
+-- the 1-based position of the first resource on the page, by `startIndex`; 1 if it is below 1 or not given
+-- (RFC 7644 section 3.4.2.4)
 abbrev pub first_shown : Option ℤ → ℕ
 first_shown None = 1
 first_shown (Some (pos zero)) = 1
 first_shown (Some (pos (suc n))) = suc n
 first_shown (Some (negsuc n)) = 1
 
--- how many are shown at most, by `count`: below 0 none, and never over 200; 100 where none is given (RFC 7644 section 3.4.2.4)
+-- the page size, by `count`: 0 if it is negative, at most 200, and 100 if it isn't given (RFC 7644 section
+-- 3.4.2.4)
 abbrev pub most_shown : Option ℤ → ℕ
 most_shown None = USUALLY_SHOWN
 most_shown (Some (pos n)) = min n MOST_SHOWN
 most_shown (Some (negsuc n)) = 0
 
--- all that, by the texts of `sortBy` and `sortOrder`, `startIndex` and `count`; a `sortBy` that names nothing is none
+-- the arrangement by `sortBy`, `sortOrder`, `startIndex` and `count`; a `sortBy` that names no leaf is
+-- ignored
 abbrev pub arranged : Kind → Option (List ℕ) → Option (List ℕ) → Option ℤ → Option ℤ → Result Arrangement Refusal
 arranged kind sort_by sort_order start_index count =
     is_descending sort_order >>= λ descending. Ok (record {

@@ -1,4 +1,4 @@
--- What a routed request asks (RFC 7644 sections 3.3 to 3.6).
+-- What a routed request asks, or its refusal (RFC 7644 sections 3.3 to 3.6).
 use Rattle.std.specs.Prelude.{◌≡◌, ℕ, List, Option, option_copied, Result, Ok, Err, ⊤, if◌then◌else◌}
 use Rattle.std.specs.Str.{is_utf8}
 use Rattle.serde_json.specs.Read.{read}
@@ -27,7 +27,8 @@ use Rattle.scim_exchange.specs.Searches.{Sought, sought, sought_of, IsQuery}
 use Rattle.scim_exchange.specs.QueryStrings.{lists_of, search_of}
 use Rattle.scim_exchange.specs.SearchBodies.{search_of_body}
 
--- what a request may ask: to show a resource, to search, to make one of a draft, to replace one by a draft, to patch one, or to remove one
+-- what a request asks: to show a resource, search, create one from a draft, replace one by a draft, patch
+-- one, or remove one
 pub data Asked : Type 0 where
   showing : Lists → Asked
   searching : Sought → Asked
@@ -36,41 +37,41 @@ pub data Asked : Type 0 where
   patching : Patch → Lists → Asked
   removing : Asked
 
--- the attribute lists of a query string
+-- the attribute lists of a query string, or the refusal
 abbrev pub lists_asked : Option (List ℕ) → Result Lists Refusal
 lists_asked query = one_of (lists_of (parameters_of query))
 
--- the draft of a body, as a refusal of the request or not
+-- the draft of a body, or its refusal
 abbrev pub as_draft : Body → Result Draft Refusal
 as_draft malformed = Err Syntax
 as_draft wrong = Err MessageValue
 as_draft (drafted d) = Ok d
 
--- the draft that a text gives of a resource to make (RFC 7644 section 3.3), or to replace one by (section 3.5.1)
+-- the draft in a JSON text, read for creating (RFC 7644 section 3.3) or replacing a resource (section 3.5.1)
 unfoldable pub draft_in : UseFor → Kind → List ℕ → Result Draft Refusal
 draft_in use_for kind text = as_draft (body_of kind use_for (read text))
 
--- the same of a body, which is in UTF-8
+-- the draft in a body, which must be UTF-8
 unfoldable pub draft_asked : UseFor → Kind → List ℕ → Result Draft Refusal
 draft_asked use_for kind body = if is_utf8 body then draft_in use_for kind body else Err Syntax
 
--- the patch of a message, as a refusal of the request or not
+-- the patch, or the refusal for its fault
 abbrev pub as_patch : Result Patch PatchFault → Result Patch Refusal
 as_patch (Ok p) = Ok p
 as_patch (Err fault.Syntax) = Err Syntax
 as_patch (Err fault.Path) = Err Path
 as_patch (Err fault.Value) = Err MessageValue
 
--- the patch that a text asks for (RFC 7644 section 3.5.2)
+-- the patch in a JSON text (RFC 7644 section 3.5.2)
 unfoldable pub patch_in_text : Kind → List ℕ → Result Patch Refusal
 patch_in_text kind text = as_patch (patch_in kind (read text))
 
--- the same of a body, which is in UTF-8
+-- the patch in a body, which must be UTF-8
 unfoldable pub patch_asked : Kind → List ℕ → Result Patch Refusal
 patch_asked kind body = if is_utf8 body then patch_in_text kind body else Err Syntax
 
--- what each form asks. The query string gives the attribute lists alone, but for a list of resources, which it gives
--- the whole search for; the body counts where a resource is made, replaced or patched, or a search is posted, and there the search is the body's alone
+-- what a request of this form asks, by its query string and body: the query string gives the attribute lists,
+-- and the whole search of a list; the body gives a draft, a patch, or the whole of a posted search
 abbrev pub asked : Form → Kind → Option (List ℕ) → List ℕ → Result Asked Refusal
 asked form.Get kind query body = lists_asked query >>= λ lists. Ok (showing lists)
 asked form.ListGet kind query body = sought kind (search_of kind (parameters_of query)) >>= λ s. Ok (searching s)
@@ -80,7 +81,7 @@ asked form.Remove kind query body = lists_asked query >>= λ lists. Ok removing
 asked form.Replace kind query body = draft_asked Replacing kind body >>= λ draft. lists_asked query >>= λ lists. Ok (replacing draft lists)
 asked form.Patch kind query body = patch_asked kind body >>= λ patch. lists_asked query >>= λ lists. Ok (patching patch lists)
 
--- an ask is what is asked
+-- the ask of the program is this ask of the definitions
 abbrev pub IsAsk : Kind → Asked → Ask → Type 0
 IsAsk kind (showing lists) (Get wanted) = Wants kind lists wanted
 IsAsk kind (searching s) (Search query) = IsQuery kind s query
@@ -90,6 +91,6 @@ IsAsk kind (patching patch lists) (to.Patch p wanted) = (patch_of p ≡ patch) �
 IsAsk kind removing Remove = ⊤
 IsAsk kind _ _ = ⊥
 
--- what is to be answered for a route and a body
+-- the result for a route and a body is what they ask, or the refusal
 abbrev pub Asks : Route → List ℕ → Result Ask Refusal → Type 0
 Asks route body result = Tells (IsAsk route.kind) (asked route.form route.kind (option_copied route.query) body) result

@@ -1,4 +1,4 @@
--- What one message comes to: its answer, and the store after it (RFC 7644 section 3).
+-- The exchange of one message: its answer and the store after it (RFC 7644 section 3).
 use Rattle.std.specs.Prelude.{◌≡◌, ◌⊎◌, ℕ, List, Option, None, Some, Result, Ok, Err}
 use Rattle.std.specs.Option.{option_copied}
 use Rattle.scim_text.specs.declared.memory.Failed.{Failed}
@@ -23,7 +23,7 @@ use Rattle.scim_exchange.specs.declared.exchanges.Arrival.{Arrival}
 use Rattle.scim_exchange.specs.declared.answers.Answer.{Answer}
 use Rattle.scim_exchange.specs.declared.answers.Answer.TheVariants.{Refused, Page as APage, Served}
 
--- the turn that a client's message asks for at its arrival, by its route and its body
+-- the turn of the client's message, by its arrival, route and body
 pub record IsTurnOf (client : List ℕ) (arrival : Arrival) (route : Route) (body : List ℕ) (turn : Turn) : Type 0 where
   pub client_is : turn.request.client ≡ client
   pub op_is : turn.request.op ≡ route.op
@@ -33,20 +33,20 @@ pub record IsTurnOf (client : List ℕ) (arrival : Arrival) (route : Route) (bod
   pub moment_is : turn.moment ≡ arrival.moment
   pub fresh_is : turn.fresh ≡ arrival.fresh
 
--- a message is answered so, and nothing is done or noted
+-- the answer is this one, and the store is unchanged
 abbrev pub IsTold : Answer → Store → Answer → Store → Type 0
 IsTold told store answer next = (answer ≡ told) × (next ≡ store)
 
--- a page of discovery, or the refusal of one
+-- the answer with a discovery page, or with its refusal
 abbrev pub page_or : Result (List ℕ) Refusal → Answer
 page_or (Ok text) = APage text
 page_or (Err refusal) = Refused refusal
 
--- the answer is what a page of discovery is told, or refused, to a query
+-- the answer is the discovery page or its refusal, for this query string
 abbrev pub IsPageOr : Page → Option (List ℕ) → Answer → Type 0
 IsPageOr page query answer = (told : Result (List ℕ) Refusal) × Replies page query told × (answer ≡ page_or told)
 
--- the turn that the message asks for is answered to its client
+-- the answer is the service's reply to the turn of the client's message
 abbrev pub IsServed : List ℕ → List Rule → List ℕ → (Failed ShelfFault → Type 0) → Arrival → Route → Message → Store → Answer → Store → Type 0
 IsServed client policy base Cause arrival route message store answer next =
     (turn : Turn) × (reply : Reply)
@@ -54,12 +54,12 @@ IsServed client policy base Cause arrival route message store answer next =
     × Answered policy base Cause turn store reply next
     × (answer ≡ Served reply)
 
--- it is refused where no client has the token
+-- the answer is the service's reply, or the refusal `NoToken` if no client has the message's token
 abbrev pub IsServedTo : Option (List ℕ) → List Rule → List ℕ → (Failed ShelfFault → Type 0) → Arrival → Route → Message → Store → Answer → Store → Type 0
 IsServedTo None policy base Cause arrival route message store answer next = IsTold (Refused NoToken) store answer next
 IsServedTo (Some client) policy base Cause arrival route message store answer next = IsServed client policy base Cause arrival route message store answer next
 
--- what comes of what the message names: a refusal, a page of discovery, whoever asks for it, or a turn of the service
+-- the answer for a found endpoint: the refusal, the discovery page for anyone, or the service's reply
 abbrev pub ComesOf : Result Found Refusal → List Rule → List ℕ → (Failed ShelfFault → Type 0) → Arrival → Message → Store → Answer → Store → Type 0
 ComesOf (Err refusal) policy base Cause arrival message store answer next = IsTold (Refused refusal) store answer next
 ComesOf (Ok (Discovery page query)) policy base Cause arrival message store answer next =
@@ -67,8 +67,8 @@ ComesOf (Ok (Discovery page query)) policy base Cause arrival message store answ
 ComesOf (Ok (Resource route)) policy base Cause arrival message store answer next =
     IsServedTo (option_copied arrival.client) policy base Cause arrival route message store answer next
 
--- what a message comes to by the policy, over a store of resources below the base, and the store after it: what comes of
--- that which its method and target name; or, where memory was wanting, the refusal that says so
+-- the answer to a message by the policy, over a store of resources below the base, and the store after it: by
+-- the endpoint that its method and target name; or the refusal `Store` if memory runs out
 abbrev pub Exchanged : List Rule → List ℕ → (Failed ShelfFault → Type 0) → Arrival → Message → Store → Answer → Store → Type 0
 Exchanged policy base Cause arrival message store answer next =
     ((found : Result Found Refusal)

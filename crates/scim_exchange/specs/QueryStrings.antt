@@ -1,4 +1,4 @@
--- What query strings ask (RFC 7644 sections 3.4.2 and 3.9).
+-- Searches and attribute lists in query strings (RFC 7644 sections 3.4.2 and 3.9).
 use Rattle.std.specs.Prelude.{ℕ, ℤ, not, ◌==◌, List, [], filter, Option, None, Some, option_map, Result, Ok, ok_or, if◌then◌else◌}
 use Rattle.std.specs.List.{slice_split}
 use Rattle.std.specs.Str.Parse.{signed_digits_value}
@@ -13,11 +13,11 @@ use Rattle.scim_exchange.specs.AttributeLists.{Lists}
 use Rattle.scim_exchange.specs.Arrangements.{arranged}
 use Rattle.scim_exchange.specs.Searches.{is_blank, Settings, Search}
 
--- the parts of a list: what stands between its commas, but for what is blank (RFC 7644 section 3.9)
+-- the parts of a comma-separated list that aren't blank (RFC 7644 section 3.9)
 unfoldable pub parts : List ℕ → List (List ℕ)
 parts text = filter (λ part. not (is_blank part)) (slice_split (λ b. b == 44) text)
 
--- those of a list that may not be there
+-- the parts of a list that aren't blank, if the list is given
 abbrev pub parts_of : Option (List ℕ) → List (List ℕ)
 parts_of None = []
 parts_of (Some text) = parts text
@@ -26,28 +26,28 @@ parts_of (Some text) = parts text
 abbrev pub lists_of : Parameters → Lists
 lists_of parameters = record { attributes = parts_of parameters.attributes; excluded = parts_of parameters.excluded_attributes }
 
--- the number of a text: digits, with a `-` before them or not, within 64 bits with a sign
+-- the signed 64-bit number that a text writes: digits, perhaps after a `-`
 unfoldable pub integer_in : List ℕ → Option ℤ
 integer_in text = if is_integer text then Some (signed_digits_value 10 text) else None
 
--- the number of a parameter, where it is given
+-- the number of a parameter, if it is given
 unfoldable pub integer_of : Option (List ℕ) → Result (Option ℤ) Refusal
 integer_of None = Ok None
 integer_of (Some text) = ok_or (option_map Some (integer_in text)) MessageValue
 
--- in which order, from which on, and how many
+-- the arrangement that the parameters ask for
 unfoldable pub arrangement_of : Kind → Parameters → Result Arrangement Refusal
 arrangement_of kind parameters = do
   start_index ← integer_of parameters.start_index
   count ← integer_of parameters.count
   arranged kind parameters.sort_by parameters.sort_order start_index count
 
--- what the parameters say besides the filter
+-- the settings that the parameters ask for: everything but the filter
 unfoldable pub settings_of : Kind → Parameters → Result Settings Refusal
 settings_of kind parameters = do
   arrangement ← arrangement_of kind parameters
   Ok (record { lists = lists_of parameters; arrangement = arrangement })
 
--- the search that the parameters give
+-- the search that the parameters ask for
 abbrev pub search_of : Kind → Parameters → Search
 search_of kind parameters = record { filter = parameters.filter; settings = settings_of kind parameters }

@@ -1,4 +1,4 @@
--- Searches (RFC 7644 sections 3.4.2 and 3.4.3): what is looked for, and the query that looks for it.
+-- Searches, and the queries that run them (RFC 7644 sections 3.4.2 and 3.4.3).
 use Rattle.std.specs.Prelude.{◌≡◌, ◌==◌, ℕ, Bool, List, Option, None, Some, option_map, Result, Ok, ok_or, if◌then◌else◌}
 use Rattle.std.specs.List.{list_all}
 use Rattle.scim_schema.specs.declared.Kind.{Kind}
@@ -11,43 +11,43 @@ use Rattle.scim_exchange.specs.declared.arrangements.Arrangement.{Arrangement}
 use Rattle.scim_exchange.specs.Refused.{◌>>=◌}
 use Rattle.scim_exchange.specs.AttributeLists.{Lists, one_of, Wants}
 
--- what a search says besides its filter
+-- the settings of a search: everything but the filter
 pub record Settings : Type 0 where
   pub lists : Lists
   pub arrangement : Arrangement
 
--- a search as it is given: the text of its filter, and the rest, or that a value of it is refused
+-- a search as written: the filter's text, and the settings or the refusal of a value
 pub record Search : Type 0 where
   pub filter : Option (List ℕ)
   pub settings : Result Settings Refusal
 
--- a text of spaces alone, or an empty one
+-- whether a text is empty or consists of spaces
 abbrev pub is_blank : List ℕ → Bool
 is_blank text = list_all (λ b. b == 32) text
 
--- the filter of a text; a blank one is none (RFC 7644 section 3.4.2.2)
+-- the filter of a text, none if it is blank (RFC 7644 section 3.4.2.2)
 unfoldable pub filter_of : Kind → Option (List ℕ) → Result (Option Tree) Refusal
 filter_of kind None = Ok None
 filter_of kind (Some text) = if is_blank text then Ok None else ok_or (option_map Some (filter_in kind text)) Filter
 
--- what is looked for
+-- a search after parsing: the filter and the settings
 pub record Sought : Type 0 where
   pub filter : Option Tree
   pub settings : Settings
 
--- a filter and the rest, of which at most one attribute list is given
+-- the search with this filter and these settings, or the refusal if both attribute lists are given
 abbrev pub sought_with : Option Tree → Settings → Result Sought Refusal
 sought_with filter settings = one_of settings.lists >>= λ lists. Ok (record { filter = filter; settings = settings })
 
--- what a search looks for; a wrong filter is told before other wrong values
+-- the search after parsing; the refusal of the filter comes before that of another value
 abbrev pub sought : Kind → Search → Result Sought Refusal
 sought kind search = filter_of kind search.filter >>= λ filter. search.settings >>= λ settings. sought_with filter settings
 
--- the same, where there is a search
+-- the search after parsing, or the refusal of the text that it was read from
 abbrev pub sought_of : Kind → Result Search Refusal → Result Sought Refusal
 sought_of kind search = search >>= sought kind
 
--- the query looks for that
+-- the query has the filter, arrangement and attributes of the search
 pub record IsQuery (kind : Kind) (s : Sought) (query : Query) : Type 0 where
   pub filter : option_map tree_of query.filter ≡ s.filter
   pub sort_by : query.sort_by ≡ s.settings.arrangement.sort_by

@@ -1,3 +1,3 @@
--- How the functions of exchanges answer.
+-- The values of the program's types, and its refusals for faults.
 pub mod Faults
 pub mod Views

@@ -1,4 +1,4 @@
-//! What a message is answered.
+//! The answer to a message.
 ghost use Rattle.std.specs.Prelude.{◌≡◌, IfOk, string_bytes};
 ghost use Rattle.scim_exchange.specs.Replies as spec;
 
@@ -9,17 +9,16 @@ use scim_service::Reply;
 use scim_text::NoMemory;
 use std::alloc::Global;
 
-/// What a message is answered.
+/// The answer to a message.
 pub enum Answer {
-    /// It is refused before it comes to the service.
+    /// The message is refused before the service is called.
     Refused(Refusal),
-    /// A page of discovery, in JSON (RFC 7644 section 4).
+    /// A discovery page, in JSON (RFC 7644 section 4).
     Page(Text),
-    /// What the service replies.
+    /// The reply of the service.
     Served(Reply),
 }
 
-/// One call, wherever an answer is dropped, in place of a look at each form.
 impl Drop for Answer {
     fn drop(self) {
         match self {
@@ -31,10 +30,10 @@ impl Drop for Answer {
 }
 
 impl Answer {
-    /// The text of the reply (RFC 9112 section 4). With `close`, or where it is a refusal that closes the connection by
-    /// itself, it says that the connection is closed after it.
+    /// Returns the text of the reply (RFC 9112 section 4).
     ///
-    /// The only error is [`NoMemory`].
+    /// It has the header `Connection: close` if `close` or if the answer is a refusal that closes the
+    /// connection.
     pub fn text(&self, alloc: Global, close: bool) -> Result<String, NoMemory>
         ensures { IfOk result (λ t. string_bytes t ≡ spec.answer_text self.now close) }
     {

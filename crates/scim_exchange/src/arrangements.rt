@@ -1,4 +1,4 @@
-//! In which order resources are listed, from which on, and how many (RFC 7644 sections 3.4.2.3 and 3.4.2.4).
+//! The order and the page of a search (RFC 7644 sections 3.4.2.3 and 3.4.2.4).
 ghost use Rattle.std.specs.Prelude.{◌≡◌, option_and_then};
 ghost use Rattle.std.specs.Option.{option_copied};
 ghost use Rattle.scim_query.specs.SortKeys.{sort_leaf};
@@ -9,7 +9,7 @@ use scim_query::read_sort_by;
 use scim_schema::{Kind, Leaf, MOST_SHOWN, USUALLY_SHOWN};
 use scim_text::same_name;
 
-/// In which order resources are listed, from which on, and how many at most.
+/// The sort order, the 1-based start position and the page size of a search.
 #[derive(Clone, Copy)]
 pub(crate) struct Arrangement {
     pub(crate) sort_by: Option<Leaf>,
@@ -18,7 +18,8 @@ pub(crate) struct Arrangement {
     pub(crate) count: usize,
 }
 
-/// Whether the last comes first. MessageValue where the text names no order.
+/// Whether `sortOrder` is `descending`, in any ASCII case; false for `None`. MessageValue if it names no
+/// order.
 fn is_descending(sort_order: Option<&str>) -> Result<bool, Refusal>
     ensures { result ≡ spec.is_descending (option_copied sort_order.entry) }
 {
@@ -34,7 +35,7 @@ fn is_descending(sort_order: Option<&str>) -> Result<bool, Refusal>
     Err(Refusal::MessageValue)
 }
 
-/// The position of the first that is shown.
+/// Returns the 1-based position of the first resource on the page; at least 1, and 1 for `None`.
 fn first_shown(start_index: Option<i64>) -> usize
     ensures { result ≡ spec.first_shown start_index }
 {
@@ -44,7 +45,7 @@ fn first_shown(start_index: Option<i64>) -> usize
     }
 }
 
-/// How many are shown at most.
+/// Returns the page size: `count` limited to 0 to 200, and 100 for `None`.
 fn most_shown(count: Option<i64>) -> usize
     ensures { result ≡ spec.most_shown count }
 {
@@ -54,7 +55,7 @@ fn most_shown(count: Option<i64>) -> usize
     }
 }
 
-/// What a search says of all that. MessageValue where the text of the order names none.
+/// Returns the arrangement of a search by its parameters. MessageValue if `sort_order` names no order.
 pub(crate) fn arranged(
     kind: Kind,
     sort_by: Option<&str>,
@@ -73,7 +74,7 @@ pub(crate) fn arranged(
     })
 }
 
-/// The leaf that a text names to sort by.
+/// Returns the leaf that `sortBy` names; `None` if it names no leaf of the kind.
 fn leaf_to_sort_by(kind: Kind, sort_by: Option<&str>) -> Option<Leaf>
     ensures { result ≡ option_and_then (sort_leaf kind) (option_copied sort_by.entry) }
 {

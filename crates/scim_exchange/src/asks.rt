@@ -1,4 +1,4 @@
-//! What a routed request asks (RFC 7644 sections 3.3 to 3.6).
+//! Reads what a routed request asks from its query string and body (RFC 7644 sections 3.3 to 3.6).
 ghost use Rattle.std.specs.Prelude.{◌≡◌};
 ghost use Rattle.std.specs.Option.{option_copied};
 ghost use Rattle.scim_text.specs.Failures.{UnlessMemory};
@@ -28,9 +28,9 @@ use scim_view::Wanted;
 use std::alloc::Global;
 use std::str;
 
-/// What is wanted by the attribute lists of the parameters.
+/// Returns the attributes that the client wants by the parameters' attribute lists.
 ///
-/// MessageValue where both are given. NoMemory where none was to be had.
+/// MessageValue if both lists are given.
 fn wanted_of(alloc: Global, kind: Kind, parameters: &Parameters) -> Result<Wanted, Failed<Refusal>>
     ensures { UnlessMemory (Tells (Wants kind) (one_of (lists_of parameters.now))) result }
 {
@@ -38,9 +38,9 @@ fn wanted_of(alloc: Global, kind: Kind, parameters: &Parameters) -> Result<Wante
     wanted_by(alloc, kind, &lists)
 }
 
-/// The same by the query string.
+/// Returns the attributes that the client wants by the query string's attribute lists.
 ///
-/// Errors: as `wanted_of`.
+/// MessageValue if both lists are given.
 fn wanted_by_query(
     alloc: Global,
     kind: Kind,
@@ -52,7 +52,7 @@ fn wanted_by_query(
     wanted_of(alloc, kind, &parameters)
 }
 
-/// The query that the query string asks for.
+/// Returns the query that a query string asks for.
 ///
 /// Errors: as `search_by`.
 fn listed(alloc: Global, kind: Kind, query: Option<&[u8]>) -> Result<Query, Failed<Refusal>>
@@ -62,9 +62,9 @@ fn listed(alloc: Global, kind: Kind, query: Option<&[u8]>) -> Result<Query, Fail
     search_by(alloc, kind, &parameters)
 }
 
-/// The draft that a text gives, read for that use.
+/// Reads the draft of a resource from a JSON text.
 ///
-/// Syntax and MessageValue as `read_body` says. NoMemory where none was to be had.
+/// Syntax and MessageValue for the faults Syntax and Value of [`read_body`].
 #[tactic(auto, unfolding(crate::specs::Asks::draft_in))]
 fn draft_in(
     alloc: Global,
@@ -82,7 +82,7 @@ fn draft_in(
     }
 }
 
-/// The same by a body; Syntax also where it is no UTF-8.
+/// Reads the draft of a resource from a body. Syntax also if the body isn't UTF-8.
 fn draft_of(
     alloc: Global,
     use_for: UseFor,
@@ -97,9 +97,9 @@ fn draft_of(
     }
 }
 
-/// To make a resource.
+/// Reads a request that creates a resource.
 ///
-/// Errors: as `draft_of`, and then as `wanted_by_query`.
+/// Errors: first those of `draft_of`, then those of `wanted_by_query`.
 fn creation(
     alloc: Global,
     kind: Kind,
@@ -112,9 +112,9 @@ fn creation(
     Ok(Ask::Create(draft, wanted_by_query(alloc, kind, query)?))
 }
 
-/// To replace a resource.
+/// Reads a request that replaces a resource.
 ///
-/// Errors: as `draft_of`, and then as `wanted_by_query`.
+/// Errors: first those of `draft_of`, then those of `wanted_by_query`.
 fn replacement(
     alloc: Global,
     kind: Kind,
@@ -127,9 +127,9 @@ fn replacement(
     Ok(Ask::Replace(draft, wanted_by_query(alloc, kind, query)?))
 }
 
-/// The patch that a text asks for.
+/// Reads a patch from a JSON text.
 ///
-/// Syntax, Path and MessageValue as `read_patch` says. NoMemory where none was to be had.
+/// Syntax, Path and MessageValue for the faults Syntax, Path and Value of [`read_patch`].
 #[tactic(auto, unfolding(crate::specs::Asks::patch_in_text))]
 fn patch_in_text(alloc: Global, kind: Kind, text: &str) -> Result<Patch, Failed<Refusal>>
     ensures { UnlessMemory (Tells (λ due p. patch_of p ≡ due) (spec.patch_in_text kind text.now)) result }
@@ -143,7 +143,7 @@ fn patch_in_text(alloc: Global, kind: Kind, text: &str) -> Result<Patch, Failed<
     }
 }
 
-/// The same by a body; Syntax also where it is no UTF-8.
+/// Reads a patch from a body. Syntax also if the body isn't UTF-8.
 fn patch_by(alloc: Global, kind: Kind, body: &[u8]) -> Result<Patch, Failed<Refusal>>
     ensures { UnlessMemory (Tells (λ due p. patch_of p ≡ due) (spec.patch_asked kind body.now)) result }
 {
@@ -153,9 +153,9 @@ fn patch_by(alloc: Global, kind: Kind, body: &[u8]) -> Result<Patch, Failed<Refu
     }
 }
 
-/// To change a resource.
+/// Reads a request that patches a resource.
 ///
-/// Errors: as `patch_by`, and then as `wanted_by_query`.
+/// Errors: first those of `patch_by`, then those of `wanted_by_query`.
 fn change(
     alloc: Global,
     kind: Kind,
@@ -168,21 +168,27 @@ fn change(
     Ok(Ask::Patch(patch, wanted_by_query(alloc, kind, query)?))
 }
 
-/// What a routed request asks of the resources of a kind, by the query string of the route and its body.
+/// Reads what a request asks, from its route's query string and its body.
 ///
-/// Of the query string, requests for one resource and those that make, replace or change one read the attribute lists alone (RFC 7644
-/// section 3.9); a list of resources reads it all (section 3.4.2); a search that is posted reads its body alone
-/// (section 3.4.3). Bodies of other requests than those that make, replace or change a resource or post a search aren't looked at.
+/// Requests for one resource, and those that create, replace, patch or remove one, use only the attribute
+/// lists of the query string (RFC 7644 section 3.9). A GET of a list uses all of it (section 3.4.2). A posted
+/// search uses only its body (section 3.4.3). The body is read only for create, replace, patch and posted
+/// searches.
 ///
-/// Parameters and keys are read in any ASCII case. An attribute list that names nothing is a list all the same, and
-/// shows what is always shown; without a text it counts as not given, and in a query string blank parts of it do. A
-/// blank filter counts as not given, and a sortBy that names nothing too. A startIndex below 1 is 1, as where none is
-/// given; a count below 0 is 0, above 200 it is 200, and 100 where none is given.
+/// Parameters and keys match in any ASCII case. An attribute list whose texts name no attribute counts as
+/// given: with such `attributes` the client gets only what is always returned. A list without a text counts
+/// as not given; in a query string, blank parts of a list are dropped. A blank filter and a `sortBy` that
+/// names no leaf count as not given. `startIndex` below 1 or missing is 1. `count` below 0 is 0, above 200 is
+/// 200, and 100 if missing.
 ///
-/// Fails with the first that holds of these: Syntax where a body that is read isn't a JSON object in UTF-8 of the form
-/// that is asked for, or has a key in two spellings; Filter where the filter is none; Path where a path of a change is
-/// none or names nothing; MessageValue where another value isn't of its type, or none of its parameter, or both
-/// attribute lists are given, or the body gives no draft of a resource. And with NoMemory where no memory is to be had.
+/// The first of these refusals that applies:
+///
+/// - Syntax: a body that is read isn't UTF-8 or isn't a JSON object of the expected form, or has a key in
+///   two spellings;
+/// - Filter: the filter is invalid;
+/// - Path: a path of a patch is invalid or names no attribute;
+/// - MessageValue: another value has the wrong type or isn't allowed for its parameter, both attribute
+///   lists are given, or the body isn't a valid draft.
 pub fn ask(alloc: Global, route: &Route<'_>, body: &[u8]) -> Result<Ask, Failed<Refusal>>
     ensures { UnlessMemory (Asks route.now body.now) result }
 {

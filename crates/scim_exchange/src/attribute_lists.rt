@@ -1,4 +1,4 @@
-//! Attribute lists, and what a client wants by them (RFC 7644 section 3.9).
+//! The parameters `attributes` and `excludedAttributes` (RFC 7644 section 3.9).
 ghost use Rattle.std.specs.Prelude.{◌≡◌, IfOk};
 ghost use Rattle.scim_text.specs.Failures.{UnlessMemory};
 ghost use Rattle.scim_exchange.specs.Refused.{Tells};
@@ -11,23 +11,23 @@ use scim_text::{Failed, NoMemory};
 use scim_view::{Names, Wanted};
 use std::alloc::Global;
 
-/// The attribute lists of a request; one that isn't given has no text.
+/// The attribute lists of a request. A list that isn't given is empty.
 #[derive(Drop)]
 pub(crate) struct AttributeLists<'r> {
     pub(crate) attributes: Vec<&'r str>,
     pub(crate) excluded: Vec<&'r str>,
 }
 
-/// What the texts name for a kind. NoMemory where none was to be had.
+/// Returns the names of the kind's leaves that the texts name.
 fn names_of(alloc: Global, kind: Kind, texts: &Vec<&str>) -> Result<Names, NoMemory>
     ensures { IfOk result (AreNames kind (texts_in texts.now)) }
 {
     Names::of(alloc, kind, texts.as_slice())
 }
 
-/// What a client wants by the lists.
+/// Returns the attributes that the client wants by the lists.
 ///
-/// MessageValue where both are given. NoMemory where none was to be had.
+/// MessageValue if both lists are given.
 pub(crate) fn wanted_by(
     alloc: Global,
     kind: Kind,

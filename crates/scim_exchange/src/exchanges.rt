@@ -1,4 +1,4 @@
-//! The order in which a message is looked through.
+//! Answers one message: finds its endpoint, reads what it asks, and calls the service.
 ghost use Rattle.std.specs.Prelude.{◌≡◌, ◌≤◌, ◌⊎◌, IfOk};
 ghost use Rattle.std.specs.Option.{option_copied};
 ghost use Rattle.scim_audit.specs.declared.refusals.Refusal.{Refusal};
@@ -24,18 +24,18 @@ use scim_text::{Failed, Moment, NoMemory};
 use scim_wire::Message;
 use std::alloc::Global;
 
-/// Who sent a message, when it came, and the id for the resource that it may create.
+/// The sender and the time of a message, and the id for the resource that it may create.
 #[derive(Clone, Copy)]
 pub struct Arrival<'a> {
-    /// The name of the client that has the token of the message; None where no client has it, or there is none.
+    /// The name of the client that has the message's token; `None` without a token or if no client has it.
     pub client: Option<&'a str>,
-    /// When the message came.
+    /// The time at which the message arrived.
     pub moment: Moment,
-    /// The id of the resource that it makes, if it makes one.
+    /// The id for the resource that the message creates, if it creates one.
     pub fresh: Id,
 }
 
-/// What a route asks for, or the refusal; NoMemory where none was to be had.
+/// Returns what the route and the body ask, or the refusal.
 fn asked(alloc: Global, route: &Route<'_>, body: &[u8]) -> Result<Result<Ask, Refusal>, NoMemory>
     ensures { IfOk result (Asks route.now body.now) }
 {
@@ -46,7 +46,7 @@ fn asked(alloc: Global, route: &Route<'_>, body: &[u8]) -> Result<Result<Ask, Re
     }
 }
 
-/// The turn that the client's message asks for.
+/// Returns the turn of the service for the client's message.
 fn turn_of(
     alloc: Global,
     client: &str,
@@ -71,7 +71,7 @@ fn turn_of(
     })
 }
 
-/// The refusal that a fault is told as.
+/// Returns the refusal, which is `Store` for `NoMemory`.
 fn refusal_for(fault: Failed<Refusal>) -> Refusal
     ensures { result ≡ spec.refusal_for fault }
 {
@@ -81,9 +81,9 @@ fn refusal_for(fault: Failed<Refusal>) -> Refusal
     }
 }
 
-/// What a message names.
+/// Returns the endpoint that the message's method and target name.
 ///
-/// Fails with the refusal where it names nothing that there is, and with `NoMemory`.
+/// Fails with the refusal if there is no such endpoint or it doesn't support the method.
 fn found_in<'m>(
     alloc: Global,
     routes: &Routes,
@@ -94,7 +94,7 @@ fn found_in<'m>(
     routes.find(alloc, message.method.as_slice(), message.target.as_slice())
 }
 
-/// A page of discovery, or the refusal of one; or that of want of memory.
+/// Answers a request for a discovery page: the page, its refusal, or `Refusal::Store` if memory runs out.
 fn page_answer(alloc: Global, page: Page, query: Option<&[u8]>) -> Answer
     ensures { IsPageOr page (option_copied query.entry) result ⊎ (result ≡ Answer.Refused Refusal.Store) }
 {
@@ -105,7 +105,7 @@ fn page_answer(alloc: Global, page: Page, query: Option<&[u8]>) -> Answer
     }
 }
 
-/// What is answered to what a message asks of resources.
+/// Answers a message for resources: refuses it without a client, else calls the service.
 fn served<S: Shelf>(
     alloc: Global,
     service: &mut Service<S>,
@@ -132,11 +132,14 @@ fn served<S: Shelf>(
     }
 }
 
-/// Answers one message by a service, which it reaches by these routes. It is looked through in this order: its endpoint and
-/// its method; then, where it asks for a page of discovery, no token is asked for and nothing is noted; then the client's
-/// token; then what it asks, its body and its query string; and last the service answers it.
+/// Answers one message.
 ///
-/// Where memory is wanting the answer is [`Refusal::Store`], and nothing is done or noted.
+/// The steps, in this order: find the endpoint by target and method; for a discovery page, answer it without
+/// a token and without an audit row; refuse a message without a known client; read what the body and the
+/// query string ask; call the service.
+///
+/// If memory runs out before or in the service, the client is told [`Refusal::Store`], and neither a change
+/// nor an audit row is committed.
 pub fn answer<S: Shelf>(
     alloc: Global,
     routes: &Routes,

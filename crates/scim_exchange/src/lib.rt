@@ -1,5 +1,5 @@
-//! What one message of a client is answered, and in which order it is looked through (RFC 7644 section 3): its endpoint,
-//! then the client's token, then what it asks, and last the policy and the store.
+//! Answers one message of a client (RFC 7644 section 3): its endpoint, the client's token, what it asks, and
+//! then the policy and the store.
 #![tactic(auto)]
 
 mod answers;

@@ -1,4 +1,4 @@
-//! What query strings ask (RFC 7644 sections 3.4.2 and 3.9).
+//! Reads searches and attribute lists from query strings (RFC 7644 sections 3.4.2 and 3.9).
 ghost use Rattle.std.specs.Prelude.{◌≡◌, ◌==◌, IfOk, slice_index};
 ghost use Rattle.std.specs.Option.{option_copied};
 ghost use Rattle.scim_text.specs.Failures.{UnlessMemory};
@@ -18,7 +18,7 @@ use scim_schema::Kind;
 use scim_text::{Failed, NoMemory};
 use std::alloc::Global;
 
-/// The text of a parameter, where it is given.
+/// Returns the text of a parameter, if given.
 fn text_of(parameter: &Option<Text>) -> Option<&str>
     ensures { option_copied result ≡ parameter.now }
 {
@@ -28,7 +28,7 @@ fn text_of(parameter: &Option<Text>) -> Option<&str>
     }
 }
 
-/// The parts of a list that aren't blank. NoMemory where none was to be had.
+/// Returns the parts of a comma-separated list that aren't blank.
 fn parts<'r>(alloc: Global, text: &'r str) -> Result<Vec<&'r str>, NoMemory>
     ensures { IfOk result (λ v. texts_in v ≡ spec.parts text.now) }
 {
@@ -39,7 +39,7 @@ fn parts<'r>(alloc: Global, text: &'r str) -> Result<Vec<&'r str>, NoMemory>
     )
 }
 
-/// Those of a list that may not be there. NoMemory where none was to be had.
+/// Returns the parts of a list that aren't blank; none for `None`.
 fn parts_of<'r>(alloc: Global, text: Option<&'r str>) -> Result<Vec<&'r str>, NoMemory>
     ensures { IfOk result (λ v. texts_in v ≡ spec.parts_of (option_copied text.entry)) }
 {
@@ -49,7 +49,7 @@ fn parts_of<'r>(alloc: Global, text: Option<&'r str>) -> Result<Vec<&'r str>, No
     }
 }
 
-/// The attribute lists of the parameters. NoMemory where none was to be had.
+/// Returns the attribute lists of the parameters.
 pub(crate) fn lists_of(
     alloc: Global,
     parameters: &Parameters,
@@ -64,14 +64,14 @@ pub(crate) fn lists_of(
     })
 }
 
-/// Whether a text begins with `+`, which `parse` takes and a parameter may not have.
+/// Whether a text begins with `+`, which `parse` accepts and a parameter may not have.
 fn starts_with_plus(text: &str) -> bool
     ensures { result ≡ (slice_index text.now 0 == 43) }
 {
     matches!(text.as_bytes(), [b'+', ..])
 }
 
-/// The number that a text is, within 64 bits.
+/// Parses a signed 64-bit number; `None` if the text isn't one.
 fn integer_in(text: &str) -> Option<i64>
     ensures { result ≡ spec.integer_in text.now }
 {
@@ -84,7 +84,7 @@ fn integer_in(text: &str) -> Option<i64>
     }
 }
 
-/// The number of a parameter, where it is given. MessageValue where it is none.
+/// Parses the number of a parameter, if given. MessageValue if it isn't a signed 64-bit number.
 #[tactic(auto, unfolding(crate::specs::QueryStrings::integer_of))]
 fn integer_of(text: Option<&str>) -> Result<Option<i64>, Refusal>
     ensures { result ≡ spec.integer_of (option_copied text.entry) }
@@ -98,7 +98,8 @@ fn integer_of(text: Option<&str>) -> Result<Option<i64>, Refusal>
     }
 }
 
-/// In which order, from which on, and how many. MessageValue where a value is none of its parameter.
+/// Returns the arrangement that the parameters ask for. MessageValue if a value isn't allowed for its
+/// parameter.
 #[tactic(auto, unfolding(crate::specs::QueryStrings::arrangement_of))]
 fn arrangement_of(kind: Kind, parameters: &Parameters) -> Result<Arrangement, Refusal>
     ensures { result ≡ spec.arrangement_of kind parameters.now }
@@ -110,9 +111,9 @@ fn arrangement_of(kind: Kind, parameters: &Parameters) -> Result<Arrangement, Re
     arranged(kind, sort_by, sort_order, start_index, count)
 }
 
-/// What the parameters say besides the filter.
+/// Returns the settings of the search: everything but the filter.
 ///
-/// MessageValue where a value is none of its parameter. NoMemory where none was to be had.
+/// MessageValue if a value isn't allowed for its parameter.
 #[tactic(auto, unfolding(crate::specs::QueryStrings::settings_of))]
 fn settings_of(
     alloc: Global,
@@ -130,10 +131,10 @@ fn settings_of(
     }
 }
 
-/// The query that the parameters ask for.
+/// Returns the query that the parameters ask for.
 ///
-/// Filter where the filter is none; else MessageValue where another value is none of its parameter, or both attribute
-/// lists are given. NoMemory where none was to be had.
+/// Filter if the filter is invalid. Otherwise MessageValue if another value isn't allowed for its parameter,
+/// or if both attribute lists are given.
 pub(crate) fn search_by(
     alloc: Global,
     kind: Kind,

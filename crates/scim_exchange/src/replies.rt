@@ -1,4 +1,4 @@
-//! The texts of replies (RFC 7644 sections 3.4.1 and 3.12).
+//! Prints replies (RFC 7644 sections 3.4.1 and 3.12).
 ghost use Rattle.std.specs.Prelude.{◌≡◌, IfOk, string_bytes};
 ghost use Rattle.scim_exchange.specs.Replies as spec;
 
@@ -9,10 +9,9 @@ use scim_text::NoMemory;
 use scim_wire::{Reply as WireReply, print_reply};
 use std::alloc::Global;
 
-/// The text of a refusal. With `close`, or where the refusal closes the connection by itself, it says that the
-/// connection is closed after it.
+/// Returns the text of a refusal.
 ///
-/// The only error is [`NoMemory`].
+/// It has the header `Connection: close` if `close` or if the refusal closes the connection.
 #[tactic(auto, unfolding(crate::specs::Replies::refusal_text))]
 pub(crate) fn refusal_text(alloc: Global, refusal: Refusal, close: bool) -> Result<String, NoMemory>
     ensures { IfOk result (λ t. string_bytes t ≡ spec.refusal_text refusal close) }
@@ -27,7 +26,7 @@ pub(crate) fn refusal_text(alloc: Global, refusal: Refusal, close: bool) -> Resu
     print_reply(alloc, &reply, refusal.closes() || close)
 }
 
-/// The text of a reply of the service. NoMemory where none was to be had.
+/// Returns the text of a reply of the service.
 pub(crate) fn reply_text(alloc: Global, reply: &Reply, close: bool) -> Result<String, NoMemory>
     ensures { IfOk result (λ t. string_bytes t ≡ spec.reply_text reply.now close) }
 {
@@ -37,7 +36,7 @@ pub(crate) fn reply_text(alloc: Global, reply: &Reply, close: bool) -> Result<St
     }
 }
 
-/// The text of a reply that is no refusal. NoMemory where none was to be had.
+/// Returns the text of a successful reply.
 #[tactic(auto, unfolding(crate::specs::Replies::success_text))]
 fn success_text(alloc: Global, reply: &Reply, close: bool) -> Result<String, NoMemory>
     ensures { IfOk result (λ t. string_bytes t ≡ spec.success_text reply.now close) }
@@ -52,7 +51,7 @@ fn success_text(alloc: Global, reply: &Reply, close: bool) -> Result<String, NoM
     print_reply(alloc, &reply, close)
 }
 
-/// The text of a reply with a page of discovery. NoMemory where none was to be had.
+/// Returns the text of a reply with a discovery page.
 #[tactic(auto, unfolding(crate::specs::Replies::page_text))]
 pub(crate) fn page_text(alloc: Global, page: &str, close: bool) -> Result<String, NoMemory>
     ensures { IfOk result (λ t. string_bytes t ≡ spec.page_text page.now close) }

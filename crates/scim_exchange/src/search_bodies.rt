@@ -1,4 +1,4 @@
-//! What the bodies of searches ask (RFC 7644 section 3.4.3).
+//! Reads searches from request bodies (RFC 7644 section 3.4.3).
 ghost use Rattle.std.specs.Prelude.{◌≡◌, codes, IfOk, OnOk, None, Some, ok_or, option_and_then};
 ghost use Rattle.std.specs.Option.{option_copied};
 ghost use Rattle.serde_json.specs.Find.{as_array, as_object, as_str};
@@ -25,7 +25,7 @@ use scim_text::{Failed, push};
 use std::alloc::Global;
 use std::slice;
 
-/// Whether a key of a search is there in two spellings.
+/// Whether a key of a search occurs twice, in any spelling.
 #[tactic(auto, unfolding(crate::specs::SearchBodies::keys_clash))]
 fn keys_clash(members: &[Member<'_>]) -> bool
     ensures { result ≡ spec.keys_clash (members_view members.now) }
@@ -39,7 +39,7 @@ fn keys_clash(members: &[Member<'_>]) -> bool
         || is_twice(members, "count")
 }
 
-/// The text that is given under a key. MessageValue where that is no text.
+/// Returns the text under a key, if given. MessageValue if it is another JSON value.
 #[tactic(auto, unfolding(crate::specs::SearchBodies::text_given))]
 fn text_given<'r>(members: &[Member<'r>], name: &str) -> Result<Option<&'r str>, Refusal>
     ensures { Tells (λ due text. option_copied text ≡ due)
@@ -54,7 +54,7 @@ fn text_given<'r>(members: &[Member<'r>], name: &str) -> Result<Option<&'r str>,
     }
 }
 
-/// The number that is given under a key. MessageValue where that is no integer of 64 bits with a sign.
+/// Returns the number under a key, if given. MessageValue if it isn't a signed 64-bit integer.
 #[tactic(auto, unfolding(crate::specs::SearchBodies::integer_given))]
 fn integer_given(members: &[Member<'_>], name: &str) -> Result<Option<i64>, Refusal>
     ensures { result ≡ spec.integer_given (given_named name.now (members_view members.now)) }
@@ -68,9 +68,9 @@ fn integer_given(members: &[Member<'_>], name: &str) -> Result<Option<i64>, Refu
     }
 }
 
-/// Adds the text that an item of a list is; none, where it counts as none.
+/// Appends the text of a list's item; null and `[]` append nothing.
 ///
-/// MessageValue where it is no text. NoMemory where none was to be had. Nothing is added then.
+/// MessageValue if the item is another JSON value. After an error `texts` is unchanged.
 fn add_item<'r>(value: &Tree<'r>, texts: &mut Vec<&'r str>) -> Result<(), Failed<Refusal>>
     ensures given { OnOk result (after (texts_in texts.old) (spec.text_item (view value.now)) ≡ Some (texts_in texts.new)) }
     ensures wrong { IsWrong (spec.text_item (view value.now)) result }
@@ -87,7 +87,7 @@ fn add_item<'r>(value: &Tree<'r>, texts: &mut Vec<&'r str>) -> Result<(), Failed
     }
 }
 
-/// The texts that the items of a list are.
+/// Returns the texts of a list's items.
 ///
 /// Errors: as `add_item`.
 fn texts_of<'r>(alloc: Global, items: &[Tree<'r>]) -> Result<Vec<&'r str>, Failed<Refusal>>
@@ -101,7 +101,7 @@ fn texts_of<'r>(alloc: Global, items: &[Tree<'r>]) -> Result<Vec<&'r str>, Faile
     Ok(texts)
 }
 
-/// The texts of a value: those of a list, or one alone.
+/// Returns the texts of a value: those of a list, or a single one.
 ///
 /// Errors: as `add_item`.
 fn texts_in_value<'r>(alloc: Global, value: &Tree<'r>) -> Result<Vec<&'r str>, Failed<Refusal>>
@@ -115,7 +115,7 @@ fn texts_in_value<'r>(alloc: Global, value: &Tree<'r>) -> Result<Vec<&'r str>, F
     }
 }
 
-/// The texts that are given under a key.
+/// Returns the texts under a key; none if the key isn't given.
 ///
 /// Errors: as `add_item`.
 #[tactic(auto, unfolding(crate::specs::SearchBodies::texts_given))]
@@ -133,7 +133,7 @@ fn texts_given<'r>(
     }
 }
 
-/// In which order, from which on, and how many. MessageValue where a value is none of its key.
+/// Returns the arrangement of the search. MessageValue if a value isn't allowed for its key.
 #[tactic(auto, unfolding(crate::specs::SearchBodies::arrangement_in))]
 fn arrangement_in(kind: Kind, members: &[Member<'_>]) -> Result<Arrangement, Refusal>
     ensures { result ≡ spec.arrangement_in kind (members_view members.now) }
@@ -145,9 +145,9 @@ fn arrangement_in(kind: Kind, members: &[Member<'_>]) -> Result<Arrangement, Ref
     arranged(kind, sort_by, sort_order, start_index, count)
 }
 
-/// The attribute lists.
+/// Returns the attribute lists of the search.
 ///
-/// MessageValue where one is neither a list of texts nor a text. NoMemory where none was to be had.
+/// MessageValue if one is neither a text nor a list of texts.
 #[tactic(auto, unfolding(crate::specs::SearchBodies::lists_in))]
 fn lists_in<'r>(
     alloc: Global,
@@ -163,7 +163,9 @@ fn lists_in<'r>(
     })
 }
 
-/// The filter's text, and in which order, from which on, and how many. MessageValue where a value is none of its key.
+/// Returns the arrangement of the search, after a check that its filter, if given, is a text.
+///
+/// MessageValue if the filter isn't a text or another value isn't allowed for its key.
 #[tactic(auto, unfolding(crate::specs::SearchBodies::words_in))]
 fn words_in(kind: Kind, members: &[Member<'_>]) -> Result<Arrangement, Refusal>
     ensures { result ≡ spec.words_in kind (members_view members.now) }
@@ -172,9 +174,9 @@ fn words_in(kind: Kind, members: &[Member<'_>]) -> Result<Arrangement, Refusal>
     arrangement_in(kind, members)
 }
 
-/// What a search says besides its filter.
+/// Returns the settings of the search: everything but the filter.
 ///
-/// MessageValue where a value is none of its key. NoMemory where none was to be had.
+/// MessageValue if a value isn't allowed for its key.
 #[tactic(auto, unfolding(crate::specs::SearchBodies::settings_in))]
 fn settings_in<'r>(
     alloc: Global,
@@ -193,17 +195,17 @@ fn settings_in<'r>(
     }
 }
 
-/// The text of the filter; None where there is none, or what is given is no text.
+/// Returns the text of the filter; `None` if none is given or if it isn't a text.
 fn filter_text<'r>(members: &[Member<'r>]) -> Option<&'r str>
     ensures { option_copied result ≡ option_and_then as_str (given_named (codes "filter") (members_view members.now)) }
 {
     given_named(members, "filter")?.as_str()
 }
 
-/// The query of an object whose keys don't clash.
+/// Returns the query of a search whose keys occur once.
 ///
-/// Filter where the filter is none; else MessageValue where another value is none of its key, or both attribute lists
-/// are given. NoMemory where none was to be had.
+/// Filter if the filter is invalid. Otherwise MessageValue if another value isn't allowed for its key, or if
+/// both attribute lists are given.
 fn search_in(alloc: Global, kind: Kind, members: &[Member<'_>]) -> Result<Query, Failed<Refusal>>
     ensures { UnlessMemory (Tells (IsQuery kind) (sought kind (spec.search_in kind (members_view members.now)))) result }
 {
@@ -212,9 +214,9 @@ fn search_in(alloc: Global, kind: Kind, members: &[Member<'_>]) -> Result<Query,
     query_of(alloc, kind, filter, &settings)
 }
 
-/// The query of a value.
+/// Returns the query of a JSON value.
 ///
-/// Syntax where it is no object, or two keys of a search clash. Else as `search_in`.
+/// Syntax if the value isn't an object, or if a key of a search occurs twice. Otherwise as `search_in`.
 fn search_of(alloc: Global, kind: Kind, value: &Tree<'_>) -> Result<Query, Failed<Refusal>>
     ensures { UnlessMemory (Tells (IsQuery kind) (sought_of kind (spec.search_of_members kind (as_object (view value.now))))) result }
 {
@@ -227,9 +229,9 @@ fn search_of(alloc: Global, kind: Kind, value: &Tree<'_>) -> Result<Query, Faile
     search_in(alloc, kind, members)
 }
 
-/// The JSON value of a text.
+/// Parses a JSON text.
 ///
-/// Syntax where it has none. NoMemory where none was to be had.
+/// Syntax if it isn't JSON.
 fn tree_of<'a>(
     alloc: Global,
     text: &'a str,
@@ -244,7 +246,7 @@ fn tree_of<'a>(
     }
 }
 
-/// The same of a body; Syntax also where it is no UTF-8.
+/// Parses the JSON text of a body. Syntax also if the body isn't UTF-8.
 fn parse<'a>(
     alloc: Global,
     body: &'a [u8],
@@ -258,11 +260,11 @@ fn parse<'a>(
     }
 }
 
-/// The query that the body of a search asks for.
+/// Returns the query that a search's body asks for.
 ///
-/// Syntax where it isn't a JSON object in UTF-8, or a key of a search is there in two spellings. Else Filter where the
-/// filter is none; else MessageValue where another value is none of its key, or both attribute lists are given.
-/// NoMemory where none was to be had.
+/// Syntax if the body isn't a JSON object in UTF-8, or if a key of a search occurs twice, in any spelling.
+/// Otherwise Filter if the filter is invalid. Otherwise MessageValue if another value isn't allowed for its
+/// key, or if both attribute lists are given.
 #[tactic(auto, unfolding(crate::specs::SearchBodies::search_of_body))]
 pub(crate) fn search_by_body(
     alloc: Global,

@@ -1,4 +1,4 @@
-//! Searches (RFC 7644 sections 3.4.2 and 3.4.3): the query that looks for what is sought.
+//! Builds the query of a search (RFC 7644 sections 3.4.2 and 3.4.3).
 ghost use Rattle.std.specs.Prelude.{◌≡◌, option_map, ok_or};
 ghost use Rattle.std.specs.Option.{option_copied};
 ghost use Rattle.scim_text.specs.Failures.{UnlessMemory};
@@ -18,23 +18,23 @@ use scim_schema::Kind;
 use scim_text::Failed;
 use std::alloc::Global;
 
-/// What a search says besides its filter.
+/// The settings of a search: everything but the filter.
 #[derive(Drop)]
 pub(crate) struct Settings<'r> {
     pub(crate) lists: AttributeLists<'r>,
     pub(crate) arrangement: Arrangement,
 }
 
-/// Whether a text is empty, or of spaces alone.
+/// Whether a text is empty or consists of spaces.
 pub(crate) fn is_blank(text: &str) -> bool
     ensures { result ≡ spec.is_blank text.now }
 {
     text.as_bytes().iter().all(|b| *b == b' ')
 }
 
-/// The filter that a text spells.
+/// Parses a filter.
 ///
-/// Filter where it spells none. NoMemory where none was to be had.
+/// Refusal Filter if the text isn't a valid filter.
 fn spelled(alloc: Global, kind: Kind, text: &str) -> Result<Filter, Failed<Refusal>>
     ensures { UnlessMemory (Tells (λ tree f. tree_of f ≡ tree) (ok_or (filter_in kind text.now) FilterRefused)) result }
 {
@@ -45,9 +45,9 @@ fn spelled(alloc: Global, kind: Kind, text: &str) -> Result<Filter, Failed<Refus
     }
 }
 
-/// The filter of a search; a blank text is none.
+/// Parses the filter of a search; `None` if it isn't given or blank.
 ///
-/// Errors: as `spelled`.
+/// Refusal Filter if the text isn't a valid filter.
 #[tactic(auto, unfolding(crate::specs::Searches::filter_of))]
 pub(crate) fn filter_of(
     alloc: Global,
@@ -65,9 +65,9 @@ pub(crate) fn filter_of(
     Ok(Some(spelled(alloc, kind, text)?))
 }
 
-/// The query of a search with this filter.
+/// Returns the query with this filter and these settings.
 ///
-/// MessageValue where it has both attribute lists. NoMemory where none was to be had.
+/// MessageValue if both attribute lists are given.
 pub(crate) fn query_of(
     alloc: Global,
     kind: Kind,

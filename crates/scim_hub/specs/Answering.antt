@@ -1,4 +1,4 @@
--- What the items of an event are answered, in order (RFC 9112 section 9.3.2).
+-- The answers to the items of an event, in order (RFC 9112 section 9.3.2).
 use Rattle.std.specs.Prelude.{◌≡◌, ⊤, ℕ, ◌+◌, ◌%◌, ◌^◌, Bool, true, false, ◌||◌, List, [], ◌∷◌, ◌++◌, Option, None, Some, codes, MatchBool}
 use Rattle.std.specs.Option.{option_copied}
 use Rattle.std.specs.Int.{w128, to_be_bytes, from_be_bytes}
@@ -20,38 +20,39 @@ use Rattle.scim_exchange.specs.Replies.{refusal_text, answer_text}
 use Rattle.scim_exchange.specs.Exchanges.{Exchanged}
 use Rattle.scim_hub.specs.declared.events.Stamp.{Stamp}
 
--- what is written where a client waits to send a body (RFC 9110 section 15.2.1)
+-- the text that tells a client to send the body (RFC 9110 section 15.2.1)
 unfoldable pub continue_text : List ℕ
 continue_text = codes "HTTP/1.1 100 Continue" ++ crlf ++ crlf
 
--- the id whose number is that of this one plus k, modulo 2^128; an id is a number with the high byte first (RFC 9562 section 4)
+-- the id whose number is that of `first` plus k, modulo 2^128; an id is a number with the high byte first
+-- (RFC 9562 section 4)
 unfoldable pub id_after : List ℕ → ℕ → List ℕ
 id_after first k = to_be_bytes w128 ((from_be_bytes w128 first + k) % 2 ^ 128)
 
--- the client that has the token, where there is one
+-- the client that has the token, if any
 abbrev pub client_of : List Entry → Option (List ℕ) → Option (List ℕ)
 client_of entries None = None
 client_of entries (Some token) = client_with entries (sha256 token)
 
--- the message arrives so, with k whole messages of its event before it: from the client that has its token, at the moment of the
--- event, and with the id that is k after its first
+-- the arrival of a message that follows k whole messages of its event: its client by the token, the time of
+-- the event, and the id that is k after the event's first
 pub record Arrives (entries : List Entry) (stamp : Stamp) (k : ℕ) (message : Message) (arrival : Arrival) : Type 0 where
   pub client : option_copied arrival.client ≡ client_of entries message.token
   pub moment : arrival.moment ≡ stamp.moment
   pub fresh : arrival.fresh ≡ id_after stamp.first k
 
--- whether there is a refusal, and it closes the connection
+-- whether there is a refusal that closes the connection
 abbrev pub is_closing : Option Refusal → Bool
 is_closing None = false
 is_closing (Some refusal) = closes refusal
 
--- whether an answer is a refusal that closes the connection by itself
+-- whether the answer is a refusal that closes the connection
 abbrev pub closes_by_itself : Answer → Bool
 closes_by_itself (Refused refusal) = closes refusal
 closes_by_itself (Page page) = false
 closes_by_itself (Served reply) = is_closing (refusal_of reply)
 
--- a message that arrives so has this text as its reply, and the connection is closed after it or not
+-- the message has this text as its reply, closes the connection or not, and leaves this store
 pub record IsReplied (policy : List Rule) (base : List ℕ) (arrival : Arrival) (message : Message) (store : Store) (text : List ℕ) (closing : Bool)
     (next : Store) : Type 0 where
   pub answer : Answer
@@ -59,21 +60,22 @@ pub record IsReplied (policy : List Rule) (base : List ℕ) (arrival : Arrival) 
   pub text_is : text ≡ answer_text answer message.close
   pub closing_is : closing ≡ (message.close || closes_by_itself answer)
 
--- how many whole messages an item is
+-- the number of whole messages in an item: 1 or 0
 abbrev pub whole_count : Item → ℕ
 whole_count (item.Whole message) = 1
 whole_count _ = 0
 
 module _ (policy : List Rule) (base : List ℕ) (entries : List Entry) (stamp : Stamp) where
-  -- an item with k whole messages of its event before it has this text as its answer, and the connection is closed after it or not
+  -- an item that follows k whole messages of its event has this reply, closes the connection or not, and
+  -- leaves this store
   abbrev pub IsAnswered : ℕ → Item → Store → List ℕ → Bool → Store → Type 0
   IsAnswered k item.Continue store text closing next = (text ≡ continue_text) × (closing ≡ false) × (next ≡ store)
   IsAnswered k (item.Refused refusal) store text closing next = (text ≡ refusal_text refusal true) × (closing ≡ true) × (next ≡ store)
   IsAnswered k (item.Whole message) store text closing next =
       (arrival : Arrival) × Arrives entries stamp k message arrival × IsReplied policy base arrival message store text closing next
 
-  -- items with k whole messages of their event before them have these texts as their answers: each is answered over the store that
-  -- the one before left, up to one after which the connection is closed; those behind it are dropped
+  -- items that follow k whole messages of their event have these replies: each is answered over the store
+  -- that the one before left, up to the first that closes the connection; the items after it are dropped
   abbrev pub AreAnswered : ℕ → List Item → Store → List (List ℕ) → Bool → Store → Type 0
   AreAnswered k [] store texts closed next = (texts ≡ []) × (closed ≡ false) × (next ≡ store)
   AreAnswered k (item ∷ items) store texts closed next =

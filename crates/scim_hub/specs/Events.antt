@@ -1,5 +1,4 @@
--- What events of many connections come to: what is to be done for each connection, and how the connections and the store stand
--- after it.
+-- The events of many connections: the outputs for each, and the connections and the store after it.
 use Rattle.std.specs.Prelude.{◌≡◌, ◌⊎◌, ℕ, ◌==◌, Bool, List, [], ◌∷◌, ◌++◌, map, Result, Ok, Err, if◌then◌else◌}
 use Rattle.scim_policy.specs.Rules.{Rule}
 use Rattle.scim_shelf.specs.Stores.{Store}
@@ -11,67 +10,69 @@ use Rattle.scim_hub.specs.declared.events.HubFault.{HubFault}
 use Rattle.scim_hub.specs.declared.events.HubFault.TheVariants.{AlreadyJoined, Unknown, Closed, NoMemory}
 use Rattle.scim_hub.specs.Answering.{AreAnswered}
 
--- What happens to a connection: it is opened; the next piece of its stream comes, which has these bytes; or it is gone.
+-- what occurs on a connection: it is opened, the next piece of its stream arrives with these bytes, or it is
+-- closed
 pub data Happened : Type 0 where
   joining : Happened
   sending : List ℕ → Happened
   leaving : Happened
 
--- an event: what happens to the connection of a number, when, and with which id for what it makes
+-- an event: what occurs on the connection with a number, with its stamp
 pub record Seen : Type 0 where
   pub connection : ℕ
   pub stamp : Stamp
   pub happened : Happened
 
--- A connection: there is none of the number; or one of which this has come, which gave these items; or one of which nothing more
--- is read.
+-- the state of a connection: absent; joined, with the stream read so far and the items that it gave; or shut,
+-- with its stream ignored
 pub data Connection : Type 0 where
   absent : Connection
   joined : List ℕ → List Item → Connection
   shut : Connection
 
--- the connections by number, and the store
+-- the state of a hub: the connections by number, and the store
 pub record Hall : Type 0 where
   pub connections : ℕ → Connection
   pub store : Store
 
--- no connections, over a store
+-- the state of a hub without connections over a store
 abbrev pub none_joined : Store → Hall
 none_joined store = record { connections = λ _. absent; store = store }
 
--- the connections, but that of one number, which is this now
+-- the connections with that of one number replaced
 abbrev pub set : ℕ → Connection → (ℕ → Connection) → ℕ → Connection
 set n connection connections m = if n == m then connection else connections m
 
--- what is to be done: a text is written to a connection, or a connection is shut
+-- an output of a hub: a text is written to a connection, or a connection is shut
 pub data Deed : Type 0 where
   writing : ℕ → List ℕ → Deed
   shutting : ℕ → Deed
 
--- the texts are written to the connection in order, and it is shut after them, where it is closed
+-- the outputs that write the texts to the connection in order, and shut it if it is closed
 abbrev pub deeds : ℕ → List (List ℕ) → Bool → List Deed
 deeds n texts closed = map (writing n) texts ++ (if closed then shutting n ∷ [] else [])
 
--- an event fails so, and changes nothing
+-- the event fails with this fault and changes nothing
 abbrev pub IsDenied : HubFault → Hall → Result (List Deed) HubFault → Hall → Type 0
 IsDenied fault hall result next = (result ≡ Err fault) × (next ≡ hall)
 
--- the connection of the number is this one now, and this is the store; all other connections are as they were
+-- the next state has this connection under the number and this store; all other connections are unchanged
 abbrev pub Becomes : ℕ → Connection → Store → Hall → Hall → Type 0
 Becomes n connection store hall next = next ≡ record { connections = set n connection hall.connections; store = store }
 
--- a connection joins under a number: where there was none, it is joined, and nothing has come of it
+-- a connection joins under a number: it is added with nothing read if the number is free and memory suffices,
+-- else nothing changes
 abbrev pub Joins : Connection → ℕ → Hall → Result (List Deed) HubFault → Hall → Type 0
 Joins absent n hall result next = ((result ≡ Ok []) × Becomes n (joined [] []) hall.store hall next) ⊎ IsDenied NoMemory hall result next
 Joins _ n hall result next = IsDenied AlreadyJoined hall result next
 
--- a connection leaves: there is none of its number then
+-- a connection leaves: its number is free afterwards; a fault if no connection has the number
 abbrev pub Leaves : Connection → ℕ → Hall → Result (List Deed) HubFault → Hall → Type 0
 Leaves absent n hall result next = IsDenied Unknown hall result next
 Leaves _ n hall result next = (result ≡ Ok []) × Becomes n absent hall.store hall next
 
 module _ (policy : List Rule) (base : List ℕ) (entries : List Entry) where
-  -- the stream has these items as its next, and they are answered; the connection is shut after them, or goes on
+  -- the new items of the stream are answered, and the connection is shut after them or remains joined
   pub record IsTaken (stamp : Stamp) (n : ℕ) (stream : List ℕ) (items : List Item) (hall : Hall) (result : Result (List Deed) HubFault) (next : Hall) : Type 0 where
     pub new : List Item
     pub has_items : HasItems stream (items ++ new)
@@ -82,7 +83,7 @@ module _ (policy : List Rule) (base : List ℕ) (entries : List Entry) where
     pub result_is : result ≡ Ok (deeds n texts closed)
     pub becomes : Becomes n (if closed then shut else joined stream (items ++ new)) store hall next
 
-  -- some of the next items of the stream, up to one of them, have been answered, and this is the store then
+  -- a prefix of the new items of the stream has been answered and left this store
   pub record AreBegun (stamp : Stamp) (stream : List ℕ) (items : List Item) (old store : Store) : Type 0 where
     pub front : List Item
     pub back : List Item
@@ -91,31 +92,32 @@ module _ (policy : List Rule) (base : List ℕ) (entries : List Entry) where
     pub closed : Bool
     pub answered : AreAnswered policy base entries stamp 0 front old texts closed store
 
-  -- memory was wanting: the connection is shut, and what was to be done is lost; the store is as it was, or as some of the items left it
+  -- memory ran out: the connection is shut and the outputs are lost; the store is unchanged or as a prefix of
+  -- the items left it
   pub record IsCutOff (stamp : Stamp) (n : ℕ) (stream : List ℕ) (items : List Item) (hall : Hall) (result : Result (List Deed) HubFault) (next : Hall) : Type 0 where
     pub store : Store
     pub changed : (store ≡ hall.store) ⊎ AreBegun stamp stream items hall.store store
     pub result_is : result ≡ Err NoMemory
     pub becomes : Becomes n shut store hall next
 
-  -- a piece comes of the stream of a connection
+  -- the next piece of a connection's stream arrives: it is answered, or fails by the connection's state
   abbrev pub Takes : Connection → Stamp → ℕ → List ℕ → Hall → Result (List Deed) HubFault → Hall → Type 0
   Takes absent stamp n bytes hall result next = IsDenied Unknown hall result next
   Takes shut stamp n bytes hall result next = IsDenied Closed hall result next
   Takes (joined stream items) stamp n bytes hall result next =
       IsTaken stamp n (stream ++ bytes) items hall result next ⊎ IsCutOff stamp n (stream ++ bytes) items hall result next
 
-  -- what happens to the connection of a number
+  -- the result and the next state of a hub for what occurs on the connection with this number
   abbrev pub Meets : Happened → Stamp → ℕ → Hall → Result (List Deed) HubFault → Hall → Type 0
   Meets joining stamp n hall result next = Joins (hall.connections n) n hall result next
   Meets (sending bytes) stamp n hall result next = Takes (hall.connections n) stamp n bytes hall result next
   Meets leaving stamp n hall result next = Leaves (hall.connections n) n hall result next
 
-  -- an event is answered so, and this is the hall after it
+  -- the result and the next state of a hub for an event
   abbrev pub Hears : Seen → Hall → Result (List Deed) HubFault → Hall → Type 0
   Hears seen hall result next = Meets seen.happened seen.stamp seen.connection hall result next
 
-  -- events are answered so, one after another, each by one result, and this is the hall after the last
+  -- the results of events one after another, and the state after the last
   abbrev pub Runs : Hall → List Seen → List (Result (List Deed) HubFault) → Hall → Type 0
   Runs hall [] results next = (results ≡ []) × (next ≡ hall)
   Runs hall (seen ∷ events) results next =

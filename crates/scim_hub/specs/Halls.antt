@@ -1,4 +1,4 @@
--- Which hall a hub stands for, and what it does.
+-- The state of a hub and its outputs, as values of the definitions.
 use Rattle.std.specs.Prelude.{ℕ, List, map, Option, None, Some, Result, Ok, Err, string_bytes}
 use Rattle.std.specs.Ordering.{nat_cmp}
 use Rattle.std.specs.BTreeMap.{get}
@@ -20,24 +20,25 @@ use Rattle.scim_hub.specs.declared.recorded.Happened.TheVariants as kept_variant
 use Rattle.scim_hub.specs.declared.recorded.Recorded.{Recorded}
 use Rattle.scim_hub.specs.Events.{Happened, joining, sending, leaving, Seen, Connection, absent, joined, shut, Hall, Deed, writing, shutting}
 
--- what is kept of a connection stands for it
+-- the program's value for a connection is in this state
 abbrev pub IsKept : Option code.Connection → Connection → Type 0
 IsKept None absent = Unit {0}
 IsKept (Some (Open wire)) (joined stream items) = StandsFor wire stream items
 IsKept (Some Shut) shut = Unit {0}
 IsKept _ _ = ⊥
 
--- these are the connections
+-- the program's connections are in these states, by number
 abbrev pub AreConnections : Connections → (ℕ → Connection) → Type 0
 AreConnections kept connections = (n : ℕ) → IsKept (get nat_cmp kept.by_number n) (connections n)
 
--- a hub stands for the hall: its shelf for the store, whose resources stand below its base, and what it keeps for the connections
+-- the hub is in this state: its shelf has the store, whose resources are below its base, and its connections
+-- are these
 pub record IsHall {H : Type 0} (Stands : H → Store → Type 0) (hub : Hub H) (hall : Hall) : Type 0 where
   pub store : Stands hub.service.shelf hall.store
   pub is_store : IsStore hub.service.base hall.store
   pub connections : AreConnections hub.connections hall.connections
 
--- what happens to a connection, with the bytes of a piece
+-- what occurs on a connection, with the bytes of a piece
 abbrev pub happened_of : Happening → Happened
 happened_of Joined = joining
 happened_of (Piece bytes) = sending bytes.now
@@ -47,21 +48,22 @@ happened_of Left = leaving
 abbrev pub seen_of : Event → Seen
 seen_of event = record { connection = event.connection; stamp = event.stamp; happened = happened_of event.happening }
 
--- the same of an event that is kept
+-- what occurs on a connection in an event that owns its piece
 abbrev pub kept_happened : kept.Happened → Happened
 kept_happened kept_variant.Joined = joining
 kept_happened (kept_variant.Piece bytes) = sending bytes.items
 kept_happened kept_variant.Left = leaving
 
+-- the event that owns its piece
 abbrev pub recorded_of : Recorded → Seen
 recorded_of r = record { connection = r.connection; stamp = r.stamp; happened = kept_happened r.happened }
 
--- what is done by an output
+-- the output
 abbrev pub deed_of : Output → Deed
 deed_of (output.Write n text) = writing n (string_bytes text)
 deed_of (output.Shut n) = shutting n
 
--- what is done for an event, or why nothing is
+-- the outputs for an event, or its fault
 abbrev pub done : Result (Vec Output) HubFault → Result (List Deed) HubFault
 done (Ok outputs) = Ok (map deed_of outputs.items)
 done (Err fault) = Err fault

@@ -1,4 +1,4 @@
--- What comes of serving one stream: the pieces that were read of it, and what was written for them.
+-- Serving one stream: the pieces that were read of it, and the text that was written.
 use Rattle.std.specs.Prelude.{◌≡◌, ◌⊎◌, ⊤, ℕ, ◌+◌, ◌-◌, ◌^◌, min, Bool, false, true, not, List, [], ◌∷◌, ◌++◌, map, Option, None, Some, Result, Ok, Err, All, IfOk, OnOk, MatchResult, count_by}
 use Rattle.std.specs.List.{FoldsTo, flat_map, list_any}
 use Rattle.std.specs.Str.{bytes_eq}
@@ -14,32 +14,32 @@ use Rattle.scim_hub.specs.declared.streams.Served.{Served}
 use Rattle.scim_hub.specs.Answering.{continue_text}
 use Rattle.scim_hub.specs.Events.{Happened, sending, Seen, Hall, Deed, writing, shutting, Joins, Leaves, Hears}
 
--- known stamps grow by these
+-- the stamps given, if known, grow by these
 abbrev pub Grows : Option (List Stamp) → Option (List Stamp) → List Stamp → Type 0
 Grows None new stamps = ⊤
 Grows (Some xs) None stamps = ⊥
 Grows (Some xs) (Some ys) stamps = ys ≡ xs ++ stamps
 
--- an event, and what was done for it
+-- an event and its result
 pub record Turn : Type 0 where
   pub event : Seen
   pub done : Result (List Deed) HubFault
 
--- the bytes that come with what happens
+-- the bytes of a piece, empty for other occurrences
 abbrev pub bytes_in : Happened → List ℕ
 bytes_in (sending bytes) = bytes
 bytes_in _ = []
 
--- the bytes of turns, in order
+-- the bytes of the turns' pieces, in order
 abbrev pub bytes_of : List Turn → List ℕ
 bytes_of turns = flat_map (λ t. bytes_in t.event.happened) turns
 
--- the text that a deed writes
+-- the text that an output writes, empty if it shuts the connection
 abbrev pub text_in : Deed → List ℕ
 text_in (writing n text) = text
 text_in (shutting n) = []
 
--- the text that is written for an event
+-- the text that is written for the result of an event
 abbrev pub text_done : Result (List Deed) HubFault → List ℕ
 text_done (Ok deeds) = flat_map text_in deeds
 text_done (Err fault) = []
@@ -48,53 +48,57 @@ text_done (Err fault) = []
 abbrev pub text_of : List Turn → List ℕ
 text_of turns = flat_map (λ t. text_done t.done) turns
 
--- whether a deed writes a reply: a text that isn't 100 (Continue)
+-- whether an output writes a reply, that is, a text other than 100 (Continue)
 abbrev pub is_reply : Deed → Bool
 is_reply (writing n text) = not (bytes_eq text continue_text)
 is_reply (shutting n) = false
 
--- how many replies are written for an event, and in turns
+-- the number of replies written for the result of an event
 abbrev pub replies_done : Result (List Deed) HubFault → ℕ
 replies_done (Ok deeds) = count_by is_reply deeds
 replies_done (Err fault) = 0
 
+-- the number of replies written in turns
 abbrev pub replies_of : List Turn → ℕ
 replies_of [] = 0
 replies_of (t ∷ turns) = replies_done t.done + replies_of turns
 
--- whether a deed shuts the connection, and whether one for an event does, or one in turns
+-- whether an output shuts the connection
 abbrev pub is_shutting : Deed → Bool
 is_shutting (writing n text) = false
 is_shutting (shutting n) = true
 
+-- whether the result of an event shuts the connection
 abbrev pub shuts : Result (List Deed) HubFault → Bool
 shuts (Ok deeds) = list_any is_shutting deeds
 shuts (Err fault) = false
 
+-- whether any turn shuts the connection
 abbrev pub is_shut : List Turn → Bool
 is_shut turns = list_any (λ t. shuts t.done) turns
 
--- a piece of the stream
+-- the occurrence is the next piece of the stream
 abbrev pub IsPiece : Happened → Type 0
 IsPiece (sending bytes) = ⊤
 IsPiece _ = ⊥
 
--- a turn of a piece of the connection's stream
+-- the turn is for a piece of this connection's stream
 abbrev pub IsPieceOf : ℕ → Turn → Type 0
 IsPieceOf n turn = (turn.event.connection ≡ n) × IsPiece turn.event.happened
 
--- the text was written, or a front of it where that failed
+-- the whole text was written if the result is a success, else a prefix of it
 abbrev pub IsWritten : {T : Type 0} → Option (List ℕ) → Option (List ℕ) → List ℕ → Result T IoFault → Type 0
 IsWritten old new text result = MatchResult result (λ _. Appends old new text) (λ _. AppendsFront old new text)
 
--- the bytes are those of the turns, or more where there was no stamp for the last of them
+-- the bytes are those of the turns; after a fault further bytes may have been read that no turn handled
 pub record AreBytesOf {T : Type 0} (turns : List Turn) (bytes : List ℕ) (result : Result T IoFault) : Type 0 where
   pub lost : List ℕ
   pub split : bytes ≡ bytes_of turns ++ lost
   pub none : OnOk result (lost ≡ [])
 
 module _ (policy : List Rule) (base : List ℕ) (entries : List Entry) (n : ℕ) where
-  -- the turns of pieces lead from one hall to another: one after another, each with its stamp, and their text was written
+  -- the turns of the connection's pieces lead from one state of the hub to the next, with these bytes, stamps
+  -- and written text
   pub record AreServed {T : Type 0} (hall next : Hall) (turns : List Turn) (bytes : List ℕ) (given given_then : Option (List Stamp)) (contents contents_then : Option (List ℕ))
       (result : Result T IoFault) : Type 0 where
     pub runs : FoldsTo (λ h t u. Hears policy base entries t.event h t.done u) hall turns next
@@ -103,7 +107,7 @@ module _ (policy : List Rule) (base : List ℕ) (entries : List Entry) (n : ℕ)
     pub stamps : Grows given given_then (map (λ t. t.event.stamp) turns)
     pub written : IsWritten contents contents_then (text_of turns) result
 
-  -- the stream is read and served: to its end, or until the connection is shut; or up to a fault
+  -- the stream is read and served to its end, until the connection is shut, or up to a fault
   pub record IsStreamServed (hall next : Hall) (remaining remaining_then : Option (List ℕ)) (given given_then : Option (List Stamp)) (contents contents_then : Option (List ℕ))
       (result : Result Served IoFault) : Type 0 where
     pub turns : List Turn
@@ -113,7 +117,7 @@ module _ (policy : List Rule) (base : List ℕ) (entries : List Entry) (n : ℕ)
     pub ended : OnOk result (IsAtEnd remaining_then ⊎ (is_shut turns ≡ true))
     pub replies : IfOk result (λ s. s.replies ≡ min (2 ^ 64 - 1) (replies_of turns))
 
-  -- the connection doesn't join, and nothing is read or written
+  -- the connection can't join, and nothing is read, stamped or written
   pub record IsTurnedAway (hall next : Hall) (remaining remaining_then : Option (List ℕ)) (given given_then : Option (List Stamp)) (contents contents_then : Option (List ℕ))
       (result : Result Served IoFault) : Type 0 where
     pub fault : HubFault
@@ -134,7 +138,7 @@ module _ (policy : List Rule) (base : List ℕ) (entries : List Entry) (n : ℕ)
     pub left : Result (List Deed) HubFault
     pub leaves : Leaves (served_at.connections n) n served_at left next
 
-  -- what comes of serving a stream
+  -- the result of serving one stream: the connection can't join, or it is served and leaves
   abbrev pub IsVisit : Hall → Hall → Option (List ℕ) → Option (List ℕ) → Option (List Stamp) → Option (List Stamp) → Option (List ℕ) → Option (List ℕ) → Result Served IoFault → Type 0
   IsVisit hall next remaining remaining_then given given_then contents contents_then result =
       IsTurnedAway hall next remaining remaining_then given given_then contents contents_then result

@@ -1,4 +1,4 @@
--- How the functions of the hub end.
+-- The results of the hub's functions.
 pub mod Changes
 pub mod Replies
 pub mod Servings

@@ -1,4 +1,4 @@
-//! What the items of an event are answered.
+//! Answers the items of an event.
 ghost use Rattle.std.specs.Prelude.{◌≡◌, ◌||◌, false, List};
 ghost use Rattle.std.specs.Option.{option_copied};
 ghost use Rattle.scim_token.specs.TokenFile.{Entry};
@@ -21,26 +21,26 @@ use scim_wire::{Item, Message};
 use std::alloc::Global;
 use uuid::Uuid;
 
-/// What is written where a client waits to send a body (RFC 9110 section 15.2.1).
+/// The text that tells a client to send the body (RFC 9110 section 15.2.1).
 pub(crate) const CONTINUE: &str = "HTTP/1.1 100 Continue\r\n\r\n";
 
-/// What an item is answered.
+/// The reply to an item.
 #[derive(Drop)]
 struct Reply {
     text: String,
-    /// Whether the connection is closed after it.
+    /// Whether the connection closes after the reply.
     closes: bool,
 }
 
-/// What the items of an event are answered.
+/// The replies to the items of an event.
 #[derive(Drop)]
 pub(crate) struct Replies {
     pub(crate) outputs: Vec<Output>,
-    /// Whether the connection is closed after them.
+    /// Whether the connection closes after them.
     pub(crate) closed: bool,
 }
 
-/// The id whose number is that of the first plus the count, modulo 2^128.
+/// Returns the id whose number is that of `first` plus `count`, modulo 2^128.
 #[tactic(auto, unfolding(crate::specs::Answering::id_after))]
 fn id_after(first: Id, count: usize) -> Id
     ensures { result ≡ spec.id_after first count }
@@ -49,7 +49,7 @@ fn id_after(first: Id, count: usize) -> Id
     id_of(Uuid::from_u128(number.wrapping_add(count as u128)))
 }
 
-/// The client that has the token of a message; None where no client has it, or there is none.
+/// Returns the client that has the message's token; `None` without a token or if no client has it.
 fn client_of<'t>(tokens: &'t Tokens, message: &Message) -> Option<&'t str>
     ensures { (entries : List Entry) → Knows entries tokens.now → option_copied result ≡ spec.client_of entries message.now.token }
 {
@@ -59,7 +59,7 @@ fn client_of<'t>(tokens: &'t Tokens, message: &Message) -> Option<&'t str>
     }
 }
 
-/// How a message arrives that so many whole messages of its event came before.
+/// Returns the arrival of a message that follows `count` whole messages of its event.
 fn arrival_of<'t>(tokens: &'t Tokens, stamp: &Stamp, count: usize, message: &Message) -> Arrival<'t>
     ensures { (entries : List Entry) → Knows entries tokens.now → Arrives entries stamp.now count message.now result }
 {
@@ -70,7 +70,7 @@ fn arrival_of<'t>(tokens: &'t Tokens, stamp: &Stamp, count: usize, message: &Mes
     }
 }
 
-/// Whether it is a refusal that closes the connection by itself.
+/// Whether the answer is a refusal that closes the connection.
 fn closes_by_itself(answer: &Answer) -> bool
     ensures { result ≡ spec.closes_by_itself answer.now }
 {
@@ -85,7 +85,7 @@ fn closes_by_itself(answer: &Answer) -> bool
     }
 }
 
-/// The reply with an answer. With `close` the connection is closed after it in any case.
+/// Returns the reply for an answer. The connection closes after it if `close` or if the answer requires it.
 fn reply_with(alloc: Global, answer: &Answer, close: bool) -> Result<Reply, NoMemory>
     ensures { Says result (answer_text answer.now close) (close || spec.closes_by_itself answer.now) }
 {
@@ -94,7 +94,7 @@ fn reply_with(alloc: Global, answer: &Answer, close: bool) -> Result<Reply, NoMe
     Ok(Reply { text, closes })
 }
 
-/// Says to a client that waits to send a body that it may. NoMemory where none was to be had.
+/// Returns the reply 100 (Continue).
 #[tactic(auto, unfolding(crate::specs::Answering::continue_text))]
 fn continue_reply(alloc: Global) -> Result<Reply, NoMemory>
     ensures { Says result spec.continue_text false }
@@ -106,7 +106,7 @@ fn continue_reply(alloc: Global) -> Result<Reply, NoMemory>
     })
 }
 
-/// Answers a message that arrives so. NoMemory where none was to be had for the text: what it changed stands.
+/// Answers a message. After `NoMemory`, which is for the reply's text, its changes remain committed.
 fn answer_message<S: Shelf>(
     alloc: Global,
     routes: &Routes,
@@ -125,8 +125,9 @@ fn answer_message<S: Shelf>(
     reply_with(alloc, &answer, message.close)
 }
 
-/// Answers an item that so many whole messages of its event came before. NoMemory where none was to be had for the text: what
-/// it changed stands.
+/// Answers an item that follows `count` whole messages of its event.
+///
+/// After `NoMemory`, which is for the reply's text, the item's changes remain committed.
 fn answer_item<S: Shelf>(
     alloc: Global,
     routes: &Routes,
@@ -154,7 +155,7 @@ fn answer_item<S: Shelf>(
     }
 }
 
-/// How many whole messages an item is.
+/// Returns 1 for a whole message and 0 for any other item.
 fn whole_count(item: &Item) -> usize
     ensures { result ≡ spec.whole_count item.now }
 {
@@ -164,9 +165,9 @@ fn whole_count(item: &Item) -> usize
     }
 }
 
-/// Answers the items of an event of the connection in order, up to the first after whose reply it is closed.
+/// Answers the items of an event in order, up to the first whose reply closes the connection.
 ///
-/// NoMemory where none was to be had: what the items up to one of them changed stands.
+/// After `NoMemory` the changes of the items that were answered remain committed, and their replies are lost.
 pub(crate) fn answer_items<S: Shelf>(
     alloc: Global,
     routes: &Routes,

@@ -1,4 +1,4 @@
-//! The connections of a hub by number, and how the stream of each stands.
+//! The connections of a hub by number, each with the state of its stream.
 ghost use Rattle.std.specs.Prelude.{ℕ, List};
 ghost use Rattle.scim_hub.specs.Events as spec;
 ghost use Rattle.scim_hub.specs.Events.{set};
@@ -13,13 +13,12 @@ use std::mem;
 
 /// A connection that has joined and not left.
 pub(crate) enum Connection {
-    /// Its stream is read.
+    /// The hub reads its stream.
     Open(Wire),
-    /// Nothing more is read of it.
+    /// The hub ignores its stream.
     Shut,
 }
 
-/// One call, wherever a connection is dropped, in place of a look at how its stream stands.
 impl Drop for Connection {
     fn drop(self) {
         match self {
@@ -30,9 +29,9 @@ impl Drop for Connection {
 }
 
 impl Connection {
-    /// Takes the next piece of the stream, and gives the items that it completes.
+    /// Reads the next piece of the stream, and returns the items that it completes.
     ///
-    /// Closed, where nothing more is read. NoMemory where none was to be had: what follows can't be read then.
+    /// Closed if the connection is shut. After `NoMemory` the connection can't be read further.
     fn read(&mut self, alloc: Global, piece: &[u8]) -> Result<Vec<Item>, HubFault>
         ensures { IsRead self.old piece.now result self.new }
     {
@@ -42,9 +41,9 @@ impl Connection {
         }
     }
 
-    /// Takes the next piece of the stream, and gives the items that it completes.
+    /// Reads the next piece of the stream, and returns the items that it completes.
     ///
-    /// Closed, where nothing more is read. NoMemory where none was to be had: it is shut then.
+    /// Closed if the connection is shut. After `NoMemory` the connection is shut.
     fn feed(&mut self, alloc: Global, piece: &[u8]) -> Result<Vec<Item>, HubFault>
         ensures { IsFed self.old piece.now result self.new }
     {
@@ -62,7 +61,7 @@ pub(crate) struct Connections {
 }
 
 impl Connections {
-    /// No connections.
+    /// Returns an empty set of connections.
     pub(crate) fn new(alloc: Global) -> Connections
         ensures { AreConnections result (λ _. spec.absent) }
     {
@@ -71,9 +70,9 @@ impl Connections {
         }
     }
 
-    /// A connection joins.
+    /// Adds a connection.
     ///
-    /// AlreadyJoined, where there is one of the number; NoMemory where none was to be had. Nothing changes then.
+    /// AlreadyJoined if the number is in use. After any fault nothing has changed.
     pub(crate) fn join(&mut self, alloc: Global, number: u64) -> Result<(), HubFault>
         ensures { (connections : ℕ → spec.Connection) → AreConnections self.old connections → IsJoined (connections number) number connections result self.new }
     {
@@ -85,10 +84,10 @@ impl Connections {
         Ok(())
     }
 
-    /// Takes the next piece of a connection's stream, and gives the items that it completes.
+    /// Reads the next piece of a connection's stream, and returns the items that it completes.
     ///
-    /// Unknown, where there is no connection of the number, and Closed, where it is shut; nothing changes then. NoMemory
-    /// where none was to be had: the connection is shut then.
+    /// Unknown if no connection has the number, and Closed if it is shut; then nothing has changed. After
+    /// `NoMemory` the connection is shut.
     pub(crate) fn feed(
         &mut self,
         alloc: Global,
@@ -103,7 +102,7 @@ impl Connections {
         }
     }
 
-    /// Reads nothing more of an open connection.
+    /// Shuts an open connection: the hub ignores the rest of its stream.
     pub(crate) fn shut(&mut self, number: u64)
         ensures { (connections : ℕ → spec.Connection) (stream : List ℕ) (items : List Item) → AreConnections self.old (set number (spec.joined stream items) connections)
             → AreConnections self.new (set number spec.shut connections) }
@@ -114,7 +113,7 @@ impl Connections {
         *connection = Connection::Shut;
     }
 
-    /// A connection leaves. Unknown, where there is none of the number; nothing changes then.
+    /// Removes a connection. Unknown if no connection has the number; then nothing has changed.
     pub(crate) fn leave(&mut self, number: u64) -> Result<(), HubFault>
         ensures { (connections : ℕ → spec.Connection) → AreConnections self.old connections → IsGone (connections number) number connections result self.new }
     {

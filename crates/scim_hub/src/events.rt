@@ -1,62 +1,62 @@
-//! What happens to connections, and what is to be done for it.
+//! Events of connections, and the hub's outputs for them.
 use scim_cell::Id;
 use scim_text::{Moment, NoMemory};
 use std::alloc::AllocFailed;
 use thiserror::Error;
 
-/// When an event came, and the id for the first resource that it makes.
+/// The time of an event, and the id for the first resource that it creates.
 #[derive(Clone, Copy)]
 pub struct Stamp {
-    /// When it came.
+    /// The time at which the event occurred.
     pub moment: Moment,
-    /// The id for what its first whole message makes, if it makes anything. Each further whole message of the event has the
-    /// id whose number is one more, be it used or not.
+    /// The id for the resource that the event's first whole message creates, if any. Each further whole
+    /// message of the event has the next number as its id, whether used or not.
     pub first: Id,
 }
 
-/// What happened to a connection.
+/// What occurred on a connection.
 #[derive(Clone, Copy)]
 pub enum Happening<'a> {
-    /// It was opened.
+    /// The connection was opened.
     Joined,
-    /// The next piece of its stream came.
+    /// The next piece of its stream arrived.
     Piece(&'a [u8]),
-    /// It is gone.
+    /// The connection has ended.
     Left,
 }
 
-/// What happened to a connection, and when.
+/// An occurrence on a connection, with its stamp.
 #[derive(Clone, Copy)]
 pub struct Event<'a> {
-    /// The number of the connection. Once it has left, a new connection may have its number.
+    /// The number of the connection. After it has left, a new connection may use the number.
     pub connection: u64,
     pub stamp: Stamp,
     pub happening: Happening<'a>,
 }
 
-/// What is to be done for a connection.
+/// An instruction for a connection.
 #[derive(Drop)]
 pub enum Output {
-    /// The text is to be written to it.
+    /// Write the text to the connection.
     Write(u64, String),
-    /// It is to be shut, after what was to be written before.
+    /// Close the connection after all earlier texts are written.
     Shut(u64),
 }
 
-/// Why an event isn't answered.
+/// The fault of an event that isn't answered.
 #[derive(Clone, Copy, Debug, PartialEq, Eq, Error)]
 pub enum HubFault {
-    /// A connection joins under a number that another has; nothing changes.
+    /// A connection joins with a number that is in use; nothing has changed.
     #[error("already joined")]
     AlreadyJoined,
-    /// There is no connection of the number; nothing changes.
+    /// No connection has the number; nothing has changed.
     #[error("unknown")]
     Unknown,
-    /// A piece comes of a connection that was shut; nothing changes.
+    /// A piece arrived for a connection that is shut; nothing has changed.
     #[error("closed")]
     Closed,
-    /// No memory was to be had. Who would have joined hasn't; a connection of which a piece came is shut, and what was to
-    /// be written to it is lost, while the changes that its requests made stand.
+    /// An allocation failed. A joining connection hasn't joined. A connection whose piece was read is shut,
+    /// and its outputs are lost; the changes of its requests remain committed.
     #[error("out of memory")]
     NoMemory,
 }

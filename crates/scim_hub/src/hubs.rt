@@ -1,4 +1,4 @@
-//! The hub: connections over one service.
+//! The hub: many connections over one service.
 ghost use Rattle.std.specs.Prelude.{◌≡◌, List, IfOk, OnErr, map};
 ghost use Rattle.scim_token.specs.TokenFile.{Entry};
 ghost use Rattle.scim_token.specs.Tokens.{Knows};
@@ -19,9 +19,9 @@ use std::alloc::Global;
 
 /// Answers the events of many connections by one service.
 ///
-/// A connection joins, its stream comes in pieces, and it leaves. The messages that a piece completes are answered in their
-/// order, for the client that has the token of the message. After a reply that closes the connection it is shut: what
-/// follows isn't read.
+/// A connection joins, its stream arrives in pieces, and it leaves. The messages that a piece completes are
+/// answered in order, each for the client that has its token. After a reply that closes the connection the
+/// hub shuts it and ignores the rest of its stream.
 pub struct Hub<S> {
     routes: Routes,
     service: Service<S>,
@@ -29,7 +29,6 @@ pub struct Hub<S> {
     connections: Connections,
 }
 
-/// One call, wherever a hub is dropped, in place of a look at all that it has.
 impl<S: Drop> Drop for Hub<S> {
     fn drop(self) {
         let Hub {
@@ -42,8 +41,7 @@ impl<S: Drop> Drop for Hub<S> {
 }
 
 impl<S: Shelf> Hub<S> {
-    /// A hub without connections over the service, which is reached by these routes and whose clients have these tokens. It
-    /// takes no memory.
+    /// Returns a hub without connections over the service, with these routes and the clients' tokens.
     pub fn new(alloc: Global, routes: Routes, service: Service<S>, tokens: Tokens) -> Hub<S>
         ensures service { result.service ≡ service }
         ensures tokens { result.tokens ≡ tokens }
@@ -57,17 +55,18 @@ impl<S: Shelf> Hub<S> {
         }
     }
 
-    /// Answers an event: what is to be done for its connection, in this order.
+    /// Handles an event, and returns the outputs for its connection, in order.
     ///
-    /// - Joined: the connection has joined, with nothing read of its stream. AlreadyJoined, where there is one of the number.
-    /// - Piece: the items that it completes are answered in order, up to the first after whose reply the connection is
-    ///   closed; then it is shut, and the items after that one are dropped. Unknown, where there is no connection of the
-    ///   number, and Closed, where it is shut.
-    /// - Left: there is no connection of the number any more. Unknown, where there was none.
+    /// - Joined: adds the connection, with nothing read of its stream. AlreadyJoined if the number is in
+    ///   use.
+    /// - Piece: answers the items that the piece completes, in order, up to the first whose reply closes
+    ///   the connection. Then the connection is shut, and further items are dropped. Unknown if no connection
+    ///   has the number, and Closed if it is shut.
+    /// - Left: removes the connection. Unknown if no connection has the number.
     ///
-    /// These faults change nothing. NoMemory, where none was to be had, for a joining or a piece: who would have joined hasn't. A
-    /// connection of which a piece came is shut, and the outputs are lost; what its requests changed stands. Other
-    /// connections go on.
+    /// After these faults nothing has changed. After `NoMemory` a joining connection hasn't joined; a
+    /// connection whose piece was read is shut and its outputs are lost, while the changes of its requests
+    /// remain committed. Other connections aren't affected.
     pub fn event(&mut self, alloc: Global, event: &Event<'_>) -> Result<Vec<Output>, HubFault>
         ensures policy { self.new.service.policy ≡ self.old.service.policy }
         ensures base { self.new.service.base ≡ self.old.service.base }
@@ -89,10 +88,10 @@ impl<S: Shelf> Hub<S> {
         }
     }
 
-    /// Answers the next piece of a connection's stream.
+    /// Handles the next piece of a connection's stream.
     ///
-    /// Unknown, where there is no connection of the number, and Closed, where it is shut; nothing changes then. NoMemory
-    /// where none was to be had: the connection is shut then.
+    /// Unknown if no connection has the number, and Closed if it is shut; then nothing has changed. After
+    /// `NoMemory` the connection is shut, while the changes of its requests remain committed.
     fn take(
         &mut self,
         alloc: Global,
@@ -135,7 +134,9 @@ impl<S: Shelf> Hub<S> {
         }
     }
 
-    /// Answers events one after another. NoMemory where none was to be had for the answers: then no event was answered.
+    /// Handles events one after another, and returns the result of each.
+    ///
+    /// `NoMemory` if the list of results can't be allocated: no event is handled and the hub is unchanged.
     pub fn run(
         &mut self,
         alloc: Global,
@@ -159,14 +160,14 @@ impl<S: Shelf> Hub<S> {
         Ok(results)
     }
 
-    /// The service.
+    /// Returns the service.
     pub fn service(&self) -> &Service<S>
         ensures { result.now ≡ self.now.service }
     {
         &self.service
     }
 
-    /// The service, to keep.
+    /// Returns the service, and drops the connections.
     pub fn into_service(self) -> Service<S>
         ensures { result ≡ self.service }
     {

@@ -1,24 +1,24 @@
-//! Why a stream isn't served any more.
+//! The faults of serving a stream.
 use crate::events::HubFault;
 use crate::stamps::NoStamp;
 use thiserror::Error;
 
-/// Why a stream isn't served any more.
+/// The fault that ends the serving of a stream.
 #[derive(Clone, Copy, Debug, PartialEq, Eq, Error)]
 pub enum IoFault {
     /// A read failed.
     #[error("the stream can't be read")]
     Read,
-    /// A write failed; a part of the text may have been written.
+    /// A write failed; a prefix of the text may have been written.
     #[error("the reply can't be written")]
     Write,
-    /// It was read a million times.
+    /// The stream was read a million times without an end.
     #[error("the stream doesn't end")]
     Turns,
-    /// There was no stamp for a piece.
+    /// No stamp was available for a piece.
     #[error("no stamp")]
     Stamp,
-    /// The hub answered an event by this fault.
+    /// The hub returned this fault for an event.
     #[error("{0}")]
     Hub(HubFault),
 }

@@ -1,5 +1,5 @@
-//! Many connections over one service: what each event of a connection is answered, and how the connections stand after it
-//! (RFC 9112 section 9).
+//! Answers the events of many connections by one service, and keeps the state of each connection (RFC 9112
+//! section 9).
 #![tactic(auto)]
 
 mod answering;

@@ -1,20 +1,19 @@
-//! Events that are kept, with pieces of their own.
+//! Events that own their pieces.
 ghost use Rattle.std.specs.Prelude.{◌≡◌};
 ghost use Rattle.scim_hub.specs.Halls.{seen_of, recorded_of};
 
 use crate::events::{Event, Happening, Stamp};
 
-/// What happened to a connection, with a piece of its own.
+/// What occurred on a connection, with an owned piece.
 pub enum Happened {
-    /// It was opened.
+    /// The connection was opened.
     Joined,
-    /// The next piece of its stream came.
+    /// The next piece of its stream arrived.
     Piece(Vec<u8>),
-    /// It is gone.
+    /// The connection has ended.
     Left,
 }
 
-/// One call, wherever it is dropped, in place of a look at what happened.
 impl Drop for Happened {
     fn drop(self) {
         match self {
@@ -24,7 +23,7 @@ impl Drop for Happened {
     }
 }
 
-/// What happened to a connection, and when, with a piece of its own.
+/// An event that owns its piece.
 #[derive(Drop)]
 pub struct Recorded {
     /// The number of the connection.
@@ -34,7 +33,7 @@ pub struct Recorded {
 }
 
 impl Recorded {
-    /// The event, as a hub takes it.
+    /// Returns the event for a hub, which borrows the piece.
     pub fn event(&self) -> Event<'_>
         ensures { seen_of result ≡ recorded_of self.now }
     {

@@ -1,4 +1,4 @@
-//! Where the stamps of events come from.
+//! The source of events' stamps.
 ghost use Rattle.std.specs.Prelude.{List, [], ◌∷◌, Option, IfOk, OnErr};
 ghost use Rattle.scim_hub.specs.Streams.{Grows};
 ghost use Rattle.scim_hub.specs.declared.events.Stamp.{Stamp};
@@ -6,19 +6,19 @@ ghost use Rattle.scim_hub.specs.declared.events.Stamp.{Stamp};
 use crate::events::Stamp;
 use thiserror::Error;
 
-/// No stamp was to be had.
+/// The fault that no stamp is available.
 #[derive(Clone, Copy, Debug, PartialEq, Eq, Error)]
 #[error("no stamp")]
 pub struct NoStamp;
 
-/// Gives events their stamps.
+/// A source of stamps for events.
 pub trait Stamps {
-    /// The stamps that were given, where these are known.
+    /// The stamps given so far, if known.
     ghost given: { Self → Option (List Stamp) };
 
-    /// The stamp of the next event.
+    /// Returns the stamp for the next event.
     ///
-    /// NoStamp, where none was to be had; none is given then.
+    /// [`NoStamp`] if none is available; then no stamp is given.
     fn next(&mut self) -> Result<Stamp, NoStamp>
         ensures given { IfOk result (λ stamp. Grows (given self.old) (given self.new) (stamp ∷ [])) }
         ensures none { OnErr result (Grows (given self.old) (given self.new) []) };

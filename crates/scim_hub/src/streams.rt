@@ -1,4 +1,4 @@
-//! One stream, served by a hub.
+//! Serves one stream by a hub.
 ghost use Rattle.std.specs.Prelude.{◌≡◌, List};
 ghost use Rattle.scim_token.specs.TokenFile.{Entry};
 ghost use Rattle.scim_token.specs.Tokens.{Knows};
@@ -19,17 +19,17 @@ use std::alloc::Global;
 use std::io::{Read, Write};
 use uuid::Uuid;
 
-/// How often a stream is read at most.
+/// The maximum number of reads of a stream.
 const MOST_READS: u64 = 1_000_000;
 
-/// What came of a stream.
+/// The result of serving a stream.
 #[derive(Clone, Copy, PartialEq, Eq)]
 pub struct Served {
-    /// How many replies were written, 100 (Continue) aside.
+    /// The number of replies written, without 100 (Continue).
     pub replies: u64,
 }
 
-/// What was written for a piece.
+/// The result of serving a piece.
 #[derive(Clone, Copy)]
 struct Written {
     replies: usize,
@@ -37,7 +37,7 @@ struct Written {
     shut: bool,
 }
 
-/// A stamp for joining and leaving, where nothing reads it.
+/// Returns a stamp for joining and leaving, which don't use it.
 fn idle_stamp() -> Stamp {
     Stamp {
         moment: Moment::new(0).unwrap(),
@@ -45,10 +45,10 @@ fn idle_stamp() -> Stamp {
     }
 }
 
-/// Answers the next piece of a connection's stream, and writes what is to be written.
+/// Handles the next piece of a connection's stream, and writes the outputs.
 ///
-/// Stamp, where no stamp was to be had: the piece isn't read then. Hub, where the hub answers a fault, and Write, where a write
-/// fails: then a front of the replies' text has been written, and nothing else.
+/// Stamp if no stamp is available; the hub hasn't handled the piece then. Hub for a fault of the hub. Write
+/// if a write fails; a prefix of the replies' text has been written then, and nothing else.
 fn serve_piece<W: Write, S: Shelf, T: Stamps>(
     alloc: Global,
     piece: &[u8],
@@ -80,9 +80,10 @@ fn serve_piece<W: Write, S: Shelf, T: Stamps>(
     })
 }
 
-/// Reads the stream of a connection in pieces, and answers each, until the stream ends, or the connection is shut.
+/// Reads the stream of a connection in pieces and serves each, until the stream ends or the connection is
+/// shut.
 ///
-/// Read, where a read fails; Turns, where it was read a million times; else as [`serve_piece`].
+/// Read if a read fails, and Turns after a million reads; other errors as [`serve_piece`].
 fn serve_pieces<R: Read, W: Write, S: Shelf, T: Stamps>(
     alloc: Global,
     reader: &mut R,
@@ -118,13 +119,18 @@ fn serve_pieces<R: Read, W: Write, S: Shelf, T: Stamps>(
     Err(IoFault::Turns)
 }
 
-/// Serves one stream by a hub: the connection joins, its stream is read in pieces, each of which is answered at once, and it
-/// leaves. It ends where the stream does, or the connection is shut.
+/// Serves one stream by a hub: the connection joins, each piece of its stream is answered at once, and it
+/// leaves.
 ///
-/// Hub, where the hub answers a fault, as [`Hub::event`] says: at joining nothing is read or written. Read and Write, where a
-/// read or a write fails; an interrupted read has failed. Stamp, where no stamp was to be had, and Turns, where the stream was
-/// read a million times. After each of these the connection has left, and a front of the replies' text has been written, with
-/// Write perhaps only a part of it. The writer isn't flushed.
+/// Stops when the stream ends or the connection is shut. Doesn't flush the writer.
+///
+/// - Hub: a fault of the hub, as [`Hub::event`]. If the connection can't join, nothing is read or written.
+/// - Read, Write: a read or a write failed; an interrupted read counts as failed.
+/// - Stamp: no stamp is available.
+/// - Turns: the stream was read a million times.
+///
+/// After a fault of a connection that had joined, it has left, and a prefix of the replies' text has been
+/// written; after Write the last reply may be incomplete.
 pub fn serve_stream<R: Read, W: Write, S: Shelf, T: Stamps>(
     alloc: Global,
     reader: &mut R,
@@ -154,7 +160,7 @@ pub fn serve_stream<R: Read, W: Write, S: Shelf, T: Stamps>(
         stamp: idle_stamp(),
         happening: Happening::Left,
     };
-    // It has joined, so that this doesn't fail.
+    // The connection has joined, so this doesn't fail.
     let _left = hub.event(alloc, &leaving);
     served
 }

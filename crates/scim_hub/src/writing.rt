@@ -1,4 +1,4 @@
-//! What outputs write.
+//! Writes the texts of outputs.
 ghost use Rattle.std.specs.Prelude.{◌≡◌, count_by, map};
 ghost use Rattle.std.specs.List.{list_any, flat_map};
 ghost use Rattle.scim_hub.specs.Halls.{deed_of};
@@ -11,7 +11,7 @@ use crate::io_faults::IoFault;
 use scim_wire::write_text;
 use std::io::Write;
 
-/// Writes the text of an output, if it has one. Write, where a write fails: then a front of the text has been written.
+/// Writes the text of an output, if any. Write if a write fails; a prefix of the text has been written then.
 fn write_output<W: Write>(output: &Output, writer: &mut W) -> Result<(), IoFault>
     ensures { IsWritten (W.contents writer.old) (W.contents writer.new) (text_in (deed_of output.now)) result }
 {
@@ -24,7 +24,9 @@ fn write_output<W: Write>(output: &Output, writer: &mut W) -> Result<(), IoFault
     }
 }
 
-/// Writes the texts of the outputs, in order. Write, where a write fails: then a front of the whole text has been written.
+/// Writes the texts of the outputs, in order.
+///
+/// Write if a write fails; a prefix of the texts together has been written then.
 pub(crate) fn write_outputs<W: Write>(outputs: &[Output], writer: &mut W) -> Result<(), IoFault>
     ensures { IsWritten (W.contents writer.old) (W.contents writer.new) (flat_map text_in (map deed_of outputs.now)) result }
 {
@@ -34,7 +36,7 @@ pub(crate) fn write_outputs<W: Write>(outputs: &[Output], writer: &mut W) -> Res
     Ok(())
 }
 
-/// Whether it is a reply: a text that isn't 100 (Continue).
+/// Whether the output writes a reply, that is, a text other than 100 (Continue).
 #[tactic(auto, unfolding(crate::specs::Answering::continue_text))]
 fn is_reply(output: &Output) -> bool
     ensures { result ≡ spec.is_reply (deed_of output.now) }
@@ -45,7 +47,7 @@ fn is_reply(output: &Output) -> bool
     }
 }
 
-/// Whether the connection is to be shut.
+/// Whether the output shuts the connection.
 fn is_shutting(output: &Output) -> bool
     ensures { result ≡ spec.is_shutting (deed_of output.now) }
 {
@@ -55,14 +57,14 @@ fn is_shutting(output: &Output) -> bool
     }
 }
 
-/// How many replies there are.
+/// Returns the number of replies in the outputs.
 pub(crate) fn reply_count(outputs: &[Output]) -> usize
     ensures { result ≡ count_by (λ o. spec.is_reply (deed_of o)) outputs.now }
 {
     outputs.iter().filter(|output| is_reply(output)).count()
 }
 
-/// Whether the connection is to be shut by any of them.
+/// Whether any output shuts the connection.
 pub(crate) fn is_any_shutting(outputs: &[Output]) -> bool
     ensures { result ≡ list_any (λ o. spec.is_shutting (deed_of o)) outputs.now }
 {

@@ -1,4 +1,4 @@
-//! Many connections served on one thread by a hub.
+//! Serves many connections on one thread by a hub.
 #![tactic(auto)]
 
 mod peers;

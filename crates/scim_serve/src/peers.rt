@@ -1,4 +1,4 @@
-//! Connections that are served, and what happens to them.
+//! The connections that a server serves, and the incidents that they report.
 ghost use Rattle.std.specs.Prelude.{◌≡◌, ◌≤◌, ℕ, ◌==◌, Bool, true, false, IsTrue, List, [], ◌++◌, length, take, if◌then◌else◌};
 ghost use Rattle.scim_hub.specs.Events.{Seen};
 ghost use Rattle.scim_serve.specs.Peers.{told_by, ends};
@@ -7,15 +7,14 @@ use scim_hub::Recorded;
 use std::alloc::Global;
 use thiserror::Error;
 
-/// What happens next.
+/// An incident that the connections report.
 pub enum Incident {
-    /// Something happened to a connection.
+    /// An event for the hub.
     Event(Recorded),
-    /// A connection that took less than it was offered may take more now.
+    /// The connection took less than it was offered, and may take more now.
     Ready(u64),
 }
 
-/// One call, wherever it is dropped, in place of a look at what happened.
 impl Drop for Incident {
     fn drop(self) {
         match self {
@@ -25,8 +24,8 @@ impl Drop for Incident {
     }
 }
 
-/// Nothing more can be told of the connections: the system fails to tell what happens, or what time it is, or gives no random
-/// bytes.
+/// The fault that ends the serving of all connections: the system can't report incidents, tell the time or
+/// give random bytes.
 #[derive(Clone, Copy, Debug, PartialEq, Eq, Error)]
 #[error("the connections can't be served")]
 pub struct PeersFault;
@@ -35,25 +34,25 @@ pub struct PeersFault;
 ///
 /// A connection that takes less than it is offered isn't read until it has taken all of it.
 pub trait Peers {
-    /// Whether what happened and what was written are known. They aren't of the system's sockets.
+    /// Whether the contracts know the events and the bytes taken. False for the system's sockets.
     ghost is_known: { Bool };
 
-    /// What has happened so far, for the hub.
+    /// The events reported so far.
     ghost seen: { Self → List Seen };
 
-    /// The bytes that the connection of a number has taken.
+    /// The bytes that each connection has taken, by number.
     ghost written: { Self → ℕ → List ℕ };
 
-    /// Whether the connection of a number is known to have taken all that it was offered last.
+    /// Whether each connection is known to have taken all of the last offer, by number.
     ghost takes_all: { Self → ℕ → Bool };
 
-    /// Whether the connection of a number was closed.
+    /// Whether each connection was closed by `close`, by number.
     ghost is_closed: { Self → ℕ → Bool };
 
-    /// Whether the last call of `next` said that all is over.
+    /// Whether the last call of `next` returned `None`.
     ghost is_over: { Self → Bool };
 
-    /// What happens next; None, when all is over.
+    /// Waits for the next incident, and returns it; `None` if no connection is open and none can join.
     fn next(&mut self, alloc: Global) -> Result<Option<Incident>, PeersFault>
         ensures seen { IsTrue is_known → seen self.new ≡ seen self.old ++ told_by result }
         ensures written { IsTrue is_known → (m : ℕ) → written self.new m ≡ written self.old m }
@@ -61,8 +60,9 @@ pub trait Peers {
         ensures closed { IsTrue is_known → (m : ℕ) → is_closed self.new m ≡ is_closed self.old m }
         ensures over { IsTrue is_known → is_over self.new ≡ ends result };
 
-    /// Offers bytes to a connection, and says how many of them, from the first on, it took: perhaps none, and none where there is
-    /// no connection of the number.
+    /// Offers bytes to a connection, and returns the length of the prefix that it took.
+    ///
+    /// This may be 0, and is 0 if no connection has the number.
     fn write(&mut self, connection: u64, bytes: &[u8]) -> usize
         ensures count { result ≤ length bytes.now }
         ensures seen { IsTrue is_known → seen self.new ≡ seen self.old }
@@ -70,7 +70,7 @@ pub trait Peers {
         ensures takes { IsTrue is_known → (m : ℕ) → takes_all self.new m ≡ true → (if connection == m then result == length bytes.now else takes_all self.old m) ≡ true }
         ensures closed { IsTrue is_known → (m : ℕ) → is_closed self.new m ≡ is_closed self.old m };
 
-    /// Closes a connection, if there is one of the number. It has left then, which is told.
+    /// Closes the connection with the number, if there is one. `next` reports later that it has left.
     fn close(&mut self, connection: u64)
         ensures seen { IsTrue is_known → seen self.new ≡ seen self.old }
         ensures written { IsTrue is_known → (m : ℕ) → written self.new m ≡ written self.old m }

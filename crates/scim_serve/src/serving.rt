@@ -1,4 +1,4 @@
-//! The loop of a server.
+//! The main loop of a server.
 ghost use Rattle.std.specs.Prelude.{◌≡◌, ◌<◌, ◌==◌, if◌then◌else◌, ◌++◌, ◌∷◌, ℕ, List, [], IsTrue, OnOk, Result, Option, None, IsSome, false, true, map};
 ghost use Rattle.std.specs.List.{flat_map};
 ghost use Rattle.scim_token.specs.TokenFile.{Entry};
@@ -18,7 +18,7 @@ use scim_shelf::Shelf;
 use scim_text::NoMemory;
 use std::alloc::Global;
 
-/// Closes a connection, and drops what waits for it.
+/// Closes a connection, and drops its pending bytes.
 fn close<P: Peers>(peers: &mut P, waiting: &mut Waiting, connection: u64)
     ensures seen { IsTrue P.is_known → P.seen peers.new ≡ P.seen peers.old }
     ensures written { IsTrue P.is_known → (m : ℕ) → P.written peers.new m ≡ P.written peers.old m }
@@ -33,7 +33,7 @@ fn close<P: Peers>(peers: &mut P, waiting: &mut Waiting, connection: u64)
     peers.close(connection);
 }
 
-/// Offers a connection what waits for it, if anything does.
+/// Offers a connection its pending bytes, if any.
 fn offer<P: Peers>(peers: &mut P, waiting: &mut Waiting, connection: u64)
     ensures seen { IsTrue P.is_known → P.seen peers.new ≡ P.seen peers.old }
     ensures kept { IsTrue P.is_known → Keeps (P.written peers.old) waiting.old (P.written peers.new) waiting.new }
@@ -52,7 +52,7 @@ fn offer<P: Peers>(peers: &mut P, waiting: &mut Waiting, connection: u64)
     waiting.take(connection, count);
 }
 
-/// Offers a connection what waits for it, and closes it, if it has all and is to be closed.
+/// Offers a connection its pending bytes, and closes it if it has taken all and is to be closed.
 fn flush<P: Peers>(peers: &mut P, waiting: &mut Waiting, connection: u64)
     ensures seen { IsTrue P.is_known → P.seen peers.new ≡ P.seen peers.old }
     ensures kept { IsTrue P.is_known → Keeps (P.written peers.old) waiting.old (P.written peers.new) waiting.new }
@@ -68,8 +68,10 @@ fn flush<P: Peers>(peers: &mut P, waiting: &mut Waiting, connection: u64)
     }
 }
 
-/// Puts the text of an output behind what waits for its connection; or the connection is to be closed after that. Where memory
-/// is wanting, it's closed at once.
+/// Appends the text of an output to the pending bytes of its connection, or notes that the connection is to
+/// be closed after them.
+///
+/// Closes the connection at once if memory runs out.
 fn queue_one<P: Peers>(peers: &mut P, waiting: &mut Waiting, output: &Output)
     ensures seen { IsTrue P.is_known → P.seen peers.new ≡ P.seen peers.old }
     ensures queued { IsTrue P.is_known → Grows (λ m. text_to m (deed_of output.now)) (P.written peers.old) waiting.old (P.written peers.new) waiting.new }
@@ -87,7 +89,7 @@ fn queue_one<P: Peers>(peers: &mut P, waiting: &mut Waiting, output: &Output)
     }
 }
 
-/// Puts the texts of outputs behind what waits for their connections.
+/// Handles the outputs in order, as `queue_one`.
 fn queue<P: Peers>(peers: &mut P, waiting: &mut Waiting, outputs: &[Output])
     ensures seen { IsTrue P.is_known → P.seen peers.new ≡ P.seen peers.old }
     ensures queued { IsTrue P.is_known → Grows (λ m. flat_map (text_to m) (map deed_of outputs.now)) (P.written peers.old) waiting.old (P.written peers.new) waiting.new }
@@ -100,8 +102,9 @@ fn queue<P: Peers>(peers: &mut P, waiting: &mut Waiting, outputs: &[Output])
     }
 }
 
-/// A connection joins: it may be written to, if no connection had its number before. Else, and where memory is wanting, it's
-/// closed.
+/// Lets a new connection be written to.
+///
+/// Closes it if its number isn't greater than all earlier ones, or if memory runs out.
 fn welcome<P: Peers>(alloc: Global, peers: &mut P, waiting: &mut Waiting, connection: u64)
     ensures seen { IsTrue P.is_known → P.seen peers.new ≡ P.seen peers.old }
     ensures level { IsTrue P.is_known → (due : ℕ → List ℕ) → IsLevel (P.written peers.old) waiting.old due → IsLevel (P.written peers.new) waiting.new due }
@@ -115,7 +118,7 @@ fn welcome<P: Peers>(alloc: Global, peers: &mut P, waiting: &mut Waiting, connec
     }
 }
 
-/// What an event means for what is written, before the hub hears of it.
+/// Prepares the pending bytes for an event, before the hub handles it.
 fn prepare<P: Peers>(alloc: Global, peers: &mut P, waiting: &mut Waiting, event: &Recorded)
     ensures seen { IsTrue P.is_known → P.seen peers.new ≡ P.seen peers.old }
     ensures level { IsTrue P.is_known → (due : ℕ → List ℕ) → IsLevel (P.written peers.old) waiting.old due → IsLevel (P.written peers.new) waiting.new due }
@@ -136,8 +139,10 @@ fn prepare<P: Peers>(alloc: Global, peers: &mut P, waiting: &mut Waiting, event:
     }
 }
 
-/// Does what the hub wants done for an event of a connection. Where the hub couldn't answer, the connection is closed: its piece
-/// is lost, or it couldn't join.
+/// Carries out the hub's answer to an event of a connection.
+///
+/// Closes the connection after `NoMemory` (its outputs are lost, or it couldn't join) and `AlreadyJoined`.
+/// Does nothing after other faults.
 fn settle<P: Peers>(
     peers: &mut P,
     waiting: &mut Waiting,
@@ -160,7 +165,7 @@ fn settle<P: Peers>(
     }
 }
 
-/// Lets the hub hear an event, and does what it wants done.
+/// Handles an event by the hub, and carries out its answer.
 fn hear<P: Peers, S: Shelf>(
     alloc: Global,
     peers: &mut P,
@@ -185,12 +190,14 @@ fn hear<P: Peers, S: Shelf>(
     settle(peers, waiting, event.connection, &answer);
 }
 
-/// Serves connections by a hub until all is over: whatever happens to a connection, the hub hears of it, and what it has to say is
-/// written to the connection, as it takes it. A connection that is shut is closed once it has taken all.
+/// Serves connections by a hub until `peers` reports the end.
 ///
-/// A connection that leaves isn't written to any more, and neither is one that joins under a number that a connection had before,
-/// or for which memory was wanting: it is closed, and the others go on. PeersFault, where nothing more can be told of the
-/// connections, or 2^64 - 1 incidents were told.
+/// Each event goes to the hub, whose outputs are written to the connection as fast as it accepts them. A
+/// connection that is shut is closed once it has taken all its bytes. A connection that has left isn't
+/// written to any more. A connection is closed, and the others go on, if its number isn't greater than all
+/// earlier ones or if memory runs out for it.
+///
+/// [`PeersFault`] if `peers` fails, or after 2^64 - 1 incidents.
 pub fn serve<P: Peers, S: Shelf>(
     alloc: Global,
     peers: &mut P,

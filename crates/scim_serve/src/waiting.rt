@@ -1,4 +1,4 @@
-//! What waits to be written, by connection.
+//! The pending bytes of connections.
 ghost use Rattle.std.specs.Prelude.{◌≡◌, ◌≤◌, ◌+◌, ℕ, Option, None, Some, OnOk, OnErr, IfSome, IsTrue, [], ◌++◌, length, drop, max, option_map};
 ghost use Rattle.scim_serve.specs.code.Waiting.{waiting_for, Becomes, Stays};
 
@@ -7,14 +7,14 @@ use std::alloc::Global;
 use std::collections::BTreeMap;
 use std::marker::Model;
 
-/// What waits to be written to one connection. Contracts see it as the bytes that wait.
+/// The pending bytes of one connection. Contracts see them as a list.
 #[derive(Drop)]
 struct Pending {
-    /// What was to be written, with what the connection has taken of it.
+    /// The bytes to be written, with those that the connection has taken since the buffer was last empty.
     bytes: Vec<u8>,
-    /// How many of the bytes the connection has taken.
+    /// The number of bytes that the connection has taken.
     taken: usize,
-    /// Whether the connection is to be closed after them.
+    /// Whether the connection is to be closed after the bytes.
     closing: bool,
 }
 
@@ -29,6 +29,7 @@ impl Model for Pending {
 }
 
 impl Pending {
+    /// Returns an empty buffer.
     fn new(alloc: Global) -> Pending
         ensures { result ≡ [] }
     {
@@ -39,14 +40,14 @@ impl Pending {
         }
     }
 
-    /// What waits.
+    /// Returns the pending bytes.
     fn rest(&self) -> &[u8]
         ensures { result.now ≡ self.now }
     {
         &self.bytes[self.taken..]
     }
 
-    /// Puts bytes behind what waits. NoMemory where none was to be had; nothing changes then.
+    /// Appends bytes. After `NoMemory` the pending bytes are unchanged.
     fn add(&mut self, bytes: &[u8]) -> Result<(), NoMemory>
         ensures ok { OnOk result (self.new ≡ self.old ++ bytes.now) }
         ensures err { OnErr result (self.new ≡ self.old) }
@@ -55,7 +56,7 @@ impl Pending {
         Ok(())
     }
 
-    /// Drops what was taken. The memory is given back once nothing waits.
+    /// Drops the first `count` pending bytes. Frees the buffer when none is left.
     fn take(&mut self, count: usize)
         requires { count ≤ length self.old }
         ensures { self.new ≡ drop count self.old }
@@ -67,14 +68,14 @@ impl Pending {
         }
     }
 
-    /// The connection is to be closed after what waits.
+    /// Notes that the connection is to be closed after the pending bytes.
     fn close_after(&mut self)
         ensures { self.new ≡ self.old }
     {
         self.closing = true;
     }
 
-    /// Whether nothing waits and the connection is to be closed.
+    /// Whether no bytes are pending and the connection is to be closed.
     fn is_done(&self) -> bool
         ensures { IsTrue result → self.now ≡ [] }
     {
@@ -82,16 +83,16 @@ impl Pending {
     }
 }
 
-/// What waits to be written, by the number of the connection.
+/// The pending bytes of all connections, by number.
 #[derive(Drop)]
 pub(crate) struct Waiting {
     by_number: BTreeMap<u64, Pending>,
-    /// Greater than each number of a connection so far: 2^64 too, where the greatest number was had.
+    /// One more than the greatest connection number so far, and 0 at first. It may be 2^64.
     next: u128,
 }
 
 impl Waiting {
-    /// Nothing waits for anybody.
+    /// Returns a value without connections.
     pub(crate) fn new(alloc: Global) -> Waiting
         ensures none { (m : ℕ) → waiting_for result m ≡ None }
         ensures next { result.next ≡ 0 }
@@ -102,7 +103,7 @@ impl Waiting {
         }
     }
 
-    /// Takes note of the number of a connection, and says whether it's greater than all before.
+    /// Notes the number of a connection, and returns whether it is greater than all earlier ones.
     pub(crate) fn note(&mut self, connection: u64) -> bool
         ensures new { IsTrue result → self.old.next ≤ connection }
         ensures same { (m : ℕ) → waiting_for self.new m ≡ waiting_for self.old m }
@@ -116,7 +117,7 @@ impl Waiting {
         true
     }
 
-    /// A connection may be written to. NoMemory where none was to be had; nothing changes then.
+    /// Lets a connection be written to. After `NoMemory` nothing has changed.
     pub(crate) fn enter(&mut self, alloc: Global, connection: u64) -> Result<(), NoMemory>
         ensures ok { OnOk result (Becomes connection (Some []) self.old self.new) }
         ensures err { OnErr result (Stays self.old self.new) }
@@ -125,14 +126,14 @@ impl Waiting {
         Ok(())
     }
 
-    /// A connection isn't written to any more: what waits for it is dropped.
+    /// Drops the pending bytes of a connection, which can't be written to any more.
     pub(crate) fn leave(&mut self, connection: u64)
         ensures { Becomes connection None self.old self.new }
     {
         self.by_number.remove(&connection);
     }
 
-    /// What waits for a connection, if it may be written to.
+    /// Returns the pending bytes of a connection; `None` if it can't be written to.
     pub(crate) fn rest(&self, connection: u64) -> Option<&[u8]>
         ensures { option_map (λ r. r.now) result ≡ waiting_for self.now connection }
     {
@@ -142,8 +143,9 @@ impl Waiting {
         }
     }
 
-    /// Puts bytes behind what waits for a connection, if it may be written to. NoMemory where none was to be had; nothing changes
-    /// then.
+    /// Appends bytes to those pending for a connection, if it can be written to.
+    ///
+    /// After `NoMemory` nothing has changed.
     pub(crate) fn add(&mut self, connection: u64, bytes: &[u8]) -> Result<(), NoMemory>
         ensures ok { OnOk result (Becomes connection (option_map (λ rest. rest ++ bytes.now) (waiting_for self.old connection)) self.old self.new) }
         ensures err { OnErr result (Stays self.old self.new) }
@@ -154,7 +156,7 @@ impl Waiting {
         }
     }
 
-    /// Drops what a connection took.
+    /// Drops the first `count` pending bytes of a connection.
     pub(crate) fn take(&mut self, connection: u64, count: usize)
         requires { IfSome (waiting_for self.old connection) (λ rest. count ≤ length rest) }
         ensures { Becomes connection (option_map (drop count) (waiting_for self.old connection)) self.old self.new }
@@ -165,7 +167,7 @@ impl Waiting {
         }
     }
 
-    /// A connection is to be closed after what waits for it.
+    /// Notes that a connection is to be closed after its pending bytes.
     pub(crate) fn close_after(&mut self, connection: u64)
         ensures { Stays self.old self.new }
     {
@@ -175,7 +177,7 @@ impl Waiting {
         }
     }
 
-    /// Whether nothing waits for a connection, and it's to be closed.
+    /// Whether a connection has no pending bytes and is to be closed.
     pub(crate) fn is_done(&self, connection: u64) -> bool
         ensures { IsTrue result → waiting_for self.now connection ≡ Some [] }
     {

@@ -1,4 +1,4 @@
--- How a connection stands with what it sends and what it is offered.
+-- The progress of a connection with its reading and with the bytes that it was offered.
 use Rattle.std.specs.Prelude.{◌≡◌, ◌≤◌, ◌⊎◌, ℕ, true, Option, None, Some, List, length}
 use Rattle.scim_sockets.specs.declared.connection.Connection.{Connection}
 use Rattle.scim_sockets.specs.declared.connection.Taking.{Taking}
@@ -6,34 +6,34 @@ use Rattle.scim_sockets.specs.declared.connection.Taking.TheVariants.{All}
 use Rattle.scim_sockets.specs.declared.connection.Turn.{Turn}
 use Rattle.scim_sockets.specs.declared.connection.Turn.TheVariants.{Piece}
 
--- less was taken than was offered
+-- fewer bytes were taken than offered
 abbrev pub IsLess : Taking → Type 0
 IsLess All = ⊥
 IsLess _ = Unit {0}
 
--- it has taken less than it was offered, and hasn't taken all of a later offer
+-- the connection has taken fewer bytes than it was last offered
 abbrev pub IsBehind : Connection → Type 0
 IsBehind connection = IsLess connection.taking
 
--- it is over, or was shut
+-- the connection takes no more bytes: its socket is dropped, or it was shut
 abbrev pub TakesNothing : Connection → Type 0
 TakesNothing connection = (connection.stream ≡ None) ⊎ (connection.is_shut ≡ true)
 
--- nothing was read
+-- the turn read no bytes
 abbrev pub IsUnread : Turn → Type 0
 IsUnread (Piece _) = ⊥
 IsUnread _ = Unit {0}
 
--- what was read stands in the buffer
+-- the bytes that the turn read are within the buffer
 abbrev pub FitsIn : List ℕ → Turn → Type 0
 FitsIn buffer (Piece count) = count ≤ length buffer
 FitsIn buffer _ = Unit {0}
 
--- as many were accepted as may be
+-- the maximum number of connections was accepted
 abbrev pub AreAccepted : Option ℕ → ℕ → Type 0
 AreAccepted None accepted = ⊥
 AreAccepted (Some most) accepted = most ≤ accepted
 
--- as many were accepted as may be, and of these none is left
+-- the maximum number of connections was accepted, and none is left
 abbrev pub IsOver : Option ℕ → ℕ → ℕ → Type 0
 IsOver most accepted left = AreAccepted most accepted × (left ≡ 0)

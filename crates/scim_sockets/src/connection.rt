@@ -1,4 +1,4 @@
-//! A connection over a socket, and how it stands with what it sends and what it is offered.
+//! A connection over a socket, with the state of its reading and writing.
 ghost use Rattle.std.specs.Prelude.{◌≡◌, ◌<◌, ◌≤◌, ◌⊎◌, None, length};
 ghost use Rattle.scim_sockets.specs.Connections.{IsBehind, TakesNothing, IsUnread, FitsIn};
 
@@ -7,56 +7,56 @@ use std::io::{ErrorKind, Read, Write};
 use std::net::Shutdown;
 use std::time::{Duration, Instant};
 
-/// How many seconds a client that was shut may take to close its side.
+/// The time in seconds that a client has to close its side after the server has shut the connection.
 const LINGER: u64 = 2;
 
-/// How far a connection has taken what it was offered.
+/// The progress of a connection with the bytes that it was last offered.
 #[derive(Clone, Copy, PartialEq, Eq)]
 enum Taking {
-    /// All of it.
+    /// It has taken all of them.
     All,
-    /// Less, and it takes nothing more now.
+    /// It has taken a part, and can't take more now.
     Less,
-    /// Less, and it may take more now.
+    /// It has taken a part, and may take more now.
     More,
 }
 
-/// What comes of a connection's turn.
+/// The result of a connection's turn.
 #[derive(Clone, Copy)]
 pub(crate) enum Turn {
-    /// Nothing that is to be told.
+    /// There is no incident to report.
     Nothing,
-    /// So many bytes were read.
+    /// This many bytes were read.
     Piece(usize),
-    /// It may take more of what it was offered.
+    /// The connection may take more of the bytes that it was offered.
     Ready,
-    /// It is over.
+    /// The connection has ended.
     Left,
 }
 
-/// A connection that was accepted, and hasn't been told to have left.
+/// An accepted connection that wasn't reported to have left.
 ///
-/// The system reports once that a socket can be read or written, and again only after a call was answered `WouldBlock`. So
-/// what it reported is remembered until then.
+/// The system's reports are edge-triggered: it reports a socket as readable or writable once, and again only
+/// after a call returned `WouldBlock`. Therefore the connection remembers the reports until then.
 #[derive(Drop)]
 pub(crate) struct Connection {
-    // None, once it is over.
+    // `None` after the connection has ended.
     stream: Option<TcpStream>,
     taking: Taking,
-    // Whether there may be something to read.
+    // Whether a read may return bytes.
     may_read: bool,
-    // Whether it was shut: nothing more is written to it then, and what it sends is dropped.
+    // Whether the connection was shut: it takes no more bytes, and the bytes that it sends are dropped.
     is_shut: bool,
-    // Whether it waits for its turn.
+    // Whether the connection is queued for a turn.
     is_waiting: bool,
-    // When it last sent or took something.
+    // The time at which it last sent or took bytes.
     last: Instant,
 }
 
 impl Connection {
-    /// A connection that has just been accepted.
+    /// Returns a newly accepted connection.
     pub(crate) fn new(stream: TcpStream, now: Instant) -> Connection {
-        // Replies are written whole: the system needn't wait for more to send.
+        // Replies are written whole, so the system needn't delay small packets.
         let _ = stream.set_nodelay(true);
         Connection {
             stream: Some(stream),
@@ -68,7 +68,7 @@ impl Connection {
         }
     }
 
-    /// Notes what the system reports of it.
+    /// Notes a report of the system.
     pub(crate) fn note(&mut self, can_read: bool, can_write: bool)
         ensures { IsBehind self.old → IsBehind self.new }
     {
@@ -78,7 +78,8 @@ impl Connection {
         }
     }
 
-    /// Whether it begins to wait for a turn: there is something to do, and it doesn't wait yet.
+    /// Returns whether the connection must be queued: it has work to do and isn't queued. Then it counts as
+    /// queued.
     pub(crate) fn begins_to_wait(&mut self) -> bool
         ensures { self.new.taking ≡ self.old.taking }
     {
@@ -92,10 +93,10 @@ impl Connection {
         begins
     }
 
-    /// Has its turn. What was read stands at the front of the buffer.
+    /// Takes a turn: reads at most once. Bytes that were read are at the start of `buffer`.
     ///
-    /// A connection that hasn't taken all that it was offered isn't read. So the end of what it sends is seen only when nothing
-    /// of a reply waits, and a client that has closed its sending side gets its replies.
+    /// A connection that hasn't taken all offered bytes isn't read. So the end of its stream is seen only
+    /// after it has taken its replies, and a client that has closed its sending side gets them.
     pub(crate) fn turn(&mut self, now: Instant, buffer: &mut [u8]) -> Turn
         ensures fits { FitsIn buffer.new result }
         ensures behind { IsBehind self.old → IsUnread result × IsBehind self.new }
@@ -111,7 +112,7 @@ impl Connection {
         }
     }
 
-    /// Reads once.
+    /// Reads once, and ends the connection at the end of its stream.
     fn read(&mut self, now: Instant, buffer: &mut [u8]) -> Turn
         ensures { FitsIn buffer.new result }
     {
@@ -132,7 +133,7 @@ impl Connection {
         }
     }
 
-    /// What a read that gave nothing says of the connection.
+    /// Returns the result of a turn whose read failed. Ends the connection unless the fault is temporary.
     fn read_failed(&mut self, kind: ErrorKind) -> Turn
         ensures { IsUnread result }
     {
@@ -149,7 +150,7 @@ impl Connection {
         }
     }
 
-    /// Offers it bytes, and says how many of them it took.
+    /// Offers bytes to the connection, and returns the length of the prefix that it took.
     pub(crate) fn write(&mut self, now: Instant, bytes: &[u8]) -> usize
         ensures count { result ≤ length bytes.now }
         ensures less { result < length bytes.now → IsBehind self.new ⊎ TakesNothing self.new }
@@ -170,7 +171,7 @@ impl Connection {
                 self.taking = if count == bytes.len() {
                     Taking::All
                 } else {
-                    // It may take more: only `WouldBlock` says that it doesn't.
+                    // It may take more: only `WouldBlock` means that it can't.
                     Taking::More
                 };
                 count
@@ -182,7 +183,7 @@ impl Connection {
         }
     }
 
-    /// What a write that took nothing says of the connection.
+    /// Notes a failed write. Ends the connection unless the fault is temporary.
     fn write_failed(&mut self, kind: ErrorKind)
         ensures { IsBehind self.new ⊎ TakesNothing self.new }
     {
@@ -193,11 +194,11 @@ impl Connection {
         }
     }
 
-    /// Shuts it: what it has taken is sent, and then that this is the end.
+    /// Shuts the connection: the bytes that it has taken are sent, followed by the end of the stream.
     ///
-    /// The socket is dropped once the client has closed its side too, or after two seconds; until then what the client sends is
-    /// read and dropped. Were it dropped at once, what the client still sends would be answered by a reset, by which the client
-    /// may lose the reply (RFC 9112 section 9.6).
+    /// The socket is dropped after the client has closed its side too, or after two seconds. Until then the
+    /// bytes that the client sends are read and dropped. If the socket were dropped at once, such bytes would
+    /// cause a reset, by which the client may lose the reply (RFC 9112 section 9.6).
     pub(crate) fn shut(&mut self, now: Instant)
         ensures { TakesNothing self.new }
     {
@@ -218,7 +219,7 @@ impl Connection {
         }
     }
 
-    /// Drops the socket. Its next turn tells that it is over.
+    /// Drops the socket. The next turn of the connection returns [`Turn::Left`].
     pub(crate) fn end(&mut self)
         ensures { self.new.stream ≡ None }
     {
@@ -227,9 +228,11 @@ impl Connection {
         self.may_read = true;
     }
 
-    /// Whether it has neither sent nor taken anything for longer than that, or was shut and isn't closed by the client.
+    /// Whether the connection neither sent nor took bytes for longer than `idle`, or was shut over two
+    /// seconds ago.
     ///
-    /// One that waits for its turn isn't late, unless it was shut: what it sent may not have been read yet.
+    /// A connection that is queued for a turn isn't late unless it was shut: its bytes may not have been
+    /// read.
     pub(crate) fn is_late(&self, now: Instant, idle: Duration) -> bool {
         let since = now.duration_since(self.last);
         if self.is_shut {

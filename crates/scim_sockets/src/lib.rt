@@ -1,4 +1,4 @@
-//! The system's sockets as connections of which many are served on one thread.
+//! Serves many connections over the system's sockets on one thread.
 #![tactic(auto)]
 
 mod connection;

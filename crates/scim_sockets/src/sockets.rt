@@ -1,4 +1,4 @@
-//! The system's sockets as connections of which many are served on one thread.
+//! The system's sockets as the connections of a server.
 ghost use Rattle.std.specs.Prelude.{◌≤◌, ◌<◌, ◌≡◌, length, take, IsTrue, IfOk, IfNone};
 ghost use Rattle.std.specs.BTreeMap.{btree_map_len};
 ghost use Rattle.scim_sockets.specs.Connections.{FitsIn, AreAccepted, IsOver};
@@ -19,28 +19,28 @@ use std::random::RandomSource;
 use std::time::{Clock, Duration, Instant};
 use thiserror::Error;
 
-/// The most bytes that are read at a time. All requests that a piece completes are answered before another connection has its
-/// turn, so that it is short.
+/// The maximum number of bytes per read. All requests that a piece completes are answered before another
+/// connection has its turn, so a piece is short.
 const PIECE: usize = 4096;
 
-/// How many of the system's reports are taken at a time: all that there can be, for the listener and each connection.
+/// The maximum number of the system's reports per poll: one for the listener and for each connection.
 const REPORTS: usize = 1025;
 
-/// How many milliseconds the system is waited for where nobody has something to do.
+/// The time in milliseconds of a poll when no turn is queued.
 const WAIT: u64 = 250;
 
-/// After how many seconds those that are late are looked for again.
+/// The time in seconds between two searches for late connections.
 const WATCH: u64 = 1;
 
-/// How many seconds a connection may neither send nor take anything.
+/// The time in seconds after which an idle connection is closed.
 const IDLE: u64 = 60;
 
-/// The port can't be listened at: another program listens there, or the system refuses it.
+/// The fault that the port can't be bound: another program uses it, or the system refuses it.
 #[derive(Clone, Copy, Debug, PartialEq, Eq, Error)]
 #[error("the port can't be listened at")]
 pub struct CannotListen;
 
-/// A socket that listens, and what reports of it and of the connections.
+/// A listening socket, and the poll that reports on it and on the connections.
 #[derive(Drop)]
 struct Listening {
     poll: Poll,
@@ -48,7 +48,7 @@ struct Listening {
     port: u16,
 }
 
-/// Listens at a port of this machine.
+/// Listens on a port of the loopback address; on a free port if `port` is 0.
 fn listen_at(rt: &impl Net, port: u16) -> io::Result<Listening> {
     let poll = Poll::new(rt)?;
     let mut listener = TcpListener::bind(rt, SocketAddr::from((Ipv4Addr::LOCALHOST, port)))?;
@@ -62,7 +62,7 @@ fn listen_at(rt: &impl Net, port: u16) -> io::Result<Listening> {
     })
 }
 
-/// What is kept for the connections, in memory that was taken at the start.
+/// The connections and buffers, allocated at the start.
 #[derive(Drop)]
 struct Room {
     turns: Turns,
@@ -71,7 +71,7 @@ struct Room {
 }
 
 impl Room {
-    /// Room for no connections yet.
+    /// Returns a room without connections.
     fn new(alloc: Global) -> Result<Room, AllocError> {
         Ok(Room {
             turns: Turns::new(alloc)?,
@@ -80,14 +80,14 @@ impl Room {
         })
     }
 
-    /// Gives the connection of a number its turn.
+    /// Gives the connection with the number its turn.
     fn turn(&mut self, number: u64, now: Instant) -> Turn
         ensures { FitsIn self.new.buffer.items result }
     {
         self.turns.turn(number, now, &mut self.buffer)
     }
 
-    /// What was read.
+    /// Copies the first `count` bytes of the buffer, which the last turn read.
     fn piece(&self, alloc: Global, count: usize) -> Result<Vec<u8>, AllocError>
         requires { count ≤ length self.now.buffer.items }
         ensures { IfOk result (λ bytes. bytes.items ≡ take count self.now.buffer.items) }
@@ -95,7 +95,7 @@ impl Room {
         Vec::from_slice(alloc, &self.buffer[..count])
     }
 
-    /// Waits until the system reports something, and notes it.
+    /// Polls the system and notes its reports. Doesn't wait if a turn is queued.
     fn wait(&mut self, poll: &mut Poll) -> io::Result<()> {
         let time = if self.turns.waiting() == 0 { WAIT } else { 0 };
         poll.poll(&mut self.events, Some(Duration::from_millis(time)))?;
@@ -107,33 +107,33 @@ impl Room {
     }
 }
 
-/// The system's sockets, as connections of which many are served on one thread.
+/// The system's sockets as connections, many of which are served on one thread.
 ///
-/// A connection is closed where for a minute it has neither sent anything nor taken anything of a reply that waits for it. One
-/// that is closed by its number has left once the client has closed it too, or two seconds later. At most 1,024 are open at
-/// once; the next wait until one is gone.
+/// A connection is closed if for a minute it has neither sent bytes nor taken bytes of a pending reply. A
+/// connection that is closed by number has left once the client has closed its side too, or two seconds
+/// later. At most 1,024 are open at once; further ones wait in the system's queue until one has left.
 #[derive(Drop)]
 pub struct Sockets<'r, R: Clock + RandomSource> {
     rt: &'r R,
     listening: Listening,
     room: Room,
-    // How many turns there are until the system is asked again.
+    // The number of turns until the next poll.
     round: usize,
-    // How many were accepted, which is the number of the next.
+    // The number of accepted connections, which is the number of the next one.
     accepted: u64,
     most: Option<u64>,
     idle: Duration,
-    // What the clock showed last.
+    // The last reading of the clock.
     time: Instant,
-    // When those that are late were last looked for.
+    // The time of the last search for late connections.
     watched: Instant,
 }
 
 impl<'r, R: Net + Clock + RandomSource> Sockets<'r, R> {
-    /// Listens at a port of this machine alone, or at any that is free where it is 0. Where `most` is given, no more connections
-    /// than that are accepted, and all is over when they are closed.
+    /// Listens on a port of the loopback address; on a free port if `port` is 0.
     ///
-    /// CannotListen, where the port can't be listened at. NoMemory, where none was to be had. Nothing is listened at then.
+    /// With `most`, at most that many connections are accepted, and [`Peers::next`] returns `None` after the
+    /// last has left. [`CannotListen`] if the port can't be bound. After any error the port isn't bound.
     pub fn listen(
         rt: &'r R,
         alloc: Global,
@@ -159,17 +159,17 @@ impl<'r, R: Net + Clock + RandomSource> Sockets<'r, R> {
 }
 
 impl<'r, R: Clock + RandomSource> Sockets<'r, R> {
-    /// The port that is listened at.
+    /// Returns the port that the socket listens on.
     pub fn port(&self) -> u16 {
         self.listening.port
     }
 
-    /// Sets how long a connection may neither send nor take anything, in place of a minute.
+    /// Sets the time after which an idle connection is closed; one minute by default.
     pub fn set_idle(&mut self, idle: Duration) {
         self.idle = idle;
     }
 
-    /// Whether as many were accepted as may be.
+    /// Whether the maximum number of connections was accepted.
     fn has_accepted_all(&self) -> bool
         ensures { IsTrue result → AreAccepted self.now.most self.now.accepted }
     {
@@ -179,14 +179,14 @@ impl<'r, R: Clock + RandomSource> Sockets<'r, R> {
         }
     }
 
-    /// Whether all is over.
+    /// Whether the maximum number of connections was accepted and all have left.
     fn is_over(&self) -> bool
         ensures { IsTrue result → IsOver self.now.most self.now.accepted (btree_map_len self.now.room.turns.connections) }
     {
         self.has_accepted_all() && self.room.turns.is_empty()
     }
 
-    /// What happened to a connection, with its stamp.
+    /// Returns the event for an occurrence on a connection, stamped now.
     fn tell(&self, connection: u64, happened: Happened) -> Result<Option<Incident>, PeersFault> {
         match stamp_now(self.rt) {
             Ok(stamp) => Ok(Some(Incident::Event(Recorded {
@@ -198,10 +198,10 @@ impl<'r, R: Clock + RandomSource> Sockets<'r, R> {
         }
     }
 
-    /// Accepts a connection, if one waits and may join now.
+    /// Accepts a connection, if one is waiting and may join now.
     ///
-    /// Where the system refuses for another reason, as that there are too many open files, it is tried again after the next
-    /// wait, and when a connection is gone.
+    /// If the system refuses for another reason, such as too many open files, accepting is tried again after
+    /// the next poll and after a connection has left.
     fn accept(&mut self) -> Result<Option<Incident>, PeersFault> {
         if self.has_accepted_all() || self.room.turns.is_full() {
             return Ok(None);
@@ -220,7 +220,8 @@ impl<'r, R: Clock + RandomSource> Sockets<'r, R> {
         }
     }
 
-    /// A connection joins. It is dropped, untold, where no memory was to be had for it.
+    /// Adds an accepted connection. Drops it without a report if it can't be registered or if memory runs
+    /// out.
     fn join(&mut self, mut stream: TcpStream) -> Result<Option<Incident>, PeersFault>
         requires room { btree_map_len self.old.room.turns.connections < 1024 }
     {
@@ -239,7 +240,8 @@ impl<'r, R: Clock + RandomSource> Sockets<'r, R> {
         }
     }
 
-    /// Gives a connection its turn, and tells what came of it. It is closed where no memory was to be had for what it sent.
+    /// Gives a connection its turn, and returns the incident. Ends the connection if its piece can't be
+    /// allocated.
     fn serve(&mut self, alloc: Global, number: u64) -> Result<Option<Incident>, PeersFault> {
         match self.room.turn(number, self.time) {
             Turn::Nothing => Ok(None),
@@ -255,8 +257,7 @@ impl<'r, R: Clock + RandomSource> Sockets<'r, R> {
         }
     }
 
-    /// Waits for the system, and looks for those that are late. Who waits for a turn now has one before the system is asked
-    /// again.
+    /// Polls the system, and ends late connections. Every turn that is queued then runs before the next poll.
     fn wait(&mut self) -> io::Result<()> {
         self.room.wait(&mut self.listening.poll)?;
         self.time = Instant::now(self.rt)?;
@@ -268,7 +269,7 @@ impl<'r, R: Clock + RandomSource> Sockets<'r, R> {
         Ok(())
     }
 
-    /// One turn, or a wait where the round is over.
+    /// Runs one turn, or polls if the round is over.
     fn step(&mut self, alloc: Global) -> Result<Option<Incident>, PeersFault> {
         if self.round == 0 {
             return match self.wait() {
@@ -284,7 +285,7 @@ impl<'r, R: Clock + RandomSource> Sockets<'r, R> {
         }
     }
 
-    /// What happens next; None, when all is over.
+    /// Returns the next incident; `None` if the maximum number of connections was accepted and all have left.
     fn await_incident(&mut self, alloc: Global) -> Result<Option<Incident>, PeersFault>
         ensures { IfOk result (λ told. IfNone told (IsOver self.new.most self.new.accepted (btree_map_len self.new.room.turns.connections))) }
     {

@@ -1,4 +1,4 @@
-//! When an event comes, and the random id that it has.
+//! The stamps of events: the current time and a random id.
 ghost use Rattle.std.specs.Prelude.{◌≡◌, min, IfOk};
 ghost use Rattle.scim_text.specs.Moments.{last_moment};
 ghost use Rattle.uuid.specs.Uuid.{version_num};
@@ -12,7 +12,7 @@ use std::random::RandomSource;
 use std::time::{Clock, SystemTime, UNIX_EPOCH};
 use uuid::{Builder, Uuid};
 
-/// A random UUID (RFC 9562 section 5.4).
+/// Returns a random UUID (RFC 9562 section 5.4).
 fn fresh(rt: &impl RandomSource) -> io::Result<Uuid>
     ensures { IfOk result (λ uuid. version_num uuid ≡ 4) }
 {
@@ -21,7 +21,7 @@ fn fresh(rt: &impl RandomSource) -> io::Result<Uuid>
     Ok(Builder::from_random_bytes(bytes).into_uuid())
 }
 
-/// The moment that many seconds after 1970-01-01T00:00:00Z, or the last, where it is later.
+/// Returns the moment this many seconds after 1970-01-01T00:00:00Z, at most the last one.
 fn moment_at(seconds: u64) -> Moment
     ensures { result ≡ min seconds last_moment }
 {
@@ -32,7 +32,7 @@ fn moment_at(seconds: u64) -> Moment
     }
 }
 
-/// The second that the clock shows.
+/// Returns the current second; 1970-01-01T00:00:00Z if the clock is before it.
 fn present(rt: &impl Clock) -> io::Result<Moment> {
     match SystemTime::now(rt)?.duration_since(UNIX_EPOCH) {
         Ok(since) => Ok(moment_at(since.as_secs())),
@@ -40,7 +40,7 @@ fn present(rt: &impl Clock) -> io::Result<Moment> {
     }
 }
 
-/// A stamp for what happens now. PeersFault, where the clock can't be read or no random bytes are to be had.
+/// Returns a stamp for an event that occurs now. [`PeersFault`] if the clock or the random source fails.
 pub(crate) fn stamp_now<R: Clock + RandomSource>(rt: &R) -> Result<Stamp, PeersFault> {
     let (Ok(moment), Ok(uuid)) = (present(rt), fresh(rt)) else {
         return Err(PeersFault);

@@ -1,4 +1,4 @@
-//! The connections that are open, and whose turn it is.
+//! The open connections, and the queue of their turns.
 ghost use Rattle.std.specs.Prelude.{◌≡◌, ◌<◌, ◌≤◌, ◌↔◌, IsTrue, length};
 ghost use Rattle.std.specs.BTreeMap.{btree_map_len};
 ghost use Rattle.scim_sockets.specs.Connections.{FitsIn};
@@ -10,47 +10,47 @@ use std::alloc::{AllocError, Global};
 use std::collections::{BTreeMap, VecDeque};
 use std::time::{Duration, Instant};
 
-/// The most connections that are open at once. The next wait in the system's queue.
+/// The maximum number of open connections. Further ones wait in the system's queue.
 const MOST_OPEN: usize = 1024;
 
-/// What the system reports of the listener under.
+/// The token of the listener in the system's reports.
 pub(crate) const LISTENER: Token = Token(usize::MAX);
 
-/// Whose turn it is.
+/// An entry of the queue of turns.
 #[derive(Clone, Copy)]
 pub(crate) enum Place {
-    /// Of who is to be accepted.
+    /// The listener, to accept a connection.
     Door,
-    /// Of the connection of that number.
+    /// The connection with this number.
     Connection(u64),
 }
 
-/// Whether somebody may wait to be accepted.
+/// Whether connections may be waiting to be accepted.
 #[derive(Clone, Copy, PartialEq, Eq)]
 enum Door {
-    /// Nobody.
+    /// No connection is waiting.
     Empty,
-    /// Perhaps, and it waits for its turn.
+    /// Connections may be waiting, and the listener is queued.
     Waiting,
-    /// Perhaps, and it doesn't wait for its turn.
+    /// Connections may be waiting, and the listener isn't queued.
     Later,
 }
 
-/// The connections that are open, and whose turn it is.
+/// The open connections, and the queue of their turns.
 ///
-/// Who has something to do waits in a queue, at most once. So one that sends without end has one turn among those of the
-/// others, and the queue never takes more memory than at the start.
+/// A connection with work to do is queued at most once. So a connection that sends without end has one turn
+/// in each round, and the queue never outgrows its initial capacity.
 #[derive(Drop)]
 pub(crate) struct Turns {
     connections: BTreeMap<u64, Connection>,
-    // It has room for all that can wait.
+    // Its capacity suffices for the listener and all connections.
     queue: VecDeque<Place>,
     door: Door,
     ghost few: { btree_map_len connections ≤ 1024 },
 }
 
 impl Turns {
-    /// No connections.
+    /// Returns a value without connections.
     pub(crate) fn new(alloc: Global) -> Result<Turns, AllocError> {
         Ok(Turns {
             queue: VecDeque::with_capacity(alloc, MOST_OPEN + 1)?,
@@ -66,19 +66,19 @@ impl Turns {
         self.connections.is_empty()
     }
 
-    /// Whether no further connection may be accepted now.
+    /// Whether the maximum number of connections is open.
     pub(crate) fn is_full(&self) -> bool
         ensures { IsTrue result ↔ (1024 ≤ btree_map_len self.now.connections) }
     {
         self.connections.len() >= MOST_OPEN
     }
 
-    /// How many turns wait.
+    /// Returns the number of queued turns.
     pub(crate) fn waiting(&self) -> usize {
         self.queue.len()
     }
 
-    /// Whose turn is next.
+    /// Removes the next entry of the queue.
     pub(crate) fn pop(&mut self) -> Option<Place> {
         let place = self.queue.pop_front();
         if let Some(Place::Door) = place {
@@ -87,7 +87,7 @@ impl Turns {
         place
     }
 
-    /// Has the connection of a number wait for its turn, if there is one and it has something to do.
+    /// Queues the connection with the number, if it exists, has work to do and isn't queued.
     fn enqueue(&mut self, number: u64) {
         let begins = match self.connections.get_mut(&number) {
             Some(connection) => connection.begins_to_wait(),
@@ -98,7 +98,7 @@ impl Turns {
         }
     }
 
-    /// Somebody may wait to be accepted.
+    /// Queues the listener, unless it is queued: connections may be waiting to be accepted.
     pub(crate) fn open_door(&mut self)
         ensures { self.new.connections ≡ self.old.connections }
     {
@@ -108,33 +108,33 @@ impl Turns {
         }
     }
 
-    /// Nobody waits to be accepted.
+    /// Notes that no connection is waiting to be accepted.
     pub(crate) fn close_door(&mut self) {
         self.door = Door::Empty;
     }
 
-    /// Has those wait for their turn who couldn't be accepted.
+    /// Queues the listener if connections may be waiting and it isn't queued.
     pub(crate) fn reopen_door(&mut self) {
         if self.door == Door::Later {
             self.open_door();
         }
     }
 
-    /// Notes what the system reports.
+    /// Notes a report of the system, and queues the listener or the connection.
     pub(crate) fn note(&mut self, event: &Event) {
         if event.token() == LISTENER {
             return self.open_door();
         }
         let number = event.token().0 as u64;
         if let Some(connection) = self.connections.get_mut(&number) {
-            // What fails is found by the call that fails.
+            // A fault counts as readable and writable: the next call on the socket finds it.
             let fails = event.is_error() || event.is_read_closed() || event.is_write_closed();
             connection.note(event.is_readable() || fails, event.is_writable() || fails);
         }
         self.enqueue(number);
     }
 
-    /// A connection joins, and waits for its turn. It is dropped where no memory was to be had.
+    /// Adds a connection and queues it. Returns false and drops it if memory runs out.
     pub(crate) fn join(&mut self, number: u64, connection: Connection) -> bool
         requires room { btree_map_len self.old.connections < 1024 }
     {
@@ -143,7 +143,7 @@ impl Turns {
         has_joined
     }
 
-    /// Gives the connection of a number its turn. One that is over leaves.
+    /// Gives the connection with the number its turn, and removes it if it has ended.
     pub(crate) fn turn(&mut self, number: u64, now: Instant, buffer: &mut [u8]) -> Turn
         ensures { FitsIn buffer.new result }
     {
@@ -160,7 +160,7 @@ impl Turns {
         turn
     }
 
-    /// Offers bytes to a connection, and says how many of them it took.
+    /// Offers bytes to a connection, and returns the length of the prefix that it took.
     pub(crate) fn write(&mut self, number: u64, now: Instant, bytes: &[u8]) -> usize
         ensures count { result ≤ length bytes.now }
     {
@@ -172,7 +172,7 @@ impl Turns {
         count
     }
 
-    /// Shuts a connection.
+    /// Shuts a connection, as [`Connection::shut`].
     pub(crate) fn shut(&mut self, number: u64, now: Instant) {
         if let Some(connection) = self.connections.get_mut(&number) {
             connection.shut(now);
@@ -188,13 +188,13 @@ impl Turns {
         self.enqueue(number);
     }
 
-    /// Drops the sockets of those that are late.
+    /// Drops the sockets of late connections, as [`Connection::is_late`].
     pub(crate) fn end_late(&mut self, now: Instant, idle: Duration) {
         end_late(&mut self.connections, &mut self.queue, now, idle);
     }
 }
 
-/// Drops the sockets of those that are late, and has them wait for their turn.
+/// Drops the sockets of late connections, and queues them to be removed.
 fn end_late(
     connections: &mut BTreeMap<u64, Connection>,
     queue: &mut VecDeque<Place>,

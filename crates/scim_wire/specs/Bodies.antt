@@ -8,27 +8,27 @@ use Rattle.scim_wire.specs.declared.chunk_faults.BadChunks.TheVariants.{TooLarge
 use Rattle.scim_wire.specs.declared.framings.Framing.{Framing}
 use Rattle.scim_wire.specs.declared.framings.Framing.TheVariants.{Sized, Chunked}
 
--- a body is to come: one that has bytes, or chunks
+-- whether a body follows the head: a chunked one, or one of at least one byte
 abbrev pub has_body : Framing → Bool
 has_body (Sized n) = nat_lt 0 n
 has_body Chunked = true
 
--- the bytes after a head are the whole of this body
+-- the bytes after a head are exactly this body
 abbrev pub IsBody : Framing → List ℕ → List ℕ → Type 0
 IsBody (Sized n) bytes body = (bytes ≡ body) × (length body ≡ n)
 IsBody Chunked bytes body = IsChunked bytes body
 
--- the bytes after a head are the beginning of a body, of which some is still to come
+-- the bytes after a head are an unfinished body
 abbrev pub IsBodyPart : Framing → List ℕ → Type 0
 IsBodyPart (Sized n) bytes = length bytes < n
 IsBodyPart Chunked bytes = IsChunkedPart bytes
 
--- what a chunked body is refused as
+-- the refusal for a fault of a chunked body
 abbrev pub refusal_of : BadChunks → Refusal
 refusal_of TooLarge = refusals.TooLarge
 refusal_of Malformed = refusals.BadFraming
 
--- the bytes after a head are refused so, whatever follows
+-- the bytes after a head begin with a body that is refused
 abbrev pub IsBadBody : Framing → List ℕ → Refusal → Type 0
 IsBadBody (Sized n) bytes refusal = ⊥
 IsBadBody Chunked bytes refusal =

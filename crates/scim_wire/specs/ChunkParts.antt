@@ -1,4 +1,4 @@
--- What a part of a chunked body stands for, and what its bytes lead to (RFC 9112 section 7.1).
+-- What an unfinished chunked body has read, and the results of its next byte (RFC 9112 section 7.1).
 use Rattle.std.specs.Prelude.{ℕ, List, Result, Ok, Err}
 use Rattle.scim_wire.specs.declared.chunk_faults.BadChunks.{BadChunks}
 use Rattle.scim_wire.specs.declared.chunked.ChunkedPart.{ChunkedPart}
@@ -7,11 +7,12 @@ use Rattle.scim_wire.specs.declared.chunked.Step.TheVariants.{More, Whole}
 use Rattle.scim_wire.specs.Chunked.{IsChunked, IsBadChunked}
 use Rattle.scim_wire.specs.code.ChunkSteps.{StandsAt}
 
--- these bytes came of a body, and it has not ended
+-- the part is the state of a new one after it read these bytes, which don't finish the body
 abbrev pub StandsFor : ChunkedPart → List ℕ → Type 0
 StandsFor part bytes = StandsAt part.place part.body.items part.line.items bytes
 
--- what is to be made of these bytes: of a body that is to end a part, of a whole one its content, of one that is refused at the last of them the fault
+-- the result of reading these bytes: the state of an unfinished body, the content of a finished one, or the
+-- fault of one that the last byte makes invalid
 abbrev pub Leads : List ℕ → Result Step BadChunks → Type 0
 Leads bytes (Ok (More part)) = StandsFor part bytes
 Leads bytes (Ok (Whole body)) = IsChunked bytes body.items

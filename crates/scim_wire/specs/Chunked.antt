@@ -8,26 +8,27 @@ use Rattle.scim_wire.specs.declared.chunk_faults.BadChunks.{BadChunks}
 use Rattle.scim_wire.specs.declared.chunk_faults.BadChunks.TheVariants.{TooLarge, Malformed}
 use Rattle.scim_wire.specs.Fronts.{IsFrontOf, IsDeadEnd}
 
--- the bytes that the content of a body may have
+-- the maximum number of content bytes of a body
 abbrev pub most_content : ℕ
 most_content = MAX_BODY
 
--- a chunk line with its CR LF, of at most 1,024 bytes, that gives this size
+-- the text is a chunk line with its CR LF, of at most 1,024 bytes, that gives this size
 pub record IsLineOf (size : ℕ) (text : List ℕ) : Type 0 where
   pub line : ChunkLine
   pub reads : ReadsChunkLine text line []
   pub gives : size ≡ chunk_size line
   pub short : length text ≤ 1024
 
--- a chunk line
+-- the text is a chunk line
 abbrev pub IsLine : List ℕ → Type 0
 IsLine text = (size : ℕ) × IsLineOf size text
 
--- as many bytes of data as this, and CR LF
+-- the text is data of this length and CR LF
 abbrev pub IsDataOf : ℕ → List ℕ → Type 0
 IsDataOf size text = (data_bytes : List ℕ) × (length data_bytes ≡ size) × (text ≡ data_bytes ++ crlf_bytes)
 
--- at most 64 headers and an empty line, of at most 16,384 bytes in all (RFC 9112 section 7.1.2)
+-- the text is trailers: at most 64 headers and an empty line, at most 16,384 bytes together (RFC 9112 section
+-- 7.1.2)
 pub record AreTrailers (text : List ℕ) : Type 0 where
   pub fields : List Field
   pub last : LineEnd
@@ -35,25 +36,26 @@ pub record AreTrailers (text : List ℕ) : Type 0 where
   pub few : length fields ≤ 64
   pub short : length text ≤ 16384
 
--- what follows a chunk line that gives this size: the trailers after 0, which is the last, and else data
+-- the text may follow a chunk line of this size: trailers after the last chunk, whose size is 0, and data
+-- after others
 abbrev pub Follows : ℕ → List ℕ → Type 0
 Follows size text = ((size ≡ 0) × AreTrailers text) ⊎ ((0 < size) × IsDataOf size text)
 
--- a chunk's line and its data
+-- a chunk line and its data
 pub record Chunk : Type 0 where
   pub line : List ℕ
   pub bytes : List ℕ
 
--- a chunk has data, as long as its line says
+-- the chunk has data, and its line gives the length of the data
 pub record IsChunk (chunk : Chunk) : Type 0 where
   pub is_line : IsLineOf (length chunk.bytes) chunk.line
   pub some : 0 < length chunk.bytes
 
--- the text of chunks
+-- the bytes of the chunks
 abbrev pub print_chunks : List Chunk → List ℕ
 print_chunks chunks = flat_map (λ c. c.line ++ (c.bytes ++ crlf_bytes)) chunks
 
--- what chunks hold
+-- the content of the chunks
 abbrev pub content : List Chunk → List ℕ
 content chunks = flat_map (λ c. c.bytes) chunks
 
@@ -65,7 +67,7 @@ pub record HasChunks (bytes body rest : List ℕ) : Type 0 where
   pub holds : body ≡ content chunks
   pub within : length body ≤ most_content
 
--- a chunk line that gives a size, and then a text
+-- the rest is a chunk line and a text that has this property with the line's size
 pub record IsAfterLine (IsText : ℕ → List ℕ → Type 0) (rest : List ℕ) : Type 0 where
   pub size : ℕ
   pub line : List ℕ
@@ -74,17 +76,19 @@ pub record IsAfterLine (IsText : ℕ → List ℕ → Type 0) (rest : List ℕ) 
   pub is_line : IsLineOf size line
   pub is_text : IsText size text
 
--- the last chunk, and the trailers
+-- the rest is the last chunk and the trailers
 abbrev pub IsEnd : List ℕ → Type 0
 IsEnd rest = IsAfterLine (λ size text. (size ≡ 0) × AreTrailers text) rest
 
--- a chunk line that is to end, or one within the limit with something to come of what follows it
+-- the rest is an unfinished chunk line, or a chunk line within the limit and a proper prefix of a text that
+-- may follow it
 abbrev pub IsEndPart : List ℕ → List ℕ → Type 0
 IsEndPart body rest =
     IsFrontOf IsLine rest
     ⊎ IsAfterLine (λ size text. (length body + size ≤ most_content) × IsFrontOf (Follows size) text) rest
 
--- a chunk line by which the content passes the limit; or what can be no chunk line, or can't follow one
+-- the rest is refused at its last byte: a chunk line exceeds the limit of the content, or no chunk line or
+-- following text goes on so
 abbrev pub IsBadEnd : List ℕ → List ℕ → BadChunks → Type 0
 IsBadEnd body rest TooLarge = (size : ℕ) × IsLineOf size rest × (most_content < length body + size)
 IsBadEnd body rest Malformed =
@@ -95,10 +99,10 @@ IsBadEnd body rest Malformed =
 abbrev pub IsChunked : List ℕ → List ℕ → Type 0
 IsChunked bytes body = (rest : List ℕ) × HasChunks bytes body rest × IsEnd rest
 
--- the bytes are those of a chunked body so far, of which more is to come
+-- the bytes are an unfinished chunked body
 abbrev pub IsChunkedPart : List ℕ → Type 0
 IsChunkedPart bytes = (body : List ℕ) × (rest : List ℕ) × HasChunks bytes body rest × IsEndPart body rest
 
--- the last of the bytes is the one at which a chunked body is refused, with this fault
+-- the bytes are refused as a chunked body at the last byte, with this fault
 abbrev pub IsBadChunked : List ℕ → BadChunks → Type 0
 IsBadChunked bytes fault = (body : List ℕ) × (rest : List ℕ) × HasChunks bytes body rest × IsBadEnd body rest fault

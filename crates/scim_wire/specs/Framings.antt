@@ -1,4 +1,4 @@
--- How a body is framed (RFC 9112 section 6).
+-- The framing of a request's body by its headers (RFC 9112 section 6).
 use Rattle.std.specs.Prelude.{ℕ, min, Bool, ◌&&◌, List, [], ◌∷◌, length, Option, Some, None, Result, Ok, Err, if◌then◌else◌, nat_lt, codes}
 use Rattle.std.specs.List.{list_any, list_all}
 use Rattle.std.specs.Char.{is_ascii_digit}
@@ -10,34 +10,34 @@ use Rattle.scim_wire.specs.declared.framings.Framing.TheVariants.{Sized, Chunked
 use Rattle.scim_schema.specs.declared.limits.TheConstants.{MAX_BODY}
 use Rattle.scim_wire.specs.Headers.{same_name, values_named}
 
--- 1*DIGIT
+-- whether the bytes are one or more digits (1*DIGIT)
 abbrev pub is_number : List ℕ → Bool
 is_number digits = nat_lt 0 (length digits) && list_all is_ascii_digit digits
 
--- the number that digits write, or the cap where it is above
+-- the number that the digits write, or the cap if it is larger
 abbrev pub number_up_to : ℕ → List ℕ → Option ℕ
 number_up_to cap digits = if is_number digits then Some (min (digits_value 10 digits) cap) else None
 
--- digits that write a number above the limit
+-- whether the digits write a number above the limit of a body
 abbrev pub is_over_limit : List ℕ → Bool
 is_over_limit digits = is_number digits && nat_lt MAX_BODY (digits_value 10 digits)
 
--- how one length frames a body
+-- the framing by one `Content-Length`
 abbrev pub sized : List ℕ → Result Framing Refusal
 sized digits = if is_number digits then Ok (Sized (digits_value 10 digits)) else Err BadFraming
 
--- how one coding frames a body
+-- the framing by one `Transfer-Encoding`
 abbrev pub coded : List ℕ → Result Framing Refusal
 coded coding = if same_name coding (codes "chunked") then Ok Chunked else Err UnknownCoding
 
--- how lengths within the limit, and codings, frame a body
+-- the framing by the values of `Content-Length`, within the limit, and of `Transfer-Encoding`
 abbrev pub framing_by : List (List ℕ) → List (List ℕ) → Result Framing Refusal
 framing_by [] [] = Ok (Sized 0)
 framing_by (length ∷ []) [] = sized length
 framing_by [] (coding ∷ []) = coded coding
 framing_by _ _ = Err BadFraming
 
--- how the names and values of a head's headers frame its body
+-- the framing of the body by the names and values of the headers
 abbrev pub framing : List (List ℕ × List ℕ) → Result Framing Refusal
 framing fields =
     let lengths = values_named (codes "content-length") fields in

@@ -1,15 +1,15 @@
--- Bytes that come one after another, and what they can still become.
+-- Prefixes of texts, and bytes that no text begins with.
 use Rattle.std.specs.Prelude.{◌≡◌, ℕ, List, [], ◌∷◌, ◌++◌}
 
--- the bytes are the front of such a text, and at least one more byte of it is to come
+-- the bytes are a proper prefix of a text with this property
 abbrev pub IsFrontOf : (List ℕ → Type 0) → List ℕ → Type 0
 IsFrontOf Is bytes = (next : ℕ) × (more : List ℕ) × Is (bytes ++ next ∷ more)
 
--- no such text begins with these bytes
+-- no text with this property begins with these bytes
 abbrev pub CanNotBegin : (List ℕ → Type 0) → List ℕ → Type 0
 CanNotBegin Is bytes = (more : List ℕ) → ¬ (Is (bytes ++ more))
 
--- the last of the bytes is the first after which no such text can stand there
+-- the last byte is the first one after which no text with this property begins with the bytes
 pub record IsDeadEnd (Is : List ℕ → Type 0) (bytes : List ℕ) : Type 0 where
   pub before : List ℕ
   pub last : ℕ

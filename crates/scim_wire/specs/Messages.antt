@@ -1,4 +1,4 @@
--- The messages of a stream, and what else it gives (RFC 9112).
+-- The messages of a stream of requests, and the items that the stream gives (RFC 9112).
 use Rattle.std.specs.Prelude.{◌≡◌, ℕ, ◌⊎◌, ◌&&◌, List, [], ◌∷◌, ◌++◌, Result, Ok, Err, All, if◌then◌else◌}
 use Rattle.std.specs.List.{flat_map}
 use Rattle.scim_audit.specs.declared.refusals.Refusal.{Refusal}
@@ -12,38 +12,38 @@ use Rattle.scim_wire.specs.MessageHeads.{ReadsMessage}
 use Rattle.scim_wire.specs.Parts.{IsHeadText, IsOverlong}
 use Rattle.scim_wire.specs.Streams.{OpensThen, IsUnended}
 
--- the text of a head says this of its message; what is too long for a head says nothing
+-- the text of a head has these contents or this refusal: `BadHead` if it exceeds a limit
 abbrev pub Says : List ℕ → Result MessageHead Refusal → Type 0
 Says text read = (IsHeadText text × ReadsMessage text read) ⊎ (IsOverlong text × (read ≡ Err BadHead))
 
--- empty lines, then the text of a head that says this, and then these bytes
+-- the bytes are empty lines, the text of a head with these contents or this refusal, and the bytes `after`
 abbrev pub OpensSaying : List ℕ → Result MessageHead Refusal → List ℕ → Type 0
 OpensSaying bytes read after = OpensThen (λ text. Says text read) bytes after
 
--- 100 (Continue), where it is expected before a body (RFC 9110 section 10.1.1)
+-- the item 100 (Continue) if the client waits for it before it sends a body (RFC 9110 section 10.1.1)
 abbrev pub announced : MessageHead → List Item
 announced head = if head.expects_continue && has_body head.framing then Continue ∷ [] else []
 
--- the message that a head and a body make
+-- the message with this head and this body
 abbrev pub message_of : MessageHead → List ℕ → Message
 message_of head body =
     record { method = head.method; target = head.target; token = head.token; body = body; close = head.close }
 
--- the bytes are this message, with this head
+-- the bytes are this message, which has this head
 pub record IsMessage (bytes : List ℕ) (head : MessageHead) (message : Message) : Type 0 where
   pub after : List ℕ
   pub opens : OpensSaying bytes (Ok head) after
   pub is_body : IsBody head.framing after message.body
   pub made_of : message ≡ message_of head message.body
 
--- the bytes are the beginning of a message, and give these items
+-- the bytes are the beginning of an unfinished message, and give these items
 abbrev pub LeavesUnfinished : List ℕ → List Item → Type 0
 LeavesUnfinished bytes items =
     (IsUnended bytes × (items ≡ []))
     ⊎ ((head : MessageHead) × (after : List ℕ) × OpensSaying bytes (Ok head) after × IsBodyPart head.framing after
     × (items ≡ announced head))
 
--- a head and the bytes after it give these items, of which the last is a refusal
+-- the head and the bytes after it are refused, and give these items, of which the last is the refusal
 abbrev pub GivesRefusal : Result MessageHead Refusal → List ℕ → List Item → Type 0
 GivesRefusal (Err refusal) after items = items ≡ Refused refusal ∷ []
 GivesRefusal (Ok head) after items =
@@ -54,29 +54,30 @@ abbrev pub LeavesRefused : List ℕ → List Item → Type 0
 LeavesRefused bytes items =
     (read : Result MessageHead Refusal) × (after : List ℕ) × OpensSaying bytes read after × GivesRefusal read after items
 
--- the bytes are no whole message, and give these items
+-- the bytes after the last whole message are unfinished or refused, and give these items
 abbrev pub Leaves : List ℕ → List Item → Type 0
 Leaves bytes items = LeavesUnfinished bytes items ⊎ LeavesRefused bytes items
 
--- a message on the stream: its bytes and its head
+-- a message on a stream, with its bytes and its head
 pub record Turn : Type 0 where
   pub bytes : List ℕ
   pub head : MessageHead
   pub message : Message
 
+-- the bytes of the turn are its message with its head
 abbrev pub IsTurn : Turn → Type 0
 IsTurn turn = IsMessage turn.bytes turn.head turn.message
 
--- the items that a message gives
+-- the items of a message on a stream
 abbrev pub turn_items : Turn → List Item
 turn_items turn = announced turn.head ++ Whole turn.message ∷ []
 
--- the stream is these messages, and then the rest
+-- the stream consists of these messages and the rest
 pub record Splits (stream : List ℕ) (turns : List Turn) (rest : List ℕ) : Type 0 where
   pub each : All IsTurn turns
   pub split : stream ≡ flat_map (λ t. t.bytes) turns ++ rest
 
--- the items of a stream: those of its messages, and those of what follows them
+-- the stream has these items: those of its whole messages, then those of the bytes after them
 abbrev pub HasItems : List ℕ → List Item → Type 0
 HasItems stream items =
     (turns : List Turn) × (rest : List ℕ) × (last : List Item)

@@ -1,35 +1,36 @@
--- The text of a reply.
+-- The text of a reply (RFC 9112 section 4).
 use Rattle.std.specs.Prelude.{ℕ, Bool, not, List, [], ◌∷◌, ◌++◌, length, Option, Some, None, unwrap_or, codes, if◌then◌else◌, ◌==◌, is_some}
 use Rattle.std.specs.Option.{option_copied}
 use Rattle.std.specs.Fmt.{decimal}
 use Rattle.http.specs.StatusCode.{reason_phrase}
 use Rattle.scim_wire.specs.declared.replies.Reply.{Reply}
 
+-- CR LF
 abbrev pub crlf : List ℕ
 crlf = 13 ∷ 10 ∷ []
 
--- a header line
+-- a header line with this name and value
 abbrev pub line : List ℕ → List ℕ → List ℕ
 line name value = name ++ codes ": " ++ value ++ crlf
 
--- a header line where there is a value
+-- a header line if there is a value
 abbrev pub option_line : List ℕ → Option (List ℕ) → List ℕ
 option_line name None = []
 option_line name (Some value) = line name value
 
--- a header line where it is due
+-- a header line if it is due
 abbrev pub line_if : Bool → List ℕ → List ℕ → List ℕ
 line_if due name value = if due then line name value else []
 
--- the phrase of a code (RFC 9110 section 15), which is empty where it has none
+-- the reason phrase of a status code (RFC 9110 section 15), empty if the code has none
 abbrev pub phrase_of : ℕ → List ℕ
 phrase_of code = unwrap_or (reason_phrase code) []
 
--- the code and its phrase
+-- the status line: version, code and reason phrase
 abbrev pub status_line : ℕ → List ℕ
 status_line code = codes "HTTP/1.1 " ++ decimal code ++ codes " " ++ phrase_of code ++ crlf
 
--- what a reply says
+-- the contents of a reply, as byte lists
 pub record Said : Type 0 where
   pub status : ℕ
   pub body : Option (List ℕ)
@@ -37,11 +38,11 @@ pub record Said : Type 0 where
   pub allow : Option (List ℕ)
   pub asks_for_token : Bool
 
--- the body, which is empty where there is none
+-- the body of a reply, empty if it has none
 abbrev pub body_text : Said → List ℕ
 body_text said = unwrap_or said.body []
 
--- the status line, the headers that apply, an empty line and the body (RFC 9112 section 4)
+-- the text of a reply: status line, the headers that apply, an empty line and the body (RFC 9112 section 4)
 unfoldable pub text_of : Said → Bool → List ℕ
 text_of said close =
     status_line said.status
@@ -54,11 +55,11 @@ text_of said close =
     ++ crlf
     ++ body_text said
 
--- what a reply says, as its texts
+-- the contents of a reply
 abbrev pub said_by : Reply → Said
 said_by reply =
     record { status = reply.status; body = option_copied reply.body; location = option_copied reply.location; allow = option_copied reply.allow; asks_for_token = reply.asks_for_token }
 
--- the text of a reply
+-- the text of a reply, with `Connection: close` if it closes
 abbrev pub reply_text : Reply → Bool → List ℕ
 reply_text reply close = text_of (said_by reply) close

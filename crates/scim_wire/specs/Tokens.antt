@@ -1,17 +1,17 @@
--- The token that a request comes with (RFC 6750 section 2.1).
+-- The bearer token of a request (RFC 6750 section 2.1).
 use Rattle.std.specs.Prelude.{ℕ, List, [], ◌∷◌, take, drop, Option, Some, None, if◌then◌else◌, nat_lt, length, codes}
 use Rattle.scim_wire.specs.Headers.{same_name, values_named}
 
--- what follows the scheme, in any case, and one space
+-- the bytes after the scheme `Bearer`, in any case, and one space
 abbrev pub bearer : List ℕ → Option (List ℕ)
 bearer value = if nat_lt (length value) 7 then None else (if same_name (take 7 value) (codes "bearer ") then Some (drop 7 value) else None)
 
--- the token of the only value
+-- the bearer token of the value if there is exactly one
 abbrev pub lone_bearer : List (List ℕ) → Option (List ℕ)
 lone_bearer [] = None
 lone_bearer (value ∷ []) = bearer value
 lone_bearer (value ∷ other ∷ others) = None
 
--- the token of the only header `Authorization`
+-- the bearer token of the only header `Authorization`
 abbrev pub token_of : List (List ℕ × List ℕ) → Option (List ℕ)
 token_of fields = lone_bearer (values_named (codes "authorization") fields)

@@ -1,4 +1,4 @@
--- What a wire stands for.
+-- The stream that a wire has read, and the items that it returned.
 use Rattle.std.specs.Prelude.{◌≡◌, ℕ, List, ◌++◌}
 use Rattle.std.specs.List.{flat_map}
 use Rattle.scim_wire.specs.declared.messages.Item.{Item}
@@ -7,11 +7,11 @@ use Rattle.scim_wire.specs.declared.wires.Wire.{Wire}
 use Rattle.scim_wire.specs.Messages.{Turn, Splits, turn_items}
 use Rattle.scim_wire.specs.code.Wires.{StandsAt}
 
--- the wire drops all that comes
+-- the wire is shut: it ignores all further bytes
 abbrev pub IsShut : Wire → Type 0
 IsShut wire = wire.state ≡ state.Shut
 
--- the stream brings a new wire here, and gave these items: those of whole messages, and those of what follows them
+-- the wire is in the state of a new one that read the stream and returned these items
 pub record StandsFor (wire : Wire) (stream : List ℕ) (items : List Item) : Type 0 where
   pub turns : List Turn
   pub rest : List ℕ

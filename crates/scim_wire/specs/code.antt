@@ -1,4 +1,4 @@
--- What is kept of a stream, and what its bytes lead to.
+-- The internal states of reading a stream.
 pub mod Steps
 pub mod Wires
 pub mod ChunkLines

@@ -1,12 +1,14 @@
-//! What holds of all chunked bodies.
+//! Proof that a chunked body is read in one way.
 ghost use Rattle.std.specs.Prelude.{◌≡◌, ℕ, List, ◌++◌};
 ghost use Rattle.scim_wire.specs.declared.chunk_faults.BadChunks.{BadChunks};
 ghost use Rattle.scim_wire.specs.declared.chunked.ChunkedPart.{ChunkedPart};
 ghost use Rattle.scim_wire.specs.Chunked.{IsChunked, IsChunkedPart, IsBadChunked};
 ghost use Rattle.scim_wire.specs.ChunkParts.{StandsFor};
 
-/// Bytes begin with one chunked body at most, or are refused at one byte at most and with one fault, and
-/// these exclude each other. Nor has a body that is to end a front that is whole or refused.
+/// States that bytes are read as a chunked body in at most one way.
+///
+/// At most one prefix of the bytes is a whole body or a refused one, never both, with one content or one
+/// fault. The bytes that an unfinished [`ChunkedPart`] has read have no such prefix.
 pub fn chunked_bodies_are_read_in_one_way()
     ensures part { (part : ChunkedPart) (bytes : List ℕ) → StandsFor part bytes → IsChunkedPart bytes }
     ensures one { (a b x y p q : List ℕ) → IsChunked a p → IsChunked b q → a ++ x ≡ b ++ y → (a ≡ b) × (p ≡ q) }

@@ -6,14 +6,14 @@ ghost use Rattle.scim_wire.specs.code.ChunkLines.{HasRoom};
 
 use httparse::{Status, parse_chunk_size};
 
-/// The bytes that a chunk line may have, with its CR LF.
+/// The maximum length of a chunk line in bytes, with its CR LF.
 const MAX_LINE: usize = 1_024;
 
-/// No chunk line begins so.
+/// The fault of bytes with which no chunk line begins.
 #[derive(Clone, Copy)]
 pub struct BadLine;
 
-/// Whether the line can still end within the limit.
+/// Whether an unfinished line can still end within [`MAX_LINE`].
 fn has_room(line: &[u8]) -> bool
     ensures { MatchBool result (HasRoom line.now) (¬ (HasRoom line.now)) }
 {
@@ -23,9 +23,9 @@ fn has_room(line: &[u8]) -> bool
     line.len() < MAX_LINE && line.ends_with(b"\r")
 }
 
-/// The size that a chunk line gives, or `None` while more of it is to come.
+/// Returns the chunk size that a whole chunk line gives, or `None` if the line isn't finished.
 ///
-/// Fails with [`BadLine`] where no chunk line begins so.
+/// [`BadLine`] if no chunk line of at most 1,024 bytes begins with these bytes.
 pub fn judge_line(line: &[u8]) -> Result<Option<u64>, BadLine>
     ensures size { IfOk result (λ size. MatchOption size (IsFrontOf IsLine line.now) (λ n. IsLineOf n line.now)) }
     ensures bad { OnErr result (CanNotBegin IsLine line.now) }

@@ -1,4 +1,4 @@
-//! A chunked body as it comes (RFC 9112 section 7.1).
+//! Reads a chunked body byte by byte (RFC 9112 section 7.1).
 ghost use Rattle.std.specs.Prelude.{◌≡◌, ℕ, ◌<◌, ◌≤◌, List, [], ◌∷◌, ◌++◌, IfOk, length, take};
 ghost use Rattle.scim_text.specs.Failures.{UnlessMemory};
 ghost use Rattle.scim_wire.specs.Chunked.{HasChunks, IsLineOf};
@@ -12,21 +12,23 @@ use scim_schema::MAX_BODY;
 use scim_text::{Failed, NoMemory};
 use std::alloc::Global;
 
-/// A place in a chunked body.
+/// A position in a chunked body.
 #[derive(Clone, Copy)]
 enum Place {
     /// In a chunk line.
     Line,
-    /// In the data of a chunk, of which so many bytes are to come, and then CR LF.
+    /// In the data of a chunk: this many bytes are left, and then CR LF.
     Data(u64),
-    /// After the CR that follows the data.
+    /// After the CR that follows a chunk's data.
     Return,
     /// In the trailers.
     Trailers(TrailerPart),
 }
 
-/// What is kept of a chunked body that has not ended. It grows with what has come, and nothing is set aside on
-/// the word of a chunk line. A byte of a chunk line costs a look over that line so far, any other a few steps.
+/// The part of a chunked body that was read so far.
+///
+/// Its memory grows with the bytes received: a chunk line's size allocates nothing. A byte of a chunk line
+/// parses that line again from its start (at most 1,024 bytes); any other byte takes constant time.
 #[derive(Drop)]
 pub struct ChunkedPart {
     place: Place,
@@ -34,17 +36,17 @@ pub struct ChunkedPart {
     line: Vec<u8>,
 }
 
-/// What bytes lead to.
+/// The result of reading one byte.
 #[derive(Drop)]
 pub enum Step {
-    /// More has to come.
+    /// The body isn't finished.
     More(ChunkedPart),
-    /// The body has ended, with this content.
+    /// The body is finished and has this content.
     Whole(Vec<u8>),
 }
 
 impl ChunkedPart {
-    /// Before the first byte.
+    /// Returns the state before the first byte of a body.
     pub fn new(alloc: Global) -> ChunkedPart
         ensures { StandsFor result [] }
     {
@@ -55,11 +57,11 @@ impl ChunkedPart {
         }
     }
 
-    /// What one more byte leads to. Extensions of chunks and the trailers are read and dropped.
+    /// Reads one byte of the body. Chunk extensions and trailers are checked and dropped.
     ///
-    /// Fails with [`BadChunks::Malformed`] at the first byte after which no chunk line, end of a chunk's data or
-    /// trailers can stand there, with [`BadChunks::TooLarge`] at the end of the chunk line by which the content
-    /// passes its limit, and with `NoMemory`.
+    /// [`BadChunks::Malformed`] at the first byte that can't continue a chunk line, the end of a chunk's data
+    /// or the trailers. [`BadChunks::TooLarge`] at the end of the chunk line by which the content would
+    /// exceed 1,048,576 bytes.
     pub fn take(self, byte: u8) -> Result<Step, Failed<BadChunks>>
         ensures { (bytes : List ℕ) → StandsFor self bytes → UnlessMemory (Leads (bytes ++ byte ∷ [])) result }
     {
@@ -72,10 +74,9 @@ impl ChunkedPart {
         }
     }
 
-    /// Takes what a piece has of the data of the chunk in which the body stands, and gives how many bytes these are: none
-    /// where it stands elsewhere.
+    /// Reads a prefix of `piece` that lies in the current chunk's data, and returns its length in bytes.
     ///
-    /// The only error is [`NoMemory`], after which the part counts for nothing.
+    /// Returns 0 outside a chunk's data. After `NoMemory` the part must not be used.
     pub fn take_run(&mut self, piece: &[u8]) -> Result<usize, NoMemory>
         ensures within { IfOk result (λ n. n ≤ length piece.now) }
         ensures stands { (bytes : List ℕ) → StandsFor self.old bytes → IfOk result (λ n. StandsFor self.new (bytes ++ take n piece.now)) }
@@ -89,6 +90,7 @@ impl ChunkedPart {
         Ok(count)
     }
 
+    /// Reads a byte of a chunk line.
     fn take_in_line(mut self, byte: u8) -> Result<Step, Failed<BadChunks>>
         requires { self.place ≡ Place.Line }
         ensures { (bytes : List ℕ) → StandsAt Place.Line self.body.items self.line.items bytes
@@ -102,7 +104,7 @@ impl ChunkedPart {
         }
     }
 
-    /// What a whole chunk line leads to.
+    /// Returns the state after a whole chunk line of this size. Fails as [`ChunkedPart::take`].
     fn after_line(mut self, size: u64) -> Result<Step, Failed<BadChunks>>
         ensures { (bytes : List ℕ) → HasChunks bytes self.body.items self.line.items → IsLineOf size self.line.items
             → UnlessMemory (Leads bytes) result }
@@ -119,6 +121,7 @@ impl ChunkedPart {
         Ok(Step::More(self))
     }
 
+    /// Reads a byte of a chunk's data, of which `left` bytes are missing.
     fn take_in_data(mut self, left: u64, byte: u8) -> Result<Step, Failed<BadChunks>>
         requires { 0 < left }
         ensures { (bytes : List ℕ) → StandsAt (Place.Data left) self.body.items self.line.items bytes
@@ -129,6 +132,7 @@ impl ChunkedPart {
         Ok(Step::More(self))
     }
 
+    /// Reads the CR after a chunk's data.
     fn take_return(mut self, byte: u8) -> Result<Step, Failed<BadChunks>>
         ensures { (bytes : List ℕ) → StandsAt (Place.Data 0) self.body.items self.line.items bytes
             → UnlessMemory (Leads (bytes ++ byte ∷ [])) result }
@@ -140,6 +144,7 @@ impl ChunkedPart {
         Ok(Step::More(self))
     }
 
+    /// Reads the LF after a chunk's data.
     fn take_feed(mut self, byte: u8) -> Result<Step, Failed<BadChunks>>
         ensures { (bytes : List ℕ) → StandsAt Place.Return self.body.items self.line.items bytes
             → UnlessMemory (Leads (bytes ++ byte ∷ [])) result }
@@ -152,6 +157,7 @@ impl ChunkedPart {
         Ok(Step::More(self))
     }
 
+    /// Reads a byte of the trailers.
     fn take_in_trailers(mut self, part: TrailerPart, byte: u8) -> Result<Step, Failed<BadChunks>>
         ensures { (bytes : List ℕ) → StandsAt (Place.Trailers part) self.body.items self.line.items bytes
             → UnlessMemory (Leads (bytes ++ byte ∷ [])) result }

@@ -1,4 +1,4 @@
-//! How the body of a request is framed.
+//! How the headers of a request frame its body (RFC 9112 section 6).
 ghost use Rattle.std.specs.Prelude.{◌≡◌, ◌+◌, map, false};
 ghost use Rattle.std.specs.List.{list_any};
 ghost use Rattle.scim_text.specs.Failures.{UnlessMemory};
@@ -15,14 +15,14 @@ use std::alloc::Global;
 /// How a body is framed (RFC 9112 section 6).
 #[derive(Clone, Copy, PartialEq, Eq)]
 pub enum Framing {
-    /// It has so many bytes.
+    /// The body has this many bytes.
     Sized(u64),
-    /// It comes in chunks (RFC 9112 section 7.1).
+    /// The body is in chunks (RFC 9112 section 7.1).
     Chunked,
 }
 
 impl Framing {
-    /// Whether a body is to come: one that has bytes, or chunks.
+    /// Whether a body follows the head: a chunked one, or one of at least one byte.
     pub fn has_body(self) -> bool
         ensures { result ≡ has_body self }
     {
@@ -33,7 +33,7 @@ impl Framing {
     }
 }
 
-/// The number that the digits write, or one above `MAX_BODY` where it is above; None where they are no digits.
+/// Parses decimal digits. Returns at most `MAX_BODY + 1`, whatever they write; `None` if they aren't digits.
 fn number(digits: &[u8]) -> Option<u64>
     ensures { result ≡ number_up_to (MAX_BODY + 1) digits.now }
 {
@@ -50,12 +50,14 @@ fn number(digits: &[u8]) -> Option<u64>
     Some(number)
 }
 
+/// Whether the digits write a number above [`MAX_BODY`].
 fn is_over_limit(digits: &[u8]) -> bool
     ensures { result ≡ is_over_limit digits.now }
 {
     number(digits).is_some_and(|n| n > MAX_BODY)
 }
 
+/// Whether any of the lengths is above [`MAX_BODY`].
 fn any_over_limit(lengths: &[&[u8]]) -> bool
     ensures { result ≡ list_any is_over_limit (texts lengths.now) }
 {
@@ -67,7 +69,7 @@ fn any_over_limit(lengths: &[&[u8]]) -> bool
     false
 }
 
-/// How lengths within the limit, and codings, frame a body.
+/// Returns the framing for the values of `Content-Length`, within the limit, and of `Transfer-Encoding`.
 fn framing_by(lengths: &[&[u8]], codings: &[&[u8]]) -> Result<Framing, Refusal>
     requires { list_any is_over_limit (texts lengths.now) ≡ false }
     ensures { result ≡ framing_by (texts lengths.now) (texts codings.now) }
@@ -83,9 +85,11 @@ fn framing_by(lengths: &[&[u8]], codings: &[&[u8]]) -> Result<Framing, Refusal>
     }
 }
 
-/// How the headers frame the body.
+/// Returns the framing of the body that follows these headers.
 ///
-/// Fails with `TooLarge`, `BadFraming` or `UnknownCoding`, the first of these whose cause stands; and with `NoMemory`.
+/// `TooLarge` if a `Content-Length` is above [`MAX_BODY`]. Otherwise `UnknownCoding` if the only framing
+/// header is one `Transfer-Encoding` other than `chunked`, and `BadFraming` if there are several framing
+/// headers or the `Content-Length` isn't a number (RFC 9112 section 6.3).
 pub fn framing_of(alloc: Global, headers: &[Header<'_>]) -> Result<Framing, Failed<Refusal>>
     ensures { UnlessMemory (λ r. r ≡ framing (map header_parts headers.now)) result }
 {

@@ -1,4 +1,4 @@
-//! A head as its bytes come, alone or in runs.
+//! Reads a head byte by byte, or in runs of bytes.
 ghost use Rattle.std.specs.Prelude.{◌≡◌, ◌≤◌, ℕ, List, ◌∷◌, ◌++◌, [], IfOk, length, take};
 ghost use Rattle.httparse.specs.Grammar.{LineEnd, print_blank};
 ghost use Rattle.scim_wire.specs.Parts.{feeds};
@@ -9,13 +9,13 @@ use crate::parts::{HeadPart, HeadStep};
 use scim_text::NoMemory;
 use std::alloc::Global;
 
-/// The bytes that a head may have.
+/// The maximum length of a head in bytes.
 const MAX_BYTES: usize = 16_384;
 
-/// The line feeds that a head may have.
+/// The maximum number of line feeds in a head.
 const MAX_FEEDS: u32 = 66;
 
-/// How many bytes stand before the first line feed, or in all where there is none.
+/// Returns the number of bytes before the first line feed, or of all bytes if there is none.
 fn line_length(bytes: &[u8]) -> usize
     ensures within { result ≤ length bytes.now }
     ensures no_feeds { feeds (take result bytes.now) ≡ 0 }
@@ -29,7 +29,7 @@ fn line_length(bytes: &[u8]) -> usize
 }
 
 impl HeadPart {
-    /// Before the first byte of a head.
+    /// Returns the state before the first byte of a head.
     pub fn new(alloc: Global) -> HeadPart
         ensures { (blank : List LineEnd) → HoldsHead result (print_blank blank) }
     {
@@ -39,9 +39,7 @@ impl HeadPart {
         }
     }
 
-    /// What one more byte leads to. An empty line before a head is dropped (RFC 9112 section 2.2).
-    ///
-    /// The only error is [`NoMemory`].
+    /// Reads one byte of the head. An empty line before the head is dropped (RFC 9112 section 2.2).
     pub fn take(self, alloc: Global, byte: u8) -> Result<HeadStep, NoMemory>
         ensures { (bytes : List ℕ) → HoldsHead self bytes → IfOk result (StepsTo (bytes ++ byte ∷ [])) }
     {
@@ -63,10 +61,10 @@ impl HeadPart {
         Ok(HeadStep::More(HeadPart { bytes, feeds }))
     }
 
-    /// Takes what stands in a piece before its first line feed, but no byte that would make the head too long, and gives
-    /// how many bytes these are. They only lengthen the part.
+    /// Reads a prefix of `piece` without a line feed, and returns its length in bytes.
     ///
-    /// The only error is [`NoMemory`], after which the part counts for nothing.
+    /// Stops before a byte that would reach the limit of a head, so the head neither ends nor becomes too
+    /// long. After `NoMemory` the part must not be used.
     pub fn take_run(&mut self, piece: &[u8]) -> Result<usize, NoMemory>
         ensures within { IfOk result (λ n. n ≤ length piece.now) }
         ensures holds { (bytes : List ℕ) → HoldsHead self.old bytes

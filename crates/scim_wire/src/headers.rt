@@ -1,25 +1,25 @@
-//! The headers of a request, by name.
+//! The headers of a request, and look-up by name.
 ghost use Rattle.std.specs.Prelude.{◌≡◌, map, IfOk};
 ghost use Rattle.scim_wire.specs.Headers.{same_name, header_parts, texts, values_named};
 
 use scim_text::{NoMemory, push};
 use std::alloc::Global;
 
-/// A name and a value.
+/// The name and the value of a header.
 #[derive(Clone, Copy)]
 pub struct Header<'b> {
     pub name: &'b [u8],
     pub value: &'b [u8],
 }
 
-/// Whether the names are the same in any case of ASCII letters.
+/// Whether two header names are equal, ignoring ASCII case.
 pub fn same_name(a: &[u8], b: &[u8]) -> bool
     ensures { result ≡ same_name a.now b.now }
 {
     a.eq_ignore_ascii_case(b)
 }
 
-/// The values of all headers with this name, in order.
+/// Returns the values of all headers with this name, in order.
 pub fn values_named<'b>(
     alloc: Global,
     headers: &[Header<'b>],

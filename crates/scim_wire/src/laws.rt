@@ -1,4 +1,4 @@
-//! What holds of all streams.
+//! Proof that a stream of requests is read in one way.
 ghost use Rattle.std.specs.Prelude.{◌≡◌, ℕ, List, [], ◌∷◌, ◌++◌};
 ghost use Rattle.scim_wire.specs.Messages.{HasItems};
 ghost use Rattle.scim_wire.specs.Wires.{IsShut, StandsFor};
@@ -7,9 +7,10 @@ use crate::messages::Item;
 use crate::wires::Wire;
 use scim_audit::Refusal;
 
-/// A stream has its items in one way, and a wire that stands for a stream and items gave those. So what
-/// [`Wire::feed`] gives depends on the bytes alone, and not on how they are cut into pieces. After a refusal the wire is
-/// shut.
+/// States that a stream has at most one list of items, and that a wire returns those.
+///
+/// So the result of [`Wire::feed`] depends on the bytes of the stream and not on how they are cut into
+/// pieces. After a refusal the wire is shut.
 pub fn streams_are_read_in_one_way()
     ensures has { (wire : Wire) (stream : List ℕ) (items : List Item) → StandsFor wire stream items → HasItems stream items }
     ensures one { (stream : List ℕ) (a b : List Item) → HasItems stream a → HasItems stream b → a ≡ b }

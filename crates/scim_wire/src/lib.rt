@@ -1,4 +1,5 @@
-//! What SCIM says over HTTP/1.1 (RFC 9112): requests are read from a stream, and replies are printed.
+//! HTTP/1.1 for SCIM (RFC 9112): reads requests from a byte stream, prints replies and writes texts to a
+//! stream.
 #![tactic(auto)]
 
 mod chunk_faults;

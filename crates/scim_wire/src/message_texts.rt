@@ -1,4 +1,4 @@
-//! The reading of a head's text for what it says of its message.
+//! Parses the text of a head.
 ghost use Rattle.std.specs.Prelude.{◌≡◌, length, map, All, IfOk};
 ghost use Rattle.httparse.specs.Spans.{IsHeaderWithin, header_bytes};
 ghost use Rattle.scim_text.specs.Failures.{UnlessMemory};
@@ -17,7 +17,7 @@ use scim_audit::Refusal;
 use scim_text::{Failed, NoMemory, push};
 use std::alloc::Global;
 
-/// The headers that the spans cover.
+/// Returns the headers at these positions in the text.
 fn headers_at<'b>(
     alloc: Global,
     text: &'b [u8],
@@ -37,10 +37,10 @@ fn headers_at<'b>(
     Ok(headers)
 }
 
-/// What the text of a head says of its message.
+/// Parses the text of a head (RFC 9112 sections 2 to 6).
 ///
-/// Fails with `BadHead` where it says nothing, or with `TooLarge`, `BadFraming` or `UnknownCoding`, the first of these
-/// whose cause stands; and with `NoMemory`.
+/// `BadHead` if the text isn't a request line with at most 64 headers. Otherwise `TooLarge`, `BadFraming` or
+/// `UnknownCoding`, as [`framing_of`].
 pub fn parse_message_head(alloc: Global, text: &[u8]) -> Result<MessageHead, Failed<Refusal>>
     ensures { UnlessMemory (ReadsMessage text.now) result }
 {

@@ -1,31 +1,32 @@
-//! What a stream gives.
+//! The items that are read from a stream of requests.
 use crate::octets::Octets;
 use scim_audit::Refusal;
 
-/// A whole request: what its head says, and its body.
+/// A whole request: the contents of its head, and its body.
 #[derive(Drop)]
 pub struct Message {
-    /// The method, as `GET`.
+    /// The method, such as `GET`.
     pub method: Octets,
-    /// What the request is about, as it stands in the request line, with its query.
+    /// The request target with its query, as in the request line.
     pub target: Octets,
-    /// What follows the scheme `Bearer`, in any case, and one space in the only header `Authorization` (RFC 6750
-    /// section 2.1); None where there is none, or more than one, or another scheme.
+    /// The bytes after the scheme `Bearer`, in any case, and one space in the only header `Authorization`
+    /// (RFC 6750 section 2.1). `None` if there is no such header, more than one, or another scheme.
     pub token: Option<Octets>,
-    /// The body, at most 1,048,576 bytes; empty where none was announced.
+    /// The body, at most 1,048,576 bytes; empty if the head announces none.
     pub body: Octets,
-    /// Whether the connection is to be closed after the reply: the version is HTTP/1.0, or a header `Connection` has
+    /// Whether the connection closes after the reply: the version is HTTP/1.0, or a header `Connection` has
     /// the option `close` (RFC 9112 sections 9.3 and 9.6).
     pub close: bool,
 }
 
-/// What a stream gives.
+/// An item of a stream of requests.
 #[derive(Drop)]
 pub enum Item {
     /// The client waits for 100 (Continue) before it sends the body (RFC 9110 section 10.1.1).
     Continue,
     /// A whole request.
     Whole(Message),
-    /// What came is no request: `BadHead`, `TooLarge`, `BadFraming` or `UnknownCoding`. Nothing follows it.
+    /// The bytes aren't a valid request: `BadHead`, `TooLarge`, `BadFraming` or `UnknownCoding`. No item
+    /// follows.
     Refused(Refusal),
 }

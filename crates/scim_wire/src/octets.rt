@@ -1,11 +1,11 @@
-//! Bytes that contracts see as a list.
+//! Owned bytes that contracts see as a list.
 ghost use Rattle.std.specs.Prelude.{◌≡◌, ℕ, List, IfOk};
 
 use scim_text::NoMemory;
 use std::alloc::Global;
 use std::marker::Model;
 
-/// Bytes that are owned.
+/// Owned bytes.
 #[derive(Drop)]
 pub struct Octets {
     bytes: Vec<u8>,
@@ -18,9 +18,7 @@ impl Model for Octets {
 }
 
 impl Octets {
-    /// A copy of the bytes.
-    ///
-    /// The only error is [`NoMemory`].
+    /// Copies the bytes.
     pub fn copied(alloc: Global, bytes: &[u8]) -> Result<Octets, NoMemory>
         ensures { IfOk result (λ o. o ≡ bytes.now) }
     {
@@ -28,14 +26,14 @@ impl Octets {
         Ok(Octets { bytes })
     }
 
-    /// These bytes, which aren't copied.
+    /// Takes the bytes without copying them.
     pub fn of(bytes: Vec<u8>) -> Octets
         ensures { result ≡ bytes.items }
     {
         Octets { bytes }
     }
 
-    /// The bytes.
+    /// Returns the bytes.
     pub fn as_slice(&self) -> &[u8]
         ensures { result.now ≡ self.now }
     {

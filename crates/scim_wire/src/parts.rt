@@ -1,7 +1,7 @@
-//! What is kept of a head while its bytes come.
+//! The state of reading a head.
 ghost use Rattle.std.specs.Prelude.{◌≤◌};
 
-/// A head that has not ended, with the count of its line feeds.
+/// An unfinished head, with the number of its line feeds.
 #[derive(Drop)]
 pub struct HeadPart {
     pub bytes: Vec<u8>,
@@ -9,13 +9,13 @@ pub struct HeadPart {
     pub ghost few: { feeds ≤ 66 },
 }
 
-/// What one more byte of a head leads to.
+/// The result of reading one byte of a head.
 #[derive(Drop)]
 pub enum HeadStep {
-    /// More has to come.
+    /// The head isn't finished.
     More(HeadPart),
-    /// The head has ended, and this is its text.
+    /// The head is finished and has this text.
     Ended(Vec<u8>),
-    /// It is too long for a head.
+    /// The head exceeds a limit.
     Overlong,
 }

@@ -1,4 +1,4 @@
-//! The text of a reply.
+//! Prints a reply (RFC 9112 section 4).
 ghost use Rattle.std.specs.Prelude.{◌≡◌, [], ◌++◌, unwrap_or, IfOk, OnOk, string_bytes};
 ghost use Rattle.std.specs.Option.{option_copied};
 ghost use Rattle.scim_wire.specs.Replies.{line, option_line, line_if, phrase_of, status_line, reply_text};
@@ -7,24 +7,24 @@ use http::StatusCode;
 use scim_text::NoMemory;
 use std::alloc::Global;
 
-/// What is answered to a request.
+/// The reply to a request.
 #[derive(Clone, Copy)]
 pub struct Reply<'a> {
-    /// The status code (RFC 9110 section 15), a number of three digits; any other is printed as it is, without a phrase. It
-    /// is no type of `http`, so that who names a reply needn't know all that `http` knows of one. With 204 no length is told,
-    /// as there is no body then.
+    /// The status code (RFC 9110 section 15), a number of three digits. Any other number is printed as it is,
+    /// without a phrase. 204 prints no `Content-Length`, since it has no body. A plain number rather than a
+    /// type of `http`, so that callers don't depend on that crate.
     pub status: u16,
     /// The body, in JSON (RFC 7644 section 3.1).
     pub body: Option<&'a str>,
-    /// Where the resource is, for `Location`.
+    /// The URI of the resource, for `Location`.
     pub location: Option<&'a str>,
-    /// The methods that there are, for `Allow`.
+    /// The allowed methods, for `Allow`.
     pub allow: Option<&'a str>,
-    /// Whether a token is asked for, with `WWW-Authenticate` (RFC 6750 section 3).
+    /// Whether the reply asks for a bearer token with `WWW-Authenticate` (RFC 6750 section 3).
     pub asks_for_token: bool,
 }
 
-/// Adds a header line.
+/// Appends a header line.
 fn push_line(text: &mut String, name: &str, value: &str) -> Result<(), NoMemory>
     ensures { OnOk result (string_bytes text.new ≡ string_bytes text.old ++ line name.now value.now) }
 {
@@ -34,7 +34,7 @@ fn push_line(text: &mut String, name: &str, value: &str) -> Result<(), NoMemory>
     Ok(text.push_str("\r\n")?)
 }
 
-/// Adds a header line where there is a value.
+/// Appends a header line if there is a value.
 fn push_option(text: &mut String, name: &str, value: Option<&str>) -> Result<(), NoMemory>
     ensures { OnOk result (string_bytes text.new ≡ string_bytes text.old ++ option_line name.now (option_copied value.entry)) }
 {
@@ -44,7 +44,7 @@ fn push_option(text: &mut String, name: &str, value: Option<&str>) -> Result<(),
     }
 }
 
-/// Adds a header line where it is due.
+/// Appends a header line if `due`.
 fn push_if(text: &mut String, due: bool, name: &str, value: &str) -> Result<(), NoMemory>
     ensures { OnOk result (string_bytes text.new ≡ string_bytes text.old ++ line_if due name.now value.now) }
 {
@@ -55,7 +55,7 @@ fn push_if(text: &mut String, due: bool, name: &str, value: &str) -> Result<(), 
     }
 }
 
-/// The text, and the empty one where there is none.
+/// Returns the text, or the empty text for `None`.
 fn or_empty<'a>(text: Option<&'a str>) -> &'a str
     ensures { result.now ≡ unwrap_or (option_copied text.entry) [] }
 {
@@ -65,7 +65,7 @@ fn or_empty<'a>(text: Option<&'a str>) -> &'a str
     }
 }
 
-/// The phrase of a code, and the empty text where it has none.
+/// Returns the reason phrase of a status code, or the empty text if it has none.
 fn phrase_of(status: u16) -> &'static str
     ensures { result.now ≡ phrase_of status }
 {
@@ -75,7 +75,7 @@ fn phrase_of(status: u16) -> &'static str
     }
 }
 
-/// The code and its phrase.
+/// Returns the status line.
 fn status_line(alloc: Global, status: u16) -> Result<String, NoMemory>
     ensures { IfOk result (λ text. string_bytes text ≡ status_line status) }
 {
@@ -84,10 +84,9 @@ fn status_line(alloc: Global, status: u16) -> Result<String, NoMemory>
     Ok(text)
 }
 
-/// The text of a reply (RFC 9112 section 4): the status line, the headers that apply, an empty line and
-/// the body. With `close` it says that the connection is closed after it.
+/// Returns the text of a reply (RFC 9112 section 4): status line, headers, empty line and body.
 ///
-/// The only error is [`NoMemory`].
+/// With `close` it has the header `Connection: close`.
 pub fn print_reply(alloc: Global, reply: &Reply<'_>, close: bool) -> Result<String, NoMemory>
     ensures { IfOk result (λ text. string_bytes text ≡ reply_text reply.now close) }
 {

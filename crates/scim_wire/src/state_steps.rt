@@ -1,4 +1,4 @@
-//! A stream as its bytes come, alone or in runs.
+//! The transitions of a stream's state, for one byte or for a run of bytes.
 ghost use Rattle.std.specs.Prelude.{◌≡◌, ◌≤◌, ℕ, List, [], ◌∷◌, ◌++◌, Some, None, Ok, IfOk, length, take, option_to_list};
 ghost use Rattle.scim_wire.specs.Parts.{IsHeadText};
 ghost use Rattle.scim_wire.specs.Streams.{OpensThen};
@@ -19,7 +19,7 @@ use scim_audit::Refusal;
 use scim_text::{Failed, NoMemory};
 use std::alloc::Global;
 
-/// A refusal, after which nothing counts.
+/// Returns the step that refuses the stream: the state is shut.
 fn refused(refusal: Refusal) -> StateStep
     ensures state { result.state ≡ State.Shut }
     ensures item { result.item ≡ Some (Item.Refused refusal) }
@@ -30,7 +30,7 @@ fn refused(refusal: Refusal) -> StateStep
     }
 }
 
-/// A whole message, after which the next may come.
+/// Returns the step that completes a message: the state is before the first byte of the next one.
 fn whole(alloc: Global, head: MessageHead, body: Vec<u8>) -> StateStep
     ensures state { StandsAt result.state [] [] }
     ensures item { result.item ≡ Some (Item.Whole (message_of head body.items)) }
@@ -55,7 +55,7 @@ fn whole(alloc: Global, head: MessageHead, body: Vec<u8>) -> StateStep
     }
 }
 
-/// The item that announces a body.
+/// Returns `Item::Continue` if the client waits for it before it sends a body.
 fn announced(head: &MessageHead) -> Option<Item>
     ensures { option_to_list result ≡ announced head.now }
 {
@@ -66,7 +66,7 @@ fn announced(head: &MessageHead) -> Option<Item>
     }
 }
 
-/// What a head leads to.
+/// Returns the step after a whole head.
 fn begin_body(alloc: Global, head: MessageHead) -> StateStep
     ensures { (bytes : List ℕ) → OpensSaying bytes (Ok head) [] → Steps result.state result.item bytes [] }
 {
@@ -91,7 +91,7 @@ fn begin_body(alloc: Global, head: MessageHead) -> StateStep
     }
 }
 
-/// What the text of a head leads to.
+/// Returns the step after the text of a head, which may be refused.
 fn open_message(alloc: Global, text: &[u8]) -> Result<StateStep, NoMemory>
     ensures { (bytes : List ℕ) → OpensThen (λ t. IsHeadText t × (t ≡ text.now)) bytes []
         → IfOk result (λ r. Steps r.state r.item bytes []) }
@@ -103,7 +103,7 @@ fn open_message(alloc: Global, text: &[u8]) -> Result<StateStep, NoMemory>
     }
 }
 
-/// What one more byte of a head leads to.
+/// Reads one byte of a head.
 pub fn take_in_head(part: HeadPart, alloc: Global, byte: u8) -> Result<StateStep, NoMemory>
     ensures { (bytes : List ℕ) (items : List Item) → StandsAt (State.Opening part) bytes items
         → IfOk result (λ r. Steps r.state r.item (bytes ++ byte ∷ []) items) }
@@ -119,7 +119,7 @@ pub fn take_in_head(part: HeadPart, alloc: Global, byte: u8) -> Result<StateStep
 }
 
 impl BodyPart {
-    /// What one more byte leads to.
+    /// Reads one byte of the body.
     pub fn take(mut self, alloc: Global, byte: u8) -> Result<StateStep, NoMemory>
         ensures { (bytes : List ℕ) (items : List Item) → StandsAt (State.InBody self) bytes items
             → IfOk result (λ r. Steps r.state r.item (bytes ++ byte ∷ []) items) }
@@ -135,9 +135,9 @@ impl BodyPart {
         })
     }
 
-    /// Takes what a piece has of the body, but for the body's last byte, and gives how many bytes these are.
+    /// Reads a prefix of `piece` without the body's last byte, and returns its length in bytes.
     ///
-    /// The only error is [`NoMemory`], after which the part counts for nothing.
+    /// After `NoMemory` the part must not be used.
     pub fn take_run(&mut self, piece: &[u8]) -> Result<usize, NoMemory>
         ensures within { IfOk result (λ n. n ≤ length piece.now) }
         ensures stands { (bytes : List ℕ) (items : List Item) → StandsAt (State.InBody self.old) bytes items
@@ -150,7 +150,7 @@ impl BodyPart {
     }
 }
 
-/// What a chunked body is refused as.
+/// Returns the refusal for a fault of a chunked body.
 fn refusal_of(fault: BadChunks) -> Refusal
     ensures { result ≡ refusal_of fault }
 {
@@ -161,7 +161,7 @@ fn refusal_of(fault: BadChunks) -> Refusal
 }
 
 impl ChunksPart {
-    /// What one more byte leads to.
+    /// Reads one byte of the body.
     pub fn take(self, alloc: Global, byte: u8) -> Result<StateStep, NoMemory>
         ensures { (bytes : List ℕ) (items : List Item) → StandsAt (State.InChunks self) bytes items
             → IfOk result (λ r. Steps r.state r.item (bytes ++ byte ∷ []) items) }
@@ -177,9 +177,9 @@ impl ChunksPart {
             Err(Failed::NoMemory) => Err(NoMemory),
         }
     }
-    /// Takes what a piece has of the data of a chunk, and gives how many bytes these are: none elsewhere in the body.
+    /// Reads a prefix of `piece` that lies in a chunk's data, and returns its length in bytes.
     ///
-    /// The only error is [`NoMemory`], after which the part counts for nothing.
+    /// Returns 0 outside a chunk's data. After `NoMemory` the part must not be used.
     pub fn take_run(&mut self, piece: &[u8]) -> Result<usize, NoMemory>
         ensures within { IfOk result (λ n. n ≤ length piece.now) }
         ensures stands { (bytes : List ℕ) (items : List Item) → StandsAt (State.InChunks self.old) bytes items

@@ -1,4 +1,4 @@
-//! What is kept of a stream, and what its bytes make of it.
+//! The state of reading a stream of requests.
 ghost use Rattle.std.specs.Prelude.{◌≡◌, ◌≤◌, ℕ, List, [], ◌∷◌, ◌++◌, None, IfOk, length, take};
 ghost use Rattle.scim_wire.specs.code.Wires.{StandsAt, Steps};
 
@@ -10,35 +10,34 @@ use crate::state_steps::take_in_head;
 use scim_text::NoMemory;
 use std::alloc::Global;
 
-/// A body of which some bytes are still to come.
+/// An unfinished body of known length.
 #[derive(Drop)]
 pub struct BodyPart {
     pub head: MessageHead,
     pub body: Vec<u8>,
-    /// How many bytes are still to come.
+    /// The number of missing bytes.
     pub left: u64,
 }
 
-/// A chunked body that has not ended.
+/// An unfinished chunked body.
 #[derive(Drop)]
 pub struct ChunksPart {
     pub head: MessageHead,
     pub chunks: ChunkedPart,
 }
 
-/// Where a stream stands.
+/// The state of a stream.
 pub enum State {
-    /// In a head, or before it.
+    /// In a head or before its first byte.
     Opening(HeadPart),
-    /// In a body.
+    /// In a body of known length.
     InBody(BodyPart),
     /// In a chunked body.
     InChunks(ChunksPart),
-    /// After a refusal, or where memory was wanting: nothing that follows counts.
+    /// After a refusal, or after an allocation failed: all further bytes are ignored.
     Shut,
 }
 
-/// One call, wherever a state is dropped, in place of a look at each form that it may have.
 impl Drop for State {
     fn drop(self) {
         match self {
@@ -50,7 +49,7 @@ impl Drop for State {
     }
 }
 
-/// What one more byte leads to: where the stream stands then, and the item that has come.
+/// The result of reading one byte: the next state, and the item that the byte completes, if any.
 #[derive(Drop)]
 pub struct StateStep {
     pub state: State,
@@ -58,16 +57,14 @@ pub struct StateStep {
 }
 
 impl State {
-    /// Before the first byte of a message.
+    /// Returns the state before the first byte of a message.
     pub fn new(alloc: Global) -> State
         ensures { StandsAt result [] [] }
     {
         State::Opening(HeadPart::new(alloc))
     }
 
-    /// What one more byte leads to.
-    ///
-    /// The only error is [`NoMemory`].
+    /// Reads one byte. In `Shut` the byte is ignored.
     pub fn take(self, alloc: Global, byte: u8) -> Result<StateStep, NoMemory>
         ensures steps { (bytes : List ℕ) (items : List Item) → StandsAt self bytes items
             → IfOk result (λ r. Steps r.state r.item (bytes ++ byte ∷ []) items) }
@@ -84,10 +81,9 @@ impl State {
         }
     }
 
-    /// Takes bytes at the front of a piece that complete nothing, and gives how many they are, perhaps none. After a
-    /// refusal these are all bytes.
+    /// Reads a prefix of `piece` that completes no item, and returns its length in bytes, perhaps 0.
     ///
-    /// The only error is [`NoMemory`], after which the state counts for nothing.
+    /// In `Shut` this is the whole piece. After `NoMemory` the state must not be used.
     pub fn take_run(&mut self, piece: &[u8]) -> Result<usize, NoMemory>
         ensures within { IfOk result (λ n. n ≤ length piece.now) }
         ensures stands { (bytes : List ℕ) (items : List Item) → StandsAt self.old bytes items

@@ -1,4 +1,4 @@
-//! Where the parts of a head lie.
+//! The positions of a head's parts in its text.
 ghost use Rattle.std.specs.Prelude.{◌≡◌, length, IfSome, IfNone};
 ghost use Rattle.httparse.specs.Spans.{IsRequestAt, IsRequestWithin};
 ghost use Rattle.httparse.specs.Grammar.{RequestHead};
@@ -7,7 +7,10 @@ ghost use Rattle.scim_wire.specs.Heads.{IsRequestText};
 use httparse::Status;
 use httparse::spans::{HeaderSpan, RequestSpans, parse_request};
 
-/// Where the parts of a head lie that is the whole text.
+/// Returns the positions of the parts of the head that is the whole text.
+///
+/// Writes those of its headers to `headers`, which has 64 entries. `None` if the text isn't a request line
+/// with at most 64 headers.
 pub fn spans_of(text: &[u8], headers: &mut [HeaderSpan]) -> Option<RequestSpans>
     requires { length headers.old ≡ 64 }
     ensures found { IfSome result (λ spans. (h : RequestHead) × IsRequestText text.now h

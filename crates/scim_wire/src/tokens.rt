@@ -1,4 +1,4 @@
-//! The token that a request comes with (RFC 6750 section 2.1).
+//! The bearer token of a request (RFC 6750 section 2.1).
 ghost use Rattle.std.specs.Prelude.{◌≡◌, map, IfOk};
 ghost use Rattle.std.specs.Option.{option_copied};
 ghost use Rattle.scim_wire.specs.Headers.{header_parts, texts};
@@ -9,7 +9,7 @@ use crate::octets::Octets;
 use scim_text::NoMemory;
 use std::alloc::Global;
 
-/// What follows the scheme `Bearer` and one space; None where the value begins otherwise.
+/// Returns the bytes after the scheme `Bearer`, in any case, and one space; `None` for any other value.
 fn bearer(value: &[u8]) -> Option<&[u8]>
     ensures { option_copied result ≡ bearer value.now }
 {
@@ -24,7 +24,7 @@ fn bearer(value: &[u8]) -> Option<&[u8]>
     }
 }
 
-/// The token of the only value.
+/// Returns the bearer token of the value if there is exactly one.
 fn lone_bearer<'b>(values: &[&'b [u8]]) -> Option<&'b [u8]>
     ensures { option_copied result ≡ lone_bearer (texts values.now) }
 {
@@ -34,10 +34,9 @@ fn lone_bearer<'b>(values: &[&'b [u8]]) -> Option<&'b [u8]>
     }
 }
 
-/// The token of the only header `Authorization`; None where there is none, or another one beside it, or where its
-/// value isn't of the scheme `Bearer`.
+/// Returns the bearer token of the only header `Authorization`.
 ///
-/// The only error is [`NoMemory`].
+/// `None` if there is no such header or more than one, or if its scheme isn't `Bearer`.
 pub fn token_of(alloc: Global, headers: &[Header<'_>]) -> Result<Option<Octets>, NoMemory>
     ensures { IfOk result (λ token. token ≡ token_of (map header_parts headers.now)) }
 {

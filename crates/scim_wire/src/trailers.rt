@@ -1,17 +1,17 @@
-//! The trailers after the last chunk (RFC 9112 section 7.1.2).
+//! Reads the trailers after the last chunk (RFC 9112 section 7.1.2).
 ghost use Rattle.std.specs.Prelude.{◌≡◌, ◌↔◌, ℕ, List};
 ghost use Rattle.scim_wire.specs.Chunked.{AreTrailers};
 ghost use Rattle.scim_wire.specs.code.Trailers.{IsAfterFeed, IsRestAt, IsRestOfLines, IsRestOfName, IsRestOfValue, IsRest, IsFree, ByteLeads, GoesOn, Trails, least};
 
 use httparse::{is_header_name_token, is_header_value_token};
 
-/// The headers that there may be.
+/// The maximum number of headers in trailers.
 const MAX_HEADERS: u32 = 64;
 
-/// The bytes that they may have, with the empty line.
+/// The maximum length of trailers in bytes, with the empty line.
 const MAX_BYTES: u32 = 16_384;
 
-/// A place in trailers.
+/// A position in trailers.
 #[derive(Clone, Copy)]
 pub enum TrailerPlace {
     /// At the start of a line.
@@ -22,36 +22,36 @@ pub enum TrailerPlace {
     Name,
     /// In the value of a header.
     Value,
-    /// After the CR of a header.
+    /// After the CR at the end of a header.
     Return,
     /// After the empty line.
     End,
 }
 
-/// Trailers so far.
+/// The state of reading trailers.
 #[derive(Clone, Copy)]
 pub struct TrailerPart {
-    /// Where they have come to.
+    /// The current position.
     pub place: TrailerPlace,
-    /// How many more headers may begin.
+    /// The number of headers that may still begin.
     pub headers: u32,
-    /// How many more bytes may come.
+    /// The number of bytes that may still follow.
     pub bytes: u32,
 }
 
-/// What a byte makes of trailers.
+/// The result of reading one byte of trailers.
 #[derive(Clone, Copy)]
 pub enum Trailed {
-    /// More has to come.
+    /// The trailers aren't finished.
     More(TrailerPart),
-    /// They have ended.
+    /// The trailers are finished.
     Whole,
-    /// There are none that go on so.
+    /// No valid trailers continue with this byte.
     Bad,
 }
 
 impl TrailerPlace {
-    /// The least number of bytes that end the trailers.
+    /// Returns the smallest number of bytes that can finish the trailers from here.
     fn least(self) -> u32
         ensures { result ≡ least self }
     {
@@ -65,7 +65,7 @@ impl TrailerPlace {
 }
 
 impl TrailerPart {
-    /// Before the first byte.
+    /// Returns the state before the first byte of trailers.
     pub fn new() -> TrailerPart
         ensures rest { (text : List ℕ) → AreTrailers text ↔ IsRest result text }
         ensures goes_on { GoesOn result }
@@ -77,13 +77,14 @@ impl TrailerPart {
         }
     }
 
-    /// The same at another place.
+    /// Returns this state at another position.
     fn at(self, place: TrailerPlace) -> TrailerPart
         ensures { result ≡ record self { place = place } }
     {
         TrailerPart { place, ..self }
     }
 
+    /// Reads a byte at the start of a line.
     fn at_line_start(self, byte: u8) -> Option<TrailerPart>
         ensures { ByteLeads (IsRestOfLines self.headers) byte result }
     {
@@ -103,6 +104,7 @@ impl TrailerPart {
         })
     }
 
+    /// Reads a byte in the name of a header, after its first byte.
     fn in_name(self, byte: u8) -> Option<TrailerPart>
         ensures { ByteLeads (IsRestOfName self.headers) byte result }
     {
@@ -115,6 +117,7 @@ impl TrailerPart {
         None
     }
 
+    /// Reads a byte in the value of a header.
     fn in_value(self, byte: u8) -> Option<TrailerPart>
         ensures { ByteLeads (IsRestOfValue self.headers) byte result }
     {
@@ -130,7 +133,7 @@ impl TrailerPart {
         None
     }
 
-    /// The place after LF, which has to come.
+    /// Reads a line feed and moves to `place`; `None` for any other byte.
     fn at_feed(self, byte: u8, place: TrailerPlace) -> Option<TrailerPart>
         ensures { ByteLeads (IsAfterFeed (IsRestAt place self.headers)) byte result }
     {
@@ -140,7 +143,7 @@ impl TrailerPart {
         None
     }
 
-    /// What a byte makes of the place, whatever the length.
+    /// Returns the position after one byte, ignoring the limit of bytes; `None` if the byte is invalid here.
     fn step(self, byte: u8) -> Option<TrailerPart>
         ensures { ByteLeads (IsFree self) byte result }
     {
@@ -154,7 +157,7 @@ impl TrailerPart {
         }
     }
 
-    /// What one more byte makes of the trailers.
+    /// Reads one byte. `Bad` also if the trailers can't end within the limit of bytes.
     pub fn take(self, byte: u8) -> Trailed
         ensures { Trails self byte result }
     {

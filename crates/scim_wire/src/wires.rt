@@ -1,4 +1,4 @@
-//! The messages of a stream, in whatever pieces it comes.
+//! Reads requests from a stream that arrives in pieces.
 ghost use Rattle.std.specs.Prelude.{◌≡◌, ℕ, List, [], ◌++◌, IfOk, OnOk, OnErr, option_to_list};
 ghost use Rattle.scim_wire.specs.Wires.{IsShut, StandsFor};
 
@@ -8,17 +8,17 @@ use scim_text::{NoMemory, push};
 use std::alloc::Global;
 use std::mem;
 
-/// The reader of a stream of requests in HTTP/1.1 (RFC 9112). The stream may be cut into pieces in any way: what it
-/// gives doesn't depend on it, as [`crate::streams_are_read_in_one_way`] says. Requests may follow each other without
-/// waiting for replies. Empty lines before a request are dropped.
+/// A reader of a stream of HTTP/1.1 requests (RFC 9112).
 ///
-/// After a refusal a wire is shut, and so it is where memory was wanting: it drops all that comes, and gives nothing.
+/// The stream may be cut into pieces in any way without changing the result
+/// ([`crate::streams_are_read_in_one_way`]). Requests may be pipelined. Empty lines before a request are
+/// dropped. After a refusal or `NoMemory` the wire is shut: it drops all further bytes and returns no items.
 #[derive(Drop)]
 pub struct Wire {
     state: State,
 }
 
-/// Adds an item where there is one.
+/// Appends the item, if any.
 fn add(items: &mut Vec<Item>, item: Option<Item>) -> Result<(), NoMemory>
     ensures { OnOk result (items.new.items ≡ items.old.items ++ option_to_list item) }
 {
@@ -29,7 +29,7 @@ fn add(items: &mut Vec<Item>, item: Option<Item>) -> Result<(), NoMemory>
 }
 
 impl Wire {
-    /// A wire before the first byte of its stream.
+    /// Returns a wire before the first byte of its stream.
     pub fn new(alloc: Global) -> Wire
         ensures { StandsFor result [] [] }
     {
@@ -38,19 +38,22 @@ impl Wire {
         }
     }
 
-    /// Takes the next piece of the stream, and gives the items that it completes, in order. A body takes no more memory
-    /// than what has come of it, whatever length was announced.
+    /// Reads the next piece of the stream, and returns the items that it completes, in order.
     ///
-    /// The items are refused as:
+    /// A body allocates only for the bytes received, whatever length was announced.
     ///
-    /// - `BadHead`: 16,384 bytes without the end of a head, more than 66 line feeds or 64 headers in it, or what is no
-    ///   request line and headers (RFC 9112 sections 2 to 5);
-    /// - `TooLarge`: a `Content-Length` above 1,048,576, or chunks of more bytes together;
-    /// - `BadFraming`: a `Content-Length` that is no number, or one beside another or beside a `Transfer-Encoding`, or
-    ///   two of these (RFC 9112 section 6.3); or a body that isn't chunked, as [`crate::BadChunks`] says;
-    /// - `UnknownCoding`: a transfer coding that isn't `chunked` (RFC 9112 section 7).
+    /// Invalid requests are refused as:
     ///
-    /// Of several causes the first counts. The only error is [`NoMemory`].
+    /// - `BadHead`: 16,384 bytes without the end of a head, more than 66 line feeds or 64 headers in it, or
+    ///   no valid request line and headers (RFC 9112 sections 2 to 5);
+    /// - `TooLarge`: a `Content-Length` above 1,048,576, or chunks with more bytes together;
+    /// - `BadFraming`: a `Content-Length` that isn't a number, several `Content-Length` or
+    ///   `Transfer-Encoding` headers (RFC 9112 section 6.3), or an invalid chunked body
+    ///   ([`crate::BadChunks`]);
+    /// - `UnknownCoding`: a transfer coding other than `chunked` (RFC 9112 section 7).
+    ///
+    /// Of several causes in one head the first in this list applies. After `NoMemory` the items of this piece
+    /// are lost.
     pub fn feed(&mut self, alloc: Global, piece: &[u8]) -> Result<Vec<Item>, NoMemory>
         ensures items { (stream : List ℕ) (items : List Item) → StandsFor self.old stream items
             → IfOk result (λ new. StandsFor self.new (stream ++ piece.now) (items ++ new.items)) }

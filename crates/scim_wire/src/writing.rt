@@ -1,4 +1,4 @@
-//! Writing to a stream.
+//! Writes a text to a stream.
 ghost use Rattle.std.specs.Prelude.{OnOk, OnErr};
 ghost use Rattle.std.specs.Io.KnownBytes.{Appends};
 ghost use Rattle.scim_wire.specs.Streams.{AppendsFront};
@@ -6,11 +6,11 @@ ghost use Rattle.scim_wire.specs.Streams.{AppendsFront};
 use std::io;
 use std::io::{ErrorKind, Write};
 
-/// Writes the text, and nothing else. A write that a signal interrupted is tried again, no other.
+/// Writes the whole text and nothing else. Doesn't flush the writer.
 ///
-/// The error is that of the write that failed, or [`ErrorKind::WriteZero`] where the writer takes no byte
-/// more. Then a front of the text has been written, perhaps none or all of it, and nothing else. The writer
-/// isn't flushed.
+/// Repeats a write that a signal interrupted. Returns the error of any other failed write, or
+/// [`ErrorKind::WriteZero`] if the writer accepts no more bytes. After an error a prefix of the text has been
+/// written, perhaps empty or whole, and nothing else.
 pub fn write_text<W: Write>(text: &str, writer: &mut W) -> io::Result<()>
     ensures whole { OnOk result (Appends (W.contents writer.old) (W.contents writer.new) text.now) }
     ensures front { OnErr result (AppendsFront (W.contents writer.old) (W.contents writer.new) text.now) }

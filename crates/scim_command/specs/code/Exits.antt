@@ -1,4 +1,4 @@
--- How functions end: the faults that they may answer, and the text that is written.
+-- The faults of the functions of `once` and `check`, and the text of a reply.
 use Rattle.std.specs.Prelude.{ℕ, false, List, Result, Ok, Err, String, string_bytes}
 use Rattle.std.specs.declared.alloc.Global.{Global}
 use Rattle.scim_text.specs.declared.memory.NoMemory.{NoMemory}
@@ -8,23 +8,23 @@ use Rattle.scim_command.specs.Faults.{IsOfUsers}
 use Rattle.scim_audit.specs.declared.refusals.Refusal.TheVariants.{Store}
 use Rattle.scim_exchange.specs.Replies.{refusal_text}
 
--- a fault of the input
+-- the fault is of the input
 abbrev pub IsOfInput : RunFault → Type 0
 IsOfInput InputEnded = Unit {0}
 IsOfInput InputFailed = Unit {0}
 IsOfInput _ = ⊥
 
--- the text of a reply, or that of want of memory
+-- the text of the reply, or of the refusal `Store` for `NoMemory`
 abbrev pub text_or_store : Result (String Global) NoMemory → List ℕ
 text_or_store (Ok t) = string_bytes t
 text_or_store (Err e) = refusal_text Store false
 
--- a fault of a file, or want of memory
+-- the fault is of the policy file or the users file, or `NoMemory`
 abbrev pub IsOfFiles : RunFault → Type 0
 IsOfFiles (Policy rule cause) = Unit {0}
 IsOfFiles f = IsOfUsers f
 
--- a fault of the policy file, or want of memory
+-- the fault is of the policy file, or `NoMemory`
 abbrev pub IsOfPolicy : RunFault → Type 0
 IsOfPolicy (Policy rule cause) = Unit {0}
 IsOfPolicy WantOfMemory = Unit {0}

@@ -1,4 +1,4 @@
--- What the readers of a line find.
+-- The results of functions that parse a part of a line.
 use Rattle.std.specs.Prelude.{◌≡◌, ℕ, List, Option, None, Some}
 use Rattle.scim_hub.specs.declared.events.Stamp.{Stamp}
 use Rattle.scim_hub.specs.Events.{Happened}
@@ -6,29 +6,30 @@ use Rattle.scim_command.specs.declared.event_lines.Change.{Change}
 use Rattle.scim_command.specs.EventFiles.{IsNumberText, IsMomentText, IsTextOfId, Tells}
 use Rattle.scim_hub.specs.Halls.{kept_happened}
 
--- what was found stands for something of which this holds; or it holds of nothing
+-- the value found has the property P, or P holds of no value
 abbrev pub Finds : {T X : Type 0} → (T → X) → (X → Type 0) → Option T → Type 0
 Finds view P (Some t) = P (view t)
 Finds view P None = (x : _) → ¬ (P x)
 
--- the texts of a moment and of an id say a stamp
+-- the texts are the time and the first id of the stamp
 pub record IsStampText (moment first : List ℕ) (stamp : Stamp) : Type 0 where
   pub moment_is : IsMomentText moment stamp.moment
   pub first_is : IsTextOfId first stamp.first
 
--- what happened to the connection of a number
+-- an occurrence on the connection with a number
 pub record Happening : Type 0 where
   pub connection : ℕ
   pub happened : Happened
 
+-- the occurrence of the program's value
 abbrev pub happening_of : Change → Happening
 happening_of c = record { connection = c.connection; happened = kept_happened c.happened }
 
--- a word and the text behind it tell what happened
+-- the name and the text after it write the occurrence
 abbrev pub IsToldBy : List ℕ → List ℕ → Happening → Type 0
 IsToldBy name text h = Tells name text h.connection h.happened
 
--- it happened to the connection whose number the text is
+-- this occurred on the connection whose number is the text
 pub record IsAlone (happened : Happened) (text : List ℕ) (h : Happening) : Type 0 where
   pub same : h.happened ≡ happened
   pub number : IsNumberText text h.connection

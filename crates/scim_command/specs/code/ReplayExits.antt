@@ -1,4 +1,4 @@
--- How the functions of `replay` end.
+-- The faults of the functions of `replay`, and the hub that it makes.
 use Rattle.std.specs.Prelude.{◌≡◌, List, [], Ok}
 use Rattle.std.specs.Str.Lines.{lines}
 use Rattle.scim_policy_file.specs.File.{policy_of}
@@ -13,13 +13,13 @@ use Rattle.scim_command.specs.declared.faults.RunFault.{RunFault}
 use Rattle.scim_command.specs.declared.faults.RunFault.TheVariants.{Policy, Users, Tokens, Events, NoMemory}
 use Rattle.scim_command.specs.declared.replays.Recording.{Recording}
 
--- a fault of the token file, or want of memory
+-- the fault is of the token file, or `NoMemory`
 abbrev pub IsOfTokens : RunFault → Type 0
 IsOfTokens (Tokens n) = Unit {0}
 IsOfTokens NoMemory = Unit {0}
 IsOfTokens _ = ⊥
 
--- a fault of the policy file, the token file or the users file, or want of memory
+-- the fault is of the policy, token or users file, or `NoMemory`
 abbrev pub IsOfFiles : RunFault → Type 0
 IsOfFiles (Policy rule cause) = Unit {0}
 IsOfFiles (Users n) = Unit {0}
@@ -27,18 +27,18 @@ IsOfFiles (Tokens n) = Unit {0}
 IsOfFiles NoMemory = Unit {0}
 IsOfFiles _ = ⊥
 
--- a fault of the events file, or want of memory
+-- the fault is of the events file, or `NoMemory`
 abbrev pub IsOfEvents : RunFault → Type 0
 IsOfEvents (Events n) = Unit {0}
 IsOfEvents NoMemory = Unit {0}
 IsOfEvents _ = ⊥
 
--- a fault of one of the files, or want of memory
+-- the fault is of any of the files, or `NoMemory`
 abbrev pub IsReplayFault : RunFault → Type 0
 IsReplayFault (Events n) = Unit {0}
 IsReplayFault fault = IsOfFiles fault
 
--- a hub without connections, by the policy, over what the users file holds, for the clients that have the tokens
+-- the hub has no connections, and the policy, the resources and the tokens of the recording's files
 pub record IsHubOver {H : Type 0} (Stands : H → Store → Type 0) (r : Recording) (hub : Hub H) : Type 0 where
   pub store : Store
   pub holds : IsStoreOf r.base.now r.users.now store

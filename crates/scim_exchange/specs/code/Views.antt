@@ -1,4 +1,4 @@
--- What the code's own types say, in the words of the definitions.
+-- The values of the program's types as values of the definitions.
 use Rattle.std.specs.Prelude.{◌≡◌, ℕ, List, map, Option, None, Result}
 use Rattle.std.specs.Global.{Vec}
 use denote.Ref.{Bor}
@@ -11,18 +11,18 @@ use Rattle.scim_exchange.specs.declared.searches.Settings.{Settings as SettingsI
 use Rattle.scim_exchange.specs.AttributeLists.{Lists}
 use Rattle.scim_exchange.specs.Searches.{Settings}
 
--- the texts that are held
+-- the texts in a vector
 abbrev pub texts_in : Vec (Bor (List ℕ)) → List (List ℕ)
 texts_in v = map (λ text. text.now) v.items
 
--- the attribute lists
+-- the attribute lists of the program's value
 abbrev pub lists_in : AttributeLists → Lists
 lists_in lists = record { attributes = texts_in lists.attributes; excluded = texts_in lists.excluded }
 
--- what a search says besides its filter
+-- the settings of the program's value
 abbrev pub settings_in : SettingsInCode → Settings
 settings_in settings = record { lists = lists_in settings.lists; arrangement = settings.arrangement }
 
--- a fault is MessageValue, where a value is refused
+-- a refusal in the result is `MessageValue`, and the expected value doesn't exist
 abbrev pub IsWrong : {X Y : Type 0} → Option X → Result Y (Failed Refusal) → Type 0
 IsWrong read result = IfFault result (λ refusal. (refusal ≡ MessageValue) × (read ≡ None))

@@ -1,4 +1,4 @@
--- How the functions that serve a stream end.
+-- The results of functions that serve a stream.
 use Rattle.std.specs.Prelude.{◌≡◌, ℕ, List, Option, Result, IfOk}
 use Rattle.scim_policy.specs.Rules.{Rule}
 use Rattle.scim_token.specs.TokenFile.{Entry}
@@ -8,7 +8,7 @@ use Rattle.scim_hub.specs.declared.streams.Written.{Written}
 use Rattle.scim_hub.specs.Events.{Hall}
 use Rattle.scim_hub.specs.Streams.{Turn, AreServed, is_shut, replies_of}
 
--- a piece was served in a turn, or there was no stamp for it; and this was written
+-- the piece was served in one turn, or in none without a stamp, and the result counts its replies
 pub record IsPieceServed (policy : List Rule) (base : List ℕ) (entries : List Entry) (n : ℕ) (hall next : Hall) (piece : List ℕ)
     (given given_then : Option (List Stamp)) (contents contents_then : Option (List ℕ)) (result : Result Written IoFault) : Type 0 where
   pub turns : List Turn

@@ -1,4 +1,4 @@
--- That what was written and what waits are what is due.
+-- The bytes written to and pending for connections, compared with those due.
 use Rattle.std.specs.Prelude.{◌≡◌, ◌≤◌, ℕ, List, [], ◌++◌, Option, None, Some, Result}
 use Rattle.scim_hub.specs.declared.events.HubFault.{HubFault}
 use Rattle.scim_hub.specs.Events.{Deed}
@@ -6,27 +6,27 @@ use Rattle.scim_serve.specs.declared.waiting.Waiting.{Waiting}
 use Rattle.scim_serve.specs.Serving.{IsFront, due_for}
 use Rattle.scim_serve.specs.code.Waiting.{waiting_for}
 
--- what was written to a connection and what waits for it are what is due to it; where it isn't written to any more, what was written
--- is the first of it
+-- the bytes written and the pending ones are those due; without pending bytes, those written are a prefix of
+-- those due
 abbrev pub Fits : Option (List ℕ) → List ℕ → List ℕ → Type 0
 Fits None written due = IsFront written due
 Fits (Some rest) written due = written ++ rest ≡ due
 
--- that fits for each, and nothing is due to connections whose numbers weren't had
+-- the bytes of every connection fit those due, and no bytes are due to numbers from `next` on
 pub record IsLevel (written : ℕ → List ℕ) (waiting : Waiting) (due : ℕ → List ℕ) : Type 0 where
   pub fits : (m : ℕ) → Fits (waiting_for waiting m) (written m) (due m)
   pub fresh : (m : ℕ) → waiting.next ≤ m → due m ≡ []
 
--- what fitted fits, whatever is due
+-- bytes that fit any due bytes still fit them afterwards
 abbrev pub Keeps : (ℕ → List ℕ) → Waiting → (ℕ → List ℕ) → Waiting → Type 0
 Keeps written waiting written_then waiting_then =
     (m : ℕ) (due : List ℕ) → Fits (waiting_for waiting m) (written m) due → Fits (waiting_for waiting_then m) (written_then m) due
 
--- what fitted fits with more that is due
+-- bytes that fit any due bytes fit them with `more` appended afterwards
 abbrev pub Grows : (ℕ → List ℕ) → (ℕ → List ℕ) → Waiting → (ℕ → List ℕ) → Waiting → Type 0
 Grows more written waiting written_then waiting_then =
     (m : ℕ) (due : List ℕ) → Fits (waiting_for waiting m) (written m) due → Fits (waiting_for waiting_then m) (written_then m) (due ++ more m)
 
--- an event of the connection of a number writes to no other
+-- the result of an event of connection n writes to no other connection
 abbrev pub IsOnlyTo : ℕ → Result (List Deed) HubFault → Type 0
 IsOnlyTo n result = (m : ℕ) → (n ≡ m → ⊥) → due_for m result ≡ []

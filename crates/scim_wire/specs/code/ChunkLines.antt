@@ -1,8 +1,8 @@
--- The room that is left for a chunk line.
+-- The room for the end of a chunk line within its limit.
 use Rattle.std.specs.Prelude.{◌≡◌, ℕ, ◌+◌, ◌<◌, ◌≤◌, ◌⊎◌, List, [], ◌∷◌, ◌++◌, length}
 use Rattle.httparse.specs.Ascii.{carriage_return}
 
--- CR LF fits, or LF does and a CR has come
+-- CR LF fits after the line, or LF fits and the line ends with CR
 abbrev pub HasRoom : List ℕ → Type 0
 HasRoom line =
     (length line + 2 ≤ 1024)

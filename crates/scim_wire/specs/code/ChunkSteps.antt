@@ -1,4 +1,4 @@
--- Where the bytes of a chunked body end, and what is kept of them there.
+-- The positions in a chunked body, and the state that is kept at each.
 use Rattle.std.specs.Prelude.{◌≡◌, ℕ, ◌+◌, ◌<◌, ◌≤◌, ◌↔◌, List, [], ◌∷◌, ◌++◌, length}
 use Rattle.httparse.specs.Ascii.{carriage_return}
 use Rattle.scim_wire.specs.declared.trailers.TrailerPart.{TrailerPart}
@@ -8,7 +8,7 @@ use Rattle.scim_wire.specs.Fronts.{IsFrontOf}
 use Rattle.scim_wire.specs.Chunked.{IsLine, IsLineOf, AreTrailers, HasChunks, most_content}
 use Rattle.scim_wire.specs.code.Trailers.{IsRest, GoesOn}
 
--- the bytes end in the data of a chunk, of which so much is left, and what has come after it
+-- the bytes end in a chunk's data of which `left` bytes are missing, followed by the bytes `after`
 pub record IsInData (bytes body : List ℕ) (left : ℕ) (after : List ℕ) : Type 0 where
   pub before : List ℕ
   pub line : List ℕ
@@ -19,7 +19,7 @@ pub record IsInData (bytes body : List ℕ) (left : ℕ) (after : List ℕ) : Ty
   pub some : 0 < length now_held + left
   pub within : length before + (length now_held + left) ≤ most_content
 
--- the bytes end in trailers, and what is kept tells what may follow
+-- the bytes end in trailers, and the part describes exactly what may follow
 pub record IsInTrailers (bytes body : List ℕ) (part : TrailerPart) : Type 0 where
   pub line : List ℕ
   pub text : List ℕ
@@ -28,7 +28,7 @@ pub record IsInTrailers (bytes body : List ℕ) (part : TrailerPart) : Type 0 wh
   pub rest : (more : List ℕ) → AreTrailers (text ++ more) ↔ IsRest part more
   pub goes_on : GoesOn part
 
--- the bytes end at this place, and have given this content and this line
+-- the bytes end at this position, with this content read and this chunk line begun
 abbrev pub StandsAt : Place → List ℕ → List ℕ → List ℕ → Type 0
 StandsAt Line body line bytes = HasChunks bytes body line × IsFrontOf IsLine line
 StandsAt (Data left) body line bytes = IsInData bytes body left []

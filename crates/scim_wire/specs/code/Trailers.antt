@@ -1,4 +1,4 @@
--- What may still follow in trailers, by the place in them.
+-- The bytes that may follow in trailers, by the position in them.
 use Rattle.std.specs.Prelude.{◌≡◌, ℕ, ◌≤◌, ◌↔◌, List, [], ◌∷◌, ◌++◌, length, Option, Some, None}
 use Rattle.httparse.specs.Ascii.{line_feed, colon}
 use Rattle.httparse.specs.Grammar.{is_token_byte, is_value_byte, AllPass, LineEnd, print_end, Field, ReadsSection}
@@ -8,26 +8,26 @@ use Rattle.scim_wire.specs.declared.trailers.TrailerPart.{TrailerPart}
 use Rattle.scim_wire.specs.declared.trailers.Trailed.{Trailed}
 use Rattle.scim_wire.specs.declared.trailers.Trailed.TheVariants as trailed
 
--- at most so many headers, and the empty line
+-- the text is at most `most` headers and the empty line
 abbrev pub IsRestOfLines : ℕ → List ℕ → Type 0
 IsRestOfLines most text = (fields : List Field) × (last : LineEnd) × ReadsSection text fields last [] × (length fields ≤ most)
 
--- the rest of a value, the end of its line, and further lines
+-- the text is the rest of a header's value, the end of its line, and further lines
 abbrev pub IsRestOfValue : ℕ → List ℕ → Type 0
 IsRestOfValue most text =
     (raw : List ℕ) × (end : LineEnd) × (lines : List ℕ)
     × AllPass is_value_byte raw × IsRestOfLines most lines × (text ≡ raw ++ (print_end end ++ lines))
 
--- the rest of a name, the colon and a value, and further lines
+-- the text is the rest of a header's name, the colon, a value, and further lines
 abbrev pub IsRestOfName : ℕ → List ℕ → Type 0
 IsRestOfName most text =
     (name : List ℕ) × (after : List ℕ) × AllPass is_token_byte name × IsRestOfValue most after × (text ≡ name ++ colon ∷ after)
 
--- LF, and then such a text
+-- the text is LF and a text with this property
 abbrev pub IsAfterFeed : (List ℕ → Type 0) → List ℕ → Type 0
 IsAfterFeed Is text = (after : List ℕ) × Is after × (text ≡ line_feed ∷ after)
 
--- what follows at this place, with so many more headers
+-- the text may follow at this position, with at most `most` more headers
 abbrev pub IsRestAt : TrailerPlace → ℕ → List ℕ → Type 0
 IsRestAt LineStart most text = IsRestOfLines most text
 IsRestAt EmptyReturn most text = IsAfterFeed (λ after. after ≡ []) text
@@ -36,7 +36,7 @@ IsRestAt Value most text = IsRestOfValue most text
 IsRestAt Return most text = IsAfterFeed (IsRestOfLines most) text
 IsRestAt End most text = text ≡ []
 
--- the least length of what follows
+-- the smallest length of a text that may follow at this position
 abbrev pub least : TrailerPlace → ℕ
 least LineStart = 1
 least EmptyReturn = 1
@@ -45,24 +45,25 @@ least Value = 2
 least Return = 2
 least End = 0
 
--- what follows, by what is kept, whatever its length
+-- the text may follow the part, ignoring the limit of bytes
 abbrev pub IsFree : TrailerPart → List ℕ → Type 0
 IsFree part text = IsRestAt part.place part.headers text
 
--- what follows, within the limit
+-- the text may follow the part, within the limit of bytes
 abbrev pub IsRest : TrailerPart → List ℕ → Type 0
 IsRest part text = IsFree part text × (length text ≤ part.bytes)
 
--- where a byte leads from what such a text follows
+-- after the byte the part is `next`: it has the continuations of the texts that begin with the byte, or no
+-- text begins with it
 abbrev pub ByteLeads : (List ℕ → Type 0) → ℕ → Option TrailerPart → Type 0
 ByteLeads Is byte None = (text : List ℕ) → ¬ (Is (byte ∷ text))
 ByteLeads Is byte (Some next) = (text : List ℕ) → Is (byte ∷ text) ↔ IsFree next text
 
--- something is to come
+-- a text of at least one byte may follow the part
 abbrev pub GoesOn : TrailerPart → Type 0
 GoesOn part = (next : ℕ) × (more : List ℕ) × IsRest part (next ∷ more)
 
--- what a byte makes of the trailers
+-- the result of reading one byte of trailers: invalid, finished, or the next part
 abbrev pub Trails : TrailerPart → ℕ → Trailed → Type 0
 Trails part byte trailed.Bad = (text : List ℕ) → ¬ (IsRest part (byte ∷ text))
 Trails part byte trailed.Whole = IsRest part (byte ∷ [])

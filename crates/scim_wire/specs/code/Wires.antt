@@ -1,4 +1,4 @@
--- What is kept of a stream, and what a byte makes of it.
+-- The state of reading a stream, and the results of its next byte.
 use Rattle.std.specs.Prelude.{◌≡◌, ℕ, ◌+◌, ◌<◌, List, [], ◌∷◌, ◌++◌, length, Option, Some, None, Ok}
 use Rattle.scim_wire.specs.ChunkParts as chunks
 use Rattle.scim_wire.specs.declared.framings.Framing.TheVariants.{Sized, Chunked}
@@ -12,27 +12,27 @@ use Rattle.scim_wire.specs.declared.states.State.TheVariants as state
 use Rattle.scim_wire.specs.Messages.{OpensSaying, announced, IsMessage, LeavesRefused}
 use Rattle.scim_wire.specs.code.Steps.{HoldsHead}
 
--- what is kept of a body after these bytes
+-- the part is the state of an unfinished body of known length after these bytes
 pub record HoldsBody (part : BodyPart) (bytes : List ℕ) : Type 0 where
   pub opens : OpensSaying bytes (Ok part.head) part.body.items
   pub sized : part.head.framing ≡ Sized (length part.body.items + part.left)
   pub more : 0 < part.left
 
--- what is kept of a chunked body after these bytes
+-- the part is the state of an unfinished chunked body after these bytes
 pub record HoldsChunks (part : ChunksPart) (bytes : List ℕ) : Type 0 where
   pub after : List ℕ
   pub opens : OpensSaying bytes (Ok part.head) after
   pub chunked : part.head.framing ≡ Chunked
   pub stands : chunks.StandsFor part.chunks after
 
--- the bytes after the last whole message bring the stream here, and gave these items
+-- the state is reached by these bytes after the last whole message, which gave these items
 abbrev pub StandsAt : State → List ℕ → List Item → Type 0
 StandsAt (state.Opening part) bytes items = HoldsHead part bytes × (items ≡ [])
 StandsAt (state.InBody part) bytes items = HoldsBody part bytes × (items ≡ announced part.head)
 StandsAt (state.InChunks part) bytes items = HoldsChunks part bytes × (items ≡ announced part.head)
 StandsAt state.Shut bytes items = LeavesRefused bytes items
 
--- the bytes bring the stream there, with one more item or none
+-- the bytes lead to this state and give one more item or none
 abbrev pub Steps : State → Option Item → List ℕ → List Item → Type 0
 Steps next None bytes items = StandsAt next bytes items
 Steps next (Some Continue) bytes items = StandsAt next bytes (items ++ Continue ∷ [])
