@@ -1,4 +1,4 @@
--- When what a body gives of a unit is what a part has there, both read by the rules of bodies.
+-- Whether a body gives the values of a unit that a part has, both read by the rules of bodies.
 use Rattle.std.specs.Prelude.{Bool, false, ◌&&◌, List, [], if◌then◌else◌}
 use Rattle.std.specs.Cmp.Lexicographic.{pointwise}
 use Rattle.scim_schema.specs.declared.Kind.{Kind}
@@ -10,14 +10,15 @@ use Rattle.scim_cell.specs.Rows.{Row, rows, values}
 use Rattle.scim_cell.specs.SameValues.{with_values}
 use Rattle.scim_body.specs.Drafts.{Draft, gives}
 
--- what a body with these values of a unit would give of it: nothing of a readOnly unit, and else each value once
+-- the values that a body with these values would give for a unit: each once, and none if the unit is readOnly
 abbrev pub as_given : Kind → AttributeUnit → List Row → List Row
 as_given kind u vs = if is_fixed kind u then [] else with_values u.attribute [] vs
 
--- whether two lists of values are the same, one by one
+-- whether two lists of values are equal, element by element
 abbrev pub are_same_values : List Row → List Row → Bool
 are_same_values = pointwise is_same_row
 
--- whether the draft has of the unit what the part has; what is writeOnly can't be compared, so what a body gives of it never agrees
+-- whether the draft has the values of the unit that the part has; false if the body gives a writeOnly unit,
+-- which can't be compared
 unfoldable pub agrees : Draft → AttributeUnit → Content → Bool
 agrees d u c = if is_secret d.kind u && gives d u then false else are_same_values (values u d.rows) (as_given d.kind u (values u (rows c)))

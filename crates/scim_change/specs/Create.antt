@@ -1,4 +1,4 @@
--- What a new resource is (RFC 7644 section 3.3).
+-- The resource that a draft creates (RFC 7644 section 3.3).
 use Rattle.std.specs.Prelude.{ℕ, List, [], ◌∷◌, ◌++◌}
 use Rattle.scim_schema.specs.declared.Kind.{Kind}
 use Rattle.scim_schema.specs.declared.Leaf.{Leaf}
@@ -19,23 +19,24 @@ use Rattle.scim_body.specs.Drafts.{Draft}
 abbrev pub row_of : Leaf → Atom → Row
 row_of l atom = record { unit = unit_of l; fields = record { leaf = l; atom = atom } ∷ [] }
 
--- the row of a sub-attribute of `meta`
+-- the value of a sub-attribute of `meta`
 abbrev pub meta_row : SubAttribute → Atom → Row
 meta_row b atom = row_of (leaf_at Meta b) atom
 
--- `id` of the resource (RFC 7643 section 3.1)
+-- the value of `id` (RFC 7643 section 3.1)
 abbrev pub id_row : List ℕ → Row
 id_row id = row_of (simple Id) (Text (id_text id))
 
--- its `meta`: made and last modified at the moment, and found below the base (RFC 7643 section 3.1)
+-- the values of `meta` of a resource that is created at the moment, located below the base (RFC 7643 section
+-- 3.1)
 abbrev pub meta_rows : Kind → List ℕ → ℕ → List ℕ → List Row
 meta_rows kind id moment base =
     meta_row ResourceType (Text (kind_name kind)) ∷ meta_row Created (Moment moment) ∷ meta_row LastModified (Moment moment) ∷ meta_row Location (Text (location base kind id)) ∷ []
 
--- the rows of the resource: `id` comes first in the order of units, and `meta` last
+-- the rows of the created resource, in the order of units: `id`, the draft's values, and `meta`
 abbrev pub created_rows : Draft → List ℕ → ℕ → List ℕ → List Row
 created_rows d id moment base = id_row id ∷ (d.rows ++ meta_rows d.kind id moment base)
 
--- the resource that a draft makes
+-- the resource that a draft creates
 unfoldable pub created : Draft → List ℕ → ℕ → List ℕ → Content
 created d id moment base = content d.kind id (created_rows d id moment base)

@@ -1,4 +1,4 @@
--- What the outcome of a replacing rests on.
+-- The theorem that the outcome of replacing depends only on the units that are replaced.
 use Rattle.std.specs.Prelude.{◌≡◌, ◌≢◌, ℕ, Bool, List, [], ◌∷◌, Option, None, Some, All, if◌then◌else◌}
 use Rattle.scim_schema.specs.declared.Unit.{Unit as AttributeUnit}
 use Rattle.scim_schema.specs.declared.Attribute.TheVariants.{Meta}
@@ -12,39 +12,42 @@ use Rattle.scim_body.specs.Drafts.{Draft, IsDraft}
 use Rattle.scim_change.specs.Create.{meta_row}
 use Rattle.scim_change.specs.Replace.{changes, replaced}
 
--- two resources have the same values of each of these units
+-- two resources have equal values of each of these units
 abbrev pub AgreeAt : List AttributeUnit → Content → Content → Type 0
 AgreeAt us a b = All (λ u. values u (rows a) ≡ values u (rows b)) us
 
--- a unit that is none of these, nor `meta.lastModified`
+-- a unit is none of these, nor `meta.lastModified`
 pub record IsApart (us : List AttributeUnit) (v : AttributeUnit) : Type 0 where
   pub none : All (λ u. u ≢ v) us
   pub unstamped : unit_of (leaf_at Meta LastModified) ≢ v
 
--- the resource has after the replacing what it had, but at the units and at `meta.lastModified`
+-- after the change the resource has the values of before, except at the units and at `meta.lastModified`
 abbrev pub Stays : List AttributeUnit → Content → Content → Type 0
 Stays us before after = (v : AttributeUnit) → IsApart us v → values v (rows after) ≡ values v (rows before)
 
--- where something changed, `meta.lastModified` is the moment afterwards; else it is what it was (RFC 7643 section 3.1)
+-- after the change `meta.lastModified` is the moment if something changed, otherwise what it was (RFC 7643
+-- section 3.1)
 abbrev pub IsStamped : Bool → ℕ → Content → Content → Type 0
 IsStamped changed moment before after =
     values (unit_of (leaf_at Meta LastModified)) (rows after)
     ≡ (if changed then meta_row LastModified (Moment moment) ∷ [] else values (unit_of (leaf_at Meta LastModified)) (rows before))
 
--- what a change of the units at the moment leaves of a resource: its kind and its id, all else that it had, and `meta.lastModified` as it has to be
+-- a change of the units at the moment keeps a resource's kind, id and other values, and stamps
+-- `meta.lastModified`
 pub record IsLeft (us : List AttributeUnit) (changed : Bool) (moment : ℕ) (before after : Content) : Type 0 where
   pub kind : after.kind ≡ before.kind
   pub id : after.id ≡ before.id
   pub stays : Stays us before after
   pub modified : IsStamped changed moment before after
 
--- two outcomes are alike: both are refused, or both have the same values of the units, and keep all others of their own
+-- two outcomes are alike: both are refused, or both have equal values of the units and keep their other
+-- values
 abbrev pub AreAlike : List AttributeUnit → Bool → ℕ → Content → Content → Option Content → Option Content → Type 0
 AreAlike us changed moment a b None None = Unit {0}
 AreAlike us changed moment a b (Some x) (Some y) = AgreeAt us x y × IsLeft us changed moment a x × IsLeft us changed moment b y
 AreAlike us changed moment a b _ _ = ⊥
 
--- what becomes of a resource at the units that are replaced rests on what it has there: from two resources that agree there come alike outcomes, and `meta.lastModified` moves in both or in neither
+-- replacing the units of two resources with equal values there has alike outcomes, and changes both or none
 abbrev pub ReplacingRestsOnItsUnits : Type 0
 ReplacingRestsOnItsUnits =
     (d : Draft) (us : List AttributeUnit) (moment : ℕ) (a b : Content)

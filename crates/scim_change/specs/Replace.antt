@@ -1,4 +1,4 @@
--- What becomes of a resource that is replaced by what a draft gives (RFC 7644 section 3.5.1).
+-- The resource that results from replacing units by a draft (RFC 7644 section 3.5.1).
 use Rattle.std.specs.Prelude.{ℕ, Bool, not, ◌&&◌, ◌||◌, List, [], ◌∷◌, Option, None, Some, if◌then◌else◌}
 use Rattle.std.specs.List.{list_any}
 use Rattle.scim_schema.specs.declared.Unit.{Unit as AttributeUnit}
@@ -13,27 +13,28 @@ use Rattle.scim_change.specs.Agreement.{are_same_values}
 use Rattle.scim_body.specs.Drafts.{Draft, gives, lacks_required}
 use Rattle.scim_change.specs.Create.{meta_row}
 
--- rows with the draft's values of each of these units, in place of their own; of a unit that the draft lacks nothing is left
+-- the rows with the draft's values of each of these units; a unit without values in the draft is cleared
 abbrev pub with_units : Draft → List AttributeUnit → List Row → List Row
 with_units d [] rs = rs
 with_units d (u ∷ us) rs = with_units d us (put_values u (values u d.rows) rs)
 
--- whether the draft has other values of a unit, or writes it without its being kept: one that is writeOnly and that the body gives
+-- whether the draft has other values of a unit than the rows, or gives the unit and it is writeOnly
 abbrev pub changes_unit : Draft → List Row → AttributeUnit → Bool
 changes_unit d rs u = not (are_same_values (values u rs) (values u d.rows)) || (is_secret d.kind u && gives d u)
 
--- whether it does so at one of these units
+-- whether the draft changes the rows at any of these units
 abbrev pub changes : Draft → List AttributeUnit → List Row → Bool
 changes d us rs = list_any (changes_unit d rs) us
 
--- rows of what was last modified at the moment (RFC 7643 section 3.1)
+-- the rows with `meta.lastModified` set to the moment (RFC 7643 section 3.1)
 abbrev pub modified_at : ℕ → List Row → List Row
 modified_at moment rs = put_values (unit_of (leaf_at Meta LastModified)) (meta_row LastModified (Moment moment) ∷ []) rs
 
--- what has these rows, unless they are without what the kind requires
+-- the content with these rows, modified at the moment; None if a required attribute is missing
 abbrev pub if_complete : ℕ → Content → List Row → Option Content
 if_complete moment c rs = if lacks_required c.kind rs then None else Some (content c.kind c.id (modified_at moment rs))
 
--- the resource with the draft's values of these units, modified at the moment, or, where that changes nothing, as it was; none, where a required attribute would be missing
+-- the resource with its values of these units replaced by the draft's at the moment, or unchanged if nothing
+-- differs; None if a required attribute would be missing
 unfoldable pub replaced : Draft → List AttributeUnit → ℕ → Content → Option Content
 replaced d us moment c = if changes d us (rows c) then if_complete moment c (with_units d us (rows c)) else Some c

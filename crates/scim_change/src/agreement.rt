@@ -1,4 +1,4 @@
-//! When what a body gives of a unit is what a part has there.
+//! Whether the values that a body gives for a unit are those that a part has.
 ghost use Rattle.std.specs.Prelude.{◌≡◌, IfOk};
 ghost use Rattle.scim_change.specs.Agreement as spec;
 
@@ -9,11 +9,9 @@ use scim_text::NoMemory;
 use scim_value::{Part, copy_rows};
 use std::alloc::Global;
 
-/// Whether the body has of the unit what the part has there, both read by the rules of bodies: of values that are
-/// the same the first counts.
-///
-/// What is writeOnly (RFC 7643 section 2.2) can't be compared: where the body gives it, it never agrees. NoMemory
-/// where none was to be had.
+/// Whether the body gives the unit the values that the part has there.
+/// Both are read by the rules of bodies: of equal values only the first counts. A writeOnly unit (RFC 7643
+/// section 2.2) can't be compared, so it never agrees if the body gives it.
 #[tactic(auto, unfolding(crate::specs::Agreement::agrees))]
 pub fn agrees(alloc: Global, draft: &Draft, unit: Unit, part: &Part) -> Result<bool, NoMemory>
     ensures { IfOk result (λ b. b ≡ spec.agrees draft.now unit part.now) }
@@ -26,8 +24,8 @@ pub fn agrees(alloc: Global, draft: &Draft, unit: Unit, part: &Part) -> Result<b
     Ok(draft.values(unit) == expected.as_slice())
 }
 
-/// What a body with these values of a unit would give of it: nothing of a readOnly unit (RFC 7643
-/// section 2.2), and else each value once. NoMemory where none was to be had.
+/// Returns the values that a body with `values` would give for the unit.
+/// A readOnly unit gives no values (RFC 7643 section 2.2), any other each distinct value once.
 fn as_given(alloc: Global, kind: Kind, unit: Unit, values: &[Row]) -> Result<Vec<Row>, NoMemory>
     ensures { IfOk result (λ v. v.items ≡ spec.as_given kind unit values.now) }
 {

@@ -1,4 +1,4 @@
-//! A new resource (RFC 7644 section 3.3).
+//! Creates a resource from a draft (RFC 7644 section 3.3).
 ghost use Rattle.std.specs.Prelude.{◌≡◌, ◌≤◌, ◌∷◌, ◌++◌, IfOk, OnOk};
 ghost use Rattle.scim_text.specs.Moments.{last_moment};
 ghost use Rattle.scim_cell.specs.Ids.{IsId};
@@ -14,11 +14,10 @@ use scim_text::{Moment, NoMemory, push};
 use scim_value::{Part, Resource, location};
 use std::alloc::Global;
 
-/// The resource that a draft makes: the draft's values, `id`, and `meta`, by which it was made and last
-/// modified at the moment and is found below `base`, as `http://127.0.0.1:8080` (RFC 7643 section 3.1).
-/// What the draft gives is copied once.
-///
-/// The draft was read for Creating. The only error is [`NoMemory`].
+/// Returns the resource that a draft creates: the draft's values, `id` and `meta` (RFC 7643 section 3.1).
+/// `meta` says that the resource was created and last modified at `moment`, and that its location is below
+/// `base`, as `http://127.0.0.1:8080`. The draft must have been read for `UseFor::Creating`. Its values are
+/// copied once.
 pub fn create(
     alloc: Global,
     draft: &Draft,
@@ -36,7 +35,7 @@ pub fn create(
     Ok(Resource::of_whole(Part::of_rows(kind, id, rows)))
 }
 
-/// The value of a leaf that is a unit of its own. NoMemory where none was to be had.
+/// Returns the value of a leaf that is a unit of its own.
 fn row_of(alloc: Global, leaf: Leaf, atom: Atom) -> Result<Row, NoMemory>
     ensures { IfOk result (λ r. r ≡ spec.row_of leaf atom) }
 {
@@ -45,7 +44,7 @@ fn row_of(alloc: Global, leaf: Leaf, atom: Atom) -> Result<Row, NoMemory>
     Ok(Row::new(unit_of(leaf), fields))
 }
 
-/// A moment at a sub-attribute of `meta`. NoMemory where none was to be had.
+/// Returns the value of a sub-attribute of `meta` that is a moment.
 pub(crate) fn moment_row(
     alloc: Global,
     sub_attribute: SubAttribute,
@@ -54,13 +53,13 @@ pub(crate) fn moment_row(
     ensures row { IfOk result (λ r. r ≡ spec.meta_row sub_attribute (Atom.Moment moment)) }
     ensures bound { moment ≤ last_moment }
 {
-    // Contracts know of a moment's bound from this call.
+    // The call tells the proof that the moment is within its bound.
     let _seconds = moment.seconds();
     let leaf = Leaf::of(Attribute::Meta, sub_attribute);
     row_of(alloc, leaf, Atom::Moment(moment))
 }
 
-/// A text at a sub-attribute of `meta`. NoMemory where none was to be had.
+/// Returns the value of a sub-attribute of `meta` that is a text.
 fn text_row(alloc: Global, sub_attribute: SubAttribute, text: Text) -> Result<Row, NoMemory>
     ensures { IfOk result (λ r. r ≡ spec.meta_row sub_attribute (Atom.Text text)) }
 {
@@ -68,7 +67,7 @@ fn text_row(alloc: Global, sub_attribute: SubAttribute, text: Text) -> Result<Ro
     row_of(alloc, leaf, Atom::Text(text))
 }
 
-/// `meta` of a resource that is made at the moment. NoMemory where none was to be had.
+/// Returns the `meta` of a resource that is created at `moment`.
 fn meta_rows(
     alloc: Global,
     kind: Kind,
@@ -91,8 +90,7 @@ fn meta_rows(
     Ok(rows)
 }
 
-/// `id`, copies of the values of a draft, and `meta`, which is the order of their units. NoMemory where none was
-/// to be had.
+/// Returns `id`, copies of the draft's values, and `meta`, which is the order of their units.
 fn all_rows(alloc: Global, id: Id, values: &[Row], mut meta: Vec<Row>) -> Result<Vec<Row>, NoMemory>
     ensures rows { IfOk result (λ rs. rs.items ≡ spec.id_row id ∷ (values.now ++ meta.items)) }
     ensures id { IfOk result (λ rs. IsId id) }
@@ -105,7 +103,7 @@ fn all_rows(alloc: Global, id: Id, values: &[Row], mut meta: Vec<Row>) -> Result
     Ok(rows)
 }
 
-/// Copies of rows, behind those that are there. NoMemory where none was to be had.
+/// Appends copies of the rows `values` to `rows`.
 fn push_copies(alloc: Global, values: &[Row], rows: &mut Vec<Row>) -> Result<(), NoMemory>
     ensures { OnOk result (rows.new.items ≡ rows.old.items ++ values.now) }
 {

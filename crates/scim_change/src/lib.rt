@@ -1,5 +1,5 @@
-//! What requests make of resources: a draft becomes a new resource (RFC 7644 section 3.3), or replaces one
-//! (section 3.5.1).
+//! Creates a resource from a draft (RFC 7644 section 3.3), and replaces a resource by a draft (RFC 7644
+//! section 3.5.1).
 #![tactic(auto)]
 
 mod agreement;

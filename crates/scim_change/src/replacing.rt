@@ -1,4 +1,4 @@
-//! A resource that is replaced by what a body gives of it (RFC 7644 section 3.5.1).
+//! Replaces a resource by the values that a body gives (RFC 7644 section 3.5.1).
 ghost use Rattle.std.specs.Prelude.{◌≡◌, ◌≤◌, List, ℕ, All, Some, None, false, IfOk};
 ghost use Rattle.scim_text.specs.Failures.{OnFault};
 ghost use Rattle.scim_text.specs.Moments.{last_moment};
@@ -17,26 +17,26 @@ use scim_value::{Part, Resource, copy_rows, values_among};
 use std::alloc::Global;
 use thiserror::Error;
 
-/// A resource after a change, and whether the change moved anything of it.
+/// A resource after a change, and whether the change had any effect on it.
 #[derive(Drop)]
 pub struct Changed {
     pub resource: Resource,
     pub changed: bool,
 }
 
-/// The result lacks what its kind requires (RFC 7644 section 3.12, invalidValue).
+/// The fault of a change that would leave a required attribute without a value.
+/// It is reported as invalidValue (RFC 7644 section 3.12).
 #[derive(Clone, Copy, Debug, PartialEq, Eq, Error)]
 #[error("a required attribute would be missing")]
 pub struct MissingRequired;
 
-/// The resource with the draft's values of these units in place of its own, last modified at the moment
-/// (RFC 7644 section 3.5.1). Of a unit that the draft has no value of nothing is left; units that aren't
-/// among these stay. Where the draft has the values that stand there already, and writes nothing that
-/// isn't kept, the resource comes back as it was, `meta.lastModified` too.
+/// Replaces the resource's values of `units` by the draft's (RFC 7644 section 3.5.1).
+/// A unit without a value in the draft is cleared; other units stay, and `meta.lastModified` becomes
+/// `moment`. If the draft has the values that the resource has already, and gives no writeOnly unit, the
+/// resource is returned unchanged, including `meta.lastModified`.
 ///
-/// The draft is of the resource's kind, and none of the units is readOnly. MissingRequired where an
-/// attribute that the kind requires would be missing; NoMemory where none was to be had. The resource is
-/// dropped then.
+/// The draft must be of the resource's kind, and none of the units may be readOnly. MissingRequired if an
+/// attribute that the kind requires would be missing. On an error the resource is dropped.
 pub fn replace(
     alloc: Global,
     resource: Resource,
@@ -68,7 +68,7 @@ pub fn replace(
     })
 }
 
-/// Whether the draft changes the part at one of these units.
+/// Whether the draft changes the part at any of the units.
 fn changes(draft: &Draft, units: &[Unit], part: &Part) -> bool
     ensures { result ≡ spec.changes draft.now units.now (rows part.now) }
 {
@@ -80,7 +80,7 @@ fn changes(draft: &Draft, units: &[Unit], part: &Part) -> bool
     false
 }
 
-/// Whether the draft has other values of the unit than the part, or gives what is written and isn't kept.
+/// Whether the draft has other values of the unit than the part, or gives the unit and it is writeOnly.
 fn changes_unit(draft: &Draft, part: &Part, unit: Unit) -> bool
     ensures { result ≡ spec.changes_unit draft.now (rows part.now) unit }
 {
@@ -88,7 +88,7 @@ fn changes_unit(draft: &Draft, part: &Part, unit: Unit) -> bool
         || (mutability_of(draft.kind(), unit) == Mutability::WriteOnly && draft.gives(unit))
 }
 
-/// The part with the draft's values of these units in place of its own. NoMemory where none was to be had.
+/// Returns the part with its values of `units` replaced by the draft's.
 fn with_units(
     alloc: Global,
     mut part: Part,
@@ -101,7 +101,7 @@ fn with_units(
     ensures id { IfOk result (λ p. p.id ≡ part.id) }
     ensures valid { IfOk result (λ p. IsDraft draft.now) }
 {
-    // Contracts know from this call what holds of a draft.
+    // The call tells the proof that the draft is valid.
     let given = draft.rows();
     for unit in units {
         part = put_given(alloc, part, given, *unit)?;
@@ -109,8 +109,7 @@ fn with_units(
     Ok(part)
 }
 
-/// The part with what these rows give of the unit in place of its own values. NoMemory where none was to be
-/// had.
+/// Returns the part with its values of the unit replaced by those among the rows `given`.
 fn put_given(alloc: Global, part: Part, given: &[Row], unit: Unit) -> Result<Part, NoMemory>
     requires { AreSound part.kind given.now }
     ensures rows { IfOk result (λ p. rows p ≡ put_values unit (values unit given.now) (rows part)) }
@@ -121,8 +120,7 @@ fn put_given(alloc: Global, part: Part, given: &[Row], unit: Unit) -> Result<Par
     part.put(unit, values)
 }
 
-/// The part as one that was last modified at the moment (RFC 7643 section 3.1). The only error is [`NoMemory`]; the part
-/// is dropped then.
+/// Returns the part with `meta.lastModified` set to `moment` (RFC 7643 section 3.1).
 pub fn modified_at(alloc: Global, part: Part, moment: Moment) -> Result<Part, NoMemory>
     ensures whole { IfOk result (λ p. p ≡ content part.kind part.id (spec.modified_at moment (rows part))) }
     ensures bound { IfOk result (λ p. moment ≤ last_moment) }

@@ -1,4 +1,4 @@
--- What a PATCH message asks (RFC 7644 section 3.5.2).
+-- The patch that a PATCH message asks for (RFC 7644 section 3.5.2).
 use Rattle.std.specs.Prelude.{ℕ, Bool, true, false, List, [], ◌∷◌, map, length, nat_lt, codes, find, Option, None, Some, option_map, option_and_then, Result, Ok, Err, if◌then◌else◌}
 use Rattle.std.specs.List.{list_any}
 use Rattle.serde_json.specs.Data.{Data, Items, Members}
@@ -23,30 +23,33 @@ use Rattle.scim_patch_message.specs.Targets.{target_in}
 use Rattle.scim_patch_message.specs.Readings.{Read, joined, each_member}
 use Rattle.scim_patch_message.specs.PathSteps.{target_steps, is_fixed_target}
 
--- ---- without a path: each key of the value is a path of its own
+-- ---- an operation without a path, where each key of the value is a path
 
--- whether a path is one of an attribute that the kind hasn't
+-- whether a text is a path, but of an attribute that the kind lacks
 abbrev pub is_nothing : Option Meant → Bool
 is_nothing (Some meant.Nothing) = true
 is_nothing _ = false
 
--- whether a key is such a path, as `schemas` is
+-- whether a key is the path of an attribute that the kind lacks, as `schemas` is
 abbrev pub names_nothing : Kind → List ℕ → Bool
 names_nothing kind key = is_nothing (option_map (λ (p : FilterPath). p.meant) (path_in kind key))
 
--- what is readOnly is ignored, and so is a key that names nothing; any other has to be a path
+-- the steps at one key: none if its target is readOnly or the kind lacks its attribute, otherwise Path if it
+-- isn't a path
 abbrev pub key_steps : Kind → Operation → List ℕ → Data → Result PathTarget PathFault → Read
 key_steps kind op key d (Ok target) = if is_fixed_target kind target then Ok [] else target_steps kind op target (present (Some d))
 key_steps kind op key d (Err f) = if names_nothing kind key then Ok [] else Err Path
 
+-- the steps at one key with its value
 abbrev pub member_steps : Kind → Operation → List ℕ → Data → Read
 member_steps kind op key d = key_steps kind op key d (target_in kind key)
 
+-- the steps at all keys of the value; Value if it isn't an object
 abbrev pub object_steps : Kind → Operation → Option Members → Read
 object_steps kind op None = Err Value
 object_steps kind op (Some ms) = each_member (member_steps kind op) ms
 
--- a remove without a path has no target
+-- the steps of an operation without a path; a remove becomes a step that has no target
 abbrev pub pathless_steps : Kind → Operation → Option Data → Read
 pathless_steps kind Remove v = Ok (Pathless ∷ [])
 pathless_steps kind Add v = object_steps kind Add (option_and_then as_object v)
@@ -54,7 +57,7 @@ pathless_steps kind Replace v = object_steps kind Replace (option_and_then as_ob
 
 -- ---- one operation
 
--- add and replace need a value, be it null
+-- the steps of an operation at a target; an add or replace needs a value, which may be null
 abbrev pub valued_steps : Kind → Operation → PathTarget → Option Data → Read
 valued_steps kind Remove target v = target_steps kind Remove target (present v)
 valued_steps kind Add target None = Err Value
@@ -62,76 +65,84 @@ valued_steps kind Add target (Some d) = target_steps kind Add target (present (S
 valued_steps kind Replace target None = Err Value
 valued_steps kind Replace target (Some d) = target_steps kind Replace target (present (Some d))
 
--- where the path names nothing, the value isn't looked at
+-- the steps of an operation at the target of its path; Path if there is none, whatever the value is
 abbrev pub pathed_steps : Kind → Operation → Option Data → Result PathTarget PathFault → Read
 pathed_steps kind op v (Err f) = Err Path
 pathed_steps kind op v (Ok target) = valued_steps kind op target v
 
+-- the steps of an operation whose path has this text; Path if it isn't a text
 abbrev pub text_steps : Kind → Operation → Option Data → Option (List ℕ) → Read
 text_steps kind op v None = Err Path
 text_steps kind op v (Some text) = pathed_steps kind op v (target_in kind text)
 
--- by the path, of which null and `[]` are none
+-- the steps of an operation with its path, if any, where null and `[]` count as no path
 abbrev pub path_steps : Kind → Operation → Option Data → Option Data → Read
 path_steps kind op v None = pathless_steps kind op v
 path_steps kind op v (Some path) = text_steps kind op v (as_str path)
 
--- the operation of a name, in any ASCII case
+-- the name of an operation
 abbrev pub operation_name : Operation → List ℕ
 operation_name Add = codes "add"
 operation_name Replace = codes "replace"
 operation_name Remove = codes "remove"
 
+-- the operation with this name, in any ASCII case
 abbrev pub operation_named : List ℕ → Option Operation
 operation_named name = find (λ op. is_same_name (operation_name op) name) (Add ∷ Replace ∷ Remove ∷ [])
 
+-- the steps of an operation's object with this operation; Syntax if there is none
 abbrev pub named_steps : Kind → Members → Option Operation → Read
 named_steps kind ms None = Err Syntax
 named_steps kind ms (Some op) = path_steps kind op (value_named (codes "value") ms) (given_named (codes "path") ms)
 
--- whether `op`, `path` or `value` is there in two spellings
+-- whether `op`, `path` or `value` occurs in two spellings
 abbrev pub keys_clash : Members → Bool
 keys_clash ms = list_any (λ key. is_twice key ms) (codes "op" ∷ codes "path" ∷ codes "value" ∷ [])
 
+-- the operation that the member `op` names, if it names one
 abbrev pub member_operation : Members → Option Operation
 member_operation ms = option_and_then operation_named (option_and_then as_str (value_named (codes "op") ms))
 
+-- the steps of an operation's object; Syntax if it isn't an object or its keys clash
 abbrev pub object_operation : Kind → Option Members → Read
 object_operation kind None = Err Syntax
 object_operation kind (Some ms) = if keys_clash ms then Err Syntax else named_steps kind ms (member_operation ms)
 
--- what one operation asks
+-- the steps of one operation
 unfoldable pub operation_steps : Kind → Data → Read
 operation_steps kind d = object_operation kind (as_object d)
 
 -- ---- the message
 
--- at most 1,000 operations
+-- the fault Value if there are over 1,000 operations
 abbrev pub if_few : List Data → Read
 if_few ds = if nat_lt MOST_OPERATIONS (length ds) then Err Value else Ok []
 
+-- the steps of all operations; Syntax if there are none
 abbrev pub list_steps : Kind → List Data → Read
 list_steps kind [] = Err Syntax
 list_steps kind (d ∷ ds) = joined (if_few (d ∷ ds) ∷ map (operation_steps kind) (d ∷ ds))
 
+-- the steps of the operations in a list; Syntax if it isn't a list
 abbrev pub items_steps : Kind → Option Items → Read
 items_steps kind None = Err Syntax
 items_steps kind (Some items) = list_steps kind (items_list items)
 
--- its object has `Operations`, in any ASCII case but in one spelling: a list that isn't empty
+-- the steps of a message's object, whose key `Operations` may be in any ASCII case but only in one spelling
 abbrev pub object_message : Kind → Option Members → Read
 object_message kind None = Err Syntax
 object_message kind (Some ms) =
     if is_twice (codes "Operations") ms then Err Syntax else items_steps kind (option_and_then as_array (value_named (codes "Operations") ms))
 
--- the steps of a message with this JSON value, if it has one
+-- the steps of a message with this JSON value; Syntax if it isn't JSON
 unfoldable pub message_steps : Kind → Option Data → Read
 message_steps kind d = object_message kind (option_and_then as_object d)
 
--- what is to be answered of a text with this JSON value, if it has one: the patch of these steps, or their fault
+-- the patch of these steps, or their fault
 abbrev pub patch_of_steps : Kind → Read → Result Patch PatchFault
 patch_of_steps kind (Ok steps) = Ok (record { kind = kind; steps = steps })
 patch_of_steps kind (Err f) = Err f
 
+-- the patch of a message with this JSON value, or its fault
 abbrev pub patch_in : Kind → Option Data → Result Patch PatchFault
 patch_in kind d = patch_of_steps kind (message_steps kind d)

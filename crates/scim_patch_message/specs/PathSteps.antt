@@ -1,4 +1,4 @@
--- The steps that an operation asks for at what a path names (RFC 7644 section 3.5.2).
+-- The steps of an operation at the target of its path (RFC 7644 section 3.5.2).
 use Rattle.std.specs.Prelude.{ℕ, Bool, true, false, List, [], ◌∷◌, map, Option, None, Some, option_map, Result, Ok, Err, if◌then◌else◌}
 use Rattle.std.specs.List.{flat_map}
 use Rattle.serde_json.specs.Data.{Data, Members}
@@ -34,206 +34,241 @@ use Rattle.scim_patch_message.specs.declared.operations.Operation.TheVariants.{A
 use Rattle.scim_patch_message.specs.declared.faults.PatchFault.TheVariants.{Value}
 use Rattle.scim_patch_message.specs.Readings.{Read, joined, each_member, value_read}
 
--- In all that follows the value is None where none is given: null and `[]` count so (RFC 7643 section 2.5).
--- To replace by nothing is to remove, and to add nothing changes nothing.
+-- Throughout this file a value is None if it is missing, null or `[]` (RFC 7643 section 2.5).
+-- A replace without a value is a remove, and an add without a value changes nothing.
 
--- one step
+-- the list of one step
 abbrev pub one : AttributeUnit → Change → List Step
 one u change = Of u change ∷ []
 
 -- ---- a whole attribute
 
--- without a value: a unit is kept or cleared; one that is readOnly is left out
+-- the change of an operation without a value at a unit: an add keeps it, others clear it
 abbrev pub nothing_given : Operation → Change
 nothing_given Add = Keep
 nothing_given Replace = Clear
 nothing_given Remove = Clear
 
+-- the steps of an operation without a value at a unit; none if it is readOnly
 abbrev pub unit_emptied : Kind → Operation → AttributeUnit → Read
 unit_emptied kind op u = if is_fixed kind u then Ok [] else Ok (one u (nothing_given op))
 
+-- the steps of an operation without a value at a sub-attribute
 abbrev pub sub_attribute_emptied_at : Kind → Operation → Attribute → SubAttribute → Read
 sub_attribute_emptied_at kind op a b = unit_emptied kind op (unit_of (leaf_at a b))
 
--- each unit of an attribute, in the order of the table
+-- the steps of an operation without a value at each unit of an attribute, in the order of the schema
 abbrev pub emptied : Kind → Operation → Attribute → Read
 emptied kind op a = joined (map (unit_emptied kind op) (units_of a))
 
--- an attribute that is readOnly: its value isn't read, and the step is refused later; of a complex one all sub-attributes are left out
+-- the steps at a readOnly attribute, whose value isn't read: one that is refused when applied, or none if
+-- complex
 abbrev pub fixed_steps : Attribute → JsonShape → List Step
 fixed_steps a Simple = one (whole a) Keep
 fixed_steps a Complex = []
 fixed_steps a MultiValued = one (whole a) Keep
 
--- a unit with one value is set to what is given for it, be it added or replaced
+-- the step that sets a unit to the values given for it
 abbrev pub set_to : Given → Step
 set_to g = Of g.unit (ReplaceAll g.values)
 
+-- the steps that set the units of an attribute to a value; None if the value is wrong
 abbrev pub set_units : Kind → Attribute → Data → Option (List Step)
 set_units kind a d = option_map (map set_to) (shaped_given kind a (shape_of a) d)
 
--- the texts of the `value`s of values
+-- the text of an atom, as a list of at most one
 abbrev pub text_in : Option Atom → List (List ℕ)
 text_in (Some (Text t)) = t ∷ []
 text_in _ = []
 
+-- the text of a value's `value`, as a list of at most one
 abbrev pub value_text : Attribute → Row → List (List ℕ)
 value_text a r = text_in (atom_in (leaf_at a sub_attribute.Value) r.fields)
 
--- values are added to those of a multi-valued attribute, or take their place; of a remove they list which values go, by their `value`
+-- the change of an operation with values at a multi-valued attribute: an add appends them, a replace sets
+-- them, and a remove lists by their `value` those to remove
 abbrev pub listed_change : Operation → Attribute → List Row → Change
 listed_change Remove a vs = RemoveListed (flat_map (value_text a) vs)
 listed_change Add a vs = Append vs
 listed_change Replace a vs = ReplaceAll vs
 
--- a value of the attribute, with keys of their own
+-- the steps read from a value of the attribute: Syntax if its keys clash, Value if it is wrong
 abbrev pub value_read_of : Attribute → Data → Option (List Step) → Read
 value_read_of a d steps = value_read (values_clash a d) steps
 
+-- the step of an operation with a value at a multi-valued attribute; None if the value is wrong
 abbrev pub listed_steps : Kind → Operation → Attribute → Data → Option (List Step)
 listed_steps kind op a d = option_map (λ vs. one (whole a) (listed_change op a vs)) (listed_values kind a d)
 
--- the value of a remove counts only for a multi-valued attribute
+-- the steps of an operation with a value at a single-valued attribute, where a remove ignores the value
 abbrev pub single_steps : Kind → Operation → Attribute → Data → Read
 single_steps kind Remove a d = emptied kind Remove a
 single_steps kind Add a d = value_read_of a d (set_units kind a d)
 single_steps kind Replace a d = value_read_of a d (set_units kind a d)
 
+-- the steps of an operation with a value at an attribute
 abbrev pub given_steps : Kind → Operation → Attribute → Data → Read
 given_steps kind op a d = if is_multi_valued a then value_read_of a d (listed_steps kind op a d) else single_steps kind op a d
 
+-- the steps of an operation at an attribute that isn't readOnly
 abbrev pub writable_steps : Kind → Operation → Attribute → Option Data → Read
 writable_steps kind op a None = emptied kind op a
 writable_steps kind op a (Some d) = given_steps kind op a d
 
+-- the steps of an operation at an attribute
 unfoldable pub attribute_steps : Kind → Operation → Attribute → Option Data → Read
 attribute_steps kind op a v = if is_read_only kind (simple a) then Ok (fixed_steps a (shape_of a)) else writable_steps kind op a v
 
 -- ---- a sub-attribute, of one value or of each
 
+-- the change that adds nothing to a sub-attribute
 abbrev pub sub_attribute_kept : Attribute → SubAttribute → Change
 sub_attribute_kept a b = if is_multi_valued a then KeepSubAttribute b else Keep
 
+-- the change that removes a sub-attribute, from each value if the attribute is multi-valued
 abbrev pub sub_attribute_cleared : Attribute → SubAttribute → Change
 sub_attribute_cleared a b = if is_multi_valued a then ClearEverywhere b else Clear
 
+-- the step that sets a sub-attribute, in each value if the attribute is multi-valued
 abbrev pub sub_attribute_set : Kind → Attribute → Field → Step
 sub_attribute_set kind a f = if is_multi_valued a then Of (whole a) (SetEverywhere f) else set_to (field_given kind f)
 
+-- the change of an operation without a value at a sub-attribute
 abbrev pub sub_attribute_emptied : Operation → Attribute → SubAttribute → Change
 sub_attribute_emptied Add a b = sub_attribute_kept a b
 sub_attribute_emptied Replace a b = sub_attribute_cleared a b
 sub_attribute_emptied Remove a b = sub_attribute_cleared a b
 
+-- the steps of an operation with a value at a sub-attribute
 abbrev pub sub_attribute_given : Kind → Operation → Attribute → SubAttribute → Data → Read
 sub_attribute_given kind Remove a b d = Ok (one (unit_of (leaf_at a b)) (sub_attribute_cleared a b))
 sub_attribute_given kind Add a b d = value_read false (option_map (map (sub_attribute_set kind a)) (field_with kind a b d))
 sub_attribute_given kind Replace a b d = value_read false (option_map (map (sub_attribute_set kind a)) (field_with kind a b d))
 
+-- the steps of an operation at a sub-attribute that isn't readOnly
 abbrev pub writable_sub_attribute_steps : Kind → Operation → Attribute → SubAttribute → Option Data → Read
 writable_sub_attribute_steps kind op a b None = Ok (one (unit_of (leaf_at a b)) (sub_attribute_emptied op a b))
 writable_sub_attribute_steps kind op a b (Some d) = sub_attribute_given kind op a b d
 
+-- the steps of an operation at a sub-attribute
 unfoldable pub sub_attribute_steps : Kind → Operation → Attribute → SubAttribute → Option Data → Read
 sub_attribute_steps kind op a b v =
     if is_read_only kind (leaf_at a b) then Ok (one (unit_of (leaf_at a b)) (sub_attribute_kept a b)) else writable_sub_attribute_steps kind op a b v
 
--- ---- the values that a filter chooses
+-- ---- the values that match a filter
 
+-- the change of an operation without a value at the matches
 abbrev pub matches_emptied : Operation → Tree → Change
 matches_emptied Add t = KeepMatches t
 matches_emptied Replace t = RemoveMatches t
 matches_emptied Remove t = RemoveMatches t
 
--- one value for them: its sub-attributes over theirs, or in their place
+-- the change that sets fields of the matches, or replaces all their fields
 abbrev pub matches_change : Bool → Tree → List Field → Change
 matches_change false t fs = AddToMatches t fs
 matches_change true t fs = ReplaceMatches t fs
 
+-- the steps that set the matches by a single value; a list is a wrong value
 abbrev pub matches_set : Kind → Bool → Attribute → Tree → Data → Read
 matches_set kind replaces a t d = value_read (value_clashes a d) (option_map (λ fs. one (whole a) (matches_change replaces t fs)) (fields_of kind a d))
 
+-- the steps of an operation with a value at the matches
 abbrev pub matches_given : Kind → Operation → Attribute → Tree → Data → Read
 matches_given kind Add a t d = matches_set kind false a t d
 matches_given kind Replace a t d = matches_set kind true a t d
 matches_given kind Remove a t d = Ok (one (whole a) (RemoveMatches t))
 
+-- the steps of an operation at the matches in an attribute that isn't readOnly
 abbrev pub writable_matches_steps : Kind → Operation → Attribute → Tree → Option Data → Read
 writable_matches_steps kind op a t None = Ok (one (whole a) (matches_emptied op t))
 writable_matches_steps kind op a t (Some d) = matches_given kind op a t d
 
+-- the steps of an operation at the matches
 unfoldable pub matches_steps : Kind → Operation → Attribute → Tree → Option Data → Read
 matches_steps kind op a t v = if is_read_only kind (simple a) then Ok (one (whole a) Keep) else writable_matches_steps kind op a t v
 
--- ---- and a sub-attribute of these
+-- ---- a sub-attribute of the values that match a filter
 
+-- the change of an operation without a value at a sub-attribute of the matches
 abbrev pub at_matches_emptied : Operation → Tree → SubAttribute → Change
 at_matches_emptied Add t b = KeepSubAttribute b
 at_matches_emptied Replace t b = ClearAtMatches t b
 at_matches_emptied Remove t b = ClearAtMatches t b
 
+-- the change that adds or replaces a sub-attribute of the matches
 abbrev pub at_matches_change : Bool → Tree → Field → Change
 at_matches_change false t f = AddAtMatches t f
 at_matches_change true t f = SetAtMatches t f
 
+-- the steps that set a sub-attribute of the matches by a value
 abbrev pub at_matches_set : Kind → Bool → Attribute → Tree → SubAttribute → Data → Read
 at_matches_set kind replaces a t b d = value_read false (option_map (map (λ f. Of (whole a) (at_matches_change replaces t f))) (field_with kind a b d))
 
+-- the steps of an operation with a value at a sub-attribute of the matches
 abbrev pub at_matches_given : Kind → Operation → Attribute → Tree → SubAttribute → Data → Read
 at_matches_given kind Add a t b d = at_matches_set kind false a t b d
 at_matches_given kind Replace a t b d = at_matches_set kind true a t b d
 at_matches_given kind Remove a t b d = Ok (one (whole a) (ClearAtMatches t b))
 
+-- the steps of an operation at a sub-attribute of the matches that isn't readOnly
 abbrev pub writable_at_matches_steps : Kind → Operation → Attribute → Tree → SubAttribute → Option Data → Read
 writable_at_matches_steps kind op a t b None = Ok (one (whole a) (at_matches_emptied op t b))
 writable_at_matches_steps kind op a t b (Some d) = at_matches_given kind op a t b d
 
+-- the steps of an operation at a sub-attribute of the matches
 unfoldable pub at_matches_steps : Kind → Operation → Attribute → Tree → SubAttribute → Option Data → Read
 at_matches_steps kind op a t b v = if is_read_only kind (leaf_at a b) then Ok (one (whole a) (KeepSubAttribute b)) else writable_at_matches_steps kind op a t b v
 
 -- ---- an extension
 
--- each attribute of the extension, in the order of the table
+-- the steps of an operation without a value at an attribute, if it belongs to the extension
 abbrev pub own_emptied : Kind → Operation → Schema → Attribute → Read
 own_emptied kind op s a = if is_same_schema (schema_of kind a) s then attribute_steps kind op a None else Ok []
 
+-- the steps of an operation without a value at each attribute of the extension, in the order of the schema
 abbrev pub extension_emptied : Kind → Operation → Schema → Read
 extension_emptied kind op s = joined (map (own_emptied kind op s) (attributes kind))
 
--- a key of its object that names one of its attributes; others are ignored
+-- the steps at the attribute that a key of an extension's object names; none if it names none
 abbrev pub attribute_or_none : Kind → Operation → Option Attribute → Data → Read
 attribute_or_none kind op None d = Ok []
 attribute_or_none kind op (Some a) d = attribute_steps kind op a (present (Some d))
 
+-- the steps at one key of an extension's object
 abbrev pub own_member : Kind → Operation → Schema → List ℕ → Data → Read
 own_member kind op s key d = attribute_or_none kind op (attribute_named_in kind s key) d
 
+-- the steps at each key of an extension's object; Value if the value isn't an object
 abbrev pub extension_object : Kind → Operation → Schema → Option Members → Read
 extension_object kind op s None = Err Value
 extension_object kind op s (Some ms) = each_member (own_member kind op s) ms
 
+-- the steps of an operation with a value at an extension, where a remove ignores the value
 abbrev pub extension_given : Kind → Operation → Schema → Data → Read
 extension_given kind Remove s d = extension_emptied kind Remove s
 extension_given kind Add s d = extension_object kind Add s (as_object d)
 extension_given kind Replace s d = extension_object kind Replace s (as_object d)
 
+-- the steps of an operation at an extension
 unfoldable pub extension_steps : Kind → Operation → Schema → Option Data → Read
 extension_steps kind op s None = extension_emptied kind op s
 extension_steps kind op s (Some d) = extension_given kind op s d
 
--- ---- whatever a path names
+-- ---- the target of any path
 
+-- the steps of an operation at the matches of a value path, or at a sub-attribute of them
 abbrev pub values_steps : Kind → Operation → Attribute → Tree → Option SubAttribute → Option Data → Read
 values_steps kind op a t None v = matches_steps kind op a t v
 values_steps kind op a t (Some b) v = at_matches_steps kind op a t b v
 
+-- the steps of an operation at the target of a path
 abbrev pub target_steps : Kind → Operation → PathTarget → Option Data → Read
 target_steps kind op (OfExtension s) v = extension_steps kind op s v
 target_steps kind op (OfAttribute a) v = attribute_steps kind op a v
 target_steps kind op (OfSubAttribute a b) v = sub_attribute_steps kind op a b v
 target_steps kind op (OfValues a t sub) v = values_steps kind op a t sub v
 
--- whether it is readOnly as a whole
+-- whether the target of a path is readOnly as a whole
 abbrev pub is_fixed_target : Kind → PathTarget → Bool
 is_fixed_target kind (OfExtension s) = false
 is_fixed_target kind (OfAttribute a) = is_read_only kind (simple a)

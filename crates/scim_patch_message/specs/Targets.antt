@@ -1,4 +1,4 @@
--- What a text names as the path of a change, as a function of the text (RFC 7644 section 3.5.2).
+-- The target that a text names as the path of a change, as a function of the text (RFC 7644 section 3.5.2).
 use Rattle.std.specs.Prelude.{ℕ, nat_le, List, length, Option, None, Some, Result, Ok, Err, if◌then◌else◌}
 use Rattle.std.specs.Result.{result_ok}
 use Rattle.scim_schema.specs.declared.Kind.{Kind}
@@ -11,24 +11,24 @@ use Rattle.scim_path.specs.declared.faults.PathFault.{PathFault}
 use Rattle.scim_path.specs.declared.faults.PathFault.TheVariants as fault
 use Rattle.scim_path.specs.Paths.{PathTarget, OfExtension, extension_named, written_target, Names}
 
--- the path that a text spells within 4,096 bytes and 32 open brackets, if it spells one
+-- the path that a text spells, within 4,096 bytes and 32 open brackets; None if it spells none
 abbrev pub written_in : Kind → List ℕ → Option Written
 written_in kind text = if nat_le (length text) LONGEST_FILTER then result_ok (written_at 32 kind (behind is_space text)) else None
 
--- what a text names that spells this path; one that spells none is no path
+-- the target of a spelled path; the fault Syntax if there is none
 abbrev pub spelled_target : Option Written → Result PathTarget PathFault
 spelled_target None = Err fault.Syntax
 spelled_target (Some w) = written_target w
 
--- all of an extension, where its URN stands alone in the text
+-- the target: the extension if its URN is the whole text, otherwise that of the spelled path
 abbrev pub target_with : Option Schema → Option Written → Result PathTarget PathFault
 target_with (Some schema) w = Ok (OfExtension schema)
 target_with None w = spelled_target w
 
--- what a text names, or why it names nothing
+-- the target that a text names for a kind, or why it names none
 unfoldable pub target_in : Kind → List ℕ → Result PathTarget PathFault
 target_in kind text = target_with (extension_named kind text) (written_in kind text)
 
--- this is what the grammar says
+-- the target of every text is the one that the grammar of paths gives it
 abbrev pub TargetsAreNamed : Type 0
 TargetsAreNamed = (kind : Kind) (text : List ℕ) → Names kind text (target_in kind text)

@@ -1,2 +1,2 @@
--- What the reader of a message has read so far.
+-- Specifications of code: the state of the reader of a message.
 pub mod Inside

@@ -1,18 +1,19 @@
-//! Why a PATCH message is refused.
+//! The faults for which a PATCH message is refused.
 use thiserror::Error;
 
-/// Why a PATCH message is refused (RFC 7644 section 3.12), in the order in which it is told, wherever in the message
-/// it stands.
+/// Why a PATCH message is refused (RFC 7644 section 3.12).
+/// Of several faults in a message, the first in this order is reported.
 #[derive(Clone, Copy, Debug, PartialEq, Eq, Error)]
 pub enum PatchFault {
-    /// It is no JSON object with a list of operations, or two keys of one object that differ are one name
-    /// (invalidSyntax).
+    /// The message isn't a JSON object with a list of operations (invalidSyntax).
+    /// The fault also stands for two keys of one object that spell the same name differently.
     #[error("not a JSON object with a list of operations whose keys are each a name of its own")]
     Syntax,
-    /// A path is none, or names what the kind hasn't (invalidPath).
+    /// A path isn't valid, or names an attribute that the kind lacks (invalidPath).
     #[error("a path is none, or names nothing")]
     Path,
-    /// A value is missing, of another type, or over a limit, or there are too many operations (invalidValue).
+    /// A value is missing, of another type or over a limit (invalidValue).
+    /// The fault also stands for too many operations.
     #[error("a value is missing, of another type, or over a limit")]
     Value,
 }

@@ -1,7 +1,7 @@
-//! What holds of all texts of paths.
+//! A theorem about the texts of paths.
 ghost use Rattle.scim_patch_message.specs.Targets.{TargetsAreNamed};
 
-/// What a text names, as a function of it, is what the grammar of paths says.
+/// The target that the reader finds for a text is the one that the grammar of paths gives it.
 pub fn targets_are_named()
     ensures { TargetsAreNamed }
 {}

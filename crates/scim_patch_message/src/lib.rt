@@ -1,4 +1,4 @@
-//! The messages of PATCH (RFC 7644 section 3.5.2): the steps that their operations ask for.
+//! Reads PATCH messages into steps (RFC 7644 section 3.5.2).
 #![tactic(auto)]
 
 mod faults;

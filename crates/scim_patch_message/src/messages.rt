@@ -1,4 +1,4 @@
-//! Reading the message of a PATCH (RFC 7644 section 3.5.2).
+//! Reads a PATCH message (RFC 7644 section 3.5.2).
 ghost use Rattle.std.specs.Prelude.{◌≡◌, OnOk, IfOk, Some, None, option_map, option_and_then, map};
 ghost use Rattle.serde_json.specs.Find.{as_array, as_object, as_str};
 ghost use Rattle.serde_json.specs.Read.{read};
@@ -23,7 +23,7 @@ use scim_schema::{Kind, MOST_OPERATIONS};
 use scim_text::{Failed, NoMemory};
 use std::alloc::Global;
 
-/// Whether a key is the path of an attribute that the kind hasn't.
+/// Whether a key is the path of an attribute that the kind lacks.
 fn names_nothing(kind: Kind, key: &str) -> bool
     ensures { result ≡ spec.names_nothing kind key.now }
 {
@@ -33,8 +33,8 @@ fn names_nothing(kind: Kind, key: &str) -> bool
     }
 }
 
-/// A member of the value of an operation without a path: its key is a path of its own. NoMemory where none was to be
-/// had.
+/// Appends the steps of an operation without a path at one key of its value.
+/// The key is a path. A readOnly target is ignored, and so is an attribute that the kind lacks.
 fn push_member(
     alloc: Global,
     kind: Kind,
@@ -63,7 +63,7 @@ fn push_member(
     }
 }
 
-/// The members of that value, in byte order. NoMemory where none was to be had.
+/// Appends the steps of an operation without a path at each key of its value, in byte order of the keys.
 fn push_members(
     alloc: Global,
     kind: Kind,
@@ -80,7 +80,7 @@ fn push_members(
     Ok(())
 }
 
-/// An operation without a path. NoMemory where none was to be had.
+/// Appends the steps of an operation without a path.
 fn push_pathless(
     alloc: Global,
     kind: Kind,
@@ -103,7 +103,7 @@ fn push_pathless(
     }
 }
 
-/// An operation at what a path names: add and replace need a value. NoMemory where none was to be had.
+/// Appends the steps of an operation at the target of a path. An add or replace without a value is a fault.
 fn push_valued(
     alloc: Global,
     kind: Kind,
@@ -127,7 +127,7 @@ fn push_valued(
     }
 }
 
-/// An operation with the text of a path. NoMemory where none was to be had.
+/// Appends the steps of an operation whose path has this text.
 fn push_text(
     alloc: Global,
     kind: Kind,
@@ -149,7 +149,7 @@ fn push_text(
     }
 }
 
-/// An operation of this name. NoMemory where none was to be had.
+/// Appends the steps of this operation, with the path and value of its object.
 fn push_named(
     alloc: Global,
     kind: Kind,
@@ -173,14 +173,14 @@ fn push_named(
     }
 }
 
-/// Whether a key of an operation is there in two spellings.
+/// Whether a key of an operation occurs in two spellings.
 fn keys_clash(members: &[Member<'_>]) -> bool
     ensures { result ≡ spec.keys_clash (members_view members.now) }
 {
     is_twice(members, "op") || is_twice(members, "path") || is_twice(members, "value")
 }
 
-/// What an operation does, where it tells.
+/// Returns the operation that `op` names, if it names one.
 fn operation_of(members: &[Member<'_>]) -> Option<Operation>
     ensures { result ≡ spec.member_operation (members_view members.now) }
 {
@@ -188,7 +188,7 @@ fn operation_of(members: &[Member<'_>]) -> Option<Operation>
     Operation::named(name)
 }
 
-/// The operation of an object. NoMemory where none was to be had.
+/// Appends the steps of an operation's object.
 fn push_object(
     alloc: Global,
     kind: Kind,
@@ -211,7 +211,7 @@ fn push_object(
     }
 }
 
-/// One operation. NoMemory where none was to be had.
+/// Appends the steps of one operation.
 #[tactic(auto, unfolding(crate::specs::Messages::operation_steps))]
 fn push_operation(
     alloc: Global,
@@ -230,7 +230,7 @@ fn push_operation(
     }
 }
 
-/// All operations, in their order. NoMemory where none was to be had.
+/// Appends the steps of the operations, in their order.
 fn push_operations(
     alloc: Global,
     kind: Kind,
@@ -246,7 +246,7 @@ fn push_operations(
     Ok(())
 }
 
-/// Too many operations are refused.
+/// Records a fault if there are too many operations.
 fn refuse_many(items: &[Tree<'_>], reading: &mut Reading)
     ensures { read_of reading.new ≡ both (read_of reading.old) (spec.if_few (items_list (items_view items.now))) }
 {
@@ -255,7 +255,7 @@ fn refuse_many(items: &[Tree<'_>], reading: &mut Reading)
     }
 }
 
-/// The operations of a message: a list that isn't empty. NoMemory where none was to be had.
+/// Appends the steps of a message's list of operations, which must not be empty.
 fn push_list(
     alloc: Global,
     kind: Kind,
@@ -273,7 +273,7 @@ fn push_list(
     push_operations(alloc, kind, items, reading)
 }
 
-/// What a message's object asks. NoMemory where none was to be had.
+/// Appends the steps of a message's object.
 fn push_message(
     alloc: Global,
     kind: Kind,
@@ -296,7 +296,7 @@ fn push_message(
     }
 }
 
-/// What has been read of a text. NoMemory where none was to be had.
+/// Reads the steps and faults of a message's text.
 #[tactic(auto, unfolding(crate::specs::Messages::message_steps))]
 fn reading_of(alloc: Global, kind: Kind, text: &str) -> Result<Reading, NoMemory>
     ensures { IfOk result (λ r. read_of r ≡ spec.message_steps kind (read text.now)) }
@@ -318,17 +318,20 @@ fn reading_of(alloc: Global, kind: Kind, text: &str) -> Result<Reading, NoMemory
     Ok(reading)
 }
 
-/// The patch that a message asks of a resource of the kind (RFC 7644 section 3.5.2): the steps of its operations, in
-/// their order. Keys of the message and of its operations, and `op`, are read in any ASCII case, values as `read_body`
-/// reads them. An operation without a path stands for a step for each key of its value, each a path of its own; those
-/// that are readOnly and those that name nothing are ignored. The URN of an extension stands for each attribute in the
-/// value, a single complex attribute for each of its sub-attributes. To replace by null or `[]` is to remove, and to add
-/// them changes nothing. At what is readOnly no value is read: the patch can't be applied.
+/// Reads the patch of a PATCH message for resources of the kind (RFC 7644 section 3.5.2).
+/// Its steps are those of the operations, in their order. Keys of the message and of its operations, and the
+/// value of `op`, are read in any ASCII case; other values are read as `read_body` reads them. An operation
+/// without a path stands for the steps at each key of its value, each key being a path; keys with a readOnly
+/// target or of an attribute that the kind lacks are ignored. The URN of an extension stands for each
+/// attribute in the value, a single-valued complex attribute for each of its sub-attributes. A replace by
+/// null or `[]` is a remove, and an add of them changes nothing. The value for a readOnly target isn't read,
+/// and its step is refused when the patch is applied.
 ///
-/// Faults are looked for in the whole message. Syntax where it is no JSON object with a list of operations, where an
-/// operation is none, and where two keys of one object that differ are one name; else Path where a path is none, or
-/// names what the kind hasn't; else Value where a value is missing, of another type, over a limit or an empty `userName`,
-/// and where there are over 1,000 operations. NoMemory where none was to be had.
+/// Faults are looked for in the whole message. Syntax if it isn't a JSON object with a list of operations
+/// that isn't empty, if an operation isn't an object with a known `op`, or if two keys of one object spell
+/// the same name differently. Otherwise Path if a path isn't valid or names an attribute that the kind lacks.
+/// Otherwise Value if a value is missing, of another type, over a limit or an empty `userName`, or if there
+/// are over 1,000 operations.
 pub fn read_patch(alloc: Global, kind: Kind, text: &str) -> Result<Patch, Failed<PatchFault>>
     ensures { UnlessMemory (λ r. answered r ≡ spec.patch_in kind (read text.now)) result }
 {

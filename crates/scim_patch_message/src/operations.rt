@@ -4,7 +4,7 @@ ghost use Rattle.scim_patch_message.specs.Messages as spec;
 
 use scim_text::same_name;
 
-/// What is to be done at a path (RFC 7644 section 3.5.2).
+/// The operation of a PATCH at a path (RFC 7644 section 3.5.2).
 #[derive(Clone, Copy, PartialEq, Eq)]
 pub enum Operation {
     Add,
@@ -13,7 +13,7 @@ pub enum Operation {
 }
 
 impl Operation {
-    /// The operation of a name, in any ASCII case.
+    /// Returns the operation with this name, in any ASCII case.
     pub(crate) fn named(name: &str) -> Option<Operation>
         ensures { result ≡ spec.operation_named name.now }
     {

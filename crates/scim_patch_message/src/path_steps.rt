@@ -1,5 +1,6 @@
-//! The steps that an operation asks for at what a path names (RFC 7644 section 3.5.2). A value is None where none
-//! is given.
+//! The steps of an operation whose path names an attribute (RFC 7644 section 3.5.2).
+//! Each function appends the steps to the reading, or a fault. A value is None if it is null or `[]`, or
+//! missing from a remove.
 ghost use Rattle.std.specs.Prelude.{◌≡◌, ◌∷◌, [], IfOk, OnOk, Ok, map, option_map};
 ghost use Rattle.std.specs.List.{flat_map};
 ghost use Rattle.scim_body.specs.View.{view};
@@ -22,8 +23,8 @@ use scim_schema::{
 use scim_text::{Failed, NoMemory, push};
 use std::alloc::Global;
 
-/// A unit without a value: it is kept or cleared; one that is readOnly is left out. NoMemory where none was to
-/// be had.
+/// Appends the step of an operation without a value at a unit: an add keeps it, others clear it.
+/// A readOnly unit is left out.
 fn push_unit_emptied(
     kind: Kind,
     operation: Operation,
@@ -41,7 +42,7 @@ fn push_unit_emptied(
     }
 }
 
-/// Each sub-attribute of an attribute that isn't multi-valued without a value. NoMemory where none was to be had.
+/// Appends the steps of an operation without a value at these sub-attributes of a single-valued attribute.
 fn push_sub_attributes_emptied(
     kind: Kind,
     operation: Operation,
@@ -63,7 +64,7 @@ fn push_sub_attributes_emptied(
     Ok(())
 }
 
-/// Each unit of an attribute without a value, in the order of the table. NoMemory where none was to be had.
+/// Appends the steps of an operation without a value at each unit of an attribute, in schema order.
 fn push_emptied(
     kind: Kind,
     operation: Operation,
@@ -82,7 +83,8 @@ fn push_emptied(
     push_sub_attributes_emptied(kind, operation, attribute, own, reading)
 }
 
-/// An attribute that is readOnly. NoMemory where none was to be had.
+/// Appends the step of an operation at a readOnly attribute, which is refused when the patch is applied.
+/// A complex attribute has no step, since readOnly sub-attributes are left out.
 fn push_fixed(attribute: Attribute, reading: &mut Reading) -> Result<(), NoMemory>
     ensures { OnOk result (read_of reading.new ≡ both (read_of reading.old) (Ok (spec.fixed_steps attribute (shape_in attribute)))) }
 {
@@ -94,7 +96,7 @@ fn push_fixed(attribute: Attribute, reading: &mut Reading) -> Result<(), NoMemor
     }
 }
 
-/// A single-valued attribute is set to a value. NoMemory where none was to be had.
+/// Appends the steps that set a single-valued attribute to a value.
 fn push_set(
     alloc: Global,
     kind: Kind,
@@ -119,7 +121,7 @@ fn push_set(
     }
 }
 
-/// The texts of the `value`s of values. NoMemory where none was to be had.
+/// Returns the texts at `value` in the values, in their order.
 fn value_texts(alloc: Global, attribute: Attribute, values: &[Row]) -> Result<Vec<Text>, NoMemory>
     ensures { IfOk result (λ v. v.items ≡ flat_map (spec.value_text attribute) values.now) }
 {
@@ -133,7 +135,7 @@ fn value_texts(alloc: Global, attribute: Attribute, values: &[Row]) -> Result<Ve
     Ok(texts)
 }
 
-/// What is done with values that are given for a multi-valued attribute. NoMemory where none was to be had.
+/// Returns the change of an operation with a list of values for a multi-valued attribute.
 fn listed_change(
     alloc: Global,
     operation: Operation,
@@ -151,7 +153,7 @@ fn listed_change(
     })
 }
 
-/// A multi-valued attribute and values. NoMemory where none was to be had.
+/// Appends the step of an operation with a value or a list of values at a multi-valued attribute.
 fn push_listed(
     alloc: Global,
     kind: Kind,
@@ -180,7 +182,7 @@ fn push_listed(
     }
 }
 
-/// An attribute that isn't readOnly, and a value. NoMemory where none was to be had.
+/// Appends the steps of an operation with a value at an attribute that isn't readOnly.
 fn push_given(
     alloc: Global,
     kind: Kind,
@@ -201,7 +203,7 @@ fn push_given(
     }
 }
 
-/// An attribute. NoMemory where none was to be had.
+/// Appends the steps of an operation at an attribute.
 #[tactic(auto, unfolding(crate::specs::PathSteps::attribute_steps))]
 pub(crate) fn push_attribute(
     alloc: Global,

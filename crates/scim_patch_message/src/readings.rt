@@ -1,4 +1,4 @@
-//! What has been read of a message so far.
+//! The steps and faults read so far from a message.
 ghost use Rattle.std.specs.Prelude.{◌≡◌, ◌∷◌, [], map, Ok, Err, OnOk, option_map};
 ghost use Rattle.scim_body.specs.Bodies.{Given};
 ghost use Rattle.scim_body.specs.Given.{units_given};
@@ -14,7 +14,7 @@ use scim_schema::Unit;
 use scim_text::{NoMemory, push};
 use std::alloc::Global;
 
-/// The steps that were read, and the fault that counts first of those that were found.
+/// The steps read so far, and the fault of highest priority found so far.
 #[derive(Drop)]
 pub(crate) struct Reading {
     pub(crate) steps: Vec<Step>,
@@ -22,7 +22,7 @@ pub(crate) struct Reading {
 }
 
 impl PatchFault {
-    /// The one of two faults that counts first.
+    /// Returns the fault of higher priority.
     fn or_before(self, other: PatchFault) -> PatchFault
         ensures { result ≡ first_of self other }
     {
@@ -35,7 +35,7 @@ impl PatchFault {
 }
 
 impl Reading {
-    /// Nothing so far.
+    /// Returns a reading without steps or faults.
     pub(crate) fn new(alloc: Global) -> Reading
         ensures { read_of result ≡ Ok [] }
     {
@@ -45,7 +45,7 @@ impl Reading {
         }
     }
 
-    /// A fault was found.
+    /// Records a fault.
     pub(crate) fn refuse(&mut self, fault: PatchFault)
         ensures { read_of self.new ≡ both (read_of self.old) (Err fault) }
     {
@@ -55,7 +55,7 @@ impl Reading {
         };
     }
 
-    /// A step was read: a change of a unit. NoMemory where none was to be had.
+    /// Appends a step that changes a unit.
     pub(crate) fn push(&mut self, unit: Unit, change: Change) -> Result<(), NoMemory>
         ensures { OnOk result (read_of self.new ≡ both (read_of self.old) (Ok (step_of (Step.Of unit change) ∷ []))) }
     {
@@ -63,7 +63,7 @@ impl Reading {
         Ok(())
     }
 
-    /// A remove without a path was read. NoMemory where none was to be had.
+    /// Appends a remove without a path.
     pub(crate) fn push_pathless(&mut self) -> Result<(), NoMemory>
         ensures { OnOk result (read_of self.new ≡ both (read_of self.old) (Ok (step_of Step.Pathless ∷ []))) }
     {
@@ -71,7 +71,7 @@ impl Reading {
         Ok(())
     }
 
-    /// Units that are set to what is given for them. NoMemory where none was to be had.
+    /// Appends steps that set the units to the values given for them.
     pub(crate) fn set_units(&mut self, given: Vec<UnitGiven>) -> Result<(), NoMemory>
         ensures { OnOk result (read_of self.new ≡ both (read_of self.old) (Ok (map set_to (units_given given.items)))) }
     {

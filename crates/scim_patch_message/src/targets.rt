@@ -1,4 +1,4 @@
-//! What the steps of an operation are at whatever a path names (RFC 7644 section 3.5.2).
+//! The steps of an operation at the target of its path (RFC 7644 section 3.5.2).
 ghost use Rattle.std.specs.Prelude.{◌≡◌, Some, OnOk, option_map, map};
 ghost use Rattle.scim_body.specs.View.{view, members_view};
 ghost use Rattle.scim_text.specs.Failures.{UnlessMemory};
@@ -23,16 +23,16 @@ use scim_schema::{
 use scim_text::{Failed, NoMemory};
 use std::alloc::Global;
 
-/// A value, unless it counts as none.
+/// Returns the value, unless it is null or `[]` and so counts as missing.
 pub(crate) fn present<'a, 'b>(value: &'a Tree<'b>) -> Option<&'a Tree<'b>>
     ensures { option_map (λ v. view v.now) result ≡ values.present (Some (view value.now)) }
 {
     if is_absent(value) { None } else { Some(value) }
 }
 
-/// The path that a text names.
+/// Reads the path of a text, for a kind.
 ///
-/// Fails as `read_path`.
+/// Errors: as [`read_path`].
 pub(crate) fn target_of(alloc: Global, kind: Kind, text: &str) -> Result<Path, Failed<PathFault>>
     ensures { UnlessMemory (λ r. target_in kind text.now ≡ target_read r) result }
 {
@@ -40,7 +40,7 @@ pub(crate) fn target_of(alloc: Global, kind: Kind, text: &str) -> Result<Path, F
     read_path(alloc, kind, text)
 }
 
-/// Whether what a path names is readOnly as a whole.
+/// Whether the target of a path is readOnly as a whole.
 pub(crate) fn is_fixed_path(kind: Kind, path: &Path) -> bool
     ensures { result ≡ spec.is_fixed_target kind (path_target path.now) }
 {
@@ -54,7 +54,7 @@ pub(crate) fn is_fixed_path(kind: Kind, path: &Path) -> bool
     }
 }
 
-/// An attribute without a value, where it is one of the extension. NoMemory where none was to be had.
+/// Appends the steps of an operation without a value at an attribute, if it belongs to the extension.
 fn push_own(
     alloc: Global,
     kind: Kind,
@@ -71,7 +71,7 @@ fn push_own(
     push_attribute(alloc, kind, operation, attribute, None, reading)
 }
 
-/// Each of these attributes without a value, where it is one of the extension. NoMemory where none was to be had.
+/// Appends the steps of an operation without a value at those attributes that belong to the extension.
 fn push_all_own(
     alloc: Global,
     kind: Kind,
@@ -89,8 +89,8 @@ fn push_all_own(
     Ok(())
 }
 
-/// A member of the object of an extension: its key is the name of an attribute, or is ignored. NoMemory where none was
-/// to be had.
+/// Appends the steps of an operation at one key of an extension's object.
+/// A key that doesn't name an attribute of the extension is ignored.
 fn push_own_member(
     alloc: Global,
     kind: Kind,
@@ -111,7 +111,7 @@ fn push_own_member(
     }
 }
 
-/// The members of the object of an extension, in byte order. NoMemory where none was to be had.
+/// Appends the steps of an operation at each key of an extension's object, in byte order of the keys.
 fn push_own_members(
     alloc: Global,
     kind: Kind,
@@ -129,7 +129,7 @@ fn push_own_members(
     Ok(())
 }
 
-/// All of an extension. NoMemory where none was to be had.
+/// Appends the steps of an operation at a whole extension.
 #[tactic(auto, unfolding(crate::specs::PathSteps::extension_steps))]
 fn push_extension(
     alloc: Global,
@@ -154,8 +154,7 @@ fn push_extension(
     }
 }
 
-/// Those values of a multi-valued attribute that a filter chooses, or a sub-attribute of them. NoMemory where none was
-/// to be had.
+/// Appends the step of an operation at the values that match a filter, or at a sub-attribute of them.
 fn push_values(
     alloc: Global,
     kind: Kind,
@@ -187,7 +186,7 @@ fn push_values(
     }
 }
 
-/// Whatever a path names. NoMemory where none was to be had.
+/// Appends the steps of an operation at the target of a path.
 pub(crate) fn push_target(
     alloc: Global,
     kind: Kind,

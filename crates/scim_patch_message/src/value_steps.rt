@@ -1,5 +1,6 @@
-//! The steps that an operation asks for at a sub-attribute, and at the values that a filter chooses (RFC 7644
-//! section 3.5.2). A value is None where none is given.
+//! The steps of an operation at a sub-attribute, or at values that match a filter (RFC 7644 section 3.5.2).
+//! Each function appends the steps to the reading, or a fault. A value is None if it is null or `[]`, or
+//! missing from a remove.
 ghost use Rattle.std.specs.Prelude.{◌≡◌, OnOk, Ok, option_map};
 ghost use Rattle.scim_body.specs.View.{view};
 ghost use Rattle.scim_filter_grammar.specs.Tree.{tree_of};
@@ -20,7 +21,7 @@ use scim_schema::{
 use scim_text::{Failed, NoMemory};
 use std::alloc::Global;
 
-/// A sub-attribute to which nothing is added.
+/// Returns the change that adds nothing to a sub-attribute.
 fn sub_attribute_kept(attribute: Attribute, sub_attribute: SubAttribute) -> Change
     ensures { change_of result ≡ spec.sub_attribute_kept attribute sub_attribute }
 {
@@ -31,7 +32,7 @@ fn sub_attribute_kept(attribute: Attribute, sub_attribute: SubAttribute) -> Chan
     }
 }
 
-/// A sub-attribute that is removed.
+/// Returns the change that removes a sub-attribute, from each value if the attribute is multi-valued.
 fn sub_attribute_cleared(attribute: Attribute, sub_attribute: SubAttribute) -> Change
     ensures { change_of result ≡ spec.sub_attribute_cleared attribute sub_attribute }
 {
@@ -42,7 +43,7 @@ fn sub_attribute_cleared(attribute: Attribute, sub_attribute: SubAttribute) -> C
     }
 }
 
-/// A sub-attribute is set to a value, in each value of a multi-valued attribute. NoMemory where none was to be had.
+/// Appends the step that sets a sub-attribute to a value, in each value if the attribute is multi-valued.
 fn push_sub_attribute_set(
     alloc: Global,
     kind: Kind,
@@ -69,7 +70,7 @@ fn push_sub_attribute_set(
     reading.push(given.unit, Change::Replace(given.values))
 }
 
-/// A sub-attribute. NoMemory where none was to be had.
+/// Appends the step of an operation at a sub-attribute.
 #[tactic(auto, unfolding(crate::specs::PathSteps::sub_attribute_steps))]
 pub(crate) fn push_sub_attribute(
     alloc: Global,
@@ -99,7 +100,8 @@ pub(crate) fn push_sub_attribute(
     }
 }
 
-/// Matches and one value for them: a list is none. NoMemory where none was to be had.
+/// Appends the step that sets the matches to a value, or adds to them unless `replaces`.
+/// The value must be a single one, not a list.
 fn push_matches_given(
     alloc: Global,
     kind: Kind,
@@ -132,7 +134,7 @@ fn push_matches_given(
     }
 }
 
-/// The values of a multi-valued attribute that a filter chooses. NoMemory where none was to be had.
+/// Appends the step of an operation at the values that match a filter.
 #[tactic(auto, unfolding(crate::specs::PathSteps::matches_steps))]
 pub(crate) fn push_matches(
     alloc: Global,
@@ -164,7 +166,8 @@ pub(crate) fn push_matches(
     }
 }
 
-/// A sub-attribute of matches and a value for it. NoMemory where none was to be had.
+/// Appends the step that sets a sub-attribute of the matches to a value.
+/// It is a replace if `replaces`, otherwise an add.
 fn push_at_matches_given(
     alloc: Global,
     kind: Kind,
@@ -191,7 +194,7 @@ fn push_at_matches_given(
     }
 }
 
-/// A sub-attribute of the values that a filter chooses. NoMemory where none was to be had.
+/// Appends the step of an operation at a sub-attribute of the values that match a filter.
 #[tactic(auto, unfolding(crate::specs::PathSteps::at_matches_steps))]
 pub(crate) fn push_at_matches(
     alloc: Global,

@@ -1,4 +1,4 @@
--- What a step does to the values of its unit, without where its filter lies in memory.
+-- The changes that a step can make to the values of its unit, independent of the code's representation.
 use Rattle.std.specs.Prelude.{ℕ, List}
 use Rattle.scim_schema.specs.declared.SubAttribute.{SubAttribute}
 use Rattle.scim_cell.specs.declared.rows.Field.{Field}
@@ -7,7 +7,8 @@ use Rattle.scim_filter_grammar.specs.Tree.{Tree, tree_of}
 use Rattle.scim_patch_steps.specs.declared.changes.Change.{Change as KeptChange}
 use Rattle.scim_patch_steps.specs.declared.changes.Change.TheVariants as kept
 
--- what is done to the values of a unit: a path of one form, and an operation (RFC 7644 section 3.5.2); the trees are those of value paths
+-- a change of the values of a unit: an operation with a form of path (RFC 7644 section 3.5.2); the trees are
+-- those of value paths
 pub data Change : Type 0 where
   Keep : Change
   KeepMatches : Tree → Change
@@ -25,7 +26,7 @@ pub data Change : Type 0 where
   SetEverywhere : Field → Change
   ClearEverywhere : SubAttribute → Change
 
--- a change that the code keeps
+-- the change that a value in code stands for
 abbrev pub change_of : KeptChange → Change
 change_of kept.Keep = Keep
 change_of (kept.KeepMatches filter) = KeepMatches (tree_of filter)

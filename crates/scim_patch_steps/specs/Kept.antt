@@ -1,4 +1,4 @@
--- What the code keeps of a patch, and answers of what came of it, as values.
+-- The patches and outcomes that values in code stand for.
 use Rattle.std.specs.Prelude.{Bool, List, map, Result, Ok, Err}
 use Rattle.scim_schema.specs.declared.Kind.{Kind}
 use Rattle.scim_cell.specs.Content.{Content}
@@ -9,21 +9,21 @@ use Rattle.scim_patch_steps.specs.declared.patches.Step.{Step as KeptStep}
 use Rattle.scim_patch_steps.specs.declared.patches.Step.TheVariants as kept
 use Rattle.scim_patch_steps.specs.Patch.{Step, Pathless, Of, Patch}
 
--- a patch with steps as the code keeps them
+-- a patch as the code keeps it: its kind and its steps
 pub record Kept : Type 0 where
   pub kind : Kind
   pub steps : List KeptStep
 
--- a step that the code keeps
+-- the step that a value in code stands for
 abbrev pub step_of : KeptStep → Step
 step_of kept.Pathless = Pathless
 step_of (kept.Of u change) = Of u (change_of change)
 
--- the patch that the code keeps
+-- the patch that a value in code stands for
 abbrev pub patch_of : Kept → Patch
 patch_of p = record { kind = p.kind; steps = map step_of p.steps }
 
--- the resource and whether it changed, or the fault
+-- the resource and whether it changed, or the fault, that a result in code stands for
 abbrev pub outcome : Result Changed StepFault → Result (Content × Bool) StepFault
 outcome (Ok c) = Ok (c.resource, c.changed)
 outcome (Err e) = Err e

@@ -1,4 +1,4 @@
--- What the outcome of a patch rests on.
+-- The theorem that the outcome of a patch depends only on the units that its steps name.
 use Rattle.std.specs.Prelude.{◌≡◌, ℕ, Bool, List, Result, Ok, Err}
 use Rattle.scim_schema.specs.declared.Unit.{Unit as AttributeUnit}
 use Rattle.scim_cell.specs.Content.{Content}
@@ -7,13 +7,14 @@ use Rattle.scim_patch_steps.specs.declared.steps.StepFault.{StepFault}
 use Rattle.scim_change.specs.Laws.{AgreeAt, IsLeft}
 use Rattle.scim_patch_steps.specs.Patch.{Patch, IsPatch, touched, applied}
 
--- two outcomes are alike: both are refused for the same fault; or both changed or neither, and both have the same values of the units, and keep all others of their own
+-- two outcomes are alike: both are the same fault, or both changed or neither did, and the resources have
+-- equal values of the units and keep their own other values
 abbrev pub AreAlike : List AttributeUnit → ℕ → Content → Content → Result (Content × Bool) StepFault → Result (Content × Bool) StepFault → Type 0
 AreAlike us moment a b (Err e) (Err f) = e ≡ f
 AreAlike us moment a b (Ok x) (Ok y) = (x.1 ≡ y.1) × AgreeAt us x.0 y.0 × IsLeft us x.1 moment a x.0 × IsLeft us y.1 moment b y.0
 AreAlike us moment a b _ _ = ⊥
 
--- what becomes of a resource at the units that a patch is about rests on what it has there: from two resources that agree there come alike outcomes, and `meta.lastModified` moves in both or in neither
+-- patching two resources with equal values at the units of the patch has alike outcomes
 abbrev pub PatchingRestsOnItsUnits : Type 0
 PatchingRestsOnItsUnits =
     (p : Patch) (moment : ℕ) (a b : Content)

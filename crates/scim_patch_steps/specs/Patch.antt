@@ -1,4 +1,4 @@
--- What becomes of a resource that is patched (RFC 7644 section 3.5.2).
+-- The outcome of applying a patch to a resource (RFC 7644 section 3.5.2).
 use Rattle.std.specs.Prelude.{◌≡◌, ◌<◌, ℕ, Bool, true, false, not, ◌&&◌, ◌||◌, List, [], ◌∷◌, length, Contains, All, AllPairs, Result, Ok, Err, if◌then◌else◌}
 use Rattle.std.specs.List.{list_any, flat_map}
 use Rattle.scim_schema.specs.declared.Kind.{Kind}
@@ -18,31 +18,32 @@ use Rattle.scim_patch_steps.specs.Steps.{is_required, after}
 use Rattle.scim_change.specs.Agreement.{are_same_values}
 use Rattle.scim_change.specs.Replace.{modified_at}
 
--- one step: a change of a unit, or a remove without a path, which has no target
+-- one step of a patch: a change of a unit, or a remove without a path, which has no target
 pub data Step : Type 0 where
   Pathless : Step
   Of : AttributeUnit → Change → Step
 
--- a kind, and the steps in their order
+-- a patch: a kind and the steps in their order
 pub record Patch : Type 0 where
   pub kind : Kind
   pub steps : List Step
 
--- ---- what is known of steps
+-- ---- valid steps
 
--- fields of one value that a client may give
+-- the fields are ones that a client may give for one value of the unit
 pub record AreGivenFields (kind : Kind) (u : AttributeUnit) (fs : List Field) : Type 0 where
   pub many : is_multi_valued u.attribute ≡ true
   pub own : All (IsSoundField kind u) fs
   pub in_order : AllPairs (λ f g. sub_attribute_number f.leaf.sub_attribute < sub_attribute_number g.leaf.sub_attribute) fs
   pub may_be_given : All (MayBeGiven kind) fs
 
--- values of a unit that a client may give
+-- the values are ones that a client may give for the unit
 pub record AreGivenValues (kind : Kind) (u : AttributeUnit) (vs : List Row) : Type 0 where
   pub own : AreValues kind u vs
   pub may_be_given : All (λ r. All (MayBeGiven kind) r.fields) vs
 
--- a change of a unit may be made of a resource of the kind: what it gives may be given, only a multi-valued attribute is changed value by value, and what the kind requires isn't replaced by nothing
+-- a change of a unit may be applied to a resource of the kind: its values may be given, only a multi-valued
+-- attribute is changed value by value, and a required unit is replaced by exactly one value
 abbrev pub MayBeMade : Kind → AttributeUnit → Change → Type 0
 MayBeMade kind u Keep = Unit {0}
 MayBeMade kind u Clear = Unit {0}
@@ -55,65 +56,71 @@ MayBeMade kind u (SetAtMatches t f) = AreGivenFields kind u (f ∷ [])
 MayBeMade kind u (SetEverywhere f) = AreGivenFields kind u (f ∷ [])
 MayBeMade kind u _ = is_multi_valued u.attribute ≡ true
 
--- a step is about a unit of the kind
+-- a step is valid for the kind: its unit is one of the kind, and its change may be applied to it
 abbrev pub IsStep : Kind → Step → Type 0
 IsStep kind Pathless = Unit {0}
 IsStep kind (Of u change) = Contains (units kind) u × MayBeMade kind u change
 
+-- all steps of the patch are valid for its kind
 abbrev pub IsPatch : Patch → Type 0
 IsPatch p = All (IsStep p.kind) p.steps
 
--- ---- the units that the steps are about, in order
+-- ---- the units of the steps, in their order
 
+-- the unit of a step; none for a remove without a path
 abbrev pub units_in : Step → List AttributeUnit
 units_in Pathless = []
 units_in (Of u change) = u ∷ []
 
+-- the units of the patch's steps, in their order
 abbrev pub touched : Patch → List AttributeUnit
 touched p = flat_map units_in p.steps
 
 -- ---- the steps, one after another
 
--- rows with the values of a unit that a step leaves; or the fault of the step
+-- the rows with the values of the unit replaced by the outcome of a step, or the fault of the step
 abbrev pub with_outcome : AttributeUnit → List Row → Result (List Row) StepFault → Result (List Row) StepFault
 with_outcome u rs (Ok vs) = Ok (put_values u vs rs)
 with_outcome u rs (Err e) = Err e
 
--- rows after a step
+-- the rows after a step, or its fault
 abbrev pub stepped : Kind → Step → List Row → Result (List Row) StepFault
 stepped kind Pathless rs = Err fault.NoTarget
 stepped kind (Of u change) rs = with_outcome u rs (after kind u change (values u rs))
 
--- rows after steps, or the fault of the first step that has one
+-- the rows after the steps, or the fault of the first refused step
 abbrev pub all_stepped : Kind → List Step → Result (List Row) StepFault → Result (List Row) StepFault
 all_stepped kind [] found = found
 all_stepped kind (s ∷ ss) (Err e) = Err e
 all_stepped kind (s ∷ ss) (Ok rs) = all_stepped kind ss (stepped kind s rs)
 
--- ---- what is changed
+-- ---- whether the patch changes the resource
 
--- whether a change writes what isn't kept: all that a client does to a writeOnly unit does, but for an add of nothing (RFC 7643 section 2.2)
+-- whether a change writes to its unit, as every change does except the add of nothing to a whole unit
 abbrev pub writes : Change → Bool
 writes Keep = false
 writes _ = true
 
+-- whether a step writes to a writeOnly unit, whose values aren't kept (RFC 7643 section 2.2)
 abbrev pub is_unseen_writing : Kind → Step → Bool
 is_unseen_writing kind Pathless = false
 is_unseen_writing kind (Of u change) = is_secret kind u && writes change
 
--- whether some unit that the steps are about has other values afterwards, or one of them writes what isn't kept
+-- whether one of the patch's units has other values afterwards, or one of its steps writes to a writeOnly
+-- unit
 abbrev pub changes : Patch → List Row → List Row → Bool
 changes p before rs =
     list_any (is_unseen_writing p.kind) p.steps || list_any (λ u. not (are_same_values (values u before) (values u rs))) (touched p)
 
--- the resource with these rows, modified at the moment; where nothing is changed it is as it was
+-- the resource with the rows after the patch, modified at the moment; unchanged if the patch changes nothing
 abbrev pub finished : Patch → ℕ → Content → List Row → Content
 finished p moment c rs = if changes p (rows c) rs then content c.kind c.id (modified_at moment rs) else c
 
+-- the resource after the patch and whether it changed, or the fault of a step
 abbrev pub if_stepped : Patch → ℕ → Content → Result (List Row) StepFault → Result (Content × Bool) StepFault
 if_stepped p moment c (Ok rs) = Ok (finished p moment c rs, changes p (rows c) rs)
 if_stepped p moment c (Err e) = Err e
 
--- the resource after all steps, and whether it changed; or why it stays as it is
+-- the resource after all steps of the patch and whether it changed, or the fault of the first refused step
 unfoldable pub applied : Patch → ℕ → Content → Result (Content × Bool) StepFault
 applied p moment c = if_stepped p moment c (all_stepped p.kind p.steps (Ok (rows c)))

@@ -1,4 +1,5 @@
--- What comes of a step: its refusals in their order, and the values that it leaves (RFC 7644 sections 3.5.2 and 3.12).
+-- The outcome of a step: its faults in their order, and the values that it leaves (RFC 7644 sections 3.5.2
+-- and 3.12).
 use Rattle.std.specs.Prelude.{◌≡◌, Bool, false, ◌&&◌, ◌||◌, ◌==◌, nat_lt, List, [], ◌∷◌, length, map, filter, Option, None, Some, Result, Ok, Err, if◌then◌else◌}
 use Rattle.std.specs.List.{list_any, count_by}
 use Rattle.std.specs.Global.{Vec}
@@ -24,20 +25,22 @@ use Rattle.scim_patch_steps.specs.declared.steps.StepFault.TheVariants as fault
 use Rattle.scim_patch_steps.specs.Changes.{Change, KeepMatches, KeepSubAttribute, Append, Replace, Clear, AddToMatches, AddAtMatches, SetAtMatches, ClearAtMatches, SetEverywhere, ClearEverywhere}
 use Rattle.scim_patch_steps.specs.Table.{row}
 
--- ---- what may not be changed at all
+-- ---- the changes that no client may make
 
--- no client may change a leaf of a value that is there: it is immutable or readOnly (RFC 7643 section 2.2)
+-- whether existing values of this mutability can't be changed: immutable or readOnly (RFC 7643 section 2.2)
 abbrev pub is_final : Mutability → Bool
 is_final m = sameb the_mutability m Immutable || sameb the_mutability m ReadOnly
 
+-- whether a leaf can't be changed in an existing value
 abbrev pub is_unchangeable : Kind → Leaf → Bool
 is_unchangeable kind l = is_final (characteristics_of kind l).mutability
 
--- the unit is one that the kind requires (RFC 7643 section 2.2)
+-- whether the kind requires the unit (RFC 7643 section 2.2)
 abbrev pub is_required : Kind → AttributeUnit → Bool
 is_required kind u = (characteristics_at kind u.attribute u.sub_attribute).required
 
--- the change is barred: what is required would be taken away, a sub-attribute be changed that can't, or a member that is there be changed
+-- whether a change is barred: it would clear a required unit, or change an immutable or readOnly
+-- sub-attribute or an existing member
 abbrev pub is_barred : Kind → AttributeUnit → Change → List Row → Bool
 is_barred kind u Clear values = is_required kind u
 is_barred kind u (KeepMatches t) values = is_members u.attribute && is_any_match t values
@@ -50,52 +53,58 @@ is_barred kind u (SetEverywhere field) values = is_unchangeable kind field.leaf
 is_barred kind u (ClearEverywhere b) values = is_unchangeable kind (leaf_at u.attribute b)
 is_barred kind u _ values = false
 
+-- whether no client may make a change: its unit is readOnly, or it is barred
 abbrev pub is_forbidden : Kind → AttributeUnit → Change → List Row → Bool
 is_forbidden kind u change values = is_fixed kind u || is_barred kind u change values
 
--- ---- which results are refused
+-- ---- the results that are refused
 
--- two values that differ are given as the primary one (RFC 7643 section 2.4)
+-- whether two different values are given as primary (RFC 7643 section 2.4)
 abbrev pub are_two_primary : Attribute → List Row → Bool
 are_two_primary a given = nat_lt 1 (length (given_primary a given))
 
+-- whether a change gives two different values as primary
 abbrev pub gives_two_primary : Attribute → Change → Bool
 gives_two_primary a (Append given) = are_two_primary a given
 gives_two_primary a (Replace given) = are_two_primary a given
 gives_two_primary a _ = false
 
--- two values are chosen as the primary one, a member has no `value`, or there are over 10,000 values
+-- whether the values after a step are refused: two chosen as primary, a member without `value`, or over
+-- 10,000
 abbrev pub are_refused : Attribute → List Position → Bool
 are_refused a ps =
     nat_lt 1 (count_by (λ (p : Position). p.chosen) ps) || list_any (λ (p : Position). is_nameless a p.value) ps || nat_lt MOST_VALUES (length ps)
 
--- ---- which values are left
+-- ---- the values that are left
 
--- a value beside the one that the step chose isn't the primary one
+-- the value of a position, with `primary` set to false unless the step chose it
 abbrev pub beside_chosen : Position → Row
 beside_chosen p = if p.chosen then p.value else demoted p.value
 
--- where the step chose one value as the primary one, no other is
+-- the values of the positions, with no other primary if the step chose one
 abbrev pub primary_settled : List Position → List Row
 primary_settled ps =
     if count_by (λ (p : Position). p.chosen) ps == 1 then map beside_chosen ps else map (λ (p : Position). p.value) ps
 
+-- the values of the positions, or the fault Value if they are refused
 abbrev pub checked : Attribute → List Position → Result (List Row) StepFault
 checked a ps = if are_refused a ps then Err fault.Value else Ok (primary_settled ps)
 
--- values without a field go; then come the checks, and the primary one is settled
+-- the values after a step, without those that have no field, checked and with the primary one settled;
+-- NoTarget if the path has no target
 abbrev pub settled : Attribute → Option (List Position) → Result (List Row) StepFault
 settled a None = Err fault.NoTarget
 settled a (Some ps) = checked a (filter (λ (p : Position). has_fields p.value) ps)
 
+-- the values after a permitted change, or its fault
 abbrev pub judged : Attribute → Change → Option (List Position) → Result (List Row) StepFault
 judged a change found = if gives_two_primary a change then Err fault.Value else settled a found
 
--- the values of the unit after the step, or why it is refused
+-- the values of the unit after the step, or its fault
 abbrev pub after : Kind → AttributeUnit → Change → List Row → Result (List Row) StepFault
 after kind u change values = if is_forbidden kind u change values then Err fault.Mutability else judged u.attribute change (row u change values)
 
--- values that the code answers, or a fault, as values
+-- the values or the fault that a result in code stands for
 abbrev pub rows_answered : Result (Vec Row) StepFault → Result (List Row) StepFault
 rows_answered (Ok values) = Ok values.items
 rows_answered (Err e) = Err e

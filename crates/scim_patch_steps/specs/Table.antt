@@ -1,4 +1,5 @@
--- The table of paths and operations: which values a step makes of those of its unit (RFC 7644 section 3.5.2).
+-- The table of paths and operations: the effect of each change on the values of its unit (RFC 7644 section
+-- 3.5.2).
 use Rattle.std.specs.Prelude.{not, List, [], ◌∷◌, map, filter, Option, None, Some, if◌then◌else◌}
 use Rattle.scim_schema.specs.declared.Unit.{Unit as AttributeUnit}
 use Rattle.scim_schema.specs.Units.{leaf_at}
@@ -11,11 +12,11 @@ use Rattle.scim_patch_values.specs.Fields.{row_without}
 use Rattle.scim_patch_values.specs.Matches.{kept, given_primary, marked, value_of, is_listed, is_any_match, set_at_match, replaced_at_match, cleared_at_match, added_at_matches, set_everywhere}
 use Rattle.scim_patch_steps.specs.Changes.{Change, Keep, KeepMatches, KeepSubAttribute, Append, Replace, Clear, RemoveListed, AddToMatches, ReplaceMatches, RemoveMatches, AddAtMatches, SetAtMatches, ClearAtMatches, SetEverywhere, ClearEverywhere}
 
--- only where some value is a match
+-- the positions, if any of the values matches the filter
 abbrev pub at_matches : Tree → List Row → List Position → Option (List Position)
 at_matches t values positions = if is_any_match t values then Some positions else None
 
--- the table: what a step makes of the values of its unit; None, where its path has no target
+-- the positions that a change makes of the values of its unit; None if its path has no target
 abbrev pub row : AttributeUnit → Change → List Row → Option (List Position)
 row u Keep values = Some (map kept values)
 row u (KeepMatches t) values = Some (map kept values)

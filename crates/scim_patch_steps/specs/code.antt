@@ -1,4 +1,4 @@
--- How patches are kept, what the code answers, and what it keeps meanwhile.
+-- Specifications of code: how patches and results are represented, and what is kept to detect changes.
 pub mod Before
 pub mod Inside
 pub mod Lengths

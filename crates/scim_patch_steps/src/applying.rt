@@ -1,4 +1,4 @@
-//! What becomes of a resource that is patched: its steps, one after another.
+//! Applies the steps of a patch to a resource, one after another.
 ghost use Rattle.std.specs.Prelude.{◌≡◌, List, ℕ, Ok, IfOk, map, filter, All};
 ghost use Rattle.std.specs.Ordering.{is_lt, is_gt};
 ghost use Rattle.scim_text.specs.Failures.{UnlessMemory};
@@ -23,7 +23,7 @@ use scim_value::{Part, Resource};
 use std::alloc::Global;
 use std::cmp::Ordering;
 
-/// Rows apart: those of the units before one, its own, and those of the units behind it.
+/// The rows of a resource, split into those before a unit, its own, and those after it.
 #[derive(Drop)]
 struct Apart {
     before: Vec<Row>,
@@ -31,7 +31,7 @@ struct Apart {
     behind: Vec<Row>,
 }
 
-/// The rows apart. NoMemory where none was to be had.
+/// Splits the rows at the unit.
 fn parted(alloc: Global, rows: Vec<Row>, unit: Unit) -> Result<Apart, NoMemory>
     ensures before { IfOk result (λ a. a.before.items ≡ filter (λ r. is_lt (unit_cmp r.unit unit)) rows.items) }
     ensures own { IfOk result (λ a. a.own.items ≡ values unit rows.items) }
@@ -56,7 +56,7 @@ fn parted(alloc: Global, rows: Vec<Row>, unit: Unit) -> Result<Apart, NoMemory>
 
 /// The rows with what a change leaves of the values of the unit.
 ///
-/// Errors: as `values_after`; the rows are dropped then.
+/// Errors: as [`values_after`].
 fn changed_rows(
     alloc: Global,
     kind: Kind,
@@ -78,9 +78,9 @@ fn changed_rows(
     Ok(before)
 }
 
-/// The resource after a step.
+/// Returns the resource after one step.
 ///
-/// Errors: as `apply`; the resource is dropped then.
+/// Errors: as [`apply`].
 fn stepped(alloc: Global, resource: Resource, step: &Step) -> Result<Resource, Failed<StepFault>>
     requires { spec.IsStep resource.kind (step_of step.now) }
     ensures rows { UnlessMemory (λ r. rows_left r ≡ spec.stepped resource.kind (step_of step.now) (rows resource)) result }
@@ -96,9 +96,9 @@ fn stepped(alloc: Global, resource: Resource, step: &Step) -> Result<Resource, F
     Ok(Resource::of_whole(Part::of_rows(kind, id, rows)))
 }
 
-/// The resource after steps, one after another.
+/// Returns the resource after the steps, applied one after another.
 ///
-/// Errors: as `apply`; the resource is dropped then.
+/// Errors: as [`apply`].
 fn all_stepped(
     alloc: Global,
     resource: Resource,
@@ -118,16 +118,15 @@ fn all_stepped(
     Ok(resource)
 }
 
-/// The resource after the steps of a patch, one after another, last modified at the moment (RFC 7644 section 3.5.2).
-/// Where its values are the same afterwards, and no step writes what isn't kept, it is as it was, `meta.lastModified`
-/// too.
+/// Applies the steps of a patch to the resource, one after another, at `moment` (RFC 7644 section 3.5.2).
+/// If the resource has the same values afterwards, and no step writes a writeOnly unit, it is returned
+/// unchanged, including `meta.lastModified`; otherwise `meta.lastModified` becomes `moment`.
 ///
-/// The patch is of the resource's kind. The fault is that of the first step that is refused, as [`values_after`] tells;
-/// a remove without a path is NoTarget. NoMemory where none was to be had. The resource is dropped then: nothing of it
-/// is changed in whatever it was copied from.
+/// The patch must be of the resource's kind. The fault is that of the first refused step, as for
+/// [`values_after`]; a remove without a path is NoTarget. On an error the resource is dropped.
 ///
-/// Values are moved. Those of the units that the steps are about are copied as well, unless the patch is one step that
-/// only takes values away, or puts some behind them of which none is the primary one.
+/// Values are moved. The values of the patch's units are copied as well, unless the patch is a single step
+/// that only removes values, or only appends values without a primary one.
 pub fn apply(
     alloc: Global,
     resource: Resource,

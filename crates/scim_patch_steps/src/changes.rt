@@ -1,43 +1,46 @@
-//! What a step does to the values of its unit.
+//! The changes that a step can make to the values of its unit.
 use scim_cell::{Field, Row, Text};
 use scim_filter_grammar::Filter;
 use scim_schema::SubAttribute;
 
-/// What is done to the values of a unit: a path of one form, and an operation (RFC 7644 section 3.5.2). The matches
-/// are the values of which the filter of the path holds.
+/// A change of the values of a unit: an operation with a form of path (RFC 7644 section 3.5.2).
+/// A match is a value for which the filter of the path holds.
 #[derive(Drop)]
 pub enum Change {
-    /// add of nothing, which is null or a list without values: all stays. Its path may still be one at which nothing
-    /// can be added.
+    /// add of null or of an empty list: nothing changes.
+    /// The step is still refused if its path forbids an add.
     Keep,
-    /// The same at the matches.
+    /// As [`Change::Keep`], with a path to the matches.
     KeepMatches(Filter),
-    /// The same at a sub-attribute of a multi-valued attribute.
+    /// As [`Change::Keep`], with a path to a sub-attribute of a multi-valued attribute.
     KeepSubAttribute(SubAttribute),
-    /// add of values of a multi-valued attribute: each that isn't there is put behind those that are.
+    /// add to a multi-valued attribute: appends each value that isn't there already.
     Append(Vec<Row>),
-    /// replace of a whole unit, or add of one that isn't multi-valued: these are its values then, each once.
+    /// replace of a whole unit, or add to a single-valued one: the unit has these values, each once.
     Replace(Vec<Row>),
-    /// remove of a whole unit, or replace by nothing: no value is left.
+    /// remove of a whole unit, or replace by null or an empty list: the unit has no values.
     Clear,
-    /// remove of those values of a multi-valued attribute whose `value` is one of these texts.
+    /// remove from a multi-valued attribute of the values whose `value` is one of these texts.
     RemoveListed(Vec<Text>),
-    /// add at the matches: each has these sub-attributes then. Without a match one value is made.
+    /// add to the matches: sets these sub-attributes of each match.
+    /// If there is no match, a value is made of them and of those that the filter describes; NoTarget if it
+    /// describes none.
     AddToMatches(Filter, Vec<Field>),
-    /// replace of the matches: each is the value of these sub-attributes then, and no value stands twice. Without a
-    /// match there is no target.
+    /// replace of the matches: each becomes the value of these sub-attributes, and duplicates are dropped.
+    /// NoTarget if there is no match.
     ReplaceMatches(Filter, Vec<Field>),
     /// remove of the matches.
     RemoveMatches(Filter),
-    /// add of a sub-attribute at the matches. Without a match one value is made.
+    /// add to a sub-attribute of the matches: sets it in each match.
+    /// If there is no match, as [`Change::AddToMatches`].
     AddAtMatches(Filter, Field),
-    /// replace of a sub-attribute at the matches. Without a match there is no target.
+    /// replace of a sub-attribute of the matches: sets it in each match. NoTarget if there is no match.
     SetAtMatches(Filter, Field),
-    /// remove of a sub-attribute at the matches.
+    /// remove of a sub-attribute of the matches.
     ClearAtMatches(Filter, SubAttribute),
-    /// add or replace of a sub-attribute of a multi-valued attribute: each value has it then. Where there is none, one
-    /// is made.
+    /// add to or replace of a sub-attribute of a multi-valued attribute: sets it in each value.
+    /// If there is no value, one is made.
     SetEverywhere(Field),
-    /// remove of a sub-attribute of a multi-valued attribute: no value has it then.
+    /// remove of a sub-attribute of a multi-valued attribute from each value.
     ClearEverywhere(SubAttribute),
 }

@@ -1,4 +1,4 @@
-//! What clients ask to be changed of a resource, step by step (RFC 7644 section 3.5.2).
+//! The steps of a PATCH and their application to a resource (RFC 7644 section 3.5.2).
 #![tactic(auto)]
 
 mod applying;

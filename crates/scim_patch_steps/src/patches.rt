@@ -1,4 +1,4 @@
-//! Patches: steps in their order.
+//! Patches: lists of steps for resources of one kind.
 ghost use Rattle.std.specs.Prelude.{◌≡◌, map};
 ghost use Rattle.scim_patch_steps.specs.Patch as spec;
 ghost use Rattle.scim_patch_steps.specs.Kept.{patch_of, step_of};
@@ -10,15 +10,14 @@ use std::marker::Model;
 /// One step of a patch (RFC 7644 section 3.5.2).
 #[derive(Drop)]
 pub enum Step {
-    /// A remove without a path. It has no target.
+    /// A remove without a path, which is refused with NoTarget.
     Pathless,
-    /// A change of a unit.
+    /// A change of the values of a unit.
     Of(Unit, Change),
 }
 
-/// The steps that a client asks for, in their order, about resources of a kind.
-///
-/// Contracts know of every patch that what its steps give may stand in a resource of the kind.
+/// The steps of a patch in their order, for resources of one kind.
+/// The invariant of a patch is that a resource of the kind may have the values that its steps give.
 #[derive(Drop)]
 pub struct Patch {
     kind: Kind,
@@ -42,7 +41,7 @@ impl Model for Patch {
 }
 
 impl Patch {
-    /// The patch of these steps.
+    /// Returns the patch of these steps.
     pub fn new(kind: Kind, steps: Vec<Step>) -> Patch
         requires { spec.IsPatch (record { kind = kind; steps = map step_of steps.items }) }
         ensures kind { result.kind ≡ kind }
@@ -51,14 +50,14 @@ impl Patch {
         Patch { kind, steps }
     }
 
-    /// The kind.
+    /// Returns the kind of resource that the patch is for.
     pub fn kind(&self) -> Kind
         ensures { result ≡ self.now.kind }
     {
         self.kind
     }
 
-    /// The steps, in their order.
+    /// Returns the steps, in their order.
     pub fn steps(&self) -> &[Step]
         ensures steps { result.now ≡ self.now.steps }
         ensures valid { spec.IsPatch (patch_of self.now) }

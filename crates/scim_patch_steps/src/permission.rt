@@ -1,4 +1,4 @@
-//! Which changes no client may make, whatever the policy says (RFC 7643 section 2.2).
+//! The changes that no client may make, whatever the policy allows (RFC 7643 section 2.2).
 ghost use Rattle.std.specs.Prelude.{◌≡◌, IfOk};
 ghost use Rattle.scim_patch_steps.specs.Changes.{change_of};
 ghost use Rattle.scim_filter_grammar.specs.Tree.{tree_of};
@@ -15,7 +15,7 @@ use scim_schema::{Attribute, Kind, Leaf, Mutability, Unit, characteristics_of, m
 use scim_text::NoMemory;
 use std::alloc::Global;
 
-/// Whether what stands at the leaf in a value that is there can't be changed.
+/// Whether the leaf can't be changed in an existing value: it is immutable or readOnly.
 fn is_unchangeable(kind: Kind, leaf: Leaf) -> bool
     ensures { result ≡ spec.is_unchangeable kind leaf }
 {
@@ -34,8 +34,8 @@ fn is_required(kind: Kind, unit: Unit) -> bool
     characteristics_of(kind, leaf).required
 }
 
-/// Whether a member that is there would be changed: all of it is immutable (RFC 7643 section 4.2). NoMemory where
-/// none was to be had.
+/// Whether the filter matches an existing member, which is immutable as a whole (RFC 7643 section 4.2).
+/// Always false for other attributes than `members`.
 fn changes_member(
     alloc: Global,
     unit: Unit,
@@ -50,8 +50,9 @@ fn changes_member(
     is_any_match(alloc, filter, values)
 }
 
-/// Whether the change is barred: what is required would be taken away, a sub-attribute be changed that can't, or a
-/// member that is there be changed. NoMemory where none was to be had.
+/// Whether the change is barred.
+/// It is if it would clear a required unit, or change an immutable or readOnly sub-attribute or an existing
+/// member.
 fn is_barred(
     alloc: Global,
     kind: Kind,
@@ -84,8 +85,7 @@ fn is_barred(
     }
 }
 
-/// Whether no client may make the change: the unit is readOnly, or the change is barred. NoMemory where none was to be
-/// had.
+/// Whether no client may make the change: the unit is readOnly, or the change is barred.
 pub(crate) fn is_forbidden(
     alloc: Global,
     kind: Kind,

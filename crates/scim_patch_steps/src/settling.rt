@@ -1,4 +1,4 @@
-//! What is left of the values after a step: those with fields, checked, with one primary at most that the step chose.
+//! Checks the values after a step, and settles which one is primary.
 ghost use Rattle.std.specs.Prelude.{◌≡◌, Some, IfOk, map, filter, count_by};
 ghost use Rattle.std.specs.List.{list_any};
 ghost use Rattle.scim_text.specs.Failures.{UnlessMemory};
@@ -25,7 +25,7 @@ fn has_fields(value: &Row) -> bool
     }
 }
 
-/// The positions without those whose value has no field. NoMemory where none was to be had.
+/// Removes the positions whose value has no field.
 fn close_up(alloc: Global, positions: Vec<Position>) -> Result<Vec<Position>, NoMemory>
     ensures { IfOk result (λ v. v.items ≡ filter (λ (p : Position). has_fields p.value) positions.items) }
 {
@@ -38,14 +38,14 @@ fn close_up(alloc: Global, positions: Vec<Position>) -> Result<Vec<Position>, No
     Ok(left)
 }
 
-/// How many values the step chose.
+/// Returns the number of values that the step chose as primary.
 fn count_chosen(positions: &[Position]) -> usize
     ensures { result ≡ count_by (λ (p : Position). p.chosen) positions.now }
 {
     positions.iter().filter(|position| position.chosen).count()
 }
 
-/// Whether a member has no `value`.
+/// Whether any of the values is a member without `value`.
 fn any_nameless(attribute: Attribute, positions: &[Position]) -> bool
     ensures { result ≡ list_any (λ (p : Position). lists.is_nameless attribute p.value) positions.now }
 {
@@ -54,7 +54,8 @@ fn any_nameless(attribute: Attribute, positions: &[Position]) -> bool
         .any(|position| is_nameless(attribute, &position.value))
 }
 
-/// Whether the values are refused: two are chosen as the primary one, a member has no `value`, or there are too many.
+/// Whether the values are refused.
+/// They are if two are chosen as primary, a member has no `value`, or there are too many.
 fn are_refused(attribute: Attribute, positions: &[Position]) -> bool
     ensures { result ≡ spec.are_refused attribute positions.now }
 {
@@ -63,7 +64,7 @@ fn are_refused(attribute: Attribute, positions: &[Position]) -> bool
         || positions.len() > MOST_VALUES
 }
 
-/// The values, of which those that the step didn't choose aren't primary. NoMemory where none was to be had.
+/// Returns the values, with `primary` set to false in those that the step didn't choose.
 fn demote_others(alloc: Global, positions: Vec<Position>) -> Result<Vec<Row>, NoMemory>
     ensures { IfOk result (λ v. v.items ≡ map spec.beside_chosen positions.items) }
 {
@@ -80,7 +81,7 @@ fn demote_others(alloc: Global, positions: Vec<Position>) -> Result<Vec<Row>, No
     Ok(values)
 }
 
-/// The values. NoMemory where none was to be had.
+/// Returns the values of the positions.
 fn values_of(alloc: Global, positions: Vec<Position>) -> Result<Vec<Row>, NoMemory>
     ensures { IfOk result (λ v. v.items ≡ map (λ (p : Position). p.value) positions.items) }
 {
@@ -91,10 +92,9 @@ fn values_of(alloc: Global, positions: Vec<Position>) -> Result<Vec<Row>, NoMemo
     Ok(values)
 }
 
-/// What is left of the values.
+/// Returns the values with fields after a step, checked, and with no other primary if the step chose one.
 ///
-/// Value where two are chosen as the primary one, a member has no `value`, or there are too many. NoMemory where none
-/// was to be had.
+/// Value if two are chosen as primary, a member has no `value`, or there are too many.
 pub(crate) fn settle(
     alloc: Global,
     attribute: Attribute,

@@ -1,4 +1,4 @@
-//! What comes of a step.
+//! Computes the values of a unit after a step, or why the step is refused.
 ghost use Rattle.std.specs.Prelude.{◌≡◌, IfOk};
 ghost use Rattle.scim_text.specs.Failures.{UnlessMemory};
 ghost use Rattle.scim_patch_steps.specs.Changes.{change_of};
@@ -19,18 +19,18 @@ use thiserror::Error;
 /// Why a step is refused (RFC 7644 section 3.12).
 #[derive(Clone, Copy, Debug, PartialEq, Eq, Error)]
 pub enum StepFault {
-    /// What it would change is readOnly or immutable, or it would take away what is required (mutability).
+    /// The step would change a readOnly or immutable value, or clear a required attribute (mutability).
     #[error("what is readOnly, immutable or required can't be changed so")]
     Mutability,
-    /// Its path has no target: no value is a match, and none can be made (noTarget).
+    /// The path has no target: no value matches, and none can be made (noTarget).
     #[error("the path has no target")]
     NoTarget,
-    /// Its result would have two primary values, a member without `value`, or too many values (invalidValue).
+    /// The result would have two primary values, a member without `value`, or too many values (invalidValue).
     #[error("the values would be wrong")]
     Value,
 }
 
-/// Whether two values that differ are given as the primary one. NoMemory where none was to be had.
+/// Whether the change gives two different values that are marked as primary.
 fn gives_two_primary(alloc: Global, attribute: Attribute, change: &Change) -> Result<bool, NoMemory>
     ensures { IfOk result (λ b. b ≡ spec.gives_two_primary attribute (change_of change.now)) }
 {
@@ -42,15 +42,15 @@ fn gives_two_primary(alloc: Global, attribute: Attribute, change: &Change) -> Re
     }
 }
 
-/// The values of a unit after a step, from those before it (RFC 7644 section 3.5.2).
+/// Returns the values of a unit after a step, from those before it (RFC 7644 section 3.5.2).
 ///
-/// Mutability where the unit is readOnly, where what is required would be taken away, where the path ends in a
-/// sub-attribute that is immutable or readOnly, and where something would be added to a member that is there. Else
-/// NoTarget where the path has no target; else Value where the step marks two values as the primary one, where a member
-/// has no `value`, and where there are over 10,000. NoMemory where none was to be had. The values are dropped then.
+/// Mutability if the unit is readOnly, if a required unit would be cleared, if the path ends in an immutable
+/// or readOnly sub-attribute, or if something would be added to an existing member. Otherwise NoTarget if the
+/// path has no target. Otherwise Value if the step marks two values as primary, if a member has no `value`,
+/// or if there are over 10,000 values. On an error the values are dropped.
 ///
-/// Where the step marks one value as the primary one, no other is afterwards. The time is nearly linear in the values
-/// that are there and that are given.
+/// If the step marks one value as primary, no other is primary afterwards. The time is nearly linear in the
+/// number of existing and given values.
 pub fn values_after(
     alloc: Global,
     kind: Kind,

@@ -1,4 +1,4 @@
-//! The table of paths and operations.
+//! The table of paths and operations: the effect of each change on the values of its unit.
 ghost use Rattle.std.specs.Prelude.{◌≡◌, Some, IfOk, map};
 ghost use Rattle.scim_cell.specs.SameValues as lists;
 ghost use Rattle.scim_filter_grammar.specs.Tree.{tree_of};
@@ -21,7 +21,7 @@ use scim_value::copy_rows;
 use std::alloc::Global;
 use std::slice;
 
-/// What a step makes of the values of its unit; None where its path has no target. NoMemory where none was to be had.
+/// Returns the positions that a change makes of the values of its unit; None if its path has no target.
 pub(crate) fn row(
     alloc: Global,
     unit: Unit,
@@ -75,8 +75,8 @@ pub(crate) fn row(
     }
 }
 
-/// The given values behind those that are there, each once; a value that is the same as a given primary one is chosen.
-/// NoMemory where none was to be had.
+/// Appends the given values to the existing ones, each once.
+/// The values that are the same as a given primary one are chosen.
 fn append(
     alloc: Global,
     unit: Unit,
@@ -92,8 +92,7 @@ fn append(
     Ok(Some(mark(alloc, unit.attribute, primary.as_slice(), all)?))
 }
 
-/// The values, with one of the given fields in place of each match, each once; None without a match. NoMemory where
-/// none was to be had.
+/// Replaces each match by a value with the given fields, and drops duplicates; None if there is no match.
 fn replace_at_matches(
     alloc: Global,
     unit: Unit,
@@ -113,7 +112,7 @@ fn replace_at_matches(
     Ok(Some(mark(alloc, unit.attribute, primary.as_slice(), all)?))
 }
 
-/// The values, with the given field over that of each match; None without a match. NoMemory where none was to be had.
+/// Puts the given fields over those of each match; None if there is no match.
 fn replace_field_at_matches(
     alloc: Global,
     filter: &Filter,

@@ -1,4 +1,4 @@
-//! The units that a patch is about, and whether their values are others afterwards.
+//! The units that a patch names, and whether it changes their values.
 ghost use Rattle.std.specs.Prelude.{◌≡◌, AllPairs, IfOk, map, filter};
 ghost use Rattle.std.specs.List.{flat_map, list_any};
 ghost use Rattle.scim_cell.specs.Rows.{Precedes, is_primary, rows};
@@ -17,17 +17,17 @@ use scim_text::{NoMemory, push};
 use scim_value::{Part, values_among};
 use std::alloc::Global;
 
-/// What is kept of a resource, to tell afterwards whether its values are others.
+/// What is kept of a resource before a patch, to tell afterwards whether its values changed.
 #[derive(Drop)]
 pub(crate) enum Before {
-    /// How many values the one unit had that the patch is about: their number tells it.
+    /// The number of values of the patch's only unit, if it suffices to tell whether the values changed.
     Number(Unit, usize),
-    /// Copies of the rows of the units that the patch is about.
+    /// Copies of the rows of the units that the patch names.
     Rows(Vec<Row>),
 }
 
 impl Patch {
-    /// The units that the steps are about, in the order of the steps. NoMemory where none was to be had.
+    /// Returns the units of the steps, in the order of the steps. Pathless steps have none.
     pub fn touched(&self, alloc: Global) -> Result<Vec<Unit>, NoMemory>
         ensures { IfOk result (λ v. v.items ≡ spec.touched (patch_of self.now)) }
     {
@@ -35,7 +35,7 @@ impl Patch {
     }
 }
 
-/// The units that steps are about. NoMemory where none was to be had.
+/// Returns the units of the steps, in their order.
 fn units_of(alloc: Global, steps: &[Step]) -> Result<Vec<Unit>, NoMemory>
     ensures { IfOk result (λ v. v.items ≡ flat_map spec.units_in (map step_of steps.now)) }
 {
@@ -48,14 +48,14 @@ fn units_of(alloc: Global, steps: &[Step]) -> Result<Vec<Unit>, NoMemory>
     Ok(units)
 }
 
-/// Whether the unit is one of these.
+/// Whether the unit is one of `units`.
 fn is_one_of(units: &[Unit], unit: Unit) -> bool
     ensures { result ≡ is_about units.now unit }
 {
     units.iter().any(|other| unit == *other)
 }
 
-/// Copies of the rows of these units. NoMemory where none was to be had.
+/// Copies the rows of these units.
 fn rows_of(alloc: Global, units: &[Unit], rows: &[Row]) -> Result<Vec<Row>, NoMemory>
     ensures { IfOk result (λ v. v.items ≡ rows_about units.now rows.now) }
 {
@@ -68,7 +68,7 @@ fn rows_of(alloc: Global, units: &[Unit], rows: &[Row]) -> Result<Vec<Row>, NoMe
     Ok(copies)
 }
 
-/// Copies of the rows that a part has of the units that the patch is about. NoMemory where none was to be had.
+/// Copies the rows of the part for the units that the patch names.
 fn touched_rows(alloc: Global, patch: &Patch, part: &Part) -> Result<Vec<Row>, NoMemory>
     ensures rows { IfOk result (λ v. v.items ≡ rows_about (spec.touched (patch_of patch.now)) (rows part.now)) }
     ensures sorted { IfOk result (λ v. AllPairs (λ r s. Precedes r.unit s.unit) v.items) }
@@ -77,8 +77,9 @@ fn touched_rows(alloc: Global, patch: &Patch, part: &Part) -> Result<Vec<Row>, N
     rows_of(alloc, units.as_slice(), part.rows())
 }
 
-/// What is kept of a part: of one step that only takes values away, or puts some behind them of which none is the
-/// primary one, the number of values, and else the rows themselves. NoMemory where none was to be had.
+/// Returns what to keep of a part before the patch.
+/// It is the number of values if the patch is a single step that only removes values, or only appends values
+/// without a primary one; otherwise the rows of the patch's units.
 pub(crate) fn before_of(alloc: Global, patch: &Patch, part: &Part) -> Result<Before, NoMemory>
     ensures { IfOk result (IsBefore (patch_of patch.now) (rows part.now)) }
 {
@@ -88,7 +89,7 @@ pub(crate) fn before_of(alloc: Global, patch: &Patch, part: &Part) -> Result<Bef
     }
 }
 
-/// Whether the change writes: each does but an add of nothing.
+/// Whether the change writes to its unit: every change does, except the add of nothing to a whole unit.
 fn writes(change: &Change) -> bool
     ensures { result ≡ spec.writes (change_of change.now) }
 {
@@ -98,7 +99,7 @@ fn writes(change: &Change) -> bool
     }
 }
 
-/// Whether a step writes what isn't kept.
+/// Whether the step writes to a writeOnly unit, whose values aren't kept.
 fn is_unseen_writing(kind: Kind, step: &Step) -> bool
     ensures { result ≡ spec.is_unseen_writing kind (step_of step.now) }
 {
@@ -110,7 +111,7 @@ fn is_unseen_writing(kind: Kind, step: &Step) -> bool
     }
 }
 
-/// Whether one of the steps does.
+/// Whether any of the steps writes to a writeOnly unit.
 fn is_any_unseen_writing(kind: Kind, steps: &[Step]) -> bool
     ensures { result ≡ list_any (spec.is_unseen_writing kind) (map step_of steps.now) }
 {
@@ -122,7 +123,7 @@ fn is_any_unseen_writing(kind: Kind, steps: &[Step]) -> bool
     false
 }
 
-/// Whether a unit that one of the steps is about has other values in the part than among these rows.
+/// Whether the part has other values than `before` for any unit of the steps.
 fn is_any_other(steps: &[Step], before: &[Row], part: &Part) -> bool
     requires { AllPairs (λ r s. Precedes r.unit s.unit) before.now }
     ensures { result ≡ list_any (is_other before.now (rows part.now)) (flat_map spec.units_in (map step_of steps.now)) }
@@ -137,15 +138,15 @@ fn is_any_other(steps: &[Step], before: &[Row], part: &Part) -> bool
     false
 }
 
-/// Whether one of the values is the primary one.
+/// Whether any of the values is marked as primary.
 fn has_primary(values: &[Row]) -> bool
     ensures { result ≡ list_any is_primary values.now }
 {
     values.iter().any(|value| value.is_primary())
 }
 
-/// Whether the number of values after the change tells whether they are others: the change only takes values away, or
-/// puts some behind them of which none is the primary one.
+/// Whether the number of values afterwards suffices to tell whether the change changed them.
+/// It does if the change only removes values, or only appends values without a primary one.
 fn is_told_by_length(change: &Change) -> bool
     ensures { result ≡ lengths.is_told_by_length (change_of change.now) }
 {
@@ -161,7 +162,7 @@ fn is_told_by_length(change: &Change) -> bool
     }
 }
 
-/// The unit of the one step, where the number of its values tells whether they are others afterwards.
+/// Returns the unit of the only step, if the number of its values suffices to tell whether they changed.
 fn unit_told_by_length(steps: &[Step]) -> Option<Unit>
     ensures { result ≡ lengths.unit_told_among (map step_of steps.now) }
 {
@@ -171,7 +172,7 @@ fn unit_told_by_length(steps: &[Step]) -> Option<Unit>
     }
 }
 
-/// Whether the patch changed something, where this was kept of what it was applied to, and the part is what came of it.
+/// Whether the patch changed something: `before` was kept before the patch, and `part` is its result.
 pub(crate) fn is_changed(before: &Before, patch: &Patch, part: &Part) -> bool
     requires { IsInOrder before.now }
     ensures { result ≡ tells (patch_of patch.now) (rows part.now) before.now }

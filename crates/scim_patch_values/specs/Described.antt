@@ -1,4 +1,4 @@
--- The value that a filter describes: a conjunction that says of each of some sub-attributes what it is.
+-- The value that a filter describes: a conjunction of equalities, each on a different sub-attribute.
 use Rattle.std.specs.Prelude.{ℕ, Bool, true, not, ◌&&◌, List, [], ◌∷◌, ◌++◌, Option, None, Some, option_map, option_and_then, length, nat_le, if◌then◌else◌}
 use Rattle.std.specs.List.{list_any}
 use denote.Enum.Bare.{sameb}
@@ -22,11 +22,11 @@ use Rattle.scim_filter_grammar.specs.declared.tree.Operator.TheVariants.{Eq}
 use Rattle.scim_filter_grammar.specs.Tree.{Tree, And, Compare, Values}
 use Rattle.scim_filter_grammar.specs.Types.{truth_in}
 
--- a text that a resource may keep: it has at most 65,536 bytes
+-- the text as an atom; None if it is longer than a resource's texts may be, 65,536 bytes
 abbrev pub text_atom : List ℕ → Option Atom
 text_atom t = if nat_le (length t) LONGEST_VALUE then Some (Text t) else None
 
--- the atom that a literal is at a leaf of this type: a text or a boolean; a boolean may be the text that names it
+-- the literal as an atom of this type, where a text may also name a boolean; None if it isn't of the type
 abbrev pub atom_for : AttributeType → Literal → Option Atom
 atom_for Boolean (literal.Truth b) = Some (Truth b)
 atom_for Boolean (literal.Text t) = option_map Truth (truth_in t)
@@ -39,34 +39,36 @@ atom_for _ _ = None
 abbrev pub has_sub_attribute : Attribute → SubAttribute → Bool
 has_sub_attribute a b = list_any (λ c. sameb the_sub_attribute c b) (sub_attributes a)
 
--- the field of a sub-attribute of the attribute that is this literal
+-- the field with this literal for a sub-attribute of the attribute; None if there is no such field
 abbrev pub field_for : Attribute → SubAttribute → Literal → Option Field
 field_for a b x = if has_sub_attribute a b then option_map (λ atom. record { leaf = leaf_at a b; atom = atom }) (atom_for (sub_attribute_characteristics a b).attribute_type x) else None
 
--- the field that an equality describes
+-- the field that an equality on a sub-attribute describes; None if it describes none
 abbrev pub equality : Attribute → Meant → Literal → Option (List Field)
 equality a (meant.SubAttribute c b) x = option_map (λ f. f ∷ []) (field_for a b x)
 equality a _ x = None
 
+-- the fields of two lists, one after the other; None if either is missing
 abbrev pub joined : Option (List Field) → Option (List Field) → Option (List Field)
 joined (Some fs) (Some gs) = Some (fs ++ gs)
 joined _ _ = None
 
--- the fields that a conjunction of equalities describes, in their order; none, where it is anything else
+-- the fields that a conjunction of equalities describes, in their order; None for any other filter
 abbrev pub equalities : Attribute → Tree → Option (List Field)
 equalities a (Compare path Eq x) = equality a path.meant x
 equalities a (And p q) = joined (equalities a p) (equalities a q)
 equalities a _ = None
 
--- whether each leaf stands once
+-- whether all fields are of different leaves
 abbrev pub is_each_once : List Field → Bool
 is_each_once [] = true
 is_each_once (f ∷ fs) = not (list_any (λ (g : Field). is_same_leaf g.leaf f.leaf) fs) && is_each_once fs
 
+-- the fields, if all are of different leaves
 abbrev pub if_each_once : List Field → Option (List Field)
 if_each_once fs = if is_each_once fs then Some fs else None
 
--- the fields of the value that a value path describes: each sub-attribute is said once what it is
+-- the fields of the value that a value path describes, if it sets each sub-attribute at most once
 abbrev pub described : Attribute → Tree → Option (List Field)
 described a (Values path inner) = option_and_then if_each_once (equalities a inner)
 described a _ = None

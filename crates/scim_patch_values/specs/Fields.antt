@@ -1,4 +1,4 @@
--- The fields of one value, changed.
+-- Changes of the fields of one value.
 use Rattle.std.specs.Prelude.{not, false, List, [], ◌∷◌, ◌++◌, filter, if◌then◌else◌}
 use Rattle.std.specs.declared.cmp.Ordering.{Ordering}
 use Rattle.std.specs.Ordering.{is_lt, is_gt}
@@ -10,35 +10,35 @@ use Rattle.scim_cell.specs.declared.rows.Field.{Field}
 use Rattle.scim_cell.specs.Place.{place_cmp, place_at}
 use Rattle.scim_cell.specs.Rows.{Row, is_primary}
 
--- fields of one value by place
+-- the order of the fields of one value: by place
 abbrev pub field_cmp : Field → Field → Ordering
 field_cmp f g = place_cmp (place_at f.leaf 0) (place_at g.leaf 0)
 
--- fields with one in its place, over one that stands there
+-- the fields with one more in its place, replacing any of the same place
 abbrev pub put_field : Field → List Field → List Field
 put_field f fs = filter (λ (g : Field). is_lt (field_cmp g f)) fs ++ (f ∷ filter (λ (g : Field). is_gt (field_cmp g f)) fs)
 
--- fields with the given ones over them
+-- the fields with the given ones put over them
 abbrev pub over : List Field → List Field → List Field
 over [] fs = fs
 over (g ∷ given) fs = over given (put_field g fs)
 
--- fields without that of a leaf
+-- the fields without those of a leaf
 abbrev pub without : Leaf → List Field → List Field
 without l fs = filter (λ (f : Field). not (is_same_leaf f.leaf l)) fs
 
--- a value with the given fields over its own
+-- the value with the given fields put over its own
 abbrev pub row_over : List Field → Row → Row
 row_over given r = record { unit = r.unit; fields = over given r.fields }
 
--- a value without the field of a leaf
+-- the value without the field of a leaf
 abbrev pub row_without : Leaf → Row → Row
 row_without l r = record { unit = r.unit; fields = without l r.fields }
 
--- the field that says that a value isn't the primary one
+-- the field that marks a value as not primary
 abbrev pub not_primary : Row → Field
 not_primary r = record { leaf = leaf_at r.unit.attribute Primary; atom = Truth false }
 
--- a value, its `primary` false where it is true
+-- the value with `primary` set to false if it is true
 abbrev pub demoted : Row → Row
 demoted r = if is_primary r then record { unit = r.unit; fields = put_field (not_primary r) r.fields } else r

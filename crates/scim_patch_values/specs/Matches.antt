@@ -1,4 +1,5 @@
--- What is made of the values of a unit: of those that are matches, of those that are listed, of each of them (RFC 7644 section 3.5.2).
+-- The values of a unit after a step on the matches of a filter, on listed or on all values (RFC 7644 section
+-- 3.5.2).
 use Rattle.std.specs.Prelude.{ℕ, Bool, false, List, [], ◌∷◌, ◌++◌, map, filter, Option, Some, option_map, if◌then◌else◌}
 use Rattle.std.specs.List.{list_any}
 use Rattle.std.specs.Str.{bytes_eq}
@@ -18,62 +19,67 @@ use Rattle.scim_patch_values.specs.declared.positions.Position.{Position}
 use Rattle.scim_patch_values.specs.Described.{described}
 use Rattle.scim_patch_values.specs.Fields.{over, row_over, row_without}
 
--- a value that the step leaves as it is
+-- the position of a value that the step leaves unchanged
 abbrev pub kept : Row → Position
 kept value = record { value = value; chosen = false }
 
--- those of given values that are marked as the primary one, each once
+-- the given values that are marked as primary, each distinct value once
 abbrev pub given_primary : Attribute → List Row → List Row
 given_primary a given = with_values a [] (filter is_primary given)
 
--- a value that is the same as one of these is chosen
+-- the position of a value, chosen if it is the same as one of the given primary ones
 abbrev pub marked : Attribute → List Row → Row → Position
 marked a primary value = record { value = value; chosen = list_any (λ g. is_same_value a g value) primary }
 
--- a value whose `primary`, if it is true, comes from the step
+-- the position of a value that the step made, chosen if it is marked as primary
 abbrev pub made : Row → Position
 made value = record { value = value; chosen = is_primary value }
 
--- the value of a unit that has these fields
+-- the value of a unit with these fields
 abbrev pub value_of : AttributeUnit → List Field → Row
 value_of u fs = record { unit = u; fields = fs }
 
--- whether a value is one of those that are listed: its `value` is one of these texts, case included
+-- whether an atom is one of these texts, case included
 abbrev pub is_text_of : Option Atom → List (List ℕ) → Bool
 is_text_of (Some (Text t)) texts = list_any (bytes_eq t) texts
 is_text_of _ texts = false
 
+-- whether the `value` of a value is one of these texts, case included
 abbrev pub is_listed : List (List ℕ) → Row → Bool
 is_listed texts value = is_text_of (atom_in (leaf_at value.unit.attribute Value) value.fields) texts
 
--- whether some value is a match
+-- whether any value matches the filter
 abbrev pub is_any_match : Tree → List Row → Bool
 is_any_match t values = list_any (truth_in_value t) values
 
--- a value with the given fields over its own; it is chosen where they say that it is primary
+-- the position of a value with the given fields put over its own, chosen if they mark it as primary
 abbrev pub set_over : List Field → Row → Position
 set_over given value = record { value = row_over given value; chosen = is_primary (value_of value.unit given) }
 
+-- the position of a value, with the given fields put over its own if it matches the filter
 abbrev pub set_at_match : Tree → List Field → Row → Position
 set_at_match t given value = if truth_in_value t value then set_over given value else kept value
 
+-- the given value if this one matches the filter, otherwise this one
 abbrev pub replaced_at_match : Tree → Row → Row → Row
 replaced_at_match t given value = if truth_in_value t value then given else value
 
+-- the value, without the sub-attribute if it matches the filter
 abbrev pub cleared_at_match : Tree → SubAttribute → Row → Row
 cleared_at_match t b value = if truth_in_value t value then row_without (leaf_at value.unit.attribute b) value else value
 
--- values, and behind them one of these fields
+-- the positions of the values, followed by that of a new one with these fields
 abbrev pub with_made : AttributeUnit → List Row → List Field → List Position
 with_made u values fs = map kept values ++ made (value_of u fs) ∷ []
 
--- the given fields over those of each match; without one, a value is made of what the filter describes and of them
+-- the positions with the given fields put over those of each match; without a match, with a new value of the
+-- given fields over those that the filter describes, or None if it describes no value
 abbrev pub added_at_matches : AttributeUnit → Tree → List Field → List Row → Option (List Position)
 added_at_matches u t given values =
     if is_any_match t values then Some (map (set_at_match t given) values)
     else option_map (λ fs. with_made u values (over given (over fs []))) (described u.attribute t)
 
--- the given fields over those of each value; where there is none, a value is made of them
+-- the positions with the given fields put over those of each value, or of a new value if there are no values
 abbrev pub set_everywhere : AttributeUnit → List Field → List Row → List Position
 set_everywhere u given [] = made (value_of u given) ∷ []
 set_everywhere u given (value ∷ values) = map (set_over given) (value ∷ values)

@@ -1,3 +1,3 @@
--- How the code gathers what a filter describes, and finds listed texts.
+-- Specifications of code: collecting the fields that a filter describes, and finding listed texts.
 pub mod Gathered
 pub mod Listed

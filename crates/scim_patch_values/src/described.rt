@@ -16,7 +16,7 @@ use scim_schema::{
 use scim_text::{NoMemory, push};
 use std::alloc::Global;
 
-/// The text as an atom; None where it is too long for a resource. NoMemory where none was to be had.
+/// Returns the text as an atom; None if it is longer than [`LONGEST_TEXT`].
 fn text_atom(alloc: Global, text: &StringLiteral) -> Result<Option<Atom>, NoMemory>
     ensures { IfOk result (λ o. o ≡ spec.text_atom text.now) }
 {
@@ -26,7 +26,8 @@ fn text_atom(alloc: Global, text: &StringLiteral) -> Result<Option<Atom>, NoMemo
     Ok(Some(Atom::Text(Text::copy_of(alloc, text.as_str())?)))
 }
 
-/// The atom that a literal is at a leaf of the type; None where it is none. NoMemory where none was to be had.
+/// Returns the literal as an atom of the type; None if it isn't of that type.
+/// A boolean may also be given by the text that names it.
 fn atom_for(
     alloc: Global,
     attribute_type: AttributeType,
@@ -47,8 +48,8 @@ fn atom_for(
     }
 }
 
-/// The field of a sub-attribute of the attribute that is the literal; None where the attribute has no such
-/// sub-attribute, or the literal isn't of its type. NoMemory where none was to be had.
+/// Returns the field with this literal for a sub-attribute of the attribute.
+/// None if the attribute has no such sub-attribute, or the literal isn't of its type.
 fn field_for(
     alloc: Global,
     attribute: Attribute,
@@ -70,7 +71,7 @@ fn field_for(
     }
 }
 
-/// Adds the field that an equality describes; false where it describes none. NoMemory where none was to be had.
+/// Appends the field that an equality describes; returns false if it describes none.
 fn push_equality(
     alloc: Global,
     attribute: Attribute,
@@ -92,8 +93,8 @@ fn push_equality(
     }
 }
 
-/// Adds the fields that a conjunction of equalities describes; false where it is anything else. NoMemory where none
-/// was to be had.
+/// Appends the fields that a conjunction of equalities describes; returns false for any other filter.
+/// If it returns false, the fields of the first terms may have been appended.
 fn push_equalities(
     alloc: Global,
     attribute: Attribute,
@@ -114,14 +115,14 @@ fn push_equalities(
     }
 }
 
-/// Whether one of the fields is of the leaf.
+/// Whether any of the fields is of the leaf.
 fn has_leaf(fields: &[Field], leaf: Leaf) -> bool
     ensures { result ≡ list_any (λ f. is_same_leaf f.leaf leaf) fields.now }
 {
     fields.iter().any(|field| field.leaf == leaf)
 }
 
-/// Whether each leaf stands once.
+/// Whether all fields are of different leaves.
 fn is_each_once(fields: &[Field]) -> bool
     ensures { result ≡ spec.is_each_once fields.now }
 {
@@ -131,8 +132,8 @@ fn is_each_once(fields: &[Field]) -> bool
     }
 }
 
-/// The fields of the value that a value path describes, a conjunction that says of each of some sub-attributes once
-/// what it is; None where it is anything else. NoMemory where none was to be had.
+/// Returns the fields of the value that a value path describes.
+/// None unless the filter in brackets is a conjunction of equalities, each on a different sub-attribute.
 pub(crate) fn described(
     alloc: Global,
     attribute: Attribute,

@@ -1,4 +1,4 @@
-//! A sub-attribute of each value of an attribute.
+//! Changes sub-attributes of every value of an attribute.
 ghost use Rattle.std.specs.Prelude.{◌≡◌, IfOk, map};
 ghost use Rattle.scim_cell.specs.Rows.{is_primary};
 ghost use Rattle.scim_patch_values.specs.Fields.{row_without};
@@ -11,7 +11,7 @@ use scim_schema::{Leaf, SubAttribute, Unit};
 use scim_text::{NoMemory, push};
 use std::alloc::Global;
 
-/// A value of the unit with copies of these fields, in their order. NoMemory where none was to be had.
+/// Returns a value of the unit with copies of these fields, in their order.
 pub fn value_of(alloc: Global, unit: Unit, fields: &[Field]) -> Result<Row, NoMemory>
     ensures { IfOk result (λ r. r ≡ spec.value_of unit fields.now) }
 {
@@ -22,7 +22,7 @@ pub fn value_of(alloc: Global, unit: Unit, fields: &[Field]) -> Result<Row, NoMe
     Ok(Row::new(unit, copies))
 }
 
-/// A value that the step made.
+/// Returns the position of a value that the step made; it is chosen if it is marked as primary.
 pub(crate) fn made(value: Row) -> Position
     ensures { result ≡ spec.made value }
 {
@@ -30,8 +30,8 @@ pub(crate) fn made(value: Row) -> Position
     Position { value, chosen }
 }
 
-/// The given fields over those of each value, which is chosen where they say that it is primary; where there is no
-/// value, one is made of them. NoMemory where none was to be had; the values are dropped then.
+/// Puts the given fields over those of each value, or makes a value of them if there is none.
+/// The values are chosen if the given fields mark them as primary.
 pub fn set_everywhere(
     alloc: Global,
     unit: Unit,
@@ -49,7 +49,7 @@ pub fn set_everywhere(
     set_each(alloc, given, values)
 }
 
-/// The given fields over those of each value. NoMemory where none was to be had.
+/// Puts the given fields over those of each value.
 fn set_each(alloc: Global, given: &[Field], values: Vec<Row>) -> Result<Vec<Position>, NoMemory>
     ensures { IfOk result (λ v. v.items ≡ map (spec.set_over given.now) values.items) }
 {
@@ -60,8 +60,7 @@ fn set_each(alloc: Global, given: &[Field], values: Vec<Row>) -> Result<Vec<Posi
     Ok(positions)
 }
 
-/// The value with copies of the given fields over its own, chosen where they say that it is primary. NoMemory where
-/// none was to be had.
+/// Puts copies of the given fields over those of the value, which is chosen if they mark it as primary.
 pub(crate) fn set_over(alloc: Global, given: &[Field], value: Row) -> Result<Position, NoMemory>
     ensures { IfOk result (λ p. p ≡ spec.set_over given.now value) }
 {
@@ -70,7 +69,7 @@ pub(crate) fn set_over(alloc: Global, given: &[Field], value: Row) -> Result<Pos
     Ok(Position { value, chosen })
 }
 
-/// Whether a value of the unit with these fields is marked as the primary one.
+/// Whether the fields mark a value of the unit as primary.
 fn says_primary(unit: Unit, fields: &[Field]) -> bool
     ensures { result ≡ is_primary (spec.value_of unit fields.now) }
 {
@@ -83,8 +82,7 @@ fn says_primary(unit: Unit, fields: &[Field]) -> bool
     false
 }
 
-/// The values without the field of a leaf. One that has no other field stays, without fields. NoMemory where none was
-/// to be had; the values are dropped then.
+/// Removes the field of a leaf from each value. A value without other fields stays, without fields.
 pub fn clear_everywhere(alloc: Global, leaf: Leaf, values: Vec<Row>) -> Result<Vec<Row>, NoMemory>
     ensures { IfOk result (λ v. v.items ≡ map (row_without leaf) values.items) }
 {

@@ -1,4 +1,4 @@
-//! The fields of one value, changed.
+//! Changes the fields of one value.
 ghost use Rattle.std.specs.Prelude.{◌≡◌, ◌++◌, ◌∷◌, [], IfOk, OnOk, filter};
 ghost use Rattle.std.specs.Ordering.{is_lt, is_gt};
 ghost use Rattle.scim_schema.specs.Units.{is_same_leaf};
@@ -11,7 +11,7 @@ use scim_text::{NoMemory, push};
 use std::alloc::Global;
 use std::cmp::Ordering;
 
-/// Where a field stands in its value.
+/// Returns the place of a field in the order of its value's fields.
 fn place_of(field: &Field) -> Place
     ensures { result ≡ place_at field.now.leaf 0 }
 {
@@ -22,7 +22,7 @@ fn place_of(field: &Field) -> Place
     }
 }
 
-/// The fields that stand before one, and those that stand behind it.
+/// The fields of a value before and after a given place.
 #[derive(Drop)]
 struct Sides {
     before: Vec<Field>,
@@ -30,8 +30,7 @@ struct Sides {
 }
 
 impl Sides {
-    /// Adds another field on its side of the one, or drops it where both stand in one place. NoMemory where none was
-    /// to be had.
+    /// Adds `other` to its side of `field`, or drops it if both have the same place.
     fn add(&mut self, other: Field, field: &Field) -> Result<(), NoMemory>
         ensures before { OnOk result (self.new.before.items
             ≡ self.old.before.items ++ filter (λ f. is_lt (spec.field_cmp f field.now)) (other ∷ [])) }
@@ -47,7 +46,7 @@ impl Sides {
     }
 }
 
-/// The fields on both sides of this one. NoMemory where none was to be had.
+/// Splits the fields at the place of `field`, dropping any field at that place.
 fn parted(alloc: Global, fields: Vec<Field>, field: &Field) -> Result<Sides, NoMemory>
     ensures before { IfOk result (λ sides. sides.before.items ≡ filter (λ other. is_lt (spec.field_cmp other field.now)) fields.items) }
     ensures behind { IfOk result (λ sides. sides.behind.items ≡ filter (λ other. is_gt (spec.field_cmp other field.now)) fields.items) }
@@ -62,7 +61,7 @@ fn parted(alloc: Global, fields: Vec<Field>, field: &Field) -> Result<Sides, NoM
     Ok(sides)
 }
 
-/// The fields with this one in its place, over one that stands there. NoMemory where none was to be had.
+/// Puts a field in its place among the fields, replacing one of the same place.
 fn put_field(alloc: Global, fields: Vec<Field>, field: Field) -> Result<Vec<Field>, NoMemory>
     ensures { IfOk result (λ v. v.items ≡ spec.put_field field fields.items) }
 {
@@ -75,7 +74,7 @@ fn put_field(alloc: Global, fields: Vec<Field>, field: Field) -> Result<Vec<Fiel
     Ok(all)
 }
 
-/// The fields with copies of the given ones over them. NoMemory where none was to be had.
+/// Puts copies of the given fields over the fields.
 pub(crate) fn over(
     alloc: Global,
     given: &[Field],
@@ -90,7 +89,7 @@ pub(crate) fn over(
     Ok(all)
 }
 
-/// The value with copies of the given fields over its own. NoMemory where none was to be had.
+/// Puts copies of the given fields over those of the value.
 pub(crate) fn row_over(alloc: Global, given: &[Field], row: Row) -> Result<Row, NoMemory>
     ensures { IfOk result (λ r. r ≡ spec.row_over given.now row) }
 {
@@ -106,7 +105,7 @@ fn is_of(field: &Field, leaf: Leaf) -> bool
     field.leaf == leaf
 }
 
-/// The value without the field of a leaf.
+/// Removes the field of a leaf from the value.
 pub(crate) fn row_without(leaf: Leaf, row: Row) -> Row
     ensures { result ≡ spec.row_without leaf row }
 {
@@ -116,7 +115,7 @@ pub(crate) fn row_without(leaf: Leaf, row: Row) -> Row
     Row::new(unit, fields)
 }
 
-/// The value, its `primary` false where it is true. NoMemory where none was to be had; the value is dropped then.
+/// Sets the value's `primary` to false if it is true.
 pub fn demoted(alloc: Global, row: Row) -> Result<Row, NoMemory>
     ensures { IfOk result (λ r. r ≡ spec.demoted row) }
 {

@@ -1,5 +1,5 @@
-//! The values of a unit that a step of a PATCH is about (RFC 7644 section 3.5.2), and what is made of them: those of
-//! which the filter of its path holds, those whose `value` is listed, or each of them.
+//! Applies a PATCH step to the values of its unit (RFC 7644 section 3.5.2): to those that match a filter, to
+//! those whose `value` is listed, or to all.
 #![tactic(auto)]
 
 mod described;

@@ -1,4 +1,4 @@
-//! Values whose `value` is listed.
+//! Removes values by a list of their `value`s.
 ghost use Rattle.std.specs.Prelude.{◌≡◌, ℕ, List, IfOk, filter, not};
 ghost use Rattle.scim_patch_values.specs.Matches as spec;
 ghost use Rattle.scim_patch_values.specs.code.Listed.{HoldsTexts};
@@ -9,7 +9,7 @@ use scim_text::{NoMemory, push};
 use std::alloc::Global;
 use std::collections::BTreeSet;
 
-/// The texts, to be found fast. NoMemory where none was to be had.
+/// Collects the texts in a set, for fast look-ups.
 fn set_of(alloc: Global, texts: &[Text]) -> Result<BTreeSet<String>, NoMemory>
     ensures { IfOk result (λ set. HoldsTexts set texts.now) }
 {
@@ -20,7 +20,7 @@ fn set_of(alloc: Global, texts: &[Text]) -> Result<BTreeSet<String>, NoMemory>
     Ok(set)
 }
 
-/// Whether the `value` of the value is one of the texts.
+/// Whether the value's `value` is one of the texts in the set.
 fn is_listed(set: &BTreeSet<String>, value: &Row) -> bool
     ensures { (texts : List (List ℕ)) → HoldsTexts set.now texts → result ≡ spec.is_listed texts value.now }
 {
@@ -30,8 +30,7 @@ fn is_listed(set: &BTreeSet<String>, value: &Row) -> bool
     }
 }
 
-/// The values whose `value` isn't one of the texts, case included, in their order. NoMemory where none was to be had;
-/// the values are dropped then.
+/// Removes the values whose `value` is one of the texts, case included; the others keep their order.
 pub fn remove_listed(alloc: Global, texts: &[Text], values: Vec<Row>) -> Result<Vec<Row>, NoMemory>
     ensures { IfOk result (λ v. v.items ≡ filter (λ value. not (spec.is_listed texts.now value)) values.items) }
 {

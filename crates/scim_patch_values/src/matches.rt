@@ -1,4 +1,4 @@
-//! Values of which the filter of a path holds.
+//! Changes the values that match the filter of a path.
 ghost use Rattle.std.specs.Prelude.{◌≡◌, IfOk, filter, map, not};
 ghost use Rattle.scim_filter_grammar.specs.Tree.{tree_of};
 ghost use Rattle.scim_filter.specs.Truth.{truth_in_value};
@@ -16,7 +16,7 @@ use scim_schema::{Leaf, SubAttribute, Unit};
 use scim_text::{NoMemory, push};
 use std::alloc::Global;
 
-/// Whether some value is a match, one of which the filter of a value path holds. NoMemory where none was to be had.
+/// Whether any value matches the filter of a value path.
 pub fn is_any_match(alloc: Global, matching: &Filter, values: &[Row]) -> Result<bool, NoMemory>
     ensures { IfOk result (λ b. b ≡ spec.is_any_match (tree_of matching.now) values.now) }
 {
@@ -28,8 +28,7 @@ pub fn is_any_match(alloc: Global, matching: &Filter, values: &[Row]) -> Result<
     Ok(false)
 }
 
-/// The values, with the given fields over those of each match, which is chosen where they say that it is primary.
-/// NoMemory where none was to be had; the values are dropped then.
+/// Puts the given fields over those of each match, which is chosen if they mark it as primary.
 pub fn set_at_matches(
     alloc: Global,
     matching: &Filter,
@@ -53,8 +52,7 @@ pub fn set_at_matches(
     Ok(positions)
 }
 
-/// The values, with a copy of the given one in place of each match. NoMemory where none was to be had; the values are
-/// dropped then.
+/// Replaces each match by a copy of `given`.
 pub fn replace_matches(
     alloc: Global,
     matching: &Filter,
@@ -75,7 +73,7 @@ pub fn replace_matches(
     Ok(left)
 }
 
-/// The values that are no match, in their order. NoMemory where none was to be had; the values are dropped then.
+/// Removes the matches; the other values keep their order.
 pub fn remove_matches(
     alloc: Global,
     matching: &Filter,
@@ -92,8 +90,7 @@ pub fn remove_matches(
     Ok(left)
 }
 
-/// The values, each match without a sub-attribute. One that has no other stays, without fields. NoMemory where none
-/// was to be had; the values are dropped then.
+/// Removes a sub-attribute from each match. A match without other fields stays, without fields.
 pub fn clear_at_matches(
     alloc: Global,
     matching: &Filter,
@@ -114,12 +111,12 @@ pub fn clear_at_matches(
     Ok(left)
 }
 
-/// The values, with the given fields over those of each match; without one, a value is made of what the filter
-/// describes and of them, and stands behind the others. It is chosen where it is primary, as a match is where the given
-/// fields say so.
+/// Puts the given fields over those of each match, or appends a value if there is no match.
+/// The new value has the fields that the filter describes, with the given ones over them. It is chosen if it
+/// is primary; a match is chosen if the given fields mark it as primary.
 ///
-/// None where there is no match and the filter describes no value: it isn't a conjunction that says of each of some
-/// sub-attributes once what it is. NoMemory where none was to be had. The values are dropped then.
+/// None, with the values dropped, if there is no match and the filter describes no value: only a conjunction
+/// of equalities, each on a different sub-attribute, describes one.
 pub fn add_at_matches(
     alloc: Global,
     unit: Unit,

@@ -1,4 +1,4 @@
-//! Values after a step, and whether the step chose them as the primary one.
+//! Values after a step, and whether the step made them primary.
 ghost use Rattle.std.specs.Prelude.{◌≡◌, IfOk, map, filter};
 ghost use Rattle.std.specs.List.{list_any};
 ghost use Rattle.scim_cell.specs.Rows.{is_primary};
@@ -17,8 +17,7 @@ pub struct Position {
     pub chosen: bool,
 }
 
-/// Values that the step leaves as they are, none of them chosen. NoMemory where none was to be had; the values are
-/// dropped then.
+/// Returns the values unchanged, none of them chosen.
 pub fn keep(alloc: Global, values: Vec<Row>) -> Result<Vec<Position>, NoMemory>
     ensures { IfOk result (λ v. v.items ≡ map spec.kept values.items) }
 {
@@ -33,7 +32,7 @@ pub fn keep(alloc: Global, values: Vec<Row>) -> Result<Vec<Position>, NoMemory>
     Ok(positions)
 }
 
-/// Copies of the values that are marked as the primary one. NoMemory where none was to be had.
+/// Copies the values that are marked as primary.
 fn primary_ones(alloc: Global, given: &[Row]) -> Result<Vec<Row>, NoMemory>
     ensures { IfOk result (λ v. v.items ≡ filter is_primary given.now) }
 {
@@ -46,7 +45,7 @@ fn primary_ones(alloc: Global, given: &[Row]) -> Result<Vec<Row>, NoMemory>
     Ok(primary)
 }
 
-/// Copies of the given values that are marked as the primary one, each once. NoMemory where none was to be had.
+/// Copies the given values that are marked as primary, each distinct value once.
 pub fn given_primary(
     alloc: Global,
     attribute: Attribute,
@@ -58,7 +57,7 @@ pub fn given_primary(
     with_values(alloc, attribute, Vec::new(alloc), primary)
 }
 
-/// Whether one of the values is the same as this one.
+/// Whether any of the values is the same as `value`.
 fn has_same(attribute: Attribute, values: &[Row], value: &Row) -> bool
     ensures { result ≡ list_any (λ other. lists.is_same_value attribute other value.now) values.now }
 {
@@ -67,9 +66,9 @@ fn has_same(attribute: Attribute, values: &[Row], value: &Row) -> bool
         .any(|other| is_same_value(attribute, other, value))
 }
 
-/// The values, of which those that are the same as one of the given primary ones are chosen. A step with two primary
-/// ones that differ is refused before, so this looks at one for each value at most. NoMemory where none was to be had;
-/// the values are dropped then.
+/// Returns the values, choosing those that are the same as one of the given primary ones.
+/// Takes time in proportion to the product of both lengths; `primary` has at most one element in practice,
+/// since a step that gives two different primary values is refused before.
 pub fn mark(
     alloc: Global,
     attribute: Attribute,

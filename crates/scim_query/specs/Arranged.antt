@@ -1,4 +1,4 @@
--- The page of a list as a function of the list: parts are put in order one by one.
+-- The page of a list as a function of the list, by inserting each part in order.
 use Rattle.std.specs.Prelude.{ℕ, Bool, cond, List, [], ◌∷◌, map, length}
 use Rattle.std.specs.Ordering.{is_lt}
 use Rattle.scim_cell.specs.Content.{Content}
@@ -7,28 +7,28 @@ use Rattle.scim_query.specs.declared.queries.Query.{Query}
 use Rattle.scim_query.specs.Order.{part_cmp}
 use Rattle.scim_query.specs.Pages.{matching, slice_of}
 
--- a list in order with one more, which comes before the first that it is less than
+-- the list in order with x inserted before the first element that it is less than
 abbrev pub placed : {X : Type 0} → (X → X → Bool) → X → List X → List X
 placed lt x [] = x ∷ []
 placed lt x (y ∷ ys) = cond (lt x y) (x ∷ y ∷ ys) (y ∷ placed lt x ys)
 
--- whether one part comes before another in the order that is asked for
+-- whether one part comes before another in the query's order
 abbrev pub before : Query → Content → Content → Bool
 before query p q = is_lt (part_cmp query.sort_by query.descending p q)
 
--- parts in order, and then these, each put in its place
+-- the parts in order with each of the others inserted in its place
 abbrev pub with_placed : Query → List Content → List Content → List Content
 with_placed query done [] = done
 with_placed query done (p ∷ ps) = with_placed query (placed (before query) p done) ps
 
--- the parts that match, in the order that is asked for
+-- the matching parts in the query's order
 abbrev pub arranged : Query → List Content → List Content
 arranged query parts = with_placed query [] (matching query.filter parts)
 
--- how many of a client's view match in all
+-- the number of parts of a client's view that match
 abbrev pub total_of : Query → List Content → ℕ
 total_of query view = length (matching query.filter view)
 
--- the items of the page, each as it is shown
+-- the items of the query's page of a client's view, each projected to what the query wants
 unfoldable pub shown_items : Query → List Content → List Content
 shown_items query view = map (shown query.wanted) (slice_of query.start query.count (arranged query view))

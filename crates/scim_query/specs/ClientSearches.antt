@@ -1,4 +1,4 @@
--- What a client is shown of the resources that a query of it finds (RFC 7644 section 3.4.2).
+-- The page that a client is shown of its view of resources (RFC 7644 section 3.4.2).
 use Rattle.std.specs.Prelude.{◌≡◌, List, map}
 use Rattle.scim_cell.specs.Content.{Content}
 use Rattle.scim_view.specs.Shown.{shown}
@@ -6,7 +6,7 @@ use Rattle.scim_query.specs.declared.queries.Query.{Query}
 use Rattle.scim_query.specs.declared.queries.Page.{Page}
 use Rattle.scim_query.specs.Pages.{IsPage}
 
--- the page of a client's view that the query asks for, each item as it is shown
+-- the page is the query's page of a client's view, with each item projected to what the query wants
 pub record IsShownPage (view : List Content) (query : Query) (page : Page) : Type 0 where
   pub found : Page
   pub is_page : IsPage view query found

@@ -1,4 +1,4 @@
--- What a part is sorted by (RFC 7644 section 3.4.2.3).
+-- The key by which a part is sorted (RFC 7644 section 3.4.2.3).
 use Rattle.std.specs.Prelude.{Option, None, Some, List, ◌++◌, filter, slice_get}
 use Rattle.std.specs.Option.{option_map}
 use Rattle.scim_schema.specs.declared.Leaf.{Leaf}
@@ -9,7 +9,7 @@ use Rattle.scim_cell.specs.declared.atoms.Atom.TheVariants.{Text}
 use Rattle.scim_cell.specs.Rows.{Row, values, atom_in, is_primary}
 use Rattle.scim_filter.specs.Relation.{cased}
 
--- the value that a part is sorted by: the first that is marked as primary, else the first
+-- the value by which a part is sorted: the first that is marked as primary, or else the first
 abbrev pub sorting_value : List Row → Option Row
 sorting_value vs = slice_get (filter is_primary vs ++ vs) 0
 
@@ -18,16 +18,16 @@ abbrev pub atom_of : Leaf → Option Row → Option Atom
 atom_of l None = None
 atom_of l (Some r) = atom_in l r.fields
 
--- an atom as it is compared: a text is folded where case doesn't count (RFC 7643 section 2.2)
+-- an atom as it is compared: a text is case-folded unless its leaf is caseExact (RFC 7643 section 2.2)
 abbrev pub compared : Leaf → Atom → Atom
 compared l (Text t) = Text (cased (is_case_exact l) t)
 compared l a = a
 
--- the key of rows by a leaf; a single-valued attribute has one value
+-- the sort key of rows by a leaf, where a single-valued attribute counts as one value
 abbrev pub sort_key : Leaf → List Row → Option Atom
 sort_key l rs = option_map (compared l) (atom_of l (sorting_value (values (unit_of l) rs)))
 
--- the key by a leaf where one is given
+-- the sort key of rows by a leaf; None if there is no leaf
 abbrev pub key_by : Option Leaf → List Row → Option Atom
 key_by None rs = None
 key_by (Some l) rs = sort_key l rs

@@ -1,4 +1,4 @@
--- The attributes that a query looks at.
+-- The attributes that a query names, and when two parts are alike to it.
 use Rattle.std.specs.Prelude.{◌≡◌, Bool, Option, None, Some, List, [], ◌∷◌, ◌++◌, filter_map}
 use Rattle.std.specs.List.{list_any}
 use denote.Enum.Bare.{sameb}
@@ -16,7 +16,7 @@ use Rattle.scim_query.specs.declared.queries.Query.{Query}
 use Rattle.scim_query.specs.Keys.{key_by}
 use Rattle.scim_query.specs.Pages.{is_match}
 
--- the attributes of some names, where the kind has what they name
+-- the attributes of the names that the kind has
 abbrev pub attributes_in : List Named → List Attribute
 attributes_in ns = filter_map (λ (n : Named). n.attribute) ns
 
@@ -24,25 +24,25 @@ attributes_in ns = filter_map (λ (n : Named). n.attribute) ns
 abbrev pub attributes_named : Filter → List Attribute
 attributes_named f = attributes_in (mentioned_names (tree_of f))
 
--- the same where there is a filter
+-- the attributes that an optional filter names
 abbrev pub filter_attributes : Option Filter → List Attribute
 filter_attributes None = []
 filter_attributes (Some f) = attributes_named f
 
--- the attribute of the leaf to sort by, where there is one
+-- the attribute of the leaf to sort by, if there is one
 abbrev pub key_attributes : Option Leaf → List Attribute
 key_attributes None = []
 key_attributes (Some l) = l.attribute ∷ []
 
--- the attributes that the filter and the sort key name
+-- the attributes that the query's filter and sort key name
 abbrev pub attributes_of : Query → List Attribute
 attributes_of query = filter_attributes query.filter ++ key_attributes query.sort_by
 
--- whether `groups` is among them
+-- whether the query's filter or sort key names `groups`
 abbrev pub names_groups : Query → Bool
 names_groups query = list_any (λ a. sameb the_attribute a Groups) (attributes_of query)
 
--- two parts are alike to a query: the filter holds of both or of neither, and they have one sort key and one id
+-- two parts are alike to a query: both match or neither does, and they have equal sort keys and equal ids
 pub record Alike (query : Query) (p q : Content) : Type 0 where
   pub matches : is_match query.filter p ≡ is_match query.filter q
   pub key : key_by query.sort_by (rows p) ≡ key_by query.sort_by (rows q)

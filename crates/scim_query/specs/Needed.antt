@@ -1,4 +1,4 @@
--- What all parts that match have in common.
+-- Texts that every matching part has.
 use Rattle.std.specs.Prelude.{◌≡◌, ℕ, Bool, true, List, Option}
 use Rattle.scim_schema.specs.declared.Leaf.{Leaf}
 use Rattle.scim_schema.specs.Characteristics.{is_case_exact}
@@ -11,10 +11,10 @@ use Rattle.scim_filter.specs.Relation.{stands}
 use Rattle.scim_filter.specs.Truth.{some_atom}
 use Rattle.scim_query.specs.Pages.{is_match}
 
--- whether a text stands at the leaf, as `eq` compares texts there (RFC 7644 section 3.4.2.2)
+-- whether rows have the text at the leaf, as `eq` compares (RFC 7644 section 3.4.2.2)
 abbrev pub has_text : Leaf → List ℕ → List Row → Bool
 has_text leaf text rs = some_atom (λ a. stands (is_case_exact leaf) Eq a (Text text)) leaf rs
 
--- no part matches in which the text doesn't stand at the leaf
+-- every part that matches the filter has the text at the leaf
 abbrev pub NeedsText : Option Filter → Leaf → List ℕ → Type 0
 NeedsText filter leaf text = (p : Content) → is_match filter p ≡ true → has_text leaf text (rows p) ≡ true

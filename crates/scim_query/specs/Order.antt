@@ -1,4 +1,4 @@
--- The order of parts (RFC 7644 section 3.4.2.3): by sort key, then by id.
+-- The sort order of parts (RFC 7644 section 3.4.2.3): by sort key, then by id.
 use Rattle.std.specs.Prelude.{ℕ, Bool, true, false, Option, None, Some, List}
 use Rattle.std.specs.declared.cmp.Ordering.{Ordering}
 use Rattle.std.specs.declared.cmp.Ordering.TheVariants.{Less, Equal, Greater}
@@ -11,7 +11,7 @@ use Rattle.scim_cell.specs.Content.{Content}
 use Rattle.scim_cell.specs.Rows.{rows}
 use Rattle.scim_query.specs.Keys.{key_by}
 
--- texts by their bytes, false before true, moments by time; the atoms of one leaf are of one type
+-- the order of atoms: texts by bytes, false before true, moments by time; atoms of one leaf have one type
 abbrev pub atom_cmp : Atom → Atom → Ordering
 atom_cmp (Text a) (Text b) = slice_cmp nat_cmp a b
 atom_cmp (Text a) _ = Less
@@ -21,30 +21,30 @@ atom_cmp (Truth a) (Moment b) = Less
 atom_cmp (Moment a) (Moment b) = nat_cmp a b
 atom_cmp (Moment a) _ = Greater
 
--- what has no key comes last
+-- the ascending order of keys, where a part without a key comes last
 abbrev pub ascending_cmp : Option Atom → Option Atom → Ordering
 ascending_cmp (Some a) (Some b) = atom_cmp a b
 ascending_cmp (Some a) None = Less
 ascending_cmp None (Some b) = Greater
 ascending_cmp None None = Equal
 
--- and descending it comes first
+-- the order of keys in a direction, which is the reverse of the ascending order if descending
 abbrev pub key_cmp : Bool → Option Atom → Option Atom → Ordering
 key_cmp true a b = ascending_cmp b a
 key_cmp false a b = ascending_cmp a b
 
--- a sort key and an id
+-- the sort key and the id of a part
 abbrev pub Rank : Type 0
 Rank = Option Atom × List ℕ
 
--- the rank of a part
+-- the rank of a part: its sort key and its id
 abbrev pub rank_of : Option Leaf → Content → Rank
 rank_of sort_by p = (key_by sort_by (rows p), p.id)
 
--- by key in the direction, and ties by id, which always ascends
+-- the order of ranks: by key in the given direction, then by ascending id
 abbrev pub rank_cmp : Bool → Rank → Rank → Ordering
 rank_cmp descending a b = ordering_then (key_cmp descending a.0 b.0) (slice_cmp nat_cmp a.1 b.1)
 
--- the order of parts
+-- the order of parts by a leaf in the given direction, then by ascending id
 abbrev pub part_cmp : Option Leaf → Bool → Content → Content → Ordering
 part_cmp sort_by descending p q = rank_cmp descending (rank_of sort_by p) (rank_of sort_by q)

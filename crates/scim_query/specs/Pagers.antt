@@ -1,4 +1,4 @@
--- What a pager holds of the parts that it has been given.
+-- The parts that a pager holds of those that it has taken.
 use Rattle.std.specs.Prelude.{◌≡◌, ℕ, ◌+◌, ◌-◌, Option, None, Some, List, map, length, take, is_some, if◌then◌else◌}
 use Rattle.std.specs.List.Sorted.{IsSorted}
 use Rattle.scim_schema.specs.declared.Leaf.{Leaf}
@@ -11,36 +11,37 @@ use Rattle.scim_query.specs.declared.pagers.Pager.{Pager}
 use Rattle.scim_query.specs.Keys.{key_by}
 use Rattle.scim_query.specs.Pages.{matching, IsInOrder, slice_of}
 
--- a part with its key by the leaf
+-- a part with its sort key by the leaf
 abbrev pub keyed : Option Leaf → Content → KeptPart
 keyed sort_by p = record { key = key_by sort_by (rows p); part = p }
 
--- of the parts that match, in the order that is asked for, those are held that come on the page or before it
+-- the held parts are those matching parts, in the query's order, that are on the page or before it
 pub record HoldsFirst (query : Query) (found : List Content) (held : List KeptPart) : Type 0 where
   pub sorted : List Content
   pub is_sorted : IsInOrder query found sorted
   pub first : held ≡ map (keyed query.sort_by) (take (query.start - 1 + query.count) sorted)
 
--- what is held of the parts that match: without a leaf to sort by those of the page, in the order of the list
+-- the held parts of the matching ones: with a sort key those on the page or before it, without one those of
+-- the page in the order of the list
 abbrev pub Holds : Option Leaf → Query → List Content → List KeptPart → Type 0
 Holds None query found held = held ≡ map (keyed query.sort_by) (slice_of query.start query.count found)
 Holds (Some l) query found held = HoldsFirst query found held
 
--- a pager has been given these parts, one after another
+-- the pager has taken these parts, one after another
 pub record HasTaken (parts : List Content) (pager : Pager) : Type 0 where
   pub total : pager.total ≡ length (matching pager.query.now.filter parts)
   pub held : Holds pager.query.now.sort_by pager.query.now (matching pager.query.now.filter parts) pager.held.items
 
--- a pager asks, counts and holds what it did
+-- the pager has the same query, total and held parts as before
 pub record IsUnchanged (old new : Pager) : Type 0 where
   pub query : new.query ≡ old.query
   pub total : new.total ≡ old.total
   pub held : new.held.items ≡ old.held.items
 
--- so many parts are held at most
+-- the maximum number of parts that a pager holds for a query
 abbrev pub most_held : Query → ℕ
 most_held query = if is_some query.sort_by then query.start - 1 + query.count else query.count
 
--- parts come in order of id, which is asked of them where there is no leaf to sort by
+-- the parts come in ascending order of id, which is required if the query has no sort key
 abbrev pub ComeInOrder : Query → List Content → Type 0
 ComeInOrder query parts = query.sort_by ≡ None → IsSorted id_cmp parts

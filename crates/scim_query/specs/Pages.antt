@@ -1,4 +1,4 @@
--- Which parts a search gives (RFC 7644 sections 3.4.2.2 to 3.4.2.4).
+-- The page of a list that a search returns (RFC 7644 sections 3.4.2.2 to 3.4.2.4).
 use Rattle.std.specs.Prelude.{◌≡◌, ℕ, zero, suc, ◌-◌, Bool, true, Option, None, Some, List, filter, length, take, drop}
 use Rattle.std.specs.List.Sorted.{IsPermutation, IsSorted, IsStable}
 use Rattle.scim_cell.specs.Content.{Content}
@@ -10,7 +10,7 @@ use Rattle.scim_query.specs.declared.queries.Query.{Query}
 use Rattle.scim_query.specs.declared.queries.Page.{Page}
 use Rattle.scim_query.specs.Order.{part_cmp}
 
--- whether a filter, where there is one, holds of a part
+-- whether a part matches a filter; every part matches if there is no filter
 abbrev pub is_match : Option Filter → Content → Bool
 is_match None p = true
 is_match (Some f) p = truth (tree_of f) (rows p)
@@ -19,23 +19,23 @@ is_match (Some f) p = truth (tree_of f) (rows p)
 abbrev pub matching : Option Filter → List Content → List Content
 matching f ps = filter (is_match f) ps
 
--- the second list is the first in the order that is asked for; parts of one key and one id keep their order, so
--- there is one such list
+-- the second list is the first sorted stably in the query's order, and so is determined by it
 pub record IsInOrder (query : Query) (found sorted : List Content) : Type 0 where
   pub members : IsPermutation found sorted
   pub in_order : IsSorted (part_cmp query.sort_by query.descending) sorted
   pub stable : IsStable (part_cmp query.sort_by query.descending) found sorted
 
--- so many parts from a position on, from 1; position 0 is 1
+-- at most count parts from position start on, counted from 1, where 0 counts as 1
 abbrev pub slice_of : ℕ → ℕ → List Content → List Content
 slice_of start count ps = take count (drop (start - 1) ps)
 
--- the position that a page starts from: 0 counts as 1
+-- the position at which a page starts, where 0 counts as 1
 abbrev pub first_position : ℕ → ℕ
 first_position zero = 1
 first_position (suc n) = suc n
 
--- how many match in all, where the page starts, and of those in order the ones from there on, at most the count
+-- the page is the query's page of the parts: the number of all matches, the start, and from it on at most
+-- count of the matching parts in order
 pub record IsPage (parts : List Content) (query : Query) (page : Page) : Type 0 where
   pub total : page.total ≡ length (matching query.filter parts)
   pub start : page.start ≡ first_position query.start
@@ -43,7 +43,7 @@ pub record IsPage (parts : List Content) (query : Query) (page : Page) : Type 0 
   pub is_sorted : IsInOrder query (matching query.filter parts) sorted
   pub items : page.items.items ≡ slice_of query.start query.count sorted
 
--- two pages that a query has of a list are alike
+-- any two pages of one query over one list have the same total, start and items
 abbrev pub QueriesHaveOnePage : Type 0
 QueriesHaveOnePage = (parts : List Content) (query : Query) (p q : Page) → IsPage parts query p → IsPage parts query q
     → (p.total ≡ q.total) × (p.start ≡ q.start) × (p.items.items ≡ q.items.items)

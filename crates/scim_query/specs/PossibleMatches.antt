@@ -1,4 +1,4 @@
--- Filters that hold of nothing that may be seen.
+-- Filters that match no visible part of a resource.
 use Rattle.std.specs.Prelude.{◌≡◌, ℕ, Bool, false, not, Option, Some, List, [], filter}
 use Rattle.std.specs.Option.{option_eq}
 use Rattle.scim_schema.specs.declared.Kind.{Kind}
@@ -15,27 +15,27 @@ use Rattle.scim_policy.specs.declared.rules.Decision.{Decision}
 use Rattle.scim_view.specs.Groups.{memberships, visible_with}
 use Rattle.scim_query.specs.Pages.{is_match}
 
--- whatever groups list the resource, what may be seen of it by these decisions doesn't match
+-- the part of the resource that these decisions let be seen doesn't match, whichever groups list it
 abbrev pub NeverMatches : Option Filter → (Leaf → Decision) → Content → Type 0
 NeverMatches filter decision c = (base : List ℕ) (groups : List Content) → is_match filter (visible_with decision (memberships base groups c.id) c) ≡ false
 
--- the rows of what may be seen of whatever resource of the kind, by these decisions, have a property
+-- the visible rows of every resource of the kind, by these decisions and with any groups, have a property
 abbrev pub AllRows : (List Row → Type 0) → Kind → (Leaf → Decision) → Type 0
 AllRows P kind decision = (c : Content) → IsPart c → c.kind ≡ kind → (base : List ℕ) (groups : List Content) → P (rows (visible_with decision (memberships base groups c.id) c))
 
--- a test fails of all of those
+-- a test fails for the visible rows of every resource of the kind, by these decisions
 abbrev pub NeverHolds : (List Row → Bool) → Kind → (Leaf → Decision) → Type 0
 NeverHolds test kind decision = AllRows (λ rs. test rs ≡ false) kind decision
 
--- the rows of the attribute that a path means, or whose sub-attribute it means
+-- the rows of the attribute that a path names or whose sub-attribute it names
 abbrev pub rows_meant : Meant → List Row → List Row
 rows_meant m rs = filter (λ (r : Row). option_eq is_same_attribute (mentioned_attribute m) (Some r.unit.attribute)) rs
 
--- nothing of that attribute may be seen
+-- no row of the attribute that a path names is visible in any resource of the kind, by these decisions
 abbrev pub StaysUnseen : Meant → Kind → (Leaf → Decision) → Type 0
 StaysUnseen m kind decision = AllRows (λ rs. rows_meant m rs ≡ []) kind decision
 
--- what stands between the brackets of a value path is asked of no rows too, where its attribute isn't multi-valued
+-- whether the bracketed filter of a value path is evaluated even without rows: the attribute is single-valued
 abbrev pub is_asked_of_none : Meant → Bool
 is_asked_of_none (meant.Attribute a) = not (is_multi_valued a)
 is_asked_of_none _ = false

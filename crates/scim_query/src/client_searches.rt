@@ -1,4 +1,4 @@
-//! What clients find.
+//! Searches resources as a client sees them.
 ghost use Rattle.std.specs.Prelude.{IfOk};
 ghost use Rattle.scim_view.specs.View.{viewer_of};
 ghost use Rattle.scim_view.specs.Groups.{views};
@@ -12,11 +12,11 @@ use scim_view::Viewer;
 use std::alloc::Global;
 
 /// The page that the client's query asks for of resources of one kind: of those that the client sees, each
-/// as it may see it, its groups among them (which are of `groups`, by id). The filter, the order and the
-/// total are told by that alone, so a client learns nothing by them that it may not read. Each item is
-/// shown as the query wants it. NoMemory where none was to be had.
+/// as it may see it, with a user's `groups` made from `groups`.
+/// Filter, sort order and total depend on nothing else, so a client learns nothing from them that it may not
+/// read. Each item is projected to what the query wants.
 ///
-/// The policy is asked once about each resource and each group.
+/// Evaluates the policy once for each resource and once for each group.
 pub fn search_view(
     alloc: Global,
     viewer: &Viewer<'_>,

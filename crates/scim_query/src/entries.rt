@@ -1,4 +1,4 @@
-//! The parts that match, each with its sort key.
+//! The matching parts, each with its sort key.
 ghost use Rattle.std.specs.Prelude.{◌≡◌, ◌-◌, ◌++◌, ◌∷◌, [], IfOk, OnOk, All, take, drop};
 ghost use Rattle.std.specs.List.Sorted.{IsPermutation, IsSorted, IsStable};
 ghost use Rattle.scim_value.specs.Changes.{restricted_part};
@@ -15,14 +15,14 @@ use scim_value::Part;
 use std::alloc::Global;
 use std::cmp::Ordering;
 
-/// A part and the key that it is sorted by, which is made once.
+/// A part with its sort key, which is computed once.
 #[derive(Drop)]
 pub(crate) struct Entry<'a> {
     key: Option<Atom>,
     part: &'a Part,
 }
 
-/// Whether a part is one of those that the query means. NoMemory where none was to be had.
+/// Whether the query's filter, if any, holds of the part.
 pub(crate) fn is_matching(alloc: Global, query: &Query, part: &Part) -> Result<bool, NoMemory>
     ensures { IfOk result (λ b. b ≡ is_match query.now.filter part.now) }
 {
@@ -32,8 +32,7 @@ pub(crate) fn is_matching(alloc: Global, query: &Query, part: &Part) -> Result<b
     }
 }
 
-/// Whether what is left of a part, where only the fields that the test admits are kept, is one of those that
-/// the query means. NoMemory where none was to be had.
+/// As [`is_matching`], for the part that is left when only the fields that the test admits are kept.
 pub(crate) fn is_matching_where<T: RowTest>(
     alloc: Global,
     query: &Query,
@@ -42,7 +41,7 @@ pub(crate) fn is_matching_where<T: RowTest>(
 ) -> Result<bool, NoMemory>
     ensures { IfOk result (λ b. b ≡ is_match query.now.filter (restricted_part (T.keeps test.now) part.now)) }
 {
-    // Tells that the part is valid, so that what is left of it has the rows that are left.
+    // The call tells the proof that the part is valid, so the restricted part has just the restricted rows.
     let _ = part.rows();
     match &query.filter {
         None => Ok(true),
@@ -50,7 +49,7 @@ pub(crate) fn is_matching_where<T: RowTest>(
     }
 }
 
-/// Puts the entry of a part that matches behind the others. NoMemory where none was to be had.
+/// Appends an entry for the part, if it matches.
 fn push_matching<'a>(
     alloc: Global,
     query: &Query,
@@ -69,7 +68,7 @@ fn push_matching<'a>(
     Ok(())
 }
 
-/// The parts that match, in the order of the list. NoMemory where none was to be had.
+/// Returns an entry for each matching part, in the order of the list.
 pub(crate) fn matching_entries<'a>(
     alloc: Global,
     parts: &'a [Part],
@@ -85,13 +84,14 @@ pub(crate) fn matching_entries<'a>(
     Ok(entries)
 }
 
+/// Compares two entries by key in the given direction, then by ascending id.
 fn compare(descending: bool, a: &Entry<'_>, b: &Entry<'_>) -> Ordering
     ensures { result ≡ rank_cmp descending (spec.entry_rank a.now) (spec.entry_rank b.now) }
 {
     compare_ranks(descending, &a.key, a.part.id(), &b.key, b.part.id())
 }
 
-/// Puts entries in order by key, and ties by id. NoMemory where none was to be had.
+/// Sorts the entries by key in the given direction, then by ascending id; equal entries keep their order.
 pub(crate) fn sort_entries(entries: &mut Vec<Entry<'_>>, descending: bool) -> Result<(), NoMemory>
     ensures members { IsPermutation entries.old.items entries.new.items }
     ensures in_order { OnOk result (IsSorted (spec.entry_cmp descending) entries.new.items) }
@@ -101,7 +101,7 @@ pub(crate) fn sort_entries(entries: &mut Vec<Entry<'_>>, descending: bool) -> Re
     Ok(())
 }
 
-/// At most so many items from a position on, from 1; position 0 is 1.
+/// Returns at most `count` items from position `start` on, counted from 1; 0 counts as 1.
 pub(crate) fn slice_of<T>(items: &[T], start: usize, count: usize) -> &[T]
     ensures { result.now ≡ take count (drop (start - 1) items.now) }
 {
@@ -110,7 +110,7 @@ pub(crate) fn slice_of<T>(items: &[T], start: usize, count: usize) -> &[T]
     rest.split_at(count.min(rest.len())).0
 }
 
-/// Copies of the parts. NoMemory where none was to be had.
+/// Copies the part of each entry.
 pub(crate) fn copy_parts(alloc: Global, entries: &[Entry<'_>]) -> Result<Vec<Part>, NoMemory>
     ensures { IfOk result (λ v. v.items ≡ spec.parts_of entries.now) }
 {

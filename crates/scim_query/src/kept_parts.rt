@@ -14,21 +14,21 @@ use scim_text::NoMemory;
 use scim_value::Part;
 use std::alloc::Global;
 
-/// A part that is held and the key that it is sorted by, which is made once.
+/// A held part with its sort key, which is computed once.
 #[derive(Drop)]
 pub(crate) struct KeptPart {
     pub(crate) key: Option<Atom>,
     pub(crate) part: Part,
 }
 
-/// Whether a part of this key and id comes before one that is held.
+/// Whether a part with this key and id comes before a held one.
 fn comes_before(descending: bool, key: &Option<Atom>, id: Id, other: &KeptPart) -> bool
     ensures { result ≡ is_lt (rank_cmp descending (key.now, id) (code.kept_rank other.now)) }
 {
     compare_ranks(descending, key, id, &other.key, other.part.id()).is_lt()
 }
 
-/// So many parts are held at most, of as many as can be counted.
+/// Returns the maximum number of held parts, at most `usize::MAX`.
 fn room_of(query: &Query) -> usize
     ensures { result ≡ min (spec.most_held query.now) (2 ^ 64 - 1) }
 {
@@ -40,8 +40,8 @@ fn room_of(query: &Query) -> usize
     }
 }
 
-/// The place of a part of this key and id among those in order, of which those are held that come on the page
-/// or before it; None where it comes behind these.
+/// Returns where to insert a part with this key and id among the held parts, which are in order.
+/// None if it comes after the end of the page.
 fn place_in_order(held: &[KeptPart], query: &Query, key: &Option<Atom>, id: Id) -> Option<usize>
     ensures inside { IfSome result (λ place. place ≤ length held.now) }
     ensures place { (part : _) → code.kept_rank part ≡ (key.now, id) → IsSorted (code.kept_cmp query.now.descending) held.now
@@ -56,8 +56,8 @@ fn place_in_order(held: &[KeptPart], query: &Query, key: &Option<Atom>, id: Id) 
     }
 }
 
-/// The place of a part, before which so many match, among those held, which are those on the page; None where
-/// it isn't on the page.
+/// Returns where to append a matching part to the held parts, which are those of the page.
+/// `before` is the number of parts that matched before it. None if the part isn't on the page.
 fn place_on_page(held: &[KeptPart], query: &Query, before: usize) -> Option<usize>
     ensures inside { IfSome result (λ place. place ≤ length held.now) }
     ensures place { (found : List KeptPart) (part : _) → before ≡ length found
@@ -72,8 +72,9 @@ fn place_on_page(held: &[KeptPart], query: &Query, before: usize) -> Option<usiz
     }
 }
 
-/// The place of a part that matches, of this key and id, before which so many do, among those held; None
-/// where it comes neither on the page nor before it.
+/// Returns where to insert a matching part with this key and id among the held parts.
+/// `before` is the number of parts that matched before it. None if the part is neither on the page nor before
+/// it.
 pub(crate) fn place_of(
     held: &[KeptPart],
     query: &Query,
@@ -91,8 +92,8 @@ pub(crate) fn place_of(
     }
 }
 
-/// Puts a part in its place among those held, of which as many stay as are held at most. NoMemory, and all as
-/// it was, where none was to be had.
+/// Inserts a part at `place` among the held parts, and drops those in excess of the maximum.
+/// After NoMemory the held parts are unchanged.
 pub(crate) fn put_in_place(
     held: &mut Vec<KeptPart>,
     query: &Query,
@@ -108,7 +109,7 @@ pub(crate) fn put_in_place(
     Ok(())
 }
 
-/// The parts from a position on, from 0. NoMemory where none was to be had.
+/// Returns the parts from index `first` on, counted from 0.
 pub(crate) fn parts_from(
     alloc: Global,
     held: Vec<KeptPart>,

@@ -1,4 +1,4 @@
-//! What parts are sorted by (RFC 7644 section 3.4.2.3).
+//! The keys by which parts are sorted (RFC 7644 section 3.4.2.3).
 ghost use Rattle.std.specs.Prelude.{◌≡◌, ◌&&◌, true, IfOk, find};
 ghost use Rattle.std.specs.List.{list_any};
 ghost use Rattle.std.specs.Option.{option_copied, option_map};
@@ -18,7 +18,7 @@ use scim_value::Part;
 use std::alloc::Global;
 use std::cmp::Ordering;
 
-/// A test that admits all, by which a part is sorted as it is.
+/// A test that admits every field, for a part that is sorted as it is.
 struct Everything;
 
 impl RowTest for Everything {
@@ -29,7 +29,7 @@ impl RowTest for Everything {
     }
 }
 
-/// Whether the value is marked as the primary one by a field that the test admits.
+/// Whether a field that the test admits marks the value as primary.
 fn is_primary<T: RowTest>(value: &Row, test: &T) -> bool
     ensures { result ≡ (cells.is_primary value.now
         && T.keeps test.now value.now (leaf_at value.now.unit.attribute SubAttribute.Primary)) }
@@ -38,7 +38,7 @@ fn is_primary<T: RowTest>(value: &Row, test: &T) -> bool
     value.is_primary() && test.is_kept(value, mark)
 }
 
-/// Whether the test admits a field of the value.
+/// Whether the test admits any field of the value.
 fn is_left<T: RowTest>(value: &Row, test: &T) -> bool
     ensures { result ≡ list_any (λ f. T.keeps test.now value.now f.leaf) value.now.fields }
 {
@@ -49,22 +49,22 @@ fn is_left<T: RowTest>(value: &Row, test: &T) -> bool
             .any(|field| test.is_kept(value, field.leaf))
 }
 
-/// The first value that is marked as primary by a field that the test admits.
+/// Returns the first value that a field admitted by the test marks as primary.
 fn first_primary<'r, T: RowTest>(values: &'r [Row], test: &T) -> Option<&'r Row>
     ensures { option_copied result ≡ find (λ r. cells.is_primary r && T.keeps test.now r (leaf_at r.unit.attribute SubAttribute.Primary)) values.now }
 {
     values.iter().find(|value| is_primary(value, test))
 }
 
-/// The first value of which the test admits a field.
+/// Returns the first value with a field that the test admits.
 fn first_left<'r, T: RowTest>(values: &'r [Row], test: &T) -> Option<&'r Row>
     ensures { option_copied result ≡ find (λ r. list_any (λ f. T.keeps test.now r f.leaf) r.fields) values.now }
 {
     values.iter().find(|value| is_left(value, test))
 }
 
-/// The value that what the test admits is sorted by: of those of which it admits a field the first that is
-/// marked as primary by one, else the first.
+/// Returns the value to sort by, of those with a field that the test admits.
+/// It is the first that an admitted field marks as primary; without such a mark it is the first.
 fn sorting_value<'r, T: RowTest>(values: &'r [Row], test: &T) -> Option<&'r Row>
     ensures { option_map (restricted_row (T.keeps test.now)) (option_copied result)
         ≡ spec.sorting_value (restricted (T.keeps test.now) values.now) }
@@ -75,7 +75,7 @@ fn sorting_value<'r, T: RowTest>(values: &'r [Row], test: &T) -> Option<&'r Row>
     }
 }
 
-/// The atom as it is compared: a text is folded where case doesn't count.
+/// Copies an atom as it is compared: a text is case-folded unless its leaf is caseExact.
 fn compared(alloc: Global, leaf: Leaf, atom: &Atom) -> Result<Atom, NoMemory>
     ensures { IfOk result (λ key. key ≡ spec.compared leaf atom.now) }
 {
@@ -88,7 +88,7 @@ fn compared(alloc: Global, leaf: Leaf, atom: &Atom) -> Result<Atom, NoMemory>
     }
 }
 
-/// The atom that what the test admits of a part is sorted by.
+/// Returns the atom by which a part is sorted, with only the fields that the test admits.
 fn sorting_atom<'p, T: RowTest>(leaf: Leaf, part: &'p Part, test: &T) -> Option<&'p Atom>
     ensures atom { option_copied result ≡ spec.atom_of leaf
         (spec.sorting_value (values (unit_of leaf) (restricted (T.keeps test.now) (rows part.now)))) }
@@ -102,8 +102,8 @@ fn sorting_atom<'p, T: RowTest>(leaf: Leaf, part: &'p Part, test: &T) -> Option<
     }
 }
 
-/// The key by the leaf of what the test admits of a part; None where that has no such atom. NoMemory where
-/// none was to be had.
+/// Returns the sort key of a part by the leaf, with only the fields that the test admits.
+/// None if the part has no such atom.
 fn key_at<T: RowTest>(
     alloc: Global,
     leaf: Leaf,
@@ -119,8 +119,7 @@ fn key_at<T: RowTest>(
     Ok(Some(compared(alloc, leaf, atom)?))
 }
 
-/// The key of a part by the leaf; None where it has no such atom, or there is no leaf. NoMemory where
-/// none was to be had.
+/// Returns the sort key of a part by the leaf; None if there is no leaf or the part has no such atom.
 pub(crate) fn key_by(
     alloc: Global,
     sort_by: Option<Leaf>,
@@ -134,8 +133,8 @@ pub(crate) fn key_by(
     }
 }
 
-/// The key of what is left of a part where only the fields that the test admits are kept. Nothing is copied
-/// but the key. NoMemory where none was to be had.
+/// As [`key_by`], for the part that is left when only the fields that the test admits are kept.
+/// Only the key is copied.
 pub(crate) fn key_where<T: RowTest>(
     alloc: Global,
     sort_by: Option<Leaf>,
@@ -150,6 +149,8 @@ pub(crate) fn key_where<T: RowTest>(
     }
 }
 
+/// Compares two atoms: texts by their bytes, false before true, moments by time.
+/// Atoms of one leaf have one type; of different types, texts come first and moments last.
 fn compare_atoms(a: &Atom, b: &Atom) -> Ordering
     ensures { result ≡ order.atom_cmp a.now b.now }
 {
@@ -162,6 +163,7 @@ fn compare_atoms(a: &Atom, b: &Atom) -> Ordering
     }
 }
 
+/// Compares two keys in ascending order: a part without a key comes last.
 fn compare_ascending(a: &Option<Atom>, b: &Option<Atom>) -> Ordering
     ensures { result ≡ order.ascending_cmp a.now b.now }
 {
@@ -173,7 +175,8 @@ fn compare_ascending(a: &Option<Atom>, b: &Option<Atom>) -> Ordering
     }
 }
 
-/// The order of keys: what has none comes last, and descending first.
+/// Compares two keys in the given direction.
+/// A part without a key comes last if ascending, and first if descending.
 fn compare_keys(descending: bool, a: &Option<Atom>, b: &Option<Atom>) -> Ordering
     ensures { result ≡ order.key_cmp descending a.now b.now }
 {
@@ -184,7 +187,7 @@ fn compare_keys(descending: bool, a: &Option<Atom>, b: &Option<Atom>) -> Orderin
     }
 }
 
-/// The order of two parts by their keys and ids: by key, and ties by id.
+/// Compares two parts by key in the given direction, then by ascending id.
 pub(crate) fn compare_ranks(
     descending: bool,
     key: &Option<Atom>,

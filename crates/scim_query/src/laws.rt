@@ -1,8 +1,8 @@
-//! What holds of all searches.
+//! A theorem about all searches.
 ghost use Rattle.scim_query.specs.Pages.{QueriesHaveOnePage};
 
-/// The parts of a list that a query gives are determined, even where ids are equal: two pages of it have
-/// one total and one start, and the same items in the same order.
+/// A query has exactly one page of a list, even if some ids are equal.
+/// Any two pages of it have the same total, the same start, and the same items in the same order.
 pub fn queries_have_one_page()
     ensures { QueriesHaveOnePage }
 {}

@@ -1,4 +1,4 @@
-//! Searching a list of parts: filter, order and page (RFC 7644 sections 3.4.2.2 to 3.4.2.4).
+//! Searches a list of parts: filter, sort order and page (RFC 7644 sections 3.4.2.2 to 3.4.2.4).
 #![tactic(auto)]
 
 mod client_searches;

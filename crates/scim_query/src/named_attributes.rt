@@ -1,4 +1,4 @@
-//! The attributes that a query names, which are all that it looks at.
+//! The attributes that a query names, the only ones that it reads.
 ghost use Rattle.std.specs.Prelude.{◌≡◌, IfOk};
 ghost use Rattle.scim_query.specs.NamedAttributes as spec;
 
@@ -8,7 +8,7 @@ use scim_schema::Attribute;
 use scim_text::{NoMemory, push};
 use std::alloc::Global;
 
-/// The attributes of names, where the kind has what they name.
+/// Returns the attributes of the names that the kind has.
 fn attributes_in(alloc: Global, names: &[Named]) -> Result<Vec<Attribute>, NoMemory>
     ensures { IfOk result (λ v. v.items ≡ spec.attributes_in names.now) }
 {
@@ -20,7 +20,7 @@ fn attributes_in(alloc: Global, names: &[Named]) -> Result<Vec<Attribute>, NoMem
     )
 }
 
-/// The attributes that a filter names, in the order of its text.
+/// Returns the attributes that a filter names, in the order of its text.
 fn attributes_named(alloc: Global, filter: &Filter) -> Result<Vec<Attribute>, NoMemory>
     ensures { IfOk result (λ v. v.items ≡ spec.attributes_named filter.now) }
 {
@@ -28,7 +28,7 @@ fn attributes_named(alloc: Global, filter: &Filter) -> Result<Vec<Attribute>, No
     attributes_in(alloc, names.as_slice())
 }
 
-/// The same where there is a filter.
+/// Returns the attributes that the filter names, in the order of its text; empty if there is no filter.
 fn filter_attributes(alloc: Global, filter: &Option<Filter>) -> Result<Vec<Attribute>, NoMemory>
     ensures { IfOk result (λ v. v.items ≡ spec.filter_attributes filter.now) }
 {
@@ -39,11 +39,9 @@ fn filter_attributes(alloc: Global, filter: &Option<Filter>) -> Result<Vec<Attri
 }
 
 impl Query {
-    /// The attributes that the filter and the sort key name; those of the filter in the order of its text.
-    /// NoMemory where none was to be had.
-    ///
-    /// Where `groups` isn't among them, the query finds the same of what may be seen of these alone as of
-    /// what may be seen of all.
+    /// Returns the attributes that the filter names, in the order of its text, and that of the sort key.
+    /// If `groups` isn't among them, the query finds the same in the visible part of these attributes alone
+    /// as in the whole visible part.
     pub fn attributes(&self, alloc: Global) -> Result<Vec<Attribute>, NoMemory>
         ensures { IfOk result (λ v. v.items ≡ spec.attributes_of self.now) }
     {

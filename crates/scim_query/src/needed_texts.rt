@@ -1,4 +1,4 @@
-//! Texts without which no part matches, by which the one that may can be looked up.
+//! The text that a filter requires at a leaf, by which the only possible match can be looked up.
 ghost use Rattle.std.specs.Prelude.{◌≡◌, true, List, IfSome};
 ghost use Rattle.scim_cell.specs.Rows.{Row};
 ghost use Rattle.scim_filter_grammar.specs.Tree.{view};
@@ -9,7 +9,7 @@ use crate::queries::Query;
 use scim_filter_grammar::{Literal, Meant, Node, Operator, StringLiteral};
 use scim_schema::Leaf;
 
-/// The text of a term that holds only where it stands at the leaf.
+/// Returns the text that a comparison requires at the leaf: that of `leaf eq "text"`; None for any other.
 fn text_compared(
     meant: Meant,
     operator: Operator,
@@ -26,7 +26,7 @@ fn text_compared(
     }
 }
 
-/// The text that stands at the leaf wherever the filter holds.
+/// Returns a text that the leaf must have for the filter to hold, if the filter shows one.
 fn text_needed(node: &Node, leaf: Leaf) -> Option<&StringLiteral>
     ensures { IfSome result (λ text. (rs : List Row) → truth (view node.now) rs ≡ true → spec.has_text leaf text.now rs ≡ true) }
 {
@@ -43,9 +43,9 @@ fn text_needed(node: &Node, leaf: Leaf) -> Option<&StringLiteral>
 }
 
 impl Query {
-    /// The text without which no part matches at the leaf, as `eq` compares texts there (RFC 7644 section
-    /// 3.4.2.2): where the filter is `leaf eq "text"`, or a conjunction one of whose terms is. None where the
-    /// filter asks for no such text.
+    /// Returns a text that every matching part has at the leaf.
+    /// Texts compare as with `eq` (RFC 7644 section 3.4.2.2). There is one if the filter is `leaf eq "text"`
+    /// or a conjunction with such a term; None otherwise.
     pub fn needed_text(&self, leaf: Leaf) -> Option<&StringLiteral>
         ensures { IfSome result (λ text. spec.NeedsText self.now.filter leaf text.now) }
     {

@@ -1,4 +1,4 @@
-//! The page of parts that come one after another, as a store is walked.
+//! Builds a page from parts that come one after another, as a store is walked.
 ghost use Rattle.std.specs.Prelude.{◌≡◌, ◌≤◌, ◌++◌, ◌∷◌, List, [], IfOk, OnOk, OnErr, length, take, insert};
 ghost use Rattle.scim_value.specs.Changes.{restricted_part};
 ghost use Rattle.scim_query.specs.Pages.{IsPage};
@@ -14,23 +14,23 @@ use scim_text::NoMemory;
 use scim_value::Part;
 use std::alloc::Global;
 
-/// What a query finds, while parts come one after another: the page of a list that isn't held.
+/// Computes the page of a query from parts that come one after another.
 ///
-/// Of the parts that have come, those that match are counted, and only those held that can still be on the
-/// page: without a leaf to sort by at most the query's count, and with one as many as come on the page or
-/// before it. A part that is given to keep isn't copied, and of one that is lent only what is held.
+/// The list isn't held in memory. The pager counts the matching parts and holds only those that can still be
+/// on the page: at most the query's count without a sort key, and with one at most as many as are on the page
+/// or before it. A part given by value isn't copied; of a borrowed one only a held part is copied.
 #[derive(Drop)]
 pub struct Pager<'q> {
     alloc: Global,
     query: &'q Query,
-    /// How many match so far.
+    /// The number of matching parts so far.
     total: usize,
-    /// With a leaf to sort by the first of these in order, else those of the page.
+    /// With a sort key, the first matching parts in order; otherwise the parts of the page.
     held: Vec<KeptPart>,
 }
 
 impl<'q> Pager<'q> {
-    /// A pager that has been given nothing yet. It takes no memory.
+    /// Returns a pager without parts, without allocating.
     pub fn new(alloc: Global, query: &'q Query) -> Pager<'q>
         ensures query { result.query ≡ query.entry }
         ensures taken { spec.HasTaken [] result }
@@ -43,9 +43,8 @@ impl<'q> Pager<'q> {
         }
     }
 
-    /// Takes the next part. Where the query has no leaf to sort by, parts come in order of id, ascending.
-    /// NoMemory where none was to be had, or where more parts match than can be counted; then the pager is
-    /// as it was.
+    /// Takes the next part. If the query has no sort key, parts must come in ascending order of id.
+    /// NoMemory also if the number of matches overflows `usize`. After it the pager is unchanged.
     pub fn push(&mut self, part: Part) -> Result<(), NoMemory>
         ensures query { self.new.query ≡ self.old.query }
         ensures taken { OnOk result ((parts : List _) → spec.HasTaken parts self.old
@@ -63,10 +62,10 @@ impl<'q> Pager<'q> {
         }
     }
 
-    /// Takes what is left of a part where only the fields that the test admits are kept, as [`Pager::push`]
-    /// takes a part. Of a part that doesn't match nothing is copied, of one that matches the key, and what is
-    /// left of it only where it is held. Tells whether it is held now. NoMemory where none was to be had, or where
-    /// more parts match than can be counted; then the pager is as it was.
+    /// As [`Pager::push`], for the part that is left when only the fields that the test admits are kept.
+    /// Returns whether the part is now held. A part that doesn't match isn't copied; of one that matches the
+    /// key is copied, and the rest only if it is held. NoMemory also if the number of matches overflows
+    /// `usize`. After it the pager is unchanged.
     pub fn push_where<T: RowTest>(&mut self, part: &Part, test: &T) -> Result<bool, NoMemory>
         ensures query { self.new.query ≡ self.old.query }
         ensures taken { OnOk result ((parts : List _) → spec.HasTaken parts self.old
@@ -91,8 +90,8 @@ impl<'q> Pager<'q> {
         }
     }
 
-    /// Counts a part that matches, and holds it at its place. NoMemory, and all as it was, where none was to be
-    /// had, or where more match than can be counted.
+    /// Counts a matching part and inserts it at `place` among the held parts.
+    /// NoMemory also if the number of matches overflows `usize`. After it the pager is unchanged.
     fn hold(&mut self, place: usize, part: KeptPart) -> Result<(), NoMemory>
         requires { place ≤ length self.old.held.items }
         ensures query { self.new.query ≡ self.old.query }
@@ -108,8 +107,8 @@ impl<'q> Pager<'q> {
         Ok(())
     }
 
-    /// Counts a part that matches and isn't held. NoMemory, and all as it was, where more match than can be
-    /// counted.
+    /// Counts a matching part that isn't held.
+    /// NoMemory, with the pager unchanged, if the number of matches overflows `usize`.
     fn pass(&mut self) -> Result<(), NoMemory>
         ensures query { self.new.query ≡ self.old.query }
         ensures counted { OnOk result (code.HasCounted self.old.held.items self.old self.new) }
@@ -122,7 +121,7 @@ impl<'q> Pager<'q> {
         Ok(())
     }
 
-    /// How many parts it holds.
+    /// Returns the number of held parts.
     pub fn held(&self) -> usize
         ensures held { result ≡ length self.now.held.items }
         ensures most { (parts : List _) → spec.HasTaken parts self.now
@@ -131,8 +130,7 @@ impl<'q> Pager<'q> {
         self.held.len()
     }
 
-    /// The page of the parts that it has been given, which is that of [`crate::queries::search`] of a list
-    /// of them. NoMemory where none was to be had.
+    /// Returns the page of the parts taken, as [`crate::queries::search`] returns it for a list of them.
     pub fn end(self) -> Result<Page, NoMemory>
         ensures { IfOk result (λ page. (parts : List _) → spec.HasTaken parts self.entry
             → spec.ComeInOrder self.entry.query.now parts → IsPage parts self.entry.query.now page) }

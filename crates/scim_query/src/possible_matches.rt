@@ -1,4 +1,4 @@
-//! Whether resources may match at all, by what may be seen of them.
+//! Whether any resource can match a filter, by the decisions on what the client may see.
 ghost use Rattle.std.specs.Prelude.{◌≡◌, false, []};
 ghost use Rattle.scim_cell.specs.Content.{Content, IsPart};
 ghost use Rattle.scim_filter_grammar.specs.declared.tree.Meant.TheVariants.{Nothing};
@@ -13,7 +13,7 @@ use scim_policy::Decisions;
 use scim_schema::{Attribute, Kind, is_multi_valued};
 use scim_view::shows_some;
 
-/// Whether a comparison holds of what has no cell.
+/// Whether a comparison holds of an attribute without a value.
 fn holds_of_none(operator: Operator, literal: &Literal) -> bool
     ensures { result ≡ compares Nothing operator literal.now [] }
 {
@@ -24,7 +24,8 @@ fn holds_of_none(operator: Operator, literal: &Literal) -> bool
     }
 }
 
-/// Whether what stands between the brackets of a value path is asked of an attribute that isn't there too.
+/// Whether the filter in brackets of a value path is evaluated even if the attribute has no value.
+/// It is if the path names a single-valued attribute.
 fn is_asked_of_none(meant: Meant) -> bool
     ensures { result ≡ spec.is_asked_of_none meant }
 {
@@ -34,7 +35,8 @@ fn is_asked_of_none(meant: Meant) -> bool
     }
 }
 
-/// Whether anything may be seen of the attribute that a path means, or whose sub-attribute it means.
+/// Whether the client may see a cell of the attribute that a path names or whose sub-attribute it names.
+/// Always true for `groups`, whose values are computed.
 fn may_be_seen(meant: Meant, kind: Kind, decisions: &Decisions) -> bool
     ensures { result ≡ false → spec.StaysUnseen meant kind (decision decisions.now) }
 {
@@ -46,7 +48,8 @@ fn may_be_seen(meant: Meant, kind: Kind, decisions: &Decisions) -> bool
     }
 }
 
-/// Whether the filter may hold of what may be seen of a resource of the kind.
+/// Whether the filter can hold of the visible part of some resource of the kind.
+/// False only if it holds of none; true may be a guess.
 fn may_hold(node: &Node, kind: Kind, decisions: &Decisions) -> bool
     ensures { result ≡ false → spec.NeverHolds (truth (view node.now)) kind (decision decisions.now) }
 {
@@ -69,8 +72,8 @@ fn may_hold(node: &Node, kind: Kind, decisions: &Decisions) -> bool
 }
 
 impl Query {
-    /// Whether a resource of the kind may match at all, as the client sees it, where these are the decisions
-    /// on reading each: where false, no resource does. It takes no memory.
+    /// Whether any resource of the kind can match, as the client sees it.
+    /// `decisions` are those on reading every resource of the kind. If false, none matches. Doesn't allocate.
     pub fn may_match(&self, kind: Kind, decisions: &Decisions) -> bool
         ensures { result ≡ false → (c : Content) → IsPart c → c.kind ≡ kind
             → spec.NeverMatches self.now.filter (decision decisions.now) c }

@@ -1,4 +1,4 @@
-//! Queries of a list of parts, and the pages that answer them.
+//! Queries of a list of parts, and the pages that they return.
 ghost use Rattle.std.specs.Prelude.{◌≡◌, IfOk};
 ghost use Rattle.scim_query.specs.Pages as spec;
 
@@ -10,23 +10,22 @@ use scim_value::Part;
 use scim_view::Wanted;
 use std::alloc::Global;
 
-/// What is asked of a list of parts (RFC 7644 section 3.4.2).
+/// A query of a list of parts (RFC 7644 section 3.4.2).
 pub struct Query {
-    /// Only parts of which it holds are meant; all where there is none.
+    /// The filter that parts must match; None matches all.
     pub filter: Option<Filter>,
-    /// The leaf to sort by, as [`crate::sort_keys::read_sort_by`] gives it; by id where there is none.
+    /// The leaf to sort by, as [`crate::sort_keys::read_sort_by`] returns it; None sorts by id.
     pub sort_by: Option<Leaf>,
-    /// Whether the last comes first.
+    /// Whether the sort order is descending.
     pub descending: bool,
-    /// The position of the first item to give, from 1 (0 counts as 1).
+    /// The position of the first item of the page, counted from 1; 0 counts as 1.
     pub start: usize,
-    /// At most so many items.
+    /// The maximum number of items on the page.
     pub count: usize,
-    /// What of each item is shown. [`search`] doesn't look at it.
+    /// The attributes that the reply shows of each item. [`search`] ignores it.
     pub wanted: Wanted,
 }
 
-/// One call, wherever a query is dropped, in place of a look at all that it may hold.
 impl Drop for Query {
     fn drop(self) {
         let Query {
@@ -40,31 +39,31 @@ impl Drop for Query {
     }
 }
 
-/// What a query gives of a list of parts.
+/// The page of a list of parts that a query returns.
 #[derive(Drop)]
 pub struct Page {
-    /// How many parts match in all.
+    /// The number of matching parts in the whole list.
     pub total: usize,
-    /// The position of the first item that was asked for, from 1, also where there is none.
+    /// The requested position of the first item, counted from 1, even if the page is empty.
     pub start: usize,
     /// Copies of the parts of the page.
     pub items: Vec<Part>,
 }
 
-/// The position that a page starts from: 0 counts as 1.
+/// Returns the position at which a page starts: 0 counts as 1.
 pub(crate) fn first_position(start: usize) -> usize
     ensures { result ≡ spec.first_position start }
 {
     start.max(1)
 }
 
-/// The page of a list of parts that a query asks for: of the parts that match, in order, those from the
-/// start on, at most the count. NoMemory where none was to be had.
+/// Returns the query's page of a list of parts.
+/// It has the matching parts in order, from `start` on, at most `count`.
 ///
-/// Parts are ordered by the atom at the leaf: of a multi-valued attribute the one of the first value that
-/// is marked as primary, else of the first value. Texts are folded where case doesn't count, false comes
-/// before true, and a part with no such atom comes last. Descending is the other way round. Ties are
-/// ordered by id, ascending.
+/// Parts are ordered by their atom at the sort leaf. Of a multi-valued attribute that is the atom of the
+/// first value marked as primary, or else of the first value. Texts are case-folded unless the leaf is
+/// caseExact, false comes before true, and a part without such an atom comes last. Descending order is the
+/// reverse. Parts with equal keys are ordered by ascending id.
 ///
 /// Only the parts of the page are copied.
 pub fn search(alloc: Global, parts: &[Part], query: &Query) -> Result<Page, NoMemory>

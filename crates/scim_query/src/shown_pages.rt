@@ -1,4 +1,4 @@
-//! Pages as they are shown.
+//! Projects the items of a page to what a reply shows.
 ghost use Rattle.std.specs.Prelude.{◌≡◌, IfOk, map};
 ghost use Rattle.scim_view.specs.Shown.{shown};
 
@@ -8,7 +8,7 @@ use scim_value::Part;
 use scim_view::{Wanted, project};
 use std::alloc::Global;
 
-/// The page with each item as it is shown. NoMemory where none was to be had.
+/// Returns the page with each item projected to what the client wants, as [`project`].
 pub fn shown_page(alloc: Global, found: Page, wanted: &Wanted) -> Result<Page, NoMemory>
     ensures total { IfOk result (λ page. page.total ≡ found.total) }
     ensures start { IfOk result (λ page. page.start ≡ found.start) }
@@ -27,7 +27,7 @@ pub fn shown_page(alloc: Global, found: Page, wanted: &Wanted) -> Result<Page, N
     })
 }
 
-/// Each part as it is shown.
+/// Projects each part to what the client wants.
 fn shown_items(alloc: Global, parts: Vec<Part>, wanted: &Wanted) -> Result<Vec<Part>, NoMemory>
     ensures { IfOk result (λ v. v.items ≡ map (shown wanted.now) parts.items) }
 {

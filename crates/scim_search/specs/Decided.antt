@@ -1,4 +1,4 @@
--- Decisions that are kept by the ids of the resources.
+-- The cache of decisions by resource id.
 use Rattle.std.specs.Prelude.{◌≡◌, ℕ, List, Some, IfSome, find}
 use Rattle.std.specs.HashMap.{get}
 use Rattle.scim_schema.specs.declared.Kind.{Kind}
@@ -10,10 +10,10 @@ use Rattle.scim_shelf.specs.Stores.{is_at}
 use Rattle.scim_search.specs.declared.decided.Decided.{Decided}
 use Rattle.scim_search.specs.ReadDecisions.{AreFor}
 
--- these are the decisions on the viewer's reading of the resource of a kind and an id, if there is one among these resources
+-- the decisions are those on the viewer's reading of the resource with this kind and id, if there is one
 abbrev pub AreOn : Viewer → Kind → List Content → List ℕ → Decisions → Type 0
 AreOn v kind cs id decisions = (c : Content) → find (is_at kind id) cs ≡ Some c → AreFor v c decisions
 
--- what is kept for an id are the decisions on the resource of that id
+-- every cached entry has the decisions on the viewer's reading of the resource with its id
 abbrev pub Recalls : Viewer → Kind → List Content → Decided → Type 0
 Recalls v kind cs decided = (id : List ℕ) → IfSome (get is_same_id decided.by_id id) (AreOn v kind cs id)

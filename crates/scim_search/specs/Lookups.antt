@@ -1,4 +1,4 @@
--- Searches that look up the one resource which can match (RFC 7644 section 3.4.2.2).
+-- Searches that look up the only resource that can match (RFC 7644 section 3.4.2.2).
 use Rattle.std.specs.Prelude.{◌≡◌, Bool, true, List, Option}
 use Rattle.scim_schema.specs.declared.Kind.{Kind}
 use Rattle.scim_cell.specs.Content.{Content}
@@ -8,7 +8,7 @@ use Rattle.scim_view.specs.View.{Viewer}
 use Rattle.scim_view.specs.Groups.{with_groups}
 use Rattle.scim_query.specs.Pages.{is_match}
 
--- of the resources of a kind only those that pass the test can match, whoever looks: what is seen of any other doesn't
+-- every resource of a kind whose visible part matches the filter, for some viewer and groups, passes the test
 abbrev pub OnlyThose : Kind → Option Filter → (Content → Bool) → Type 0
 OnlyThose kind filter passes = (v : Viewer) (groups : List Content) (c : Content)
     → c.kind ≡ kind → IsResource c → is_match filter (with_groups v groups c) ≡ true → passes c ≡ true

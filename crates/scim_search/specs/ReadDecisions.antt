@@ -1,4 +1,4 @@
--- Decisions on reading the resources of a kind.
+-- The decisions on a viewer's reading of the resources of a kind.
 use Rattle.std.specs.Prelude.{◌≡◌}
 use Rattle.scim_schema.specs.declared.Kind.{Kind}
 use Rattle.scim_schema.specs.declared.Leaf.{Leaf}
@@ -12,19 +12,19 @@ use Rattle.scim_search.specs.declared.read_decisions.Form.{Form}
 use Rattle.scim_search.specs.declared.read_decisions.Form.TheVariants.{Alike, ByTarget}
 use Rattle.scim_search.specs.declared.read_decisions.ReadDecisions.{ReadDecisions}
 
--- these are the decisions on the viewer's reading of the resource
+-- the decisions are those of the policy on the viewer's reading of the resource
 abbrev pub AreFor : Viewer → Content → Decisions → Type 0
 AreFor v c decisions = (l : Leaf) → decision decisions l ≡ read_decision v c l
 
--- what is decided on each resource of the kind is what the policy decides on the viewer's reading of it
+-- the function returns, for each resource of the kind, the policy's decisions on the viewer's reading of it
 abbrev pub DecidesOn : Viewer → Kind → (Content → Leaf → Decision) → Type 0
 DecidesOn v kind decides = (c : Content) → c.kind ≡ kind → (l : Leaf) → decides c l ≡ read_decision v c l
 
--- by one table for all of them, or by the rules that were picked
+-- the form decides as the policy does on the kind, by one table for all resources or by the selected rules
 abbrev pub DecidesBy : Viewer → Kind → Form → Type 0
 DecidesBy v kind (Alike table) = DecidesOn v kind (λ c. decision table)
 DecidesBy v kind (ByTarget rules) = DecidesOn v kind (decided_by rules)
 
--- the decisions are those on the viewer's reading
+-- the decisions are those of the policy on the viewer's reading of their kind
 abbrev pub AreDecisions : Viewer → ReadDecisions → Type 0
 AreDecisions v decisions = DecidesBy v decisions.kind decisions.form

@@ -1,4 +1,4 @@
--- What is made of a resource that a client sees.
+-- The part that a search makes of each resource that the client sees.
 use Rattle.std.specs.Prelude.{List, [], ◌∷◌, Option, None, Some, ⊤, if◌then◌else◌}
 use Rattle.scim_cell.specs.Content.{Content}
 use Rattle.scim_view.specs.View.{Viewer, viewer_of, read_decision, sees, visible_attributes}
@@ -9,30 +9,30 @@ use Rattle.scim_search.specs.declared.sights.Shows.TheVariants.{Named, Whole}
 use Rattle.scim_search.specs.declared.sights.Sight.{Sight}
 use Rattle.scim_search.specs.ReadDecisions.{AreDecisions}
 
--- what is made of a resource that the viewer sees: what it may see of some attributes, or all that it may see, with its groups
+-- the part made of a resource: its visible part of some attributes, or its whole visible part with groups
 abbrev pub made : Viewer → List Content → Shows → Content → Content
 made v groups (Named attributes) c = visible_attributes attributes.now (read_decision v c) c
 made v groups (Whole index) c = with_groups v groups c
 
--- what is made of a resource, where the viewer sees it
+-- the part made of a resource; None if the viewer doesn't see it
 abbrev pub made_if_seen : (Content → Content) → Viewer → Content → Option Content
 made_if_seen make v c = if sees v c then Some (make c) else None
 
--- of resources, those that the viewer sees
+-- the parts made of those resources that the viewer sees
 abbrev pub made_of_all : (Content → Content) → Viewer → List Content → List Content
 made_of_all make v [] = []
 made_of_all make v (c ∷ cs) = and_those (made_if_seen make v c) (made_of_all make v cs)
 
--- the index, where groups are told by one, is of these groups
+-- the index, if parts are made whole, is of these groups
 abbrev pub IsIndexed : Viewer → List Content → Shows → Type 0
 IsIndexed v groups (Named attributes) = ⊤
 IsIndexed v groups (Whole index) = IsIndexOf v groups index.now
 
--- the decisions are those on the viewer's reading, and the index, if there is one, is of these groups
+-- the sight's decisions are those on the viewer's reading, and its index, if any, is of these groups
 pub record IsSight (groups : List Content) (sight : Sight) : Type 0 where
   pub decisions : AreDecisions (viewer_of sight.viewer.now) sight.decisions.now
   pub index : IsIndexed (viewer_of sight.viewer.now) groups sight.shows
 
--- what is made of a resource, where it is seen
+-- the part that a sight makes of a resource; None if its viewer doesn't see it
 abbrev pub part_of : List Content → Sight → Content → Option Content
 part_of groups sight c = made_if_seen (made (viewer_of sight.viewer.now) groups sight.shows) (viewer_of sight.viewer.now) c

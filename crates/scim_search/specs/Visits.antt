@@ -1,4 +1,4 @@
--- What becomes of a visitor that is shown a resource.
+-- The state of a visitor after it has taken a resource.
 use Rattle.std.specs.Prelude.{◌≡◌, ℕ, true, List, [], ◌∷◌, ◌++◌, Some, find}
 use Rattle.scim_schema.specs.declared.Kind.{Kind}
 use Rattle.scim_schema.specs.declared.Kind.TheVariants.{Group}
@@ -17,25 +17,27 @@ use Rattle.scim_search.specs.Decided.{Recalls}
 use Rattle.scim_search.specs.ReadDecisions.{AreDecisions}
 use Rattle.scim_search.specs.Sights.{IsSight, part_of}
 
--- a group joins those that the index knows
+-- the visitor keeps its viewer and decisions, and its index has the group as well
 pub record TakesGroup (old : GroupVisitor) (c : Content) (new : GroupVisitor) : Type 0 where
   pub viewer : new.viewer ≡ old.viewer
   pub decisions : new.decisions ≡ old.decisions
   pub index : (groups : List Content) → AreDecisions (viewer_of old.viewer.now) old.decisions → IsIndexOf (viewer_of old.viewer.now) groups old.index
       → IsIndexOf (viewer_of old.viewer.now) (groups ++ c ∷ []) new.index
 
--- the visitor tells groups as the viewer sees them: it decides as the policy does on the groups of these resources, and so it did
+-- the visitor's decisions, and its cached ones, are those on the viewer's reading of groups of these
+-- resources
 pub record Tells (v : Viewer) (cs : List Content) (listing : ListingVisitor) : Type 0 where
   pub viewer : viewer_of listing.viewer.now ≡ v
   pub decisions : AreDecisions v listing.decisions
   pub decided : Recalls v Group cs listing.decided
 
--- a group that lists a resource joins those that are gathered
+-- a visitor that takes a group stays valid, and has gathered it as well if it lists the resource
 abbrev pub TakesListing : ListingVisitor → Content → ListingVisitor → Type 0
 TakesListing old c new = (v : Viewer) (cs : List Content) → find (is_at Group c.id) cs ≡ Some c → Tells v cs old
     → Tells v cs new × ((id : List ℕ) (gathered : List Content) → lists id c ≡ true → AreListing v id gathered old.groups → AreListing v id (gathered ++ c ∷ []) new.groups)
 
--- what is made of a resource is handed to the pager, where it is seen, and what was decided on it may be kept
+-- the visitor keeps its sight and query, its pager has taken the part of the resource if it is seen, and its
+-- cached decisions stay right
 pub record TakesResource (old : SearchVisitor) (c : Content) (new : SearchVisitor) : Type 0 where
   pub sight : new.sight ≡ old.sight
   pub query : new.pager.query ≡ old.pager.query

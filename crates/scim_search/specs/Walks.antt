@@ -1,4 +1,4 @@
--- What a search over all resources of a kind makes of them.
+-- Searches over all resources of a kind.
 use Rattle.std.specs.Prelude.{◌≡◌, true, List, Some, map, find}
 use Rattle.scim_schema.specs.declared.Kind.{Kind}
 use Rattle.scim_schema.specs.declared.Kind.TheVariants.{Group}
@@ -15,22 +15,22 @@ use Rattle.scim_search.specs.Decided.{Recalls}
 use Rattle.scim_search.specs.ReadDecisions.{AreDecisions}
 use Rattle.scim_search.specs.Sights.{made, made_of_all}
 
--- the index is of groups by which the viewer's view of the resources of a kind is the one by all groups of the store
+-- the viewer sees each resource of the kind with the groups of the index as with all groups of the store
 pub record IndexTells (v : Viewer) (kind : Kind) (cs : List Content) (index : GroupIndex) : Type 0 where
   pub groups : List Content
   pub is_index : IsIndexOf v groups index
   pub same : (c : Content) → c.kind ≡ kind → with_groups v groups c ≡ with_groups v (of_kind Group cs) c
 
--- what is made of the resources of a kind that are seen
+-- the parts that a sight makes of the resources of a kind that its viewer sees
 abbrev pub made_of_kind : List Content → Sight → Kind → List Content → List Content
 made_of_kind groups sight kind cs = made_of_all (made (viewer_of sight.viewer.now) groups sight.shows) (viewer_of sight.viewer.now) (of_kind kind cs)
 
--- the decisions on the kind of a page's items are those on the viewer's reading, and so are those that are kept
+-- the decisions on the kind of a page's items, and the cached ones, are those on the viewer's reading
 pub record IsItemSight (cs : List Content) (sight : ItemSight) : Type 0 where
   pub decisions : AreDecisions (viewer_of sight.viewer.now) sight.decisions.now
   pub decided : Recalls (viewer_of sight.viewer.now) sight.kind cs sight.decided.now
 
--- a resource of the kind that the viewer sees, which is the one that is found by its id
+-- a resource of the kind that the viewer sees, and that is the one found by its id
 pub record Seen (v : Viewer) (kind : Kind) (cs : List Content) : Type 0 where
   pub own : Content
   pub part : IsPart own
@@ -38,7 +38,7 @@ pub record Seen (v : Viewer) (kind : Kind) (cs : List Content) : Type 0 where
   pub seen : sees v own ≡ true
   pub found : find (is_at kind own.id) cs ≡ Some own
 
--- parts are those of resources, and these parts are the same resources whole with their groups
+-- for resources with the ids of the items, the second list has the viewer's view of each with its groups
 abbrev pub AreWhole : Viewer → Kind → List Content → List Content → List Content → Type 0
 AreWhole v kind cs items whole = (found : List (Seen v kind cs)) → map (λ p. p.id) items ≡ map (λ x. x.own.id) found
     → whole ≡ map (λ x. with_groups v (of_kind Group cs) x.own) found

@@ -1,4 +1,4 @@
-//! The groups of one resource, and what a client sees of it with them.
+//! The groups of one resource, and the client's view of the resource with them.
 ghost use Rattle.std.specs.Prelude.{◌≡◌, ℕ, List, [], IfOk};
 ghost use Rattle.scim_schema.specs.declared.Kind.{Kind};
 ghost use Rattle.scim_cell.specs.Kinds.{of_kind};
@@ -21,11 +21,11 @@ use scim_value::{Part, Resource};
 use scim_view::{ListingGroups, Viewer};
 use std::alloc::Global;
 
-/// The groups by which the `groups` of a resource are told: those that list it, of those that the client sees to list
-/// it; of one that isn't a user none (RFC 7643 section 4.1.2). None is looked at that doesn't list the resource, and a
-/// shelf in memory copies none.
+/// Returns the groups that appear in a resource's `groups`: those in which the client sees it as a member.
+/// Empty if the resource isn't a user (RFC 7643 section 4.1.2). Only groups that list the resource are looked
+/// at, and a shelf in memory copies none.
 ///
-/// Fails as the shelf does, and where memory was wanting.
+/// Errors: those of the shelf.
 pub fn groups_beside<S: Shelf>(
     alloc: Global,
     viewer: &Viewer<'_>,
@@ -41,7 +41,7 @@ pub fn groups_beside<S: Shelf>(
     Ok(listing.end())
 }
 
-/// Has a visitor gather these groups.
+/// Lets a visitor gather the groups that appear in the resource's `groups`, dropping those that it has.
 fn gather_groups<S: Shelf>(
     alloc: Global,
     listing: &mut ListingVisitor<'_>,
@@ -59,7 +59,7 @@ fn gather_groups<S: Shelf>(
     }
 }
 
-/// Has a visitor that has gathered none gather the groups that list the resource, whatever its kind.
+/// Lets a visitor without groups gather those that list the resource, whatever its kind.
 fn gather_listing<S: Shelf>(
     alloc: Global,
     listing: &mut ListingVisitor<'_>,
@@ -76,8 +76,8 @@ fn gather_listing<S: Shelf>(
     shelf.groups_with(alloc, value, listing)
 }
 
-/// What the client sees of the resource with its groups, by these decisions on reading it; None where its `id` may not
-/// be read.
+/// Returns the part of the resource that `decisions` let the client see, with its groups.
+/// None if they don't let it read the `id`.
 pub(crate) fn view_beside<S: Shelf>(
     alloc: Global,
     viewer: &Viewer<'_>,

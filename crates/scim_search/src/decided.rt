@@ -1,4 +1,4 @@
-//! Decisions that were made for a request, by the ids of the resources.
+//! A cache of decisions for one request, by resource id.
 ghost use Rattle.std.specs.Prelude.{◌≡◌, List, Some, IfSome, OnOk};
 ghost use Rattle.std.specs.HashMap.{get};
 ghost use Rattle.std.specs.Option.{option_copied};
@@ -14,19 +14,19 @@ use scim_text::NoMemory;
 use std::alloc::Global;
 use std::collections::HashMap;
 
-/// As many decisions are kept at most for one request, so that a walk over many resources, each of which comes before
-/// all that came earlier, takes no more memory than a page needs.
+/// Upper limit of the cached decisions per request.
+/// Without it a walk in which each resource sorts before all earlier ones would cache one per resource.
 const MOST_KEPT: usize = 4_096;
 
-/// Decisions on reading resources of one kind, by their ids: they are kept so that no rule's target is tried twice on one
-/// resource for one request.
+/// A cache of decisions on reading resources of one kind, by id.
+/// It saves a request from trying the rules' targets on the same resource twice.
 #[derive(Drop)]
 pub(crate) struct Decided {
     by_id: HashMap<Id, Decisions>,
 }
 
 impl Decided {
-    /// None yet. It takes no memory.
+    /// Returns an empty cache, without allocating.
     pub(crate) fn new(alloc: Global) -> Decided
         ensures { (v : SpecViewer) (kind : SpecKind) (cs : List Content) → spec.Recalls v kind cs result }
     {
@@ -35,7 +35,7 @@ impl Decided {
         }
     }
 
-    /// The decisions on the resource of an id, where they are kept.
+    /// Returns the cached decisions on the resource with this id, if any.
     pub(crate) fn of(&self, id: Id) -> Option<&Decisions>
         ensures value { option_copied result ≡ get is_same_id self.now.by_id id }
         ensures recalls { (v : SpecViewer) (kind : SpecKind) (cs : List Content) → spec.Recalls v kind cs self.now
@@ -44,8 +44,8 @@ impl Decided {
         self.by_id.get(&id)
     }
 
-    /// Keeps the decisions on the resource of an id. Where 4,096 are kept, these are let go first: they are made again if
-    /// they are asked for. NoMemory where none was to be had.
+    /// Caches the decisions on the resource with this id.
+    /// If 4,096 are cached already, all of those are dropped first; they are evaluated again when needed.
     pub(crate) fn keep(&mut self, id: Id, decisions: Decisions) -> Result<(), NoMemory>
         ensures kept { OnOk result (get is_same_id self.new.by_id id ≡ Some decisions) }
         ensures recalls { OnOk result ((v : SpecViewer) (kind : SpecKind) (cs : List Content) → spec.AreOn v kind cs id decisions

@@ -1,5 +1,5 @@
-//! Searches over a store: the page that a client's query asks for of what it sees (RFC 7644 section 3.4.2), and the groups
-//! by which a resource's own `groups` are told (RFC 7643 section 4.1.2).
+//! Searches a store for the page of a client's query over its view (RFC 7644 section 3.4.2), and finds the
+//! groups that make up a resource's `groups` (RFC 7643 section 4.1.2).
 #![tactic(auto)]
 
 mod beside;

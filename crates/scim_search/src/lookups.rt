@@ -1,4 +1,4 @@
-//! Searches whose filter asks for an id or a unique name: the one resource that can match is looked up by it.
+//! Searches whose filter requires an id or a unique name: the only possible match is looked up by it.
 ghost use Rattle.std.specs.Prelude.{◌≡◌, ◌∷◌, ℕ, List, [], IfOk, IfSome};
 ghost use Rattle.scim_schema.specs.declared.Kind.{Kind};
 ghost use Rattle.scim_schema.specs.Characteristics.{is_case_exact};
@@ -24,7 +24,8 @@ use scim_value::{Part, Resource, UniqueName};
 use scim_view::Viewer;
 use std::alloc::Global;
 
-/// The unique name by which a text is known at a leaf (RFC 7643 section 2.2).
+/// Returns the unique name for a text at a leaf.
+/// The text is case-folded unless the leaf is caseExact (RFC 7643 section 2.2).
 fn known_name(alloc: Global, leaf: Leaf, text: &StringLiteral) -> Result<UniqueName, NoMemory>
     ensures leaf { IfOk result (λ name. name.leaf ≡ leaf) }
     ensures text { IfOk result (λ name. (name_of name).text ≡ cased (is_case_exact leaf) text.now) }
@@ -40,7 +41,7 @@ fn known_name(alloc: Global, leaf: Leaf, text: &StringLiteral) -> Result<UniqueN
     })
 }
 
-/// The unique name without which no resource of the kind matches; None where the query asks for none.
+/// Returns a unique name that every match of the kind must have; None if the query requires none.
 pub(crate) fn needed_name(
     alloc: Global,
     kind: Kind,
@@ -56,7 +57,8 @@ pub(crate) fn needed_name(
     Ok(None)
 }
 
-/// The id without which no resource of the kind matches; None where the query asks for none.
+/// Returns the id that every match must have.
+/// None if the query requires none, or requires a text that isn't an id.
 pub(crate) fn needed_id(query: &Query) -> Option<Id>
     ensures { IfSome result (λ id. (kind : Kind) → spec.OnlyThose kind query.now.filter (is_at kind id)) }
 {
@@ -64,7 +66,8 @@ pub(crate) fn needed_id(query: &Query) -> Option<Id>
     Id::read(text.as_str())
 }
 
-/// What the client sees of the resource with its groups; None where it isn't of the kind, or the client doesn't see it.
+/// Returns the part of the resource that the client sees, with its groups.
+/// None if the resource isn't of the kind, or the client doesn't see it.
 fn seen_part<S: Shelf>(
     alloc: Global,
     viewer: &Viewer<'_>,
@@ -84,7 +87,7 @@ fn seen_part<S: Shelf>(
     view_beside(alloc, viewer, &decisions, &mut listing, shelf, resource)
 }
 
-/// The same for what was found, if anything was.
+/// As [`seen_part`], for a resource that may not have been found; None if there is none.
 fn seen_if_found<S: Shelf>(
     alloc: Global,
     viewer: &Viewer<'_>,
@@ -102,7 +105,7 @@ fn seen_if_found<S: Shelf>(
     }
 }
 
-/// The page of this part alone.
+/// Returns the query's page of the list with just this part.
 fn page_of_one(alloc: Global, part: Part, query: &Query) -> Result<Page, NoMemory>
     ensures { IfOk result (λ page. IsPage (part ∷ []) query.now page) }
 {
@@ -111,7 +114,7 @@ fn page_of_one(alloc: Global, part: Part, query: &Query) -> Result<Page, NoMemor
     pager.end()
 }
 
-/// The page of this part, or of none.
+/// Returns the query's page of the list with just this part, or of the empty list.
 fn page_of(alloc: Global, part: Option<Part>, query: &Query) -> Result<Page, NoMemory>
     ensures { IfOk result (λ page. IsPage (and_those part []) query.now page) }
 {
@@ -121,7 +124,7 @@ fn page_of(alloc: Global, part: Option<Part>, query: &Query) -> Result<Page, NoM
     }
 }
 
-/// The page that the client's query asks for of what was found, if it is of the kind.
+/// Returns the query's page of the resource that was found, if it is of the kind and the client sees it.
 fn page_found<S: Shelf>(
     alloc: Global,
     viewer: &Viewer<'_>,
@@ -138,8 +141,8 @@ fn page_found<S: Shelf>(
     Ok(page_of(alloc, part, query)?)
 }
 
-/// The page that the client's query asks for of the resources of a kind, where only one with the name can match:
-/// that one alone is read, and the groups that list it.
+/// Returns the page of the client's query over a kind, if only the resource with the name can match.
+/// Reads just that resource and the groups that list it.
 pub(crate) fn page_named<S: Shelf>(
     alloc: Global,
     viewer: &Viewer<'_>,
@@ -157,7 +160,7 @@ pub(crate) fn page_named<S: Shelf>(
     page_found(alloc, viewer, shelf, kind, owner, query)
 }
 
-/// The same where only the one with the id can match.
+/// As [`page_named`], if only the resource with the id can match.
 pub(crate) fn page_with_id<S: Shelf>(
     alloc: Global,
     viewer: &Viewer<'_>,

@@ -1,4 +1,4 @@
-//! The page that a client's query asks for.
+//! The page of a client's query.
 ghost use Rattle.std.specs.Prelude.{ℕ, List, IfOk};
 ghost use Rattle.scim_schema.specs.declared.Kind.{Kind};
 ghost use Rattle.scim_cell.specs.Kinds.{of_kind};
@@ -17,10 +17,10 @@ use scim_text::Failed;
 use scim_view::Viewer;
 use std::alloc::Global;
 
-/// The page that the client's query asks for of what it sees of the resources of a kind (RFC 7644 section 3.4.2):
-/// where the query asks for an id or a unique name, the one that has it is looked up, else all are looked at.
+/// Returns the page of the client's query over its view of a kind's resources (RFC 7644 section 3.4.2).
+/// If the query requires an id or a unique name, the resource with it is looked up; otherwise all are walked.
 ///
-/// Fails as the shelf does, and where memory was wanting.
+/// Errors: those of the shelf.
 pub fn page_of_query<S: Shelf>(
     alloc: Global,
     viewer: &Viewer<'_>,

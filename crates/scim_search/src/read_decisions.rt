@@ -1,4 +1,4 @@
-//! What the policy decides on reading the resources of a kind.
+//! The policy's decisions on reading the resources of a kind.
 ghost use Rattle.std.specs.Prelude.{◌≡◌, false, true, Some, IfOk, IfSome, List, find};
 ghost use Rattle.scim_schema.specs.declared.Kind.{Kind as SpecKind};
 ghost use Rattle.scim_schema.specs.declared.Leaf.{Leaf};
@@ -23,14 +23,15 @@ use std::alloc::Global;
 /// How the policy decides on the resources of a kind.
 #[derive(Drop)]
 enum Form<'a> {
-    /// Alike on all of them.
+    /// The decisions are the same for all resources of the kind.
     Alike(Decisions),
-    /// By these rules, a target of which makes a difference.
+    /// The decisions depend on the resource, by the targets of these rules.
     ByTarget(RulesAbout<'a>),
 }
 
-/// What a client may read of the resources of a kind: decided once for all of them where the policy decides
-/// alike, else by the rules that may decide, which are picked once.
+/// The decisions on a client's reading of the resources of a kind.
+/// They are made once for all resources if the policy decides the same on all; otherwise by the rules that
+/// apply, which are selected once.
 #[derive(Drop)]
 pub(crate) struct ReadDecisions<'a> {
     kind: Kind,
@@ -38,7 +39,7 @@ pub(crate) struct ReadDecisions<'a> {
 }
 
 impl<'a> ReadDecisions<'a> {
-    /// The decisions for a client and a kind. NoMemory where none was to be had.
+    /// Returns the decisions for a client and a kind.
     pub(crate) fn of(
         alloc: Global,
         viewer: &'a Viewer<'a>,
@@ -59,7 +60,8 @@ impl<'a> ReadDecisions<'a> {
         Ok(ReadDecisions { kind, form })
     }
 
-    /// The decisions on reading the resource, where they are those on all of its kind.
+    /// Returns the decisions for the whole kind, if they don't differ by resource.
+    /// None as well if the resource isn't of the kind.
     pub(crate) fn on_all(&self, resource: &Resource) -> Option<&Decisions>
         ensures { (v : SpecViewer) → AreDecisions v self.now
             → IfSome result (λ decisions. (l : Leaf) → decision decisions.now l ≡ read_decision v resource.now l) }
@@ -70,8 +72,8 @@ impl<'a> ReadDecisions<'a> {
         }
     }
 
-    /// The decisions on reading the resource, where they needn't be made: those on all of its kind, or those that
-    /// are kept.
+    /// Returns the decisions on reading the resource that are already known, if any.
+    /// They are those for the whole kind, or cached ones.
     pub(crate) fn known<'d>(
         &'d self,
         decided: &'d Decided,
@@ -87,7 +89,7 @@ impl<'a> ReadDecisions<'a> {
         }
     }
 
-    /// The decisions on reading the resource, told for it alone. NoMemory where none was to be had.
+    /// Evaluates the decisions on reading the resource, without a look at the cache.
     pub(crate) fn on(
         &self,
         alloc: Global,
@@ -105,8 +107,8 @@ impl<'a> ReadDecisions<'a> {
         }
     }
 
-    /// Whether the client may find a resource of the kind by the query at all: none where the policy denies it
-    /// what the query asks for, alike on all of them.
+    /// Whether the query can find any resource of the kind for the client.
+    /// False only if the decisions are the same for all resources of the kind, and let none of them match.
     pub(crate) fn may_find(&self, query: &Query) -> bool
         ensures { result ≡ false → (v : SpecViewer) (groups : List Content) (c : Content) → AreDecisions v self.now
             → IsPart c → c.kind ≡ self.now.kind → sees v c ≡ true → is_match query.now.filter (with_groups v groups c) ≡ false }

@@ -1,4 +1,4 @@
-//! What is made of a resource that a client sees.
+//! The part that a search makes of each resource that the client sees.
 ghost use Rattle.std.specs.Prelude.{◌≡◌, ◌++◌, [], List, IfOk, IfSome, OnOk};
 ghost use Rattle.scim_cell.specs.Content.{Content};
 ghost use Rattle.scim_view.specs.View.{Viewer as SpecViewer, read_decision, visible_attributes as seen_attributes, viewer_of};
@@ -16,16 +16,16 @@ use scim_value::{Part, Resource};
 use scim_view::{GroupIndex, MayBeSeenOf, Viewer};
 use std::alloc::Global;
 
-/// How much is made of a resource.
+/// Which part of each resource is made.
 #[derive(Clone, Copy)]
 pub(crate) enum Shows<'a> {
-    /// What may be seen of these attributes alone.
+    /// The visible part of these attributes only.
     Named(&'a [Attribute]),
-    /// All that may be seen, and its groups by this index.
+    /// The whole visible part, with `groups` made from this index.
     Whole(&'a GroupIndex),
 }
 
-/// Who looks at resources, and how much is made of each.
+/// The viewer of resources, and which part of each is made.
 #[derive(Clone, Copy)]
 pub(crate) struct Sight<'a> {
     viewer: &'a Viewer<'a>,
@@ -34,7 +34,7 @@ pub(crate) struct Sight<'a> {
 }
 
 impl<'a> Sight<'a> {
-    /// The sight of a client, by these decisions on the kind of the resources.
+    /// Returns the sight of a client, by these decisions on the kind of the resources.
     pub(crate) fn new(
         viewer: &'a Viewer<'a>,
         decisions: &'a ReadDecisions<'a>,
@@ -49,7 +49,7 @@ impl<'a> Sight<'a> {
         }
     }
 
-    /// The decisions on reading the resource, where they are those on all of its kind.
+    /// Returns the decisions for the whole kind, if they don't differ by resource.
     pub(crate) fn on_all(&self, resource: &Resource) -> Option<&Decisions>
         ensures { (groups : List Content) → spec.IsSight groups self.now
             → IfSome result (λ decisions. AreFor (viewer_of self.now.viewer.now) resource.now decisions.now) }
@@ -57,7 +57,7 @@ impl<'a> Sight<'a> {
         self.decisions.on_all(resource)
     }
 
-    /// The decisions on reading the resource, told for it alone. NoMemory where none was to be had.
+    /// Evaluates the decisions on reading the resource.
     pub(crate) fn decide(&self, alloc: Global, resource: &Resource) -> Result<Decisions, NoMemory>
         ensures { IfOk result (λ decisions. (groups : List Content) → spec.IsSight groups self.now
             → AreFor (viewer_of self.now.viewer.now) resource.now decisions) }
@@ -65,9 +65,8 @@ impl<'a> Sight<'a> {
         self.decisions.on(alloc, self.viewer, resource)
     }
 
-    /// Hands a pager what is made of the resource by these decisions on reading it, where the client sees it. Tells
-    /// whether the pager holds a part that isn't whole, so that the decisions will be asked for again. NoMemory where
-    /// none was to be had.
+    /// Gives a pager the part of the resource, if the client sees the resource by these decisions.
+    /// Returns whether the pager now holds a part that isn't whole, so that the decisions are needed again.
     pub(crate) fn show(
         &self,
         alloc: Global,
@@ -92,8 +91,8 @@ impl<'a> Sight<'a> {
     }
 }
 
-/// Hands a pager what may be seen of these attributes of the resource by these decisions, if its `id` may be read; and
-/// tells whether the pager holds it. It is a copy only where it is held.
+/// Gives a pager the visible part of these attributes, if `decisions` let the client read the `id`.
+/// Returns whether the pager now holds it. The part is copied only if it is held.
 fn show_named(
     decisions: &Decisions,
     attributes: &[Attribute],
@@ -111,7 +110,7 @@ fn show_named(
     pager.push_where(resource.part(), &test)
 }
 
-/// Hands a pager a whole part, if there is one.
+/// Gives a pager a whole part, if there is one. Always returns false: the decisions aren't needed again.
 fn show_if_seen(part: Option<Part>, pager: &mut Pager<'_>) -> Result<bool, NoMemory>
     ensures query { pager.new.query ≡ pager.old.query }
     ensures taken { OnOk result ((parts : List Content) → HasTaken parts pager.old → HasTaken (parts ++ and_those part []) pager.new) }

@@ -1,4 +1,4 @@
-//! What is done with resources as the store is walked.
+//! Visitors that take the resources of a store one by one.
 ghost use Rattle.std.specs.Prelude.{◌≡◌, ℕ, List, [], IfOk};
 ghost use Rattle.scim_schema.specs.declared.Kind.{Kind as SpecKind};
 ghost use Rattle.scim_cell.specs.Content.{Content};
@@ -22,7 +22,7 @@ use scim_value::Resource;
 use scim_view::{GroupIndex, ListingGroups, Viewer};
 use std::alloc::Global;
 
-/// Puts the groups that a client sees into an index.
+/// A visitor that adds the groups that a client sees to an index.
 #[derive(Drop)]
 pub(crate) struct GroupVisitor<'a> {
     viewer: &'a Viewer<'a>,
@@ -31,7 +31,7 @@ pub(crate) struct GroupVisitor<'a> {
 }
 
 impl<'a> GroupVisitor<'a> {
-    /// One that begins with the index of none. NoMemory where none was to be had.
+    /// Returns a visitor with an empty index.
     pub(crate) fn new(alloc: Global, viewer: &'a Viewer<'a>) -> Result<GroupVisitor<'a>, NoMemory>
         ensures viewer { IfOk result (λ visitor. visitor.viewer ≡ viewer.entry) }
         ensures decisions { IfOk result (λ visitor. AreDecisions (viewer_of viewer.entry.now) visitor.decisions) }
@@ -45,6 +45,7 @@ impl<'a> GroupVisitor<'a> {
         })
     }
 
+    /// Returns the index.
     pub(crate) fn end(self) -> GroupIndex
         ensures { result ≡ self.entry.index }
     {
@@ -66,8 +67,9 @@ impl<'a> Visitor for GroupVisitor<'a> {
     }
 }
 
-/// Gathers groups that list a resource, of those that a client sees to list it. For several resources of one request it is
-/// the same visitor, so that none of these groups is decided on twice while its decisions are kept ([`Decided`]).
+/// A visitor that gathers the groups that list a resource, of those that a client sees to list it.
+/// One visitor serves all resources of a request, so the policy isn't evaluated twice for a group whose
+/// decisions are still cached ([`Decided`]).
 #[derive(Drop)]
 pub(crate) struct ListingVisitor<'a> {
     viewer: &'a Viewer<'a>,
@@ -77,7 +79,7 @@ pub(crate) struct ListingVisitor<'a> {
 }
 
 impl<'a> ListingVisitor<'a> {
-    /// One that has none yet. NoMemory where none was to be had.
+    /// Returns a visitor without groups.
     pub(crate) fn new(alloc: Global, viewer: &'a Viewer<'a>) -> Result<ListingVisitor<'a>, NoMemory>
         ensures { IfOk result (λ listing. (cs : List Content) → Tells (viewer_of viewer.entry.now) cs listing) }
     {
@@ -90,7 +92,7 @@ impl<'a> ListingVisitor<'a> {
         })
     }
 
-    /// Lets what was gathered go, before the groups of another resource are gathered. It takes no memory.
+    /// Drops the gathered groups, before those of another resource are gathered. Doesn't allocate.
     pub(crate) fn clear(&mut self, alloc: Global)
         ensures tells { (v : SpecViewer) (cs : List Content) → Tells v cs self.old → Tells v cs self.new }
         ensures groups { (v : SpecViewer) (id : List ℕ) → AreListing v id [] self.new.groups }
@@ -98,13 +100,14 @@ impl<'a> ListingVisitor<'a> {
         self.groups = ListingGroups::new(alloc);
     }
 
-    /// What was gathered.
+    /// Returns the gathered groups.
     pub(crate) fn groups(&self) -> &ListingGroups
         ensures { result.now ≡ self.now.groups }
     {
         &self.groups
     }
 
+    /// Returns the gathered groups, ending the visit.
     pub(crate) fn end(self) -> ListingGroups
         ensures { result ≡ self.entry.groups }
     {
@@ -125,25 +128,25 @@ impl<'a> Visitor for ListingVisitor<'a> {
     }
 }
 
-/// Hands a pager what is made of the resources that a client sees.
+/// A visitor that gives a pager the parts of the resources that a client sees.
 #[derive(Drop)]
 pub(crate) struct SearchVisitor<'a> {
     sight: Sight<'a>,
     pager: Pager<'a>,
-    /// What was decided on resources that the pager holds.
+    /// The decisions on resources that the pager holds or has held.
     decided: Decided,
 }
 
-/// What a walk has found.
+/// The result of a walk.
 #[derive(Drop)]
 pub(crate) struct Found {
     pub(crate) page: Page,
-    /// What was decided on resources that may be on the page.
+    /// The cached decisions on resources that may be on the page.
     pub(crate) decided: Decided,
 }
 
 impl<'a> SearchVisitor<'a> {
-    /// It takes no memory.
+    /// Returns a visitor that has taken no resource, without allocating.
     pub(crate) fn new(alloc: Global, sight: Sight<'a>, query: &'a Query) -> SearchVisitor<'a>
         ensures sight { result.sight ≡ sight.entry }
         ensures query { result.pager.query ≡ query.entry }
@@ -157,6 +160,7 @@ impl<'a> SearchVisitor<'a> {
         }
     }
 
+    /// Returns the page and the cached decisions.
     pub(crate) fn end(self) -> Result<Found, NoMemory>
         ensures page { IfOk result (λ found. (parts : List Content) → HasTaken parts self.entry.pager
             → ComeInOrder self.entry.pager.query.now parts → IsPage parts self.entry.pager.query.now found.page) }

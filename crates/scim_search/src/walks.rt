@@ -1,4 +1,4 @@
-//! Searches that go over all resources of a kind.
+//! Searches that walk all resources of a kind.
 ghost use Rattle.std.specs.Prelude.{◌≡◌, false, ℕ, List, [], IfOk};
 ghost use Rattle.scim_schema.specs.declared.Kind.{Kind};
 ghost use Rattle.scim_cell.specs.Content.{Content};
@@ -26,7 +26,7 @@ use scim_text::Failed;
 use scim_view::{GroupIndex, Viewer};
 use std::alloc::Global;
 
-/// The index of the groups that the client sees, by their members.
+/// Returns the index of the groups that the client sees, by their members.
 fn seen_groups<S: Shelf>(
     alloc: Global,
     viewer: &Viewer<'_>,
@@ -41,8 +41,8 @@ fn seen_groups<S: Shelf>(
     Ok(groups.end())
 }
 
-/// The groups by which what the client sees of the resources of a kind is told, by their members: of users those
-/// that it sees; of groups, which have no `groups`, none.
+/// Returns an index with the groups that may appear in the `groups` of resources of a kind.
+/// For users it has the groups that the client sees; for groups, which have no `groups`, it is empty.
 fn groups_for<S: Shelf>(
     alloc: Global,
     viewer: &Viewer<'_>,
@@ -59,7 +59,8 @@ fn groups_for<S: Shelf>(
     }
 }
 
-/// The page that the query asks for of what is made of the resources of a kind, and what was decided on them.
+/// Returns the query's page of the parts that the sight makes, and the cached decisions.
+/// The sight makes a part of each resource of the kind that its viewer sees.
 fn page_made<S: Shelf>(
     alloc: Global,
     sight: Sight<'_>,
@@ -78,7 +79,7 @@ fn page_made<S: Shelf>(
     Ok(search.end()?)
 }
 
-/// The page that the client's query asks for, where the query names `groups`: those of each resource are made.
+/// Returns the page of a query that names `groups`, so that the groups of every resource are computed.
 fn page_by_groups<S: Shelf>(
     alloc: Global,
     viewer: &Viewer<'_>,
@@ -97,8 +98,9 @@ fn page_by_groups<S: Shelf>(
     Ok(page_made(alloc, sight, shelf, kind, query)?.page)
 }
 
-/// The page that the client's query asks for, where the query names these attributes and not `groups`: it is told
-/// by what may be seen of those alone, and only the items of the page are made whole.
+/// Returns the page of a query that names `attributes`, without `groups`.
+/// The search reads just those attributes of each resource. Only the items of the page are then read again
+/// whole.
 fn page_by_named<S: Shelf>(
     alloc: Global,
     viewer: &Viewer<'_>,
@@ -129,7 +131,8 @@ fn page_by_named<S: Shelf>(
     })
 }
 
-/// The page that the client's query asks for of all resources of a kind. Where none can match, none is looked at.
+/// Returns the page of the client's query over all resources of a kind.
+/// If none can match, no resource is read.
 pub(crate) fn page_of_all<S: Shelf>(
     alloc: Global,
     viewer: &Viewer<'_>,

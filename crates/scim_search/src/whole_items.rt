@@ -1,4 +1,4 @@
-//! The items of a page, made whole.
+//! Reads the items of a page again, as whole resources.
 ghost use Rattle.std.specs.Prelude.{◌≡◌, ◌++◌, [], ℕ, Some, List, map, find, IfOk, OnOk};
 ghost use Rattle.scim_schema.specs.declared.Kind.{Kind};
 ghost use Rattle.scim_cell.specs.Content.{Content};
@@ -21,7 +21,7 @@ use scim_value::{Part, Resource};
 use scim_view::Viewer;
 use std::alloc::Global;
 
-/// Who looks at the items of a page, which are of this kind, by which decisions, and what was decided on them already.
+/// The viewer of a page's items of one kind, with the decisions on reading them, some of them cached.
 #[derive(Clone, Copy)]
 pub(crate) struct ItemSight<'a> {
     viewer: &'a Viewer<'a>,
@@ -31,6 +31,7 @@ pub(crate) struct ItemSight<'a> {
 }
 
 impl<'a> ItemSight<'a> {
+    /// Returns the sight of a viewer on items of the kind.
     pub(crate) fn new(
         viewer: &'a Viewer<'a>,
         kind: Kind,
@@ -47,7 +48,7 @@ impl<'a> ItemSight<'a> {
         }
     }
 
-    /// What the client sees of the resource with its groups; None where it doesn't see the resource.
+    /// Returns the part of the resource that the client sees, with its groups; None if it sees none.
     fn part_of<S: Shelf>(
         &self,
         alloc: Global,
@@ -71,7 +72,7 @@ impl<'a> ItemSight<'a> {
     }
 }
 
-/// Puts a part behind others, if there is one. NoMemory where none was to be had.
+/// Appends the part, if there is one.
 fn push_if_seen(part: Option<Part>, parts: &mut Vec<Part>) -> Result<(), NoMemory>
     ensures { OnOk result (parts.new.items ≡ parts.old.items ++ and_those part []) }
 {
@@ -81,7 +82,7 @@ fn push_if_seen(part: Option<Part>, parts: &mut Vec<Part>) -> Result<(), NoMemor
     }
 }
 
-/// Puts what the client sees of a resource behind others, if there is one and it is seen.
+/// Appends the part of the resource that the client sees, if there is a resource and the client sees it.
 fn push_part<S: Shelf>(
     alloc: Global,
     sight: ItemSight<'_>,
@@ -103,8 +104,8 @@ fn push_part<S: Shelf>(
     Ok(push_if_seen(part, parts)?)
 }
 
-/// Puts what the client sees of the resources of these ids behind others. It calls itself once for each, of which a
-/// request asks for at most 200.
+/// Appends the parts that the client sees of the resources with the ids of `items`.
+/// Recurses once per item, which is at most 200 times per request.
 fn push_parts<S: Shelf>(
     alloc: Global,
     sight: ItemSight<'_>,
@@ -130,9 +131,9 @@ fn push_parts<S: Shelf>(
     }
 }
 
-/// What the client sees of the resources of these ids with their groups, in their order. On none of the resources and
-/// on none of the groups the policy decides twice, nor on one that it has decided on already, as far as the decisions
-/// are still kept ([`Decided`]).
+/// Returns the client's view of the resources with the ids of `items`, with their groups, in their order.
+/// Decisions that are still cached ([`Decided`]), on the resources or on their groups, aren't evaluated
+/// again.
 pub(crate) fn whole_items<S: Shelf>(
     alloc: Global,
     sight: ItemSight<'_>,

@@ -1,4 +1,4 @@
--- The groups of a user (RFC 7643 section 4.1.2), and what a client sees of resources with them.
+-- The computed `groups` of a user (RFC 7643 section 4.1.2), and the client's view of resources with them.
 use Rattle.std.specs.Prelude.{ℕ, List, [], ◌∷◌, ◌++◌, map, filter, codes, Option, None, Some, if◌then◌else◌}
 use denote.Enum.Bare.{sameb}
 use denote.Ref.{Bor}
@@ -23,22 +23,22 @@ use Rattle.scim_view.specs.declared.groups.SeenGroup.{SeenGroup}
 use Rattle.scim_view.specs.View.{Viewer, read_decision, may_be_seen, sees, view}
 use Rattle.scim_view.specs.Sorted.{sorted_by}
 
--- what is there, before a list
+-- the value of the option, if any, followed by the list
 abbrev pub and_those : {X : Type 0} → Option X → List X → List X
 and_those None xs = xs
 and_those (Some x) xs = x ∷ xs
 
--- the groups that a client sees, each as it sees it
+-- the client's view of each group that it sees
 abbrev pub seen : Viewer → List Content → List Content
 seen v [] = []
 seen v (g ∷ gs) = and_those (view v g) (seen v gs)
 
--- the text of an atom, where it is one
+-- the text of an atom; None if there is no atom or it isn't a text
 abbrev pub text_in : Option Atom → Option (List ℕ)
 text_in (Some (Text t)) = Some t
 text_in _ = None
 
--- the `displayName` of a group, where it has one to be seen
+-- the `displayName` in the visible part of a group, if any
 abbrev pub display_of : Content → Option (List ℕ)
 display_of g = text_in (cell_at (simple DisplayName) 0 (rows g))
 
@@ -46,46 +46,48 @@ display_of g = text_in (cell_at (simple DisplayName) 0 (rows g))
 abbrev pub field : SubAttribute → List ℕ → Field
 field b t = record { leaf = leaf_at Groups b; atom = Text t }
 
+-- the field `display` of a value of `groups`, if the group has a name
 abbrev pub display_field : Option (List ℕ) → List Field
 display_field None = []
 display_field (Some t) = field Display t ∷ []
 
--- the value of `groups` for a group with this id, which may have a name: its id, where it is found below the base, its
--- name, and that membership is direct
+-- the value of `groups` for a group of this id and, if any, this name: its id, its location below the base,
+-- its name, and the type "direct"
 abbrev pub membership_of : List ℕ → List ℕ → Option (List ℕ) → Row
 membership_of base id display = record {
   unit = whole Groups;
   fields = field Value (id_text id) ∷ field Reference (location base Group id) ∷ (display_field display ++ field TypeName (codes "direct") ∷ []);
 }
 
+-- the value of `groups` for the visible part of a group
 abbrev pub membership : List ℕ → Content → Row
 membership base g = membership_of base g.id (display_of g)
 
--- the same for what the code keeps of a group
+-- the value of `groups` for a group that the code keeps
 abbrev pub membership_at : List ℕ → Bor SeenGroup → Row
 membership_at base g = membership_of base g.now.id g.now.display
 
--- the values of `groups` for the resource of an id: the groups that list it, of those that are seen, in order of id
+-- the values of `groups` for the resource of an id: one for each visible group that lists it, sorted by id
 abbrev pub memberships : List ℕ → List Content → List ℕ → List Row
 memberships base gs id = map (membership base) (sorted_by id_cmp (filter (lists id) gs))
 
--- the rows of a resource with these values of `groups`, which only a user has
+-- the rows of a resource, with these values of `groups` if it is a user
 abbrev pub rows_with : List Row → Content → List Row
 rows_with ms c = if sameb the_kind c.kind User then put_values (whole Groups) ms (rows c) else rows c
 
--- what may be seen, by these decisions on reading, of a resource with these values of `groups`
+-- the part of a resource with these values of `groups` that the decisions on reading let be seen
 unfoldable pub visible_with : (Leaf → Decision) → List Row → Content → Content
 visible_with decision ms c = content c.kind c.id (restricted (may_be_seen decision c.kind) (rows_with ms c))
 
--- what the client may see of a resource with its groups, of those that it sees among these
+-- the part of a resource that the client may see, with `groups` made from the given groups that it sees
 unfoldable pub with_groups : Viewer → List Content → Content → Content
 with_groups v groups c = visible_with (read_decision v c) (memberships v.base (seen v groups) c.id) c
 
--- the same, where the client sees the resource
+-- the part of a resource with its `groups` that the client may see; None if it doesn't see the resource
 abbrev pub view_with_groups : Viewer → List Content → Content → Option Content
 view_with_groups v groups c = if sees v c then Some (with_groups v groups c) else None
 
--- a client's view of resources: those that it sees, each as it may see it with its groups
+-- the client's view of each resource that it sees, with its `groups`
 abbrev pub views : Viewer → List Content → List Content → List Content
 views v groups [] = []
 views v groups (c ∷ cs) = and_those (view_with_groups v groups c) (views v groups cs)

@@ -1,4 +1,4 @@
--- What a change brings into view that opens nothing to a client: only what it writes.
+-- The theorem that a change which widens no access of a client brings no unchanged cell into its view.
 use Rattle.std.specs.Prelude.{◌≡◌, ℕ, false, true, None, Some}
 use Rattle.scim_schema.specs.declared.Leaf.{Leaf}
 use Rattle.scim_schema.specs.Mutability.{is_write_only}
@@ -9,13 +9,14 @@ use Rattle.scim_cell.specs.Rows.{rows, cell_at}
 use Rattle.scim_policy.specs.Access.{access, widening}
 use Rattle.scim_view.specs.View.{Viewer, may_read}
 
--- what a viewer sees of a resource at a leaf and a position
+-- the viewer may see this atom of a resource at a leaf and a position
 pub record IsSeenAt (v : Viewer) (c : Content) (l : Leaf) (k : ℕ) (atom : Atom) : Type 0 where
   pub there : cell_at l k (rows c) ≡ Some atom
   pub shown : is_write_only c.kind l ≡ false
   pub readable : may_read v c l ≡ true
 
--- where a change of a resource opens nothing to a viewer, a cell that stays as it was and that it sees afterwards it saw before
+-- after a change that widens no access of a viewer, the viewer sees no unchanged cell that it didn't see
+-- before
 abbrev pub NothingComesIntoView : Type 0
 NothingComesIntoView =
     (v : Viewer) (old new : Content)

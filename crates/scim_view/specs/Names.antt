@@ -1,4 +1,4 @@
--- What the texts of an attribute list name (RFC 7644 sections 3.9 and 3.10).
+-- The leaves that the texts of an attribute list name (RFC 7644 sections 3.9 and 3.10).
 use Rattle.std.specs.Prelude.{ℕ, Bool, false, ◌||◌, List, Option, None, Some, option_map, unwrap_or}
 use Rattle.std.specs.HashSet.{contains}
 use Rattle.scim_schema.specs.declared.Kind.{Kind}
@@ -14,7 +14,7 @@ use Rattle.scim_filter_grammar.specs.Spelled.{path_in}
 use Rattle.scim_path.specs.Paths.{extension_named}
 use Rattle.scim_view.specs.declared.names.Names.{Names}
 
--- whether there is something, of which the test holds
+-- whether the option has a value and the test holds of it
 abbrev pub is_there : {X : Type 0} → (X → Bool) → Option X → Bool
 is_there test None = false
 is_there test (Some x) = test x
@@ -23,24 +23,25 @@ is_there test (Some x) = test x
 abbrev pub belongs_to : Schema → Leaf → Bool
 belongs_to s l = is_there (is_same_schema s) (extension_of l.attribute)
 
--- whether what a path means is the leaf, or the attribute that the leaf is of
+-- whether a path with this meaning names the leaf, or the attribute of the leaf
 abbrev pub is_meant : Meant → Leaf → Bool
 is_meant Nothing l = false
 is_meant (AnAttribute a) l = is_same_attribute a l.attribute
 is_meant (ASubAttribute a b) l = is_same_leaf (leaf_at a b) l
 
--- what a text that is a path means for a kind; any other text means nothing
+-- the meaning of a text for a kind; `Nothing` if the text isn't a path
 abbrev pub meaning_of : Kind → List ℕ → Meant
 meaning_of kind t = unwrap_or (option_map (λ (p : Path). p.meant) (path_in kind t)) Nothing
 
--- whether a text names a leaf of a kind: it is the URN of the leaf's extension, or a path that means the leaf or its attribute
+-- whether a text names a leaf of a kind: by the URN of its extension, or by the path of the leaf or its
+-- attribute
 abbrev pub names_leaf : Kind → List ℕ → Leaf → Bool
 names_leaf kind t l = is_there (λ s. belongs_to s l) (extension_named kind t) || is_meant (meaning_of kind t) l
 
--- whether the extension of the attribute is named
+-- whether the extension of the attribute is among the names
 abbrev pub has_extension_of : Names → Attribute → Bool
 has_extension_of names a = is_there (contains is_same_schema names.extensions) (extension_of a)
 
--- whether a leaf is named: its attribute is, the leaf itself, or its extension
+-- whether the names include a leaf: the leaf itself, its attribute, or its extension
 abbrev pub includes : Names → Leaf → Bool
 includes names l = contains is_same_attribute names.attributes l.attribute || (contains is_same_leaf names.sub_attributes l || has_extension_of names l.attribute)

@@ -1,4 +1,4 @@
--- What of a visible part is shown in a reply.
+-- The projection of a visible part to what a reply shows (RFC 7643 section 7, RFC 7644 section 3.9).
 use Rattle.std.specs.Prelude.{Bool, true, false, not}
 use Rattle.scim_schema.specs.declared.Kind.{Kind}
 use Rattle.scim_schema.specs.declared.Leaf.{Leaf}
@@ -11,29 +11,29 @@ use Rattle.scim_view.specs.declared.projection.Wanted.{Wanted}
 use Rattle.scim_view.specs.declared.projection.Wanted.TheVariants as wanted
 use Rattle.scim_view.specs.Names.{includes}
 
--- whether a leaf that is returned by default is shown: where nothing is said, where it is named, or where it is not excluded
+-- whether a leaf with `returned` "default" is shown: by default, if named, or if not excluded
 abbrev pub shows_default : Wanted → Leaf → Bool
 shows_default wanted.Default l = true
 shows_default (wanted.Only names) l = includes names l
 shows_default (wanted.Without names) l = not (includes names l)
 
--- whether a leaf that is returned on request is shown: where it is named
+-- whether a leaf with `returned` "request" is shown: if the client names it
 abbrev pub shows_requested : Wanted → Leaf → Bool
 shows_requested wanted.Default l = false
 shows_requested (wanted.Only names) l = includes names l
 shows_requested (wanted.Without names) l = false
 
--- whether a leaf that is returned so is shown (RFC 7643 section 7, returned)
+-- whether a leaf with this `returned` characteristic is shown (RFC 7643 section 7)
 abbrev pub shows_returned : Wanted → Returned → Leaf → Bool
 shows_returned w returned.Always l = true
 shows_returned w returned.Never l = false
 shows_returned w returned.Default l = shows_default w l
 shows_returned w returned.Request l = shows_requested w l
 
--- whether a leaf of a kind is shown
+-- whether a leaf of a kind is shown to a client with these wishes
 abbrev pub shows : Wanted → Kind → Leaf → Bool
 shows w kind l = shows_returned w (characteristics_of kind l).returned l
 
--- the cells that are shown; positions close up
+-- the content with only the cells that are shown; the positions of values close up
 unfoldable pub shown : Wanted → Content → Content
 shown w v = content v.kind v.id (restricted (λ r l. shows w v.kind l) (rows v))

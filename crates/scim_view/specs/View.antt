@@ -1,4 +1,4 @@
--- What a client sees of a resource.
+-- The part of a resource that a client sees.
 use Rattle.std.specs.Prelude.{ℕ, Bool, not, ◌&&◌, List, Option, None, Some, if◌then◌else◌}
 use Rattle.std.specs.List.{list_any}
 use denote.Enum.Bare.{sameb}
@@ -18,17 +18,17 @@ use Rattle.scim_policy.specs.Rules.{Rule}
 use Rattle.scim_policy.specs.Decide.{decide}
 use Rattle.scim_view.specs.declared.viewers.Viewer.{Viewer as ViewerInCode}
 
--- for whom a resource is looked at: the rules of the policy, the name of the client, and the base of all locations
+-- the client for whom a resource is viewed: the policy's rules, the client's name, and the base of locations
 pub record Viewer : Type 0 where
   pub policy : List Rule
   pub client : List ℕ
   pub base : List ℕ
 
--- the viewer that one in code stands for
+-- the specification's viewer for a viewer in code
 abbrev pub viewer_of : ViewerInCode → Viewer
 viewer_of v = record { policy = v.policy.now; client = v.client.now; base = v.base.now }
 
--- what the policy decides on the client's reading of the leaf of the resource
+-- the policy's decision on the client's reading of the leaf of the resource
 abbrev pub read_decision : Viewer → Content → Leaf → Decision
 read_decision v c l = decide v.policy v.client Read c l
 
@@ -36,38 +36,39 @@ read_decision v c l = decide v.policy v.client Read c l
 abbrev pub may_read : Viewer → Content → Leaf → Bool
 may_read v c l = (read_decision v c l).allow
 
--- whether the client sees that the resource is there: it may read its `id`
+-- whether the client sees that the resource exists: it may read its `id`
 unfoldable pub sees : Viewer → Content → Bool
 sees v c = may_read v c (simple Id)
 
--- the leaves of a kind that may be seen by these decisions on reading
+-- whether the decisions on reading let a leaf of a kind be seen: reading is allowed, and it isn't writeOnly
 abbrev pub may_be_seen : (Leaf → Decision) → Kind → Test
 may_be_seen decision kind _ l = not (is_write_only kind l) && (decision l).allow
 
--- whether some leaf of the attribute may be seen of resources of the kind by these decisions on reading them
+-- whether the decisions on reading let some leaf of the attribute be seen in resources of the kind
 abbrev pub shows_some : (Leaf → Decision) → Kind → Attribute → Bool
 shows_some decision kind a = list_any (λ l. sameb the_attribute l.attribute a && (not (is_write_only kind l) && (decision l).allow)) (leaves kind)
 
--- what may be seen of the resource by these decisions on reading: values without a visible cell are left out, and positions close up
+-- the part of the resource that the decisions on reading let be seen: values without a visible cell are left
+-- out, and positions close up
 unfoldable pub visible_by : (Leaf → Decision) → Content → Content
 visible_by decision c = content c.kind c.id (restricted (may_be_seen decision c.kind) (rows c))
 
--- the same, where they let its `id` be read
+-- the part of the resource that the decisions on reading let be seen; None if its `id` may not be read
 unfoldable pub view_by : (Leaf → Decision) → Content → Option Content
 view_by decision c = if (decision (simple Id)).allow then Some (visible_by decision c) else None
 
--- of the leaves that may be seen those of these attributes
+-- whether the decisions on reading let a leaf be seen and its row is of one of the attributes
 abbrev pub may_be_seen_of : List Attribute → (Leaf → Decision) → Kind → Test
 may_be_seen_of attributes decision kind r l = list_any (sameb the_attribute r.unit.attribute) attributes && may_be_seen decision kind r l
 
--- what may be seen of these attributes alone
+-- the part of these attributes of the resource that the decisions on reading let be seen
 unfoldable pub visible_attributes : List Attribute → (Leaf → Decision) → Content → Content
 visible_attributes attributes decision c = content c.kind c.id (restricted (may_be_seen_of attributes decision c.kind) (rows c))
 
--- what the client may see of the resource
+-- the part of the resource that the client may see
 unfoldable pub visible : Viewer → Content → Content
 visible v c = visible_by (read_decision v c) c
 
--- the same, where the client sees the resource
+-- the part of the resource that the client may see; None if it doesn't see that the resource exists
 abbrev pub view : Viewer → Content → Option Content
 view v c = if sees v c then Some (visible v c) else None

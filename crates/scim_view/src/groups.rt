@@ -1,4 +1,4 @@
-//! The groups of users (RFC 7643 section 4.1.2).
+//! Computes the `groups` of users as a client sees them (RFC 7643 section 4.1.2).
 ghost use Rattle.std.specs.Prelude.{◌≡◌, List, IfOk, OnOk, map};
 ghost use Rattle.std.specs.Option.{option_copied};
 ghost use Rattle.std.specs.List.{list_any};
@@ -26,16 +26,16 @@ use scim_text::{NoMemory, push};
 use scim_value::{Part, Resource};
 use std::alloc::Global;
 
-/// A group that a client sees: what of it is shown at its members.
+/// A group that a client sees: the parts of it that appear in its members' `groups`.
 #[derive(Drop)]
 pub(crate) struct SeenGroup {
     id: Id,
-    /// The `displayName`, where the client may see it.
+    /// The `displayName`; None if the group has none or the client may not read it.
     display: Option<Text>,
 }
 
-/// What of a group is shown at its members, by these decisions on reading it. NoMemory where none was
-/// to be had.
+/// Returns the parts of a group that appear in its members' `groups`.
+/// `decisions` are those on reading the group.
 pub(crate) fn seen_group(
     alloc: Global,
     decisions: &Decisions,
@@ -51,7 +51,7 @@ pub(crate) fn seen_group(
     })
 }
 
-/// The `displayName` of a group, where it may be seen by these decisions on reading it.
+/// Returns the `displayName` of a group, if it has one that `decisions` let the client read.
 fn seen_name(
     alloc: Global,
     decisions: &Decisions,
@@ -72,7 +72,7 @@ fn seen_name(
     }
 }
 
-/// A copy of the text of an atom, where it is one.
+/// Copies the text of an atom; None if it isn't a text.
 fn text_of(alloc: Global, atom: Option<&Atom>) -> Result<Option<Text>, NoMemory>
     ensures { IfOk result (λ t. t ≡ spec.text_in (option_copied atom.entry)) }
 {
@@ -82,8 +82,9 @@ fn text_of(alloc: Global, atom: Option<&Atom>) -> Result<Option<Text>, NoMemory>
     }
 }
 
-/// What may be seen, by these decisions on reading it, of a resource that is a member of these groups.
-/// NoMemory where none was to be had.
+/// Returns the part of a resource that `decisions` let the client read, with `groups` computed.
+/// If the resource is a user, its `groups` are made from `groups` in their order; otherwise `groups` is
+/// ignored.
 pub(crate) fn visible_with(
     alloc: Global,
     decisions: &Decisions,
@@ -103,8 +104,8 @@ pub(crate) fn visible_with(
     }
 }
 
-/// The values of `groups` of a user that is a member of these, with the fields that may be seen; those
-/// without one are left out.
+/// Returns the values of a user's `groups`, each with the fields that `decisions` let the client read.
+/// Values without such a field are left out.
 fn memberships(
     alloc: Global,
     decisions: &Decisions,
@@ -128,10 +129,10 @@ fn memberships(
 }
 
 impl Viewer<'_> {
-    /// What the client may see of a resource, a user's `groups` among it: as [`Viewer::visible`], and of
-    /// the groups that list the user, those that the client sees and in which it sees the user's id, in
-    /// order of their ids, in whatever order they are given. The policy decides on `groups` as on other
-    /// attributes (RFC 7643 section 4.1.2). NoMemory where none was to be had.
+    /// Returns the part of the resource that the client may see, including a user's `groups`.
+    /// As [`Viewer::visible`]. A user's `groups` has those of the given groups that list the user, that the
+    /// client sees, and in which it sees the user's id, in ascending order of their ids. The policy decides
+    /// on `groups` as on any other attribute (RFC 7643 section 4.1.2).
     pub fn with_groups(
         &self,
         alloc: Global,
@@ -145,9 +146,9 @@ impl Viewer<'_> {
         self.with_groups_by(alloc, &decisions, &listing, resource)
     }
 
-    /// The same as [`Viewer::with_groups`], of groups that were gathered for the resource, and by decisions that
-    /// [`Viewer::decisions`] gave for it, so that the policy isn't asked about it again. NoMemory where none was to
-    /// be had.
+    /// As [`Viewer::with_groups`], with decisions and groups that the caller has computed.
+    /// `decisions` must come from [`Viewer::decisions`] for this resource, and `groups` must have been
+    /// gathered for it; otherwise the result is unspecified. The policy isn't evaluated again.
     pub fn with_groups_by(
         &self,
         alloc: Global,
@@ -162,9 +163,8 @@ impl Viewer<'_> {
         visible_among(alloc, decisions, resource, groups.as_slice(), self.base)
     }
 
-    /// The same as [`Viewer::with_groups`]; None where the client doesn't see that the resource is there.
-    /// The policy is asked once about the resource, and once about each group that lists it. NoMemory
-    /// where none was to be had.
+    /// As [`Viewer::with_groups`], but None if the client doesn't see the resource at all.
+    /// Evaluates the policy once for the resource, and once for each group that lists it.
     pub fn view_with_groups(
         &self,
         alloc: Global,
@@ -183,7 +183,7 @@ impl Viewer<'_> {
     }
 }
 
-/// The same as [`visible_with`], of groups in a row, which may be in any order.
+/// As [`visible_with`], for a slice of groups in any order.
 fn visible_among(
     alloc: Global,
     decisions: &Decisions,
@@ -199,7 +199,7 @@ fn visible_among(
     visible_with(alloc, decisions, resource, lent.as_slice(), base)
 }
 
-/// References to groups, one by one.
+/// Returns a reference to each of the groups, in their order.
 fn references(alloc: Global, groups: &[SeenGroup]) -> Result<Vec<&SeenGroup>, NoMemory>
     ensures { IfOk result (λ v. map (λ g. g.now) v.items ≡ groups.now) }
 {
@@ -210,8 +210,7 @@ fn references(alloc: Global, groups: &[SeenGroup]) -> Result<Vec<&SeenGroup>, No
     Ok(lent)
 }
 
-/// Puts groups in order of id; those of one id keep their order. Nothing is moved where they are in
-/// order. NoMemory where none was to be had.
+/// Sorts groups by id, stably.
 pub(crate) fn put_in_order(groups: &mut Vec<&SeenGroup>) -> Result<(), NoMemory>
     ensures { OnOk result (map (λ g. g.now) groups.new.items ≡ sorted_by kept.kept_cmp (map (λ g. g.now) groups.old.items)) }
 {
@@ -219,7 +218,7 @@ pub(crate) fn put_in_order(groups: &mut Vec<&SeenGroup>) -> Result<(), NoMemory>
     Ok(())
 }
 
-/// Whether a group is seen by these decisions on reading it, and the ids of its members.
+/// Whether `decisions` let the client see the group and the ids of its members.
 pub(crate) fn shows_members(decisions: &Decisions, group: &Resource) -> bool
     ensures value { result ≡ kept.shows_members (decision decisions.now) group.now.kind }
     ensures valid { IsPart group.now }
@@ -232,7 +231,7 @@ pub(crate) fn shows_members(decisions: &Decisions, group: &Resource) -> bool
         && shown.shows(Leaf::of(Attribute::Members, SubAttribute::Value))
 }
 
-/// Whether a group, of which this is the part, has a member with this value.
+/// Whether the group has a member whose `value` is `member`.
 pub(crate) fn lists(group: &Part, member: &str) -> bool
     ensures { result ≡ list_any (λ m. members.is_text member.now (atom_in (leaf_at Attribute.Members SubAttribute.Value) m.fields))
         (values (whole Attribute.Members) (rows group.now)) }
@@ -244,7 +243,7 @@ pub(crate) fn lists(group: &Part, member: &str) -> bool
         .any(|row| is_text(member, row.get(value)))
 }
 
-/// Whether an atom is this text.
+/// Whether the atom is a text equal to `text`.
 fn is_text(text: &str, atom: Option<&Atom>) -> bool
     ensures { result ≡ members.is_text text.now (option_copied atom.entry) }
 {

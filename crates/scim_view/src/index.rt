@@ -21,19 +21,19 @@ use scim_value::Resource;
 use std::alloc::Global;
 use std::collections::HashMap;
 
-/// The groups that a client sees, and which of them show whom as a member.
+/// The groups that a client sees, indexed by the members that each shows.
 ///
-/// It is made group by group, and answers for one resource at a time ([`Viewer::view_by_index`]), so that a
-/// store's groups and users needn't be held as lists.
+/// Groups are added one by one, and [`Viewer::view_by_index`] looks up one resource at a time, so a caller
+/// can stream groups and users from a store without holding lists of them.
 #[derive(Drop)]
 pub struct GroupIndex {
     groups: Vec<SeenGroup>,
-    /// The positions in `groups` of those that show a member's id, ascending, none twice.
+    /// For each member id, the positions in `groups` of the groups that show it, ascending and distinct.
     by_member: HashMap<Id, Vec<usize>>,
 }
 
 impl GroupIndex {
-    /// The index of no groups. It takes no memory.
+    /// Returns an empty index, without allocating.
     pub fn new(alloc: Global) -> GroupIndex
         ensures { (v : SpecViewer) → IsIndexOf v [] result }
     {
@@ -43,9 +43,9 @@ impl GroupIndex {
         }
     }
 
-    /// Adds a group, if the viewer sees it. The decisions are those that [`Viewer::decisions`] gave for the
-    /// group, or [`Viewer::decisions_on_all`] for all groups. NoMemory where none was to be had; then the index
-    /// is of no use.
+    /// Adds a group, if the viewer sees it.
+    /// `decisions` must come from [`Viewer::decisions`] for the group, or from [`Viewer::decisions_on_all`]
+    /// for groups. After NoMemory the index is unusable.
     pub fn push(
         &mut self,
         alloc: Global,
@@ -63,7 +63,7 @@ impl GroupIndex {
         Ok(())
     }
 
-    /// The index of those of the groups that the viewer sees. NoMemory where none was to be had.
+    /// Returns the index of those groups that the viewer sees.
     pub(crate) fn of(
         alloc: Global,
         viewer: &Viewer<'_>,
@@ -79,7 +79,7 @@ impl GroupIndex {
         Ok(index)
     }
 
-    /// The groups that show this id as a member's, in their order. NoMemory where none was to be had.
+    /// Returns the groups that show `id` as a member, in the order in which they were added.
     pub(crate) fn groups_of(&self, alloc: Global, id: Id) -> Result<Vec<&SeenGroup>, NoMemory>
         ensures { IfOk result (λ v. map (λ g. g.now) v.items ≡ spec.groups_of self.now id) }
     {
@@ -92,6 +92,7 @@ impl GroupIndex {
         Ok(groups)
     }
 
+    /// Returns the positions in `groups` of the groups that show `id` as a member.
     fn positions_of(&self, id: Id) -> &[usize]
         ensures { result.now ≡ spec.positions_of self.now id }
     {
@@ -101,7 +102,8 @@ impl GroupIndex {
         }
     }
 
-    /// Adds a group that is seen, with what these decisions on reading it let be seen of it.
+    /// Adds a group that the client sees, with the parts that `decisions` let it read.
+    /// After NoMemory the index is unusable.
     fn add(
         &mut self,
         alloc: Global,
@@ -123,7 +125,7 @@ impl GroupIndex {
         Ok(())
     }
 
-    /// Notes the next group for each of its members.
+    /// Records the next position for each of the members.
     fn add_members(&mut self, alloc: Global, members: &[Row]) -> Result<(), NoMemory>
         ensures groups { self.new.groups ≡ self.old.groups }
         ensures positions { OnOk result ((id : List ℕ) → IsId id → spec.positions_of self.new id
@@ -138,7 +140,7 @@ impl GroupIndex {
         Ok(())
     }
 
-    /// Notes the next group for one member.
+    /// Records the next position for one member.
     fn add_member(&mut self, alloc: Global, id: Id) -> Result<(), NoMemory>
         ensures groups { self.new.groups ≡ self.old.groups }
         ensures positions { OnOk result ((other : List ℕ) → spec.positions_of self.new other
@@ -150,7 +152,7 @@ impl GroupIndex {
     }
 }
 
-/// The id whose text a value of `members` has; None where it has no such text.
+/// Returns the id that a value of `members` names; None if its `value` isn't the text of an id.
 fn member_id(member: &Row) -> Option<Id>
     ensures id { (id : List ℕ) → IsId id → spec.names_member id member.now ≡ spec.is_found id result }
 {
@@ -160,7 +162,7 @@ fn member_id(member: &Row) -> Option<Id>
     }
 }
 
-/// Puts the position at the end, unless it stands there.
+/// Appends the position, unless it is already the last one.
 fn note(positions: &mut Vec<usize>, position: usize) -> Result<(), NoMemory>
     ensures { OnOk result (positions.new.items ≡ spec.noted position positions.old.items) }
 {

@@ -1,8 +1,9 @@
-//! What a client's view promises.
+//! A theorem about the views of clients.
 ghost use Rattle.scim_view.specs.Laws.{NothingComesIntoView};
 
-/// Where a change of a resource opens nothing to a client, what stays as it was and is seen afterwards was seen before,
-/// at the same leaf and position: only what the change writes comes into view.
+/// A change that widens no access of a client brings no unchanged cell into its view.
+/// Each cell that the client sees after the change, and that has the same leaf, position and value as before,
+/// the client saw before.
 pub fn nothing_comes_into_view()
     ensures { NothingComesIntoView }
 {}

@@ -1,4 +1,5 @@
-//! What a client may see of a resource, its computed groups, and what of that a reply shows.
+//! Computes a client's view of a resource: the cells that it may read, a user's computed `groups`, and the
+//! projection that a reply shows (RFC 7643 sections 4.1.2 and 7, RFC 7644 section 3.9).
 #![tactic(auto)]
 
 mod groups;

@@ -1,4 +1,4 @@
-//! The groups of one resource, gathered one by one.
+//! The groups that list one resource, gathered one by one.
 ghost use Rattle.std.specs.Prelude.{◌≡◌, ◌++◌, ◌∷◌, [], ℕ, List, true, IfOk, OnOk};
 ghost use Rattle.scim_schema.specs.declared.Leaf.{Leaf};
 ghost use Rattle.scim_cell.specs.Content.{Content};
@@ -17,15 +17,16 @@ use scim_text::{NoMemory, push};
 use scim_value::Resource;
 use std::alloc::Global;
 
-/// The groups by which a resource's `groups` are told: those that list it, of those that a client sees to list it.
-/// They are shown to it one by one, so that a store needs only to lend them.
+/// The groups that appear in a resource's `groups`.
+/// They are those in which the client sees the resource as a member. Groups are added one by one, so a caller
+/// can lend them from a store.
 #[derive(Drop)]
 pub struct ListingGroups {
     groups: Vec<SeenGroup>,
 }
 
 impl ListingGroups {
-    /// No groups. It takes no memory.
+    /// Returns an empty list, without allocating.
     pub fn new(alloc: Global) -> ListingGroups
         ensures { (v : SpecViewer) (id : List ℕ) → AreListing v id [] result }
     {
@@ -34,10 +35,10 @@ impl ListingGroups {
         }
     }
 
-    /// Adds a group that lists the resource, if the viewer sees it and the ids of its members; the members aren't
-    /// looked at. The decisions are those that [`Viewer::decisions`] gave for the group, or
-    /// [`Viewer::decisions_on_all`] for all groups. NoMemory where none was to be had; then what was gathered
-    /// is of no use.
+    /// Adds a group that lists the resource, if the viewer sees the group and the ids of its members.
+    /// The caller must know that the group lists the resource: its members aren't looked at. `decisions` must
+    /// come from [`Viewer::decisions`] for the group, or from [`Viewer::decisions_on_all`] for groups. After
+    /// NoMemory the list is unusable.
     pub fn push(
         &mut self,
         alloc: Global,
@@ -54,9 +55,9 @@ impl ListingGroups {
         Ok(())
     }
 
-    /// The groups that list the resource, of those that the viewer sees among these; of a resource other than a user
-    /// none, and none is looked at. The policy isn't asked about a group that doesn't list the resource. NoMemory
-    /// where none was to be had.
+    /// Returns those of the groups that list the resource and that the viewer sees to list it.
+    /// Empty, without a look at the groups, if the resource isn't a user. Evaluates the policy only for
+    /// groups that list the resource.
     pub(crate) fn of(
         alloc: Global,
         viewer: &Viewer<'_>,
@@ -71,7 +72,7 @@ impl ListingGroups {
         }
     }
 
-    /// The groups that list the resource of an id, of those that the viewer sees among these.
+    /// Returns those of the groups that list the resource `id` and that the viewer sees to list it.
     fn of_id(
         alloc: Global,
         viewer: &Viewer<'_>,
@@ -92,7 +93,7 @@ impl ListingGroups {
         Ok(listing)
     }
 
-    /// The groups, in the order in which they were added.
+    /// Returns the groups, in the order in which they were added.
     pub(crate) fn as_slice(&self) -> &[SeenGroup]
         ensures { result.now ≡ self.now.groups.items }
     {

@@ -1,4 +1,4 @@
-//! A client's view of resources.
+//! Computes a client's view of many resources.
 ghost use Rattle.std.specs.Prelude.{◌≡◌, ℕ, IfOk, List, map};
 ghost use Rattle.scim_schema.specs.declared.Leaf.{Leaf};
 ghost use Rattle.scim_cell.specs.Content.{Content};
@@ -18,9 +18,9 @@ use scim_value::{Part, Resource};
 use std::alloc::Global;
 
 impl Viewer<'_> {
-    /// The client's view of resources: those that it sees, in their order, each as it may see it, a user
-    /// with those of the groups that list it, as [`Viewer::view_with_groups`]. The policy is asked once
-    /// about each resource and once about each group. NoMemory where none was to be had.
+    /// Returns the client's view of each resource that it sees, in their order.
+    /// Each is as [`Viewer::view_with_groups`] returns it. Evaluates the policy once for each resource and
+    /// once for each group.
     pub fn views(
         &self,
         alloc: Global,
@@ -41,10 +41,10 @@ impl Viewer<'_> {
         Ok(views)
     }
 
-    /// What the client may see of one resource, as [`Viewer::view_with_groups`], where these are the groups
-    /// of the index; None where the client doesn't see that it is there. By decisions that
-    /// [`Viewer::decisions`] gave for the resource, or [`Viewer::decisions_on_all`] for its kind, so that the
-    /// policy isn't asked about it again. NoMemory where none was to be had.
+    /// As [`Viewer::view_with_groups`], with the groups of the index.
+    /// None if the client doesn't see the resource. `decisions` must come from [`Viewer::decisions`] for the
+    /// resource, or from [`Viewer::decisions_on_all`] for its kind; otherwise the result is unspecified. The
+    /// policy isn't evaluated again.
     pub fn view_by_index(
         &self,
         alloc: Global,
@@ -65,8 +65,8 @@ impl Viewer<'_> {
     }
 }
 
-/// The groups that the index has for a resource, in order of id: none for one that isn't a user, whose
-/// groups aren't shown.
+/// Returns the groups that the index has for a resource, in ascending order of their ids.
+/// Empty if the resource isn't a user, since only users have `groups`.
 fn groups_beside<'i>(
     alloc: Global,
     index: &'i GroupIndex,

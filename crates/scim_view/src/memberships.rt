@@ -1,4 +1,4 @@
-//! The values of a user's `groups` (RFC 7643 section 4.1.2).
+//! Builds the values of a user's `groups` (RFC 7643 section 4.1.2).
 ghost use Rattle.std.specs.Prelude.{◌≡◌, ◌∷◌, ◌++◌, [], codes, IfOk, OnOk};
 ghost use Rattle.std.specs.Option.{option_copied};
 ghost use Rattle.scim_cell.specs.Ids.{id_text};
@@ -16,8 +16,8 @@ use scim_text::{NoMemory, push};
 use scim_value::location;
 use std::alloc::Global;
 
-/// The value of `groups` for a group with this id, which may have a name: the fields of it that may be
-/// seen, and no others. NoMemory where none was to be had.
+/// Returns the value of `groups` for the group `id`, with only the fields that the client may see.
+/// `display` is the group's name, if the client sees one.
 pub(crate) fn membership(
     alloc: Global,
     shown: &MayBeSeen,
@@ -36,6 +36,7 @@ pub(crate) fn membership(
     Ok(Row::new(Unit::whole(Attribute::Groups), fields))
 }
 
+/// Appends `value`, the group's id, if the client may see it.
 fn add_value(
     alloc: Global,
     fields: &mut Vec<Field>,
@@ -51,6 +52,7 @@ fn add_value(
     Ok(())
 }
 
+/// Appends `$ref`, the group's location below `base`, if the client may see it.
 fn add_reference(
     alloc: Global,
     fields: &mut Vec<Field>,
@@ -68,6 +70,7 @@ fn add_reference(
     Ok(())
 }
 
+/// Appends `display`, if there is a name and the client may see it.
 fn add_display(
     alloc: Global,
     fields: &mut Vec<Field>,
@@ -85,6 +88,7 @@ fn add_display(
     Ok(())
 }
 
+/// Appends `type`, which is always "direct", if the client may see it.
 fn add_type(alloc: Global, fields: &mut Vec<Field>, shown: &MayBeSeen) -> Result<(), NoMemory>
     ensures { OnOk result (fields.new.items ≡ fields.old.items
         ++ shown_fields (decision shown.now.decisions.now) shown.now.kind (spec.field SubAttribute.TypeName (codes "direct") ∷ [])) }
@@ -99,6 +103,7 @@ fn add_type(alloc: Global, fields: &mut Vec<Field>, shown: &MayBeSeen) -> Result
     Ok(())
 }
 
+/// Appends a field of `groups` with this text.
 fn add_field(
     fields: &mut Vec<Field>,
     sub_attribute: SubAttribute,

@@ -1,4 +1,4 @@
-//! What the texts of an attribute list name (RFC 7644 sections 3.9 and 3.10).
+//! The attributes named by the texts of an attribute list (RFC 7644 sections 3.9 and 3.10).
 ghost use Rattle.std.specs.Prelude.{◌≡◌, ◌||◌, false, IfOk, OnOk};
 ghost use Rattle.std.specs.List.{list_any};
 ghost use Rattle.scim_schema.specs.declared.Leaf.{Leaf};
@@ -12,8 +12,7 @@ use scim_text::NoMemory;
 use std::alloc::Global;
 use std::collections::HashSet;
 
-/// What the texts of an attribute list name: all attributes of an extension, whole attributes, and
-/// sub-attributes alone.
+/// The extensions, attributes and sub-attributes that an attribute list names.
 #[derive(Drop)]
 pub struct Names {
     extensions: HashSet<Schema>,
@@ -22,13 +21,13 @@ pub struct Names {
 }
 
 impl Names {
-    /// What the texts name for a kind (RFC 7644 section 3.9). The URN of an extension of the kind, alone
-    /// and in any ASCII case, names all attributes of the extension; the path of an attribute or of a
-    /// sub-attribute, as `name.familyName`, names it, with a URN before it or not, in any ASCII case and
-    /// with spaces round it. Any other text names nothing: one that is no path, has a value filter, is
-    /// longer than 4,096 bytes, or names what the kind doesn't have.
+    /// Returns the names that the texts stand for, for a kind (RFC 7644 section 3.9).
+    /// The URN of an extension of the kind, alone and in any ASCII case, names all attributes of the
+    /// extension. The path of an attribute or sub-attribute, as `name.familyName`, names that attribute or
+    /// sub-attribute, with or without a URN prefix, in any ASCII case, and with spaces around it.
     ///
-    /// NoMemory where none was to be had.
+    /// Any other text is ignored: one that isn't a path, has a value filter, is longer than 4,096 bytes, or
+    /// names an attribute that the kind doesn't have.
     pub fn of(alloc: Global, kind: Kind, texts: &[&str]) -> Result<Names, NoMemory>
         ensures { IfOk result (λ names. (l : Leaf)
             → spec.includes names l ≡ list_any (λ t. spec.names_leaf kind t.now l) texts.now) }
@@ -40,8 +39,8 @@ impl Names {
         Ok(names)
     }
 
-    /// Whether the leaf is named: by itself, by its attribute, or by the extension that its attribute
-    /// belongs to. How many texts there were plays no part in the time that it takes.
+    /// Whether the leaf is named: by itself, by its attribute, or by the extension of its attribute.
+    /// The time that it takes doesn't depend on the number of texts.
     pub fn includes(&self, leaf: Leaf) -> bool
         ensures { result ≡ spec.includes self.now leaf }
     {
@@ -50,7 +49,7 @@ impl Names {
             || self.has_extension_of(leaf.attribute)
     }
 
-    /// Whether the attribute belongs to an extension that is named.
+    /// Whether the attribute belongs to a named extension.
     fn has_extension_of(&self, attribute: Attribute) -> bool
         ensures { result ≡ spec.has_extension_of self.now attribute }
     {
@@ -60,7 +59,7 @@ impl Names {
         }
     }
 
-    /// Nothing is named yet.
+    /// Returns an empty set of names.
     fn none(alloc: Global) -> Names
         ensures { (l : Leaf) → spec.includes result l ≡ false }
     {
@@ -71,7 +70,7 @@ impl Names {
         }
     }
 
-    /// Adds what the text names. NoMemory where none was to be had.
+    /// Adds the attributes that the text names.
     fn add(&mut self, kind: Kind, text: &str) -> Result<(), NoMemory>
         ensures { OnOk result ((l : Leaf)
             → spec.includes self.new l ≡ (spec.includes self.old l || spec.names_leaf kind text.now l)) }
@@ -80,7 +79,7 @@ impl Names {
         self.add_meant(meant(kind, text))
     }
 
-    /// Adds all attributes of the extension, where there is one. NoMemory where none was to be had.
+    /// Adds all attributes of the extension, if there is one.
     fn add_extension(&mut self, extension: Option<Schema>) -> Result<(), NoMemory>
         ensures { OnOk result ((l : Leaf) → spec.includes self.new l
             ≡ (spec.includes self.old l || spec.is_there (λ s. spec.belongs_to s l) extension)) }
@@ -92,7 +91,7 @@ impl Names {
         Ok(())
     }
 
-    /// Adds what a path means. NoMemory where none was to be had.
+    /// Adds the attribute or sub-attribute that a path means, if any.
     fn add_meant(&mut self, meant: Meant) -> Result<(), NoMemory>
         ensures { OnOk result ((l : Leaf)
             → spec.includes self.new l ≡ (spec.includes self.old l || spec.is_meant meant l)) }
@@ -106,7 +105,7 @@ impl Names {
         }
     }
 
-    /// Adds a whole attribute. NoMemory where none was to be had.
+    /// Adds a whole attribute.
     fn add_attribute(&mut self, attribute: Attribute) -> Result<(), NoMemory>
         ensures { OnOk result ((l : Leaf)
             → spec.includes self.new l ≡ (spec.includes self.old l || is_same_attribute attribute l.attribute)) }
@@ -115,7 +114,7 @@ impl Names {
         Ok(())
     }
 
-    /// Adds a sub-attribute alone. NoMemory where none was to be had.
+    /// Adds a single sub-attribute.
     fn add_sub_attribute(&mut self, leaf: Leaf) -> Result<(), NoMemory>
         ensures { OnOk result ((l : Leaf)
             → spec.includes self.new l ≡ (spec.includes self.old l || is_same_leaf leaf l)) }
@@ -125,7 +124,7 @@ impl Names {
     }
 }
 
-/// What the text means for the kind, where it is a path.
+/// Returns the meaning of the text for the kind; `Nothing` if the text isn't a path.
 fn meant(kind: Kind, text: &str) -> Meant
     ensures { result ≡ spec.meaning_of kind text.now }
 {

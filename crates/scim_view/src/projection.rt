@@ -1,4 +1,4 @@
-//! What of a visible part a reply shows (RFC 7643 section 7, RFC 7644 section 3.9).
+//! Projects a visible part to what a reply shows (RFC 7643 section 7, RFC 7644 section 3.9).
 ghost use Rattle.std.specs.Prelude.{◌≡◌, IfOk};
 ghost use Rattle.std.specs.List.{list_all};
 ghost use Rattle.scim_cell.specs.Rows.{rows};
@@ -11,20 +11,20 @@ use scim_text::NoMemory;
 use scim_value::Part;
 use std::alloc::Global;
 
-/// What a client wants to be shown. What is returned always is shown whatever it wants, and what is
-/// returned never is not (RFC 7643 section 7).
+/// The attributes that a client wants in a reply.
+/// Attributes with `returned` "always" are shown in any case, and those with "never" in no case (RFC 7643
+/// section 7).
 pub enum Wanted {
-    /// What is returned by default.
+    /// The attributes that are returned by default.
     Default,
-    /// Of what is returned by default or on request, what is named: the parameter `attributes` of RFC 7644
-    /// section 3.9.
+    /// Of the attributes returned by default or on request, the named ones.
+    /// This is the parameter `attributes` (RFC 7644 section 3.9).
     Only(Names),
-    /// Of what is returned by default, all but what is named: the parameter `excludedAttributes` of RFC
-    /// 7644 section 3.9.
+    /// The attributes returned by default, except the named ones.
+    /// This is the parameter `excludedAttributes` (RFC 7644 section 3.9).
     Without(Names),
 }
 
-/// One call, wherever it is dropped, in place of a look at each form.
 impl Drop for Wanted {
     fn drop(self) {
         match self {
@@ -35,7 +35,7 @@ impl Drop for Wanted {
     }
 }
 
-/// The leaves of a kind that are shown.
+/// A test of cells: those of a kind that the reply shows.
 #[derive(Clone, Copy)]
 struct Shown<'w> {
     wanted: &'w Wanted,
@@ -65,7 +65,7 @@ impl Wanted {
         }
     }
 
-    /// Whether a leaf that is returned by default is shown.
+    /// Whether a leaf with `returned` "default" is shown.
     fn shows_default(&self, leaf: Leaf) -> bool
         ensures { result ≡ spec.shows_default self.now leaf }
     {
@@ -76,7 +76,7 @@ impl Wanted {
         }
     }
 
-    /// Whether a leaf that is returned on request is shown.
+    /// Whether a leaf with `returned` "request" is shown.
     fn shows_requested(&self, leaf: Leaf) -> bool
         ensures { result ≡ spec.shows_requested self.now leaf }
     {
@@ -88,8 +88,8 @@ impl Wanted {
     }
 }
 
-/// What of a part that a client may see is shown to it; positions close up. A part that is shown
-/// whole is given back as it is. NoMemory where none was to be had.
+/// Returns the cells of `visible` that the reply shows; the positions of values close up.
+/// If all cells are shown, `visible` itself is returned.
 pub fn project(alloc: Global, visible: Part, wanted: &Wanted) -> Result<Part, NoMemory>
     ensures { IfOk result (λ p. p ≡ spec.shown wanted.now visible) }
 {
@@ -104,13 +104,14 @@ pub fn project(alloc: Global, visible: Part, wanted: &Wanted) -> Result<Part, No
     }
 }
 
-/// Whether the test keeps each field of the rows.
+/// Whether the test keeps every field of the rows.
 fn shows_all(rows: &[Row], shown: &Shown) -> bool
     ensures { result ≡ list_all (λ r. list_all (λ f. spec.shows shown.now.wanted.now shown.now.kind f.leaf) r.fields) rows.now }
 {
     rows.iter().all(|row| shows_row(row, shown))
 }
 
+/// Whether the test keeps every field of the row.
 fn shows_row(row: &Row, shown: &Shown) -> bool
     ensures { result ≡ list_all (λ f. spec.shows shown.now.wanted.now shown.now.kind f.leaf) row.now.fields }
 {

@@ -1,4 +1,4 @@
-//! For whom resources are looked at.
+//! The client for whom resources are viewed.
 ghost use Rattle.std.specs.Prelude.{◌≡◌, true, IfOk, IfSome, IfNone};
 ghost use Rattle.std.specs.List.{list_any};
 ghost use Rattle.scim_schema.specs.declared.Leaf.{Leaf};
@@ -13,20 +13,20 @@ use scim_text::NoMemory;
 use scim_value::Resource;
 use std::alloc::Global;
 
-/// For whom a resource is looked at: a client, by what the policy lets it read.
+/// The client for whom a resource is viewed, with the policy that decides what it may read.
 #[derive(Clone, Copy)]
 pub struct Viewer<'a> {
-    /// What decides which cells the client may read.
+    /// The policy that decides which cells the client may read.
     pub policy: &'a Policy,
     /// The name of the client.
     pub client: &'a str,
-    /// The base of all locations, as `http://127.0.0.1:8080`.
+    /// The base URL of all locations, as `http://127.0.0.1:8080`.
     pub base: &'a str,
 }
 
 impl Viewer<'_> {
-    /// What the policy decides on the client's reading of each leaf of the resource. The client sees that the
-    /// resource is there where it may read `id`. NoMemory where none was to be had.
+    /// Returns the policy's decision on reading each leaf of the resource.
+    /// The client sees that the resource exists if it may read `id`.
     pub fn decisions(&self, alloc: Global, resource: &Resource) -> Result<Decisions, NoMemory>
         ensures { IfOk result (λ decisions. (l : Leaf)
             → decision decisions l ≡ spec.read_decision (spec.viewer_of self.now) resource.now l) }
@@ -35,9 +35,9 @@ impl Viewer<'_> {
             .decisions(alloc, self.client, Op::Read, resource)
     }
 
-    /// What the policy decides on the client's reading of each leaf of whatever resource of the kind, as
-    /// [`Viewer::decisions`], where that is the same for all of them; None where a rule that may decide has a
-    /// target, so that it depends on the resource. NoMemory where none was to be had.
+    /// Returns the decisions on reading that hold for all resources of the kind, if there are any.
+    /// They are those of [`Viewer::decisions`] for each of the resources. None if a rule that may decide has
+    /// a target, so that the decisions depend on the resource.
     pub fn decisions_on_all(&self, alloc: Global, kind: Kind) -> Result<Option<Decisions>, NoMemory>
         ensures same { IfOk result (λ o. IfSome o (λ decisions. (c : Content) → c.kind ≡ kind → (l : Leaf)
             → decision decisions l ≡ spec.read_decision (spec.viewer_of self.now) c l)) }

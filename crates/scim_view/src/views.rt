@@ -1,4 +1,4 @@
-//! What a client may see of a resource.
+//! Computes the part of a resource that a client may see.
 ghost use Rattle.std.specs.Prelude.{◌≡◌, ◌&&◌, not, IfOk};
 ghost use Rattle.scim_schema.specs.declared.Leaf.{Leaf};
 ghost use Rattle.scim_schema.specs.declared.Kind.{Kind};
@@ -15,7 +15,7 @@ use scim_text::NoMemory;
 use scim_value::{Part, Resource};
 use std::alloc::Global;
 
-/// The leaves of a kind that may be seen by these decisions on reading.
+/// A test of cells: those of a kind that `decisions` let the client see.
 #[derive(Clone, Copy)]
 pub(crate) struct MayBeSeen<'d> {
     pub(crate) kind: Kind,
@@ -23,7 +23,7 @@ pub(crate) struct MayBeSeen<'d> {
 }
 
 impl MayBeSeen<'_> {
-    /// Whether the leaf may be seen.
+    /// Whether the client may see the leaf.
     pub(crate) fn shows(&self, leaf: Leaf) -> bool
         ensures { result ≡ (not (is_write_only self.now.kind leaf) && (decision self.now.decisions.now leaf).allow) }
     {
@@ -42,7 +42,7 @@ impl RowTest for MayBeSeen<'_> {
     }
 }
 
-/// Of the leaves that may be seen of a resource, those of some attributes.
+/// A test of cells: those of certain attributes that the client may see.
 #[derive(Clone, Copy)]
 pub struct MayBeSeenOf<'a> {
     attributes: &'a [Attribute],
@@ -50,8 +50,9 @@ pub struct MayBeSeenOf<'a> {
 }
 
 impl<'a> MayBeSeenOf<'a> {
-    /// Of what may be seen of a resource of the kind, by these decisions on reading it, what is of these attributes: as
-    /// [`Viewer::visible`], but that of others nothing is kept, and nothing is looked at.
+    /// Returns the test for `attributes` of resources of the kind, by the decisions on reading them.
+    /// It keeps the same cells as [`Viewer::visible`], but only those of `attributes`; rows of other
+    /// attributes are skipped unread.
     pub fn new(attributes: &'a [Attribute], kind: Kind, decisions: &'a Decisions) -> MayBeSeenOf<'a>
         ensures { result ≡ record { attributes = attributes.entry; seen = record { kind = kind; decisions = decisions.entry } } }
     {
@@ -78,8 +79,7 @@ impl RowTest for MayBeSeenOf<'_> {
 }
 
 impl Viewer<'_> {
-    /// Whether the client sees that the resource is there: the policy lets it read the `id`. NoMemory
-    /// where none was to be had.
+    /// Whether the client sees that the resource exists: the policy lets it read the `id`.
     #[tactic(auto, unfolding(crate::specs::View::sees))]
     pub fn sees(&self, alloc: Global, resource: &Resource) -> Result<bool, NoMemory>
         ensures { IfOk result (λ b. b ≡ spec.sees (spec.viewer_of self.now) resource.now) }
@@ -94,9 +94,9 @@ impl Viewer<'_> {
         Ok(decision.allow)
     }
 
-    /// What the client may see of the resource: the cells that the policy lets it read, but for those of
-    /// writeOnly attributes (RFC 7643 section 7). Values of which it may see nothing are left out, and
-    /// positions close up. NoMemory where none was to be had.
+    /// Returns the part of the resource that the client may see.
+    /// It has the cells that the policy lets the client read, except those of writeOnly attributes (RFC 7643
+    /// section 7). Values without a visible cell are left out, and the positions of the others close up.
     pub fn visible(&self, alloc: Global, resource: &Resource) -> Result<Part, NoMemory>
         ensures { IfOk result (λ p. p ≡ spec.visible (spec.viewer_of self.now) resource.now) }
     {
@@ -104,8 +104,8 @@ impl Viewer<'_> {
         self.visible_by(alloc, &decisions, resource)
     }
 
-    /// The same as [`Viewer::visible`], by decisions that [`Viewer::decisions`] gave for the resource, so that
-    /// the policy isn't asked about it again. NoMemory where none was to be had.
+    /// As [`Viewer::visible`], by decisions that [`Viewer::decisions`] returned for the resource.
+    /// The policy isn't evaluated again.
     pub fn visible_by(
         &self,
         alloc: Global,
@@ -118,9 +118,8 @@ impl Viewer<'_> {
         visible_by(alloc, decisions, resource)
     }
 
-    /// What the client may see of the resource, as [`Viewer::visible`]; None where it doesn't see that
-    /// the resource is there, as [`Viewer::sees`]. The policy is asked once. NoMemory where none was to
-    /// be had.
+    /// As [`Viewer::visible`], but None if the client doesn't see that the resource exists.
+    /// Evaluates the policy once.
     pub fn view(&self, alloc: Global, resource: &Resource) -> Result<Option<Part>, NoMemory>
         ensures { IfOk result (λ o. o ≡ spec.view (spec.viewer_of self.now) resource.now) }
     {
@@ -129,7 +128,7 @@ impl Viewer<'_> {
     }
 }
 
-/// What may be seen of the resource by these decisions on reading it, where they let its `id` be read.
+/// As [`visible_by`], but None if `decisions` don't let the client read the `id`.
 #[tactic(auto, unfolding(crate::specs::View::view_by))]
 fn view_by(
     alloc: Global,
@@ -145,7 +144,7 @@ fn view_by(
     }
 }
 
-/// What may be seen of the resource by these decisions on reading it.
+/// Returns the part of the resource that `decisions` let the client see.
 pub(crate) fn visible_by(
     alloc: Global,
     decisions: &Decisions,
@@ -160,8 +159,8 @@ pub(crate) fn visible_by(
     resource.part().restrict(alloc, &test)
 }
 
-/// Whether some leaf of the attribute may be seen of resources of the kind, by these decisions on reading them.
-/// Where none may, [`MayBeSeenOf`] keeps no cell of the attribute.
+/// Whether `decisions` let the client see any leaf of the attribute in resources of the kind.
+/// If not, [`MayBeSeenOf`] keeps no cell of the attribute.
 pub fn shows_some(decisions: &Decisions, kind: Kind, attribute: Attribute) -> bool
     ensures { result ≡ spec.shows_some (decision decisions.now) kind attribute }
 {

@@ -1,4 +1,4 @@
--- What the reader of a message has read so far.
+-- The state of the reader of a message.
 use Rattle.std.specs.Prelude.{List, map, Option, None, Some, Result, Ok, Err}
 use Rattle.scim_patch_steps.specs.declared.patches.Step.{Step as KeptStep}
 use Rattle.scim_patch_steps.specs.Patch.{Patch}
@@ -7,15 +7,16 @@ use Rattle.scim_patch_message.specs.declared.faults.PatchFault.{PatchFault}
 use Rattle.scim_patch_message.specs.declared.readings.Reading.{Reading}
 use Rattle.scim_patch_message.specs.Readings.{Read}
 
--- the fault that was found, or else the steps
+-- the fault, if there is one, otherwise the steps
 abbrev pub steps_or_fault : List KeptStep → Option PatchFault → Read
 steps_or_fault steps None = Ok (map step_of steps)
 steps_or_fault steps (Some f) = Err f
 
+-- the steps that a reading has read, or its fault
 abbrev pub read_of : Reading → Read
 read_of r = steps_or_fault r.steps.items r.fault
 
--- what is answered: a patch, without how its steps are kept, or the fault
+-- the patch or the fault that a result in code stands for
 abbrev pub answered : Result Kept PatchFault → Result Patch PatchFault
 answered (Ok p) = Ok (patch_of p)
 answered (Err f) = Err f

@@ -1,7 +1,7 @@
--- How patches are kept.
+-- The representation of patches in code.
 use Rattle.scim_patch_steps.specs.declared.patches.Patch.TheInside.{Inside as PatchInside}
 use Rattle.scim_patch_steps.specs.Kept.{Kept}
 
--- a patch by its fields
+-- the patch with its fields as values
 abbrev pub kept_of : PatchInside → Kept
 kept_of p = record { kind = p.kind; steps = p.steps.items }

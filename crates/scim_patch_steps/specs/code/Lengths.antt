@@ -1,4 +1,4 @@
--- Changes after which the number of values tells whether they are others.
+-- The changes for which the number of values suffices to tell whether the values changed.
 use Rattle.std.specs.Prelude.{Bool, true, false, not, List, [], ◌∷◌, Option, None, Some, if◌then◌else◌}
 use Rattle.std.specs.List.{list_any}
 use Rattle.scim_schema.specs.declared.Unit.{Unit as AttributeUnit}
@@ -6,7 +6,8 @@ use Rattle.scim_cell.specs.Rows.{is_primary}
 use Rattle.scim_patch_steps.specs.Changes.{Change, Keep, KeepMatches, KeepSubAttribute, Append, Clear, RemoveListed, RemoveMatches}
 use Rattle.scim_patch_steps.specs.Patch.{Step, Of, Patch}
 
--- such a change only takes values away, or puts some behind them of which none is the primary one
+-- whether the number of values after a change suffices to tell whether it changed them: it only removes
+-- values, or only appends values without a primary one
 abbrev pub is_told_by_length : Change → Bool
 is_told_by_length Keep = true
 is_told_by_length (KeepMatches t) = true
@@ -17,10 +18,11 @@ is_told_by_length (RemoveMatches t) = true
 is_told_by_length (Append given) = not (list_any is_primary given)
 is_told_by_length _ = false
 
--- the unit of the one step of a patch, where the number of its values tells
+-- the unit of the only step, if the number of its values suffices to tell whether they changed
 abbrev pub unit_told_among : List Step → Option AttributeUnit
 unit_told_among (Of u change ∷ []) = if is_told_by_length change then Some u else None
 unit_told_among _ = None
 
+-- the unit of a patch with one step, if the number of its values suffices to tell whether they changed
 abbrev pub unit_told_by_length : Patch → Option AttributeUnit
 unit_told_by_length p = unit_told_among p.steps

@@ -1,4 +1,4 @@
--- The rows of the units that steps are about.
+-- The rows of the units that the steps of a patch name.
 use Rattle.std.specs.Prelude.{Bool, not, List, filter}
 use Rattle.std.specs.List.{list_any}
 use Rattle.scim_schema.specs.declared.Unit.{Unit as AttributeUnit}
@@ -14,6 +14,6 @@ is_about us u = list_any (is_same_unit u) us
 abbrev pub rows_about : List AttributeUnit → List Row → List Row
 rows_about us rs = filter (λ (r : Row). is_about us r.unit) rs
 
--- whether a unit has other values afterwards
+-- whether a unit has other values afterwards than before
 abbrev pub is_other : List Row → List Row → AttributeUnit → Bool
 is_other before rs u = not (are_same_values (values u before) (values u rs))

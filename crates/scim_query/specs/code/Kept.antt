@@ -1,4 +1,4 @@
--- How the parts that are held stay in order, and which are held with one more.
+-- The parts that a pager holds in code: their order, and the insertion of one more.
 use Rattle.std.specs.Prelude.{◌≡◌, ℕ, ◌+◌, Bool, Option, None, Some, List, [], ◌∷◌, ◌++◌, length, take, insert}
 use Rattle.std.specs.declared.cmp.Ordering.{Ordering}
 use Rattle.std.specs.Ordering.{is_lt}
@@ -9,31 +9,31 @@ use Rattle.scim_query.specs.declared.pagers.Pager.{Pager}
 use Rattle.scim_query.specs.Order.{Rank, rank_of, rank_cmp}
 use Rattle.scim_query.specs.Pagers.{keyed, Holds, most_held}
 
--- what a part is sorted by
+-- the rank of a held part: its key and its id
 abbrev pub kept_rank : KeptPart → Rank
 kept_rank k = (k.key, k.part.id)
 
--- the order of parts that are held
+-- the order of held parts: by key in the given direction, then by ascending id
 abbrev pub kept_cmp : Bool → KeptPart → KeptPart → Ordering
 kept_cmp descending a b = rank_cmp descending (kept_rank a) (kept_rank b)
 
--- whether one comes before another
+-- whether one held part comes before another
 abbrev pub comes_before : Bool → KeptPart → KeptPart → Bool
 comes_before descending a b = is_lt (kept_cmp descending a b)
 
--- those that are held, with one more where it has a place among them
+-- the held parts with one more inserted at its place, if it has one
 abbrev pub held_with : Option ℕ → KeptPart → List KeptPart → List KeptPart
 held_with None k held = held
 held_with (Some place) k held = insert held place k
 
--- the place of a part of this key and id that comes next of those that match: with it there, or passed over where it has none,
--- those are held that are to be
+-- inserting the next matching part, of this rank, at this place (or leaving it out, for None) and then
+-- cutting off the excess yields the parts to hold
 abbrev pub IsPlace : Query → ℕ → List KeptPart → Rank → Option ℕ → Type 0
 IsPlace query before held rank place = (found : List Content) (p : Content) → rank_of query.sort_by p ≡ rank → before ≡ length found
     → Holds query.sort_by query found held
     → Holds query.sort_by query (found ++ p ∷ []) (take (most_held query) (held_with place (keyed query.sort_by p) held))
 
--- one more part matches, and these are held
+-- the pager has counted one more match and holds these parts
 pub record HasCounted (after : List KeptPart) (old new : Pager) : Type 0 where
   pub total : new.total ≡ old.total + 1
   pub held : new.held.items ≡ after

@@ -1,4 +1,4 @@
--- An index of the groups that a client sees, by the ids of their members.
+-- The index, in code, of the groups that a client sees by the ids of their members.
 use Rattle.std.specs.Prelude.{◌≡◌, ℕ, ◌+◌, ◌-◌, Bool, false, List, [], ◌∷◌, ◌++◌, length, map, filter, nat_eq, Option, None, Some, if◌then◌else◌}
 use Rattle.std.specs.Global.{Vec}
 use Rattle.std.specs.List.{slice_get}
@@ -17,28 +17,29 @@ use Rattle.scim_value.specs.Members.{is_text, lists}
 use Rattle.scim_view.specs.Groups.{and_those}
 use Rattle.scim_view.specs.code.Memberships.{kept_of}
 
--- whether this is the id that was found
+-- whether an id was found and is this one
 abbrev pub is_found : List ℕ → Option (List ℕ) → Bool
 is_found id None = false
 is_found id (Some found) = is_same_id found id
 
--- whether a value of `members` names the resource of an id, by the text of its id
+-- whether the `value` of a member is the text of the id
 abbrev pub names_member : List ℕ → Row → Bool
 names_member id m = is_text (id_text id) (atom_in (leaf_at Members Value) m.fields)
 
--- whether a position stands at the end
+-- whether the position is the last of the list
 abbrev pub ends_in : ℕ → List ℕ → Bool
 ends_in p ps = option_eq nat_eq (slice_get ps (length ps - 1)) (Some p)
 
--- positions with this one at the end
+-- the positions with this one appended, unless it is already the last
 abbrev pub noted : ℕ → List ℕ → List ℕ
 noted p ps = if ends_in p ps then ps else ps ++ p ∷ []
 
--- what stands at positions
+-- the elements of a list at these positions; positions beyond its end are skipped
 abbrev pub at_positions : {X : Type 0} → List X → List ℕ → List X
 at_positions xs [] = []
 at_positions xs (p ∷ ps) = and_those (slice_get xs p) (at_positions xs ps)
 
+-- the positions in an entry of the index; none if there is no entry
 abbrev pub positions_in : Option (Vec ℕ) → List ℕ
 positions_in None = []
 positions_in (Some ps) = ps.items
@@ -51,16 +52,16 @@ positions_of index id = positions_in (get is_same_id index.by_member id)
 abbrev pub groups_of : GroupIndex → List ℕ → List SeenGroup
 groups_of index id = at_positions index.groups.items (positions_of index id)
 
--- for each id, the index has those of these groups that list it, in their order
+-- for each id, the index has those of the groups that list it, in their order
 abbrev pub Indexes : List Content → GroupIndex → Type 0
 Indexes gs index = (id : List ℕ) → IsId id → groups_of index id ≡ map kept_of (filter (lists id) gs)
 
--- the positions of the groups that list an id, where the first stands at n
+-- the positions of the groups that list an id, counted from n
 abbrev pub positions_from : ℕ → List ℕ → List Content → List ℕ
 positions_from n id [] = []
 positions_from n id (g ∷ gs) = if lists id g then n ∷ positions_from (n + 1) id gs else positions_from (n + 1) id gs
 
--- the index is made of these groups: of what is kept of each, and of where those stand that list an id
+-- the index keeps each of these groups, and for each id the positions of the groups that list it
 pub record IsMadeOf (gs : List Content) (index : GroupIndex) : Type 0 where
   pub groups : index.groups.items ≡ map kept_of gs
   pub positions : (id : List ℕ) → IsId id → positions_of index id ≡ positions_from 0 id gs

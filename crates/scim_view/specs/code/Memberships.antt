@@ -1,4 +1,4 @@
--- What the code keeps of groups, and the fields that it makes of them.
+-- The parts of groups that the code keeps, and the fields of `groups` that it makes from them.
 use Rattle.std.specs.Prelude.{Bool, not, ◌&&◌, List, [], filter, if◌then◌else◌}
 use Rattle.std.specs.declared.cmp.Ordering.{Ordering}
 use Rattle.std.specs.Ordering.{nat_cmp}
@@ -18,23 +18,23 @@ use Rattle.scim_policy.specs.declared.rules.Decision.{Decision}
 use Rattle.scim_view.specs.declared.groups.SeenGroup.{SeenGroup}
 use Rattle.scim_view.specs.Groups.{display_of}
 
--- those of some fields that may be seen, by these decisions on reading a resource of the kind
+-- those of the fields that the decisions on reading resources of the kind let be seen
 abbrev pub shown_fields : (Leaf → Decision) → Kind → List Field → List Field
 shown_fields decision kind fs = filter (λ (f : Field). not (is_write_only kind f.leaf) && (decision f.leaf).allow) fs
 
--- what is kept of a group that is seen
+-- the parts of a visible group that the code keeps: its id and its name
 abbrev pub kept_of : Content → SeenGroup
 kept_of g = record { id = g.id; display = display_of g }
 
--- whether a group of this kind is seen by these decisions on reading it, and the ids of its members
+-- whether the decisions on reading a group of this kind let the group and the ids of its members be seen
 abbrev pub shows_members : (Leaf → Decision) → Kind → Bool
 shows_members decision kind =
     (decision (simple Id)).allow && (not (is_write_only kind (leaf_at Members Value)) && (decision (leaf_at Members Value)).allow)
 
--- the groups by which a resource is told, of these: a user by all, another by none
+-- the groups that may appear in the `groups` of a resource: all for a user, none for a group
 abbrev pub telling : Content → List Content → List Content
 telling c groups = if sameb the_kind c.kind User then groups else []
 
--- how what is kept of two groups compares: by id
+-- the order of groups in the code: by id
 abbrev pub kept_cmp : SeenGroup → SeenGroup → Ordering
 kept_cmp a b = slice_cmp nat_cmp a.id b.id
