@@ -47,7 +47,7 @@ use Rattle.scim_service.specs.declared.requests.Ask.{Ask}
 use Rattle.scim_service.specs.declared.requests.Ask.TheVariants.{Get, Search, Create, Replace, Patch as PatchOne, Remove}
 use Rattle.scim_service.specs.declared.requests.Turn.{Turn}
 use Rattle.scim_service.specs.declared.replies.Reply.TheVariants.{Shown, Created, Refused}
-use Rattle.scim_service.specs.Step.{refused, absent, hidden, denied, resource_text, got, list_text, listed, delete_decision, removed, new_resource, first_denied, kept_text, made_if_free, made_if_allowed, is_for, creating, access_to, first_unit_denied, is_writable, writable, shown_or_done, changed_if_narrow, changed_if_free, changed_if_complete, written_if_allowed, replacing, first_forbidden, step_refusal, patched_with, patched_if_allowed, patching, sought, at_seen, planned}
+use Rattle.scim_service.specs.Step.{rejection_plan, absence_plan, hidden_plan, denial_plan, resource_text, get_plan, list_text, search_plan, delete_decision, removal_plan, new_resource, first_denied, kept_text, unique_creation_plan, decided_creation_plan, is_for, creation_plan, access_to, first_unit_denial, is_writable, writable, shown_or_done, narrow_change_plan, unique_change_plan, complete_change_plan, decided_replacement_plan, replacement_plan, first_forbidden, step_refusal, applied_patch_plan, decided_patch_plan, patch_plan, sought_resource, plan_for_seen, request_plan}
 use Rattle.scim_noninterference.specs.Alike.{is_in_use}
 use Rattle.scim_service.specs.Requests.{IsAsk, FindsFree}
 use Rattle.scim_service.proofs.Facts.{Plan, found_holds}
@@ -73,21 +73,21 @@ module _ (v : Viewer) (turn : Turn) (s t : List Content) (like : AreLike v s t) 
   unchanged : (p q : Plan) → p.reply ≡ q.reply → p.change ≡ Nothing → q.change ≡ Nothing → AreAnswers v s t p q
   unchanged p q e f g = record { reply = e; like = subst₂ (λ (x y : Change). AreLike v (after_change x s) (after_change y t)) (sym f) (sym g) like }
 
-  unseen : (plan : Content → Plan) (o : Option Content) → IsUnseen v o → ((at_seen v turn plan o).reply ≡ Refused NotFound) × ((at_seen v turn plan o).change ≡ Nothing)
-  unfolding absent hidden sees
+  unseen : (plan : Content → Plan) (o : Option Content) → IsUnseen v o → ((plan_for_seen v turn plan o).reply ≡ Refused NotFound) × ((plan_for_seen v turn plan o).change ≡ Nothing)
+  unfolding absence_plan hidden_plan sees
   unseen plan None no' = (refl, refl)
   unseen plan (Some c) no' = rw no' (refl, refl)
 
-  seen_plan : (plan : Content → Plan) (o : Option Content) (c : Content) → o ≡ Some c → sees v c ≡ true → at_seen v turn plan o ≡ plan c
+  seen_plan : (plan : Content → Plan) (o : Option Content) (c : Content) → o ≡ Some c → sees v c ≡ true → plan_for_seen v turn plan o ≡ plan c
   unfolding sees
   seen_plan plan o c e t = rw (e, t) refl
 
   at_seen_same : (f g : Content → Plan) (o p : Option Content) → AreFound v o p
-      → ((a b : Content) → o ≡ Some a → p ≡ Some b → traits v a ≡ traits v b → AreAnswers v s t (f a) (g b)) → AreAnswers v s t (at_seen v turn f o) (at_seen v turn g p)
+      → ((a b : Content) → o ≡ Some a → p ≡ Some b → traits v a ≡ traits v b → AreAnswers v s t (f a) (g b)) → AreAnswers v s t (plan_for_seen v turn f o) (plan_for_seen v turn g p)
   at_seen_same f g o p (inr none) each =
       let first = unseen f o none.0 in
       let second = unseen g p none.1 in
-      unchanged (at_seen v turn f o) (at_seen v turn g p) (first.0 ∙ sym second.0) first.1 second.1
+      unchanged (plan_for_seen v turn f o) (plan_for_seen v turn g p) (first.0 ∙ sym second.0) first.1 second.1
   at_seen_same f g o p (inl found) each =
       subst₂ (AreAnswers v s t) (sym (seen_plan f o found.0 found.2 found.4)) (sym (seen_plan g p found.1 found.3 found.5)) (each found.0 found.1 found.2 found.3 found.6)
 
@@ -97,12 +97,12 @@ module _ (v : Viewer) (turn : Turn) (s t : List Content) (like : AreLike v s t) 
   unfolding resource_text
   text_same a b e wanted = ap (λ (c : Content). compact_text (part_data (shown wanted c))) (with_groups_same v s t like.same a b e)
 
-  got_same : (wanted : Wanted) (a b : Content) → traits v a ≡ traits v b → AreAnswers v s t (got v turn s wanted a) (got v turn t wanted b)
-  unfolding got
+  got_same : (wanted : Wanted) (a b : Content) → traits v a ≡ traits v b → AreAnswers v s t (get_plan v turn s wanted a) (get_plan v turn t wanted b)
+  unfolding get_plan
   got_same wanted a b e = record { reply = ap (λ text. Shown text) (text_same a b e wanted); like = like }
 
-  listed_same : (query : Query) → AreAnswers v s t (listed v turn s query) (listed v turn t query)
-  unfolding listed
+  listed_same : (query : Query) → AreAnswers v s t (search_plan v turn s query) (search_plan v turn t query)
+  unfolding search_plan
   listed_same query = record { reply = ap (λ (view : List Content). Shown (list_text query view)) (views_same v turn.request.kind s t like.same); like = like }
 
   -- ---- what is removed, and what is kept
@@ -114,8 +114,8 @@ module _ (v : Viewer) (turn : Turn) (s t : List Content) (like : AreLike v s t) 
       → AreLike v (keep x s) (keep y t)
   keep_like x y e names others = record { same = traits_keep v x y e s t like.same; names = λ name. in_use_keep_same x y s t names name (others name) }
 
-  removed_same : (a b : Content) → traits v a ≡ traits v b → ((name : Name) → is_in_use (without a.id s) name ≡ is_in_use (without b.id t) name) → AreAnswers v s t (removed v turn a) (removed v turn b)
-  unfolding removed denied
+  removed_same : (a b : Content) → traits v a ≡ traits v b → ((name : Name) → is_in_use (without a.id s) name ≡ is_in_use (without b.id t) name) → AreAnswers v s t (removal_plan v turn a) (removal_plan v turn b)
+  unfolding removal_plan denial_plan
   removed_same a b e others =
       let decided : (delete_decision v a).allow ≡ (delete_decision v b).allow = ap (λ (d : Leaf → Decision). (d (simple Id)).allow) (decision_same v Delete a b e) in
       elim (cases_Bool (delete_decision v b).allow) [
@@ -140,8 +140,8 @@ module _ (v : Viewer) (turn : Turn) (s t : List Content) (like : AreLike v s t) 
     made_like : AreLike v (keep x s) (keep x t)
     made_like = keep_like v turn s t like x x refl refl (λ name. in_use_absent x.id s name first ∙ like.names name ∙ sym (in_use_absent x.id t name second))
 
-    free_same : (wanted : Wanted) → AreAnswers v s t (made_if_free v turn s wanted x) (made_if_free v turn t wanted x)
-    unfolding refused
+    free_same : (wanted : Wanted) → AreAnswers v s t (unique_creation_plan v turn s wanted x) (unique_creation_plan v turn t wanted x)
+    unfolding rejection_plan
     free_same wanted =
         let taken : is_taken s x ≡ is_taken t x = taken_same x x s t refl like.names in
         elim (cases_Bool (is_taken t x)) [
@@ -149,14 +149,14 @@ module _ (v : Viewer) (turn : Turn) (s t : List Content) (like : AreLike v s t) 
           | inr no' ↦ rw (taken, no', first, second) (record { reply = ap (λ text. Created (location v.base x.kind x.id) text) (kept_text_same v s t x x made_like refl wanted); like = made_like })
         ]
 
-    allowed_same : (wanted : Wanted) (o : Option Leaf) → AreAnswers v s t (made_if_allowed v turn s wanted x o) (made_if_allowed v turn t wanted x o)
-    unfolding denied
+    allowed_same : (wanted : Wanted) (o : Option Leaf) → AreAnswers v s t (decided_creation_plan v turn s wanted x o) (decided_creation_plan v turn t wanted x o)
+    unfolding denial_plan
     allowed_same wanted None = free_same wanted
     allowed_same wanted (Some l) = record { reply = refl; like = like }
 
   creating_same : (d : Draft) (wanted : Wanted) → is_used s (new_resource v turn d).id ≡ false → is_used t (new_resource v turn d).id ≡ false
-      → AreAnswers v s t (creating v turn s d wanted) (creating v turn t d wanted)
-  unfolding creating refused
+      → AreAnswers v s t (creation_plan v turn s d wanted) (creation_plan v turn t d wanted)
+  unfolding creation_plan rejection_plan
   creating_same d wanted first second = elim (cases_Bool (is_for turn d)) [
     | inl holds ↦ rw holds (allowed_same (new_resource v turn d) first second wanted (first_denied v d (new_resource v turn d)))
     | inr no' ↦ rw no' (record { reply = refl; like = like })
@@ -167,8 +167,8 @@ module _ (v : Viewer) (turn : Turn) (s t : List Content) (like : AreLike v s t) 
   module _ (a b x y : Content) (changed : Bool) (wanted : Wanted) (names : unique_names x ≡ unique_names y)
       (others : (name : Name) → is_in_use (without x.id s) name ≡ is_in_use (without y.id t) name) where
     narrow_same : (o p : Option (Op × Leaf × Decision)) → o ≡ p → (o ≡ None → traits v x ≡ traits v y)
-        → AreAnswers v s t (changed_if_narrow v turn s wanted (access_to v a) changed x o) (changed_if_narrow v turn t wanted (access_to v b) changed y p)
-    unfolding denied
+        → AreAnswers v s t (narrow_change_plan v turn s wanted (access_to v a) changed x o) (narrow_change_plan v turn t wanted (access_to v b) changed y p)
+    unfolding denial_plan
     narrow_same None None e same =
         let kept = keep_like v turn s t like x y (same refl) names others in
         let text = kept_text_same v s t x y kept (same refl) wanted in
@@ -182,8 +182,8 @@ module _ (v : Viewer) (turn : Turn) (s t : List Content) (like : AreLike v s t) 
 
     changed_same : widening x.kind (access_to v a) (access_to v x) ≡ widening y.kind (access_to v b) (access_to v y)
         → (widening x.kind (access_to v a) (access_to v x) ≡ None → traits v x ≡ traits v y)
-        → AreAnswers v s t (changed_if_free v turn s wanted (access_to v a) changed x) (changed_if_free v turn t wanted (access_to v b) changed y)
-    unfolding refused
+        → AreAnswers v s t (unique_change_plan v turn s wanted (access_to v a) changed x) (unique_change_plan v turn t wanted (access_to v b) changed y)
+    unfolding rejection_plan
     changed_same wider same =
         let taken : is_taken (without x.id s) x ≡ is_taken (without y.id t) y = taken_same x y (without x.id s) (without y.id t) names others in
         elim (cases_Bool (is_taken (without y.id t) y)) [
@@ -224,15 +224,15 @@ module _ (v : Viewer) (turn : Turn) (s t : List Content) (like : AreLike v s t) 
             (ap (λ (x : Traits). x.kind) same) (ap (λ (x : Traits). x.id) same) (ap (λ (x : Traits). x.control) same) like.names;
       }
 
-  sought_same : (f g : Content → Plan) → ((a b : Content) → AreSought a b → AreAnswers v s t (f a) (g b)) → AreAnswers v s t (at_seen v turn f (sought turn s)) (at_seen v turn g (sought turn t))
+  sought_same : (f g : Content → Plan) → ((a b : Content) → AreSought a b → AreAnswers v s t (f a) (g b)) → AreAnswers v s t (plan_for_seen v turn f (sought_resource turn s)) (plan_for_seen v turn g (sought_resource turn t))
   sought_same f g each =
-      at_seen_same v turn s t like f g (sought turn s) (sought turn t) (found_by turn.request.id) (λ a b e h same. each a b (sought_by turn.request.id a b e h same))
+      at_seen_same v turn s t like f g (sought_resource turn s) (sought_resource turn t) (found_by turn.request.id) (λ a b e h same. each a b (sought_by turn.request.id a b e h same))
 
   -- ---- what comes of it
 
   outcome_same : (us : List AttributeUnit) (changed : Bool) (a b x y : Content) → AreSought a b → IsSound v.base x → IsSound v.base y
       → AgreeAt us x y → IsLeft us changed turn.moment a x → IsLeft us changed turn.moment b y → (wanted : Wanted)
-      → AreAnswers v s t (changed_if_free v turn s wanted (access_to v a) changed x) (changed_if_free v turn t wanted (access_to v b) changed y)
+      → AreAnswers v s t (unique_change_plan v turn s wanted (access_to v a) changed x) (unique_change_plan v turn t wanted (access_to v b) changed y)
   outcome_same us changed a b x y are three four agree first second wanted =
       let kinds = kinds_after v us changed turn.moment a b x y are.one.0 are.two.0 three.0 four.0 are.same agree first second in
       let decides = control_after v us changed turn.moment a b x y are.one.0 are.two.0 three.0 four.0 are.same agree first second in
@@ -250,17 +250,17 @@ module _ (v : Viewer) (turn : Turn) (s t : List Content) (like : AreLike v s t) 
     kinds_same = ap (λ (x : Traits). x.kind) are.same
 
     replaced_same : (us : List AttributeUnit) → All (λ u. forbidding a.kind (access_of v a) u ≡ None) us → All (λ u. is_fixed a.kind u ≡ false) us
-        → AreAnswers v s t (changed_if_complete v turn s wanted (access_to v a) (changes d us (rows a)) (replaced d us turn.moment a))
-        (changed_if_complete v turn t wanted (access_to v b) (changes d us (rows b)) (replaced d us turn.moment b))
-    unfolding refused
+        → AreAnswers v s t (complete_change_plan v turn s wanted (access_to v a) (changes d us (rows a)) (replaced d us turn.moment a))
+        (complete_change_plan v turn t wanted (access_to v b) (changes d us (rows b)) (replaced d us turn.moment b))
+    unfolding rejection_plan
     replaced_same us free open' =
         let law = replacing_rests_on_its_units d us turn.moment a b is are.one.0 are.two.0 (sym kind) (sym kinds_same ∙ sym kind) (agree_at v us a b are.one.0 are.two.0 are.same free) in
-        subst (λ (c : Bool). AreAnswers v s t (changed_if_complete v turn s wanted (access_to v a) (changes d us (rows a)) (replaced d us turn.moment a))
-        (changed_if_complete v turn t wanted (access_to v b) c (replaced d us turn.moment b))) law.0
+        subst (λ (c : Bool). AreAnswers v s t (complete_change_plan v turn s wanted (access_to v a) (changes d us (rows a)) (replaced d us turn.moment a))
+        (complete_change_plan v turn t wanted (access_to v b) c (replaced d us turn.moment b))) law.0
         (go (changes d us (rows a)) (replaced d us turn.moment a) (replaced d us turn.moment b) refl refl law.1)
       where
         go : (c : Bool) (o p : Option Content) → replaced d us turn.moment a ≡ o → replaced d us turn.moment b ≡ p → AreReplacedAlike us c turn.moment a b o p
-            → AreAnswers v s t (changed_if_complete v turn s wanted (access_to v a) c o) (changed_if_complete v turn t wanted (access_to v b) c p)
+            → AreAnswers v s t (complete_change_plan v turn s wanted (access_to v a) c o) (complete_change_plan v turn t wanted (access_to v b) c p)
         go c None None e f h = record { reply = refl; like = like }
         go c (Some x) (Some y) e f h =
             outcome_same us c a b x y are (replaced_sound d is us a kind open' turn.moment there v.base are.one x e)
@@ -269,8 +269,8 @@ module _ (v : Viewer) (turn : Turn) (s t : List Content) (like : AreLike v s t) 
         go c None (Some y) e f h = absurd h
         go c (Some x) None e f h = absurd h
 
-    written_same : (o : Option (Leaf × Decision)) → AreAnswers v s t (written_if_allowed v turn s d wanted a o) (written_if_allowed v turn t d wanted b o)
-    unfolding denied
+    written_same : (o : Option (Leaf × Decision)) → AreAnswers v s t (decided_replacement_plan v turn s d wanted a o) (decided_replacement_plan v turn t d wanted b o)
+    unfolding denial_plan
     written_same (Some (l, decision)) = record { reply = refl; like = like }
     written_same None =
         let us = writable a.kind (access_to v a) in
@@ -280,19 +280,19 @@ module _ (v : Viewer) (turn : Turn) (s t : List Content) (like : AreLike v s t) 
         let open' = All-weaker (λ u. is_writable a.kind (access_to v a) u ≡ true) (λ u. is_fixed a.kind u ≡ false)
         (λ u h. not-true (is_fixed a.kind u) (and_parts (not (is_fixed a.kind u)) (is_none (forbidding a.kind (access_to v a) u)) h).0) us all in
         let same_units : us ≡ writable b.kind (access_to v b) = λ i. writable (kinds_same i) (access_same v a b are.same i) in
-        subst (λ (vs : List AttributeUnit). AreAnswers v s t (changed_if_complete v turn s wanted (access_to v a) (changes d us (rows a)) (replaced d us turn.moment a))
-        (changed_if_complete v turn t wanted (access_to v b) (changes d vs (rows b)) (replaced d vs turn.moment b))) same_units (replaced_same us free open')
+        subst (λ (vs : List AttributeUnit). AreAnswers v s t (complete_change_plan v turn s wanted (access_to v a) (changes d us (rows a)) (replaced d us turn.moment a))
+        (complete_change_plan v turn t wanted (access_to v b) (changes d vs (rows b)) (replaced d vs turn.moment b))) same_units (replaced_same us free open')
 
-  replacing_same : (d : Draft) → IsDraft d → (wanted : Wanted) (a b : Content) → AreSought a b → AreAnswers v s t (replacing v turn s d wanted a) (replacing v turn t d wanted b)
-  unfolding replacing refused
+  replacing_same : (d : Draft) → IsDraft d → (wanted : Wanted) (a b : Content) → AreSought a b → AreAnswers v s t (replacement_plan v turn s d wanted a) (replacement_plan v turn t d wanted b)
+  unfolding replacement_plan rejection_plan
   replacing_same d is wanted a b are =
       let kinds : sameb the_kind d.kind a.kind ≡ sameb the_kind d.kind b.kind = ap (λ (x : Traits). sameb the_kind d.kind x.kind) are.same in
       elim (cases_Bool (sameb the_kind d.kind b.kind)) [
         | inl holds ↦
             let kind : d.kind ≡ a.kind = same_true the_kind tt d.kind a.kind (kinds ∙ holds) in
-            let reasons : first_unit_denied (access_to v a) d (visible v a) (units d.kind) ≡ first_unit_denied (access_to v b) d (visible v b) (units d.kind)
-            = λ i. first_unit_denied (access_same v a b are.same i) d (visible_same v a b are.same i) (units d.kind) in
-            rw (kinds, holds, reasons) (written_same d is wanted a b are kind (first_unit_denied (access_to v b) d (visible v b) (units d.kind)))
+            let reasons : first_unit_denial (access_to v a) d (visible v a) (units d.kind) ≡ first_unit_denial (access_to v b) d (visible v b) (units d.kind)
+            = λ i. first_unit_denial (access_same v a b are.same i) d (visible_same v a b are.same i) (units d.kind) in
+            rw (kinds, holds, reasons) (written_same d is wanted a b are kind (first_unit_denial (access_to v b) d (visible v b) (units d.kind)))
         | inr no' ↦ rw (kinds, no') (record { reply = refl; like = like })
       ]
 
@@ -300,20 +300,20 @@ module _ (v : Viewer) (turn : Turn) (s t : List Content) (like : AreLike v s t) 
 
   module _ (p : Patch) (is : IsPatch p) (wanted : Wanted) (a b : Content) (are : AreSought a b) (kind : p.kind ≡ a.kind) where
     applied_same : (o q : Result (Content × Bool) StepFault) → applied p turn.moment a ≡ o → applied p turn.moment b ≡ q → ArePatchedAlike (touched p) turn.moment a b o q
-        → AreAnswers v s t (patched_with v turn s wanted a o) (patched_with v turn t wanted b q)
-    unfolding refused
+        → AreAnswers v s t (applied_patch_plan v turn s wanted a o) (applied_patch_plan v turn t wanted b q)
+    unfolding rejection_plan
     applied_same (Err e) (Err f) made made_too h = record { reply = ap (λ fault. Refused (step_refusal fault)) h; like = like }
     applied_same (Ok (x, changed)) (Ok (y, other)) made made_too h =
         let two : IsLeft (touched p) changed turn.moment b y = subst (λ (c : Bool). IsLeft (touched p) c turn.moment b y) (sym h.0) h.3 in
-        subst (λ (c : Bool). AreAnswers v s t (changed_if_free v turn s wanted (access_to v a) changed x) (changed_if_free v turn t wanted (access_to v b) c y)) h.0
+        subst (λ (c : Bool). AreAnswers v s t (unique_change_plan v turn s wanted (access_to v a) changed x) (unique_change_plan v turn t wanted (access_to v b) c y)) h.0
         (outcome_same (touched p) changed a b x y are (applied_sound p is turn.moment there v.base a (sym kind) are.one x changed made)
         (applied_sound p is turn.moment there v.base b (sym (kind ∙ ap (λ (z : Traits). z.kind) are.same)) are.two y other made_too) h.1 h.2 two wanted)
     applied_same (Err e) (Ok y) made made_too h = absurd h
     applied_same (Ok x) (Err f) made made_too h = absurd h
 
     permitted_same : (o : Option (Leaf × Decision)) → first_forbidden p.kind (access_to v a) (touched p) ≡ o
-        → AreAnswers v s t (patched_if_allowed v turn s p wanted a o) (patched_if_allowed v turn t p wanted b o)
-    unfolding denied
+        → AreAnswers v s t (decided_patch_plan v turn s p wanted a o) (decided_patch_plan v turn t p wanted b o)
+    unfolding denial_plan
     permitted_same (Some (l, decision)) e = record { reply = refl; like = like }
     permitted_same None e =
         let none = none_denied p.kind (access_to v a) (touched p) (first_forbidden p.kind (access_to v a)) refl (λ u us. refl) e in
@@ -322,8 +322,8 @@ module _ (v : Viewer) (turn : Turn) (s t : List Content) (like : AreLike v s t) 
         (patching_rests_on_its_units p turn.moment a b is are.one.0 are.two.0 (sym kind) (sym (kind ∙ ap (λ (z : Traits). z.kind) are.same))
         (agree_at v (touched p) a b are.one.0 are.two.0 are.same free))
 
-  patching_same : (p : Patch) → IsPatch p → (wanted : Wanted) (a b : Content) → AreSought a b → AreAnswers v s t (patching v turn s p wanted a) (patching v turn t p wanted b)
-  unfolding patching refused
+  patching_same : (p : Patch) → IsPatch p → (wanted : Wanted) (a b : Content) → AreSought a b → AreAnswers v s t (patch_plan v turn s p wanted a) (patch_plan v turn t p wanted b)
+  unfolding patch_plan rejection_plan
   patching_same p is wanted a b are =
       let kinds : sameb the_kind p.kind a.kind ≡ sameb the_kind p.kind b.kind = ap (λ (x : Traits). sameb the_kind p.kind x.kind) are.same in
       elim (cases_Bool (sameb the_kind p.kind b.kind)) [
@@ -341,16 +341,16 @@ module _ (v : Viewer) (turn : Turn) (s t : List Content) (like : AreLike v s t) 
   unfolding created
   new_id d = refl
 
-  pub planned_same : (ask : Result Ask Refusal) → IsAsk ask → FindsFree s turn.fresh ask → FindsFree t turn.fresh ask → AreAnswers v s t (planned v turn s ask) (planned v turn t ask)
-  unfolding refused
+  pub planned_same : (ask : Result Ask Refusal) → IsAsk ask → FindsFree s turn.fresh ask → FindsFree t turn.fresh ask → AreAnswers v s t (request_plan v turn s ask) (request_plan v turn t ask)
+  unfolding rejection_plan
   planned_same (Err refusal) is first second = record { reply = refl; like = like }
-  planned_same (Ok (Get wanted)) is first second = sought_same (got v turn s wanted) (got v turn t wanted) (λ a b are. got_same v turn s t like wanted a b are.same)
+  planned_same (Ok (Get wanted)) is first second = sought_same (get_plan v turn s wanted) (get_plan v turn t wanted) (λ a b are. got_same v turn s t like wanted a b are.same)
   planned_same (Ok (Search query)) is first second = listed_same v turn s t like query
   planned_same (Ok (Create draft wanted)) is first second =
       creating_same v turn s t like draft wanted (ap (is_used s) (new_id draft) ∙ first) (ap (is_used t) (new_id draft) ∙ second)
   planned_same (Ok (Replace draft wanted)) is first second =
-      sought_same (replacing v turn s draft wanted) (replacing v turn t draft wanted) (λ a b are. replacing_same draft is wanted a b are)
+      sought_same (replacement_plan v turn s draft wanted) (replacement_plan v turn t draft wanted) (λ a b are. replacing_same draft is wanted a b are)
   planned_same (Ok (PatchOne patch wanted)) is first second =
-      sought_same (patching v turn s (patch_of patch) wanted) (patching v turn t (patch_of patch) wanted) (λ a b are. patching_same (patch_of patch) is wanted a b are)
+      sought_same (patch_plan v turn s (patch_of patch) wanted) (patch_plan v turn t (patch_of patch) wanted) (λ a b are. patching_same (patch_of patch) is wanted a b are)
   planned_same (Ok Remove) is first second =
-      sought_same (removed v turn) (removed v turn) (λ a b are. removed_same v turn s t like a b are.same are.others)
+      sought_same (removal_plan v turn) (removal_plan v turn) (λ a b are. removed_same v turn s t like a b are.same are.others)

@@ -29,7 +29,7 @@ use Rattle.scim_service.specs.code.Others.{beside, is_another}
 use Rattle.scim_service.specs.declared.requests.Turn.{Turn}
 use Rattle.scim_service.specs.declared.plans.Plan.{Plan}
 use Rattle.scim_audit.specs.declared.refusals.Refusal.TheVariants.{Taken, IdInUse}
-use Rattle.scim_service.specs.Step.{refused, resource_text, kept_text, create_decision, is_decided, first_denied, new_resource, made_with, made_if_free, is_for, creating}
+use Rattle.scim_service.specs.Step.{rejection_plan, resource_text, kept_text, create_decision, is_decided, first_denied, new_resource, creation_plan_with, unique_creation_plan, is_for, creation_plan}
 use Rattle.scim_search.proofs.Facts.{none_of_group}
 
 -- ---- names
@@ -130,23 +130,23 @@ none_denied v d c decides o same is never =
     ∙ sym is ∙ none_found o never
 
 -- one with a name or an id that is another's is refused
-pub taken_refused : (v : Viewer) (turn : Turn) (cs : List Content) (wanted : Wanted) (c : Content) → is_taken cs c ≡ true → refused turn Taken ≡ made_if_free v turn cs wanted c
+pub taken_refused : (v : Viewer) (turn : Turn) (cs : List Content) (wanted : Wanted) (c : Content) → is_taken cs c ≡ true → rejection_plan turn Taken ≡ unique_creation_plan v turn cs wanted c
 taken_refused v turn cs wanted c taken = rw taken refl
 
-pub used_refused : (v : Viewer) (turn : Turn) (cs : List Content) (wanted : Wanted) (c : Content) → is_taken cs c ≡ false → is_used cs c.id ≡ true → refused turn IdInUse ≡ made_if_free v turn cs wanted c
+pub used_refused : (v : Viewer) (turn : Turn) (cs : List Content) (wanted : Wanted) (c : Content) → is_taken cs c ≡ false → is_used cs c.id ≡ true → rejection_plan turn IdInUse ≡ unique_creation_plan v turn cs wanted c
 used_refused v turn cs wanted c free used = rw (free, used) refl
 
 -- a resource with names and an id of its own is kept
 pub made_is : (v : Viewer) (turn : Turn) (cs : List Content) (wanted : Wanted) (c : Content) (rule : ℕ) (text : Option (List ℕ)) (plan : Plan)
     → is_taken cs c ≡ false → is_used cs c.id ≡ false → rule ≡ (create_decision v c (simple Id)).rule → text ≡ kept_text v cs wanted c
-    → plan ≡ made_with v turn c rule text → plan ≡ made_if_free v turn cs wanted c
+    → plan ≡ creation_plan_with v turn c rule text → plan ≡ unique_creation_plan v turn cs wanted c
 made_is v turn cs wanted c rule text plan free fresh rule_is text_is plan_is =
-    rw (free, fresh) (plan_is ∙ (λ i. made_with v turn c (rule_is i) (text_is i)))
+    rw (free, fresh) (plan_is ∙ (λ i. creation_plan_with v turn c (rule_is i) (text_is i)))
 
 -- so is one that the policy allows
 pub creating_is : (v : Viewer) (turn : Turn) (cs : List Content) (d : Draft) (wanted : Wanted) (c : Content) → is_for turn d ≡ true → c ≡ new_resource v turn d → first_denied v d c ≡ None
-    → made_if_free v turn cs wanted c ≡ creating v turn cs d wanted
-unfolding creating
+    → unique_creation_plan v turn cs wanted c ≡ creation_plan v turn cs d wanted
+unfolding creation_plan
 creating_is v turn cs d wanted c for same none =
     let allowed : first_denied v d (new_resource v turn d) ≡ None = ap (first_denied v d) (sym same) ∙ none in
-    rw (for, allowed) (ap (made_if_free v turn cs wanted) same)
+    rw (for, allowed) (ap (unique_creation_plan v turn cs wanted) same)

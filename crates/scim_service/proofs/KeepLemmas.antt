@@ -21,7 +21,7 @@ use Rattle.scim_shelf.specs.Stores.{Store, IsStore, is_at, after}
 use Rattle.scim_service.specs.declared.requests.Ask.{Ask}
 use Rattle.scim_service.specs.declared.requests.Ask.TheVariants.{Get, Search, Create, Replace, Patch as PatchOne, Remove}
 use Rattle.scim_service.specs.declared.requests.Turn.{Turn}
-use Rattle.scim_service.specs.Step.{absent, access_to, is_writable, writable, sought, planned, viewer_at, next_store}
+use Rattle.scim_service.specs.Step.{absence_plan, access_to, is_writable, writable, sought_resource, request_plan, viewer_at, next_store}
 use Rattle.scim_service.proofs.StepLemmas.{Keeps, KeepsSound, can_keep, planned_change, stays_store}
 use Rattle.scim_service.specs.Requests.{IsAsk, IsTurn}
 use Rattle.scim_view.proofs.Facts.{passing}
@@ -31,7 +31,7 @@ abbrev value_of : {A B : Type 0} → (A → B) → Type 0
 value_of {A} {B} f = B
 
 abbrev pub Plan : Type 0
-Plan = value_of absent
+Plan = value_of absence_plan
 
 -- what is found is one of those that were looked through
 pub found_holds : (P : Content → Type 0) (p : Content → Bool) (cs : List Content) (c : Content) → All P cs → find p cs ≡ Some c → P c
@@ -49,7 +49,7 @@ none_fixed v c =
     (writable c.kind (access_to v c)) (passing (is_writable c.kind (access_to v c)) (units c.kind))
 
 module _ (v : Viewer) (turn : Turn) (is : IsTurn turn) (cs : List Content) (sound : All (IsSound v.base) cs) where
-  sought_sound : (c : Content) → sought turn cs ≡ Some c → IsSound v.base c
+  sought_sound : (c : Content) → sought_resource turn cs ≡ Some c → IsSound v.base c
   sought_sound c found = by_id turn.request.id found
     where
       by_id : (id : Option (List ℕ)) → option_and_then (λ (i : List ℕ). find (is_at turn.request.kind i) cs) id ≡ Some c → IsSound v.base c
@@ -57,7 +57,7 @@ module _ (v : Viewer) (turn : Turn) (is : IsTurn turn) (cs : List Content) (soun
       by_id (Some id) e = found_holds (IsSound v.base) (is_at turn.request.kind id) cs c sound e
 
   -- what is planned to be kept is a resource below the base
-  planned_sound : IsAsk turn.request.ask → KeepsSound v.base (planned v turn cs turn.request.ask).change
+  planned_sound : IsAsk turn.request.ask → KeepsSound v.base (request_plan v turn cs turn.request.ask).change
   planned_sound asks = planned_change (KeepsSound v.base) tt (λ kind id. tt) v turn cs turn.request.ask (keeps turn.request.ask asks)
     where
       keeps : (ask : Result Ask Refusal) → IsAsk ask → Keeps (KeepsSound v.base) tt (λ kind id. tt) v turn cs ask
@@ -74,9 +74,9 @@ module _ (v : Viewer) (turn : Turn) (is : IsTurn turn) (cs : List Content) (soun
 
 -- after what is planned a store is one, since what is kept is a resource below the base, and has a place
 pub planned_is_store : (v : Viewer) (turn : Turn) (store : Store) → IsStore v.base store → IsTurn turn
-    → IsStore v.base (after (planned v turn store.resources turn.request.ask).change (planned v turn store.resources turn.request.ask).row store)
+    → IsStore v.base (after (request_plan v turn store.resources turn.request.ask).change (request_plan v turn store.resources turn.request.ask).row store)
 planned_is_store v turn store is asked =
-    stays_store v.base store (planned v turn store.resources turn.request.ask).change (planned v turn store.resources turn.request.ask).row is
+    stays_store v.base store (request_plan v turn store.resources turn.request.ask).change (request_plan v turn store.resources turn.request.ask).row is
     (planned_sound v turn asked store.resources is.sound asked.ask) (can_keep v turn store turn.request.ask is.keyed)
 
 -- so is one after a turn

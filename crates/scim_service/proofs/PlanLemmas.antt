@@ -19,7 +19,7 @@ use Rattle.scim_query.specs.declared.queries.Query.{Query}
 use Rattle.scim_shelf.specs.declared.changes.Change.TheVariants.{Nothing}
 use Rattle.scim_service.specs.declared.requests.Turn.{Turn}
 use Rattle.scim_service.specs.declared.replies.Reply.TheVariants.{Shown}
-use Rattle.scim_service.specs.Step.{row_of, allowed, resource_text, got, list_text, view_of_kind, listed, at_seen}
+use Rattle.scim_service.specs.Step.{row_of, allowed_row, resource_text, get_plan, list_text, view_of_kind, search_plan, plan_for_seen}
 
 -- a resource that is seen the same with two lists of groups is told the same
 pub text_with : (v : Viewer) (gs hs : List Content) (wanted : Wanted) (c : Content) → with_groups v gs c ≡ with_groups v hs c → resource_text v gs wanted c ≡ resource_text v hs wanted c
@@ -27,16 +27,16 @@ unfolding resource_text
 text_with v gs hs wanted c same = ap (λ (w : Content). compact_text (part_data (shown wanted w))) same
 
 pub got_is : (v : Viewer) (turn : Turn) (cs : List Content) (wanted : Wanted) (c : Content) (text : List ℕ) (row : AuditRow) (d : Decision)
-    → text ≡ resource_text v (of_kind Group cs) wanted c → row ≡ allowed turn d.rule → d ≡ read_decision v c (simple Id) → d.allow ≡ true
-    → record { reply = Shown text; change = Nothing; row = row } ≡ at_seen v turn (got v turn cs wanted) (Some c)
-unfolding got
+    → text ≡ resource_text v (of_kind Group cs) wanted c → row ≡ allowed_row turn d.rule → d ≡ read_decision v c (simple Id) → d.allow ≡ true
+    → record { reply = Shown text; change = Nothing; row = row } ≡ plan_for_seen v turn (get_plan v turn cs wanted) (Some c)
+unfolding get_plan
 got_is v turn cs wanted c text row d text_is row_is decides allows =
     let seen : (read_decision v c (simple Id)).allow ≡ true = ap (λ (e : Decision). e.allow) (sym decides) ∙ allows in
-    let noted = row_is ∙ ap (λ (e : Decision). allowed turn e.rule) decides in
+    let noted = row_is ∙ ap (λ (e : Decision). allowed_row turn e.rule) decides in
     rw seen (λ i. record { reply = Shown (text_is i); change = Nothing; row = noted i })
 
 pub listed_is : (v : Viewer) (turn : Turn) (cs : List Content) (query : Query) (text : List ℕ) (row : AuditRow)
     → text ≡ list_text query (view_of_kind v turn cs) → row ≡ row_of turn None decided.Allow None None None
-    → record { reply = Shown text; change = Nothing; row = row } ≡ listed v turn cs query
-unfolding listed
+    → record { reply = Shown text; change = Nothing; row = row } ≡ search_plan v turn cs query
+unfolding search_plan
 listed_is v turn cs query text row text_is row_is = λ i. record { reply = Shown (text_is i); change = Nothing; row = row_is i }

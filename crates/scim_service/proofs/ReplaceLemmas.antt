@@ -27,10 +27,10 @@ use Rattle.scim_shelf.specs.Stores.{is_taken, without}
 use Rattle.scim_service.specs.declared.requests.Turn.{Turn}
 use Rattle.scim_service.specs.declared.plans.Plan.{Plan}
 use Rattle.scim_service.specs.code.Questions.{is_in_question}
-use Rattle.scim_service.specs.Step.{refused, absent, hidden, denied, access_to, unit_denied, first_unit_denied, kept_text, kept_with, changed_if_free, is_writable, written, written_if_allowed, replacing, sought, at_seen}
+use Rattle.scim_service.specs.Step.{rejection_plan, absence_plan, hidden_plan, denial_plan, access_to, unit_denial, first_unit_denial, kept_text, kept_plan, unique_change_plan, is_writable, writable_replacement_plan, decided_replacement_plan, replacement_plan, sought_resource, plan_for_seen}
 
 -- a unit that isn't in question isn't denied
-unit_passes : (a : Access) (d : Draft) (seen : Content) (u : AttributeUnit) → is_in_question a d u ≡ false → unit_denied a d seen u ≡ None
+unit_passes : (a : Access) (d : Draft) (seen : Content) (u : AttributeUnit) → is_in_question a d u ≡ false → unit_denial a d seen u ≡ None
 unit_passes a d seen u h = elim (cases_Bool (is_fixed d.kind u)) [
   | inl fixed ↦ rw fixed refl
   | inr free ↦ elim (cases_Bool (gives d u)) [
@@ -47,7 +47,7 @@ unit_passes a d seen u h = elim (cases_Bool (is_fixed d.kind u)) [
     nothing (Some x) e = cc
 
 -- so where none is in question, none is denied
-pub none_questioned : (a : Access) (d : Draft) (seen : Content) (us : List AttributeUnit) → list_any (is_in_question a d) us ≡ false → first_unit_denied a d seen us ≡ None
+pub none_questioned : (a : Access) (d : Draft) (seen : Content) (us : List AttributeUnit) → list_any (is_in_question a d) us ≡ false → first_unit_denial a d seen us ≡ None
 none_questioned a d seen [] h = refl
 none_questioned a d seen (u ∷ us) h = elim (cases_Bool (is_in_question a d u)) [
   | inl t ↦ (let yes : list_any (is_in_question a d) (u ∷ us) ≡ true = rw t refl in cc)
@@ -55,7 +55,7 @@ none_questioned a d seen (u ∷ us) h = elim (cases_Bool (is_in_question a d u))
 ]
 
 -- what a unit in question is denied by
-pub unit_questioned : (a : Access) (d : Draft) (seen : Content) (u : AttributeUnit) → is_in_question a d u ≡ true → agrees d u seen ≡ false → forbidding d.kind a u ≡ unit_denied a d seen u
+pub unit_questioned : (a : Access) (d : Draft) (seen : Content) (u : AttributeUnit) → is_in_question a d u ≡ true → agrees d u seen ≡ false → forbidding d.kind a u ≡ unit_denial a d seen u
 unit_questioned a d seen u h differ = elim (cases_Bool (is_fixed d.kind u)) [
   | inl fixed ↦ (let no : is_in_question a d u ≡ false = rw fixed refl in cc)
   | inr free ↦ elim (cases_Bool (gives d u)) [
@@ -65,7 +65,7 @@ unit_questioned a d seen u h differ = elim (cases_Bool (is_fixed d.kind u)) [
 ]
 
 -- one that agrees isn't denied
-pub unit_agrees : (a : Access) (d : Draft) (seen : Content) (u : AttributeUnit) → agrees d u seen ≡ true → None ≡ unit_denied a d seen u
+pub unit_agrees : (a : Access) (d : Draft) (seen : Content) (u : AttributeUnit) → agrees d u seen ≡ true → None ≡ unit_denial a d seen u
 unit_agrees a d seen u agree = elim (cases_Bool (is_fixed d.kind u)) [
   | inl fixed ↦ rw fixed refl
   | inr free ↦ elim (cases_Bool (gives d u)) [ inl given ↦ rw (free, given, agree) refl | inr lacks ↦ rw (free, lacks) refl ]
@@ -74,15 +74,15 @@ unit_agrees a d seen u agree = elim (cases_Bool (is_fixed d.kind u)) [
 -- ---- the change
 
 module _ (v : Viewer) (turn : Turn) (cs : List Content) (wanted : Wanted) (a : Access) (changed : Bool) (c : Content) where
-  pub taken_is : is_taken (without c.id cs) c ≡ true → refused turn Taken ≡ changed_if_free v turn cs wanted a changed c
+  pub taken_is : is_taken (without c.id cs) c ≡ true → rejection_plan turn Taken ≡ unique_change_plan v turn cs wanted a changed c
   taken_is t = rw t refl
 
-  pub widened_is : (op : Op) (l : Leaf) (d : Decision) → is_taken (without c.id cs) c ≡ false → widening c.kind a (access_to v c) ≡ Some (op, l, d) → denied turn d l Widens ≡ changed_if_free v turn cs wanted a changed c
+  pub widened_is : (op : Op) (l : Leaf) (d : Decision) → is_taken (without c.id cs) c ≡ false → widening c.kind a (access_to v c) ≡ Some (op, l, d) → denial_plan turn d l Widens ≡ unique_change_plan v turn cs wanted a changed c
   widened_is op l d free wide = rw (free, wide) refl
 
   pub changed_is : (rule : ℕ) (text : Option (List ℕ)) → is_taken (without c.id cs) c ≡ false → widening c.kind a (access_to v c) ≡ None
-      → rule ≡ (a.read (simple Id)).rule → text ≡ kept_text v cs wanted c → kept_with turn rule changed c text ≡ changed_if_free v turn cs wanted a changed c
-  changed_is rule text free narrow rule_is text_is = rw (free, narrow) (λ i. kept_with turn (rule_is i) changed c (text_is i))
+      → rule ≡ (a.read (simple Id)).rule → text ≡ kept_text v cs wanted c → kept_plan turn rule changed c text ≡ unique_change_plan v turn cs wanted a changed c
+  changed_is rule text free narrow rule_is text_is = rw (free, narrow) (λ i. kept_plan turn (rule_is i) changed c (text_is i))
 
 -- what may be written isn't readOnly
 pub writable_free : (kind : Kind) (a : Access) (us : List AttributeUnit) → All (λ u. is_fixed kind u ≡ false) (filter (is_writable kind a) us)
@@ -99,28 +99,28 @@ writable_free kind a us = All-weaker (λ u. is_writable kind a u ≡ true) (λ u
 module _ (v : Viewer) (turn : Turn) (cs : List Content) (d : Draft) (wanted : Wanted) (c : Content) where
   -- what becomes of it is planned
   pub written_is : (us : List AttributeUnit) (changed : Bool) (x : Content) → replaced d us turn.moment c ≡ Some x → changed ≡ changes d us (rows c)
-      → changed_if_free v turn cs wanted (access_to v c) changed x ≡ written v turn cs d wanted c us
-  written_is us changed x e same = rw e (ap (λ (b : Bool). changed_if_free v turn cs wanted (access_to v c) b x) same)
+      → unique_change_plan v turn cs wanted (access_to v c) changed x ≡ writable_replacement_plan v turn cs d wanted c us
+  written_is us changed x e same = rw e (ap (λ (b : Bool). unique_change_plan v turn cs wanted (access_to v c) b x) same)
 
-  pub replacing_is : sameb the_kind d.kind c.kind ≡ true → first_unit_denied (access_to v c) d (visible v c) (units d.kind) ≡ None
-      → written_if_allowed v turn cs d wanted c None ≡ replacing v turn cs d wanted c
-  unfolding replacing
+  pub replacing_is : sameb the_kind d.kind c.kind ≡ true → first_unit_denial (access_to v c) d (visible v c) (units d.kind) ≡ None
+      → decided_replacement_plan v turn cs d wanted c None ≡ replacement_plan v turn cs d wanted c
+  unfolding replacement_plan
   replacing_is own none = rw (own, none) refl
 
 -- what is planned of a resource that isn't there, and of one that isn't seen
-pub absent_is : (v : Viewer) (turn : Turn) (cs : List Content) (next : Content → Plan) → None ≡ sought turn cs → absent turn ≡ at_seen v turn next (sought turn cs)
+pub absent_is : (v : Viewer) (turn : Turn) (cs : List Content) (next : Content → Plan) → None ≡ sought_resource turn cs → absence_plan turn ≡ plan_for_seen v turn next (sought_resource turn cs)
 absent_is v turn cs next none = rw (← none) refl
 
 pub hidden_is : (v : Viewer) (turn : Turn) (cs : List Content) (next : Content → Plan) (c : Content) (d : Decision)
-    → d ≡ read_decision v c (simple Id) → d.allow ≡ false → Some c ≡ sought turn cs → hidden turn d ≡ at_seen v turn next (sought turn cs)
+    → d ≡ read_decision v c (simple Id) → d.allow ≡ false → Some c ≡ sought_resource turn cs → hidden_plan turn d ≡ plan_for_seen v turn next (sought_resource turn cs)
 hidden_is v turn cs next c d decides denies found =
     let unseen : (read_decision v c (simple Id)).allow ≡ false = ap (λ (e : Decision). e.allow) (sym decides) ∙ denies in
-    rw (← found) (ap (hidden turn) decides ∙ otherwise (read_decision v c (simple Id)).allow (next c) (hidden turn (read_decision v c (simple Id))) unseen)
+    rw (← found) (ap (hidden_plan turn) decides ∙ otherwise (read_decision v c (simple Id)).allow (next c) (hidden_plan turn (read_decision v c (simple Id))) unseen)
   where
     otherwise : (b : Bool) (x y : Plan) → b ≡ false → y ≡ (if b then x else y)
     otherwise false x y e = refl
     otherwise true x y e = cc
 
 pub seen_is : (v : Viewer) (turn : Turn) (cs : List Content) (next : Content → Plan) (c : Content) (plan : Plan)
-    → plan ≡ next c → (read_decision v c (simple Id)).allow ≡ true → Some c ≡ sought turn cs → plan ≡ at_seen v turn next (sought turn cs)
+    → plan ≡ next c → (read_decision v c (simple Id)).allow ≡ true → Some c ≡ sought_resource turn cs → plan ≡ plan_for_seen v turn next (sought_resource turn cs)
 seen_is v turn cs next c plan made allows found = rw (← found) (rw allows made)

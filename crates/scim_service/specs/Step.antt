@@ -75,32 +75,32 @@ row_of turn id decided rule leaf refusal = record {
 -- ---- refusals: they change nothing, and their audit rows have the id of the request
 
 -- The plan of a refusal, with this decision, rule and leaf in its audit row.
-abbrev pub refused_as : Turn → Decided → Option ℕ → Option Leaf → Refusal → Plan
-refused_as turn how rule leaf refusal = record { reply = Refused refusal; change = Nothing; row = row_of turn turn.request.id how rule leaf (Some refusal) }
+abbrev pub refusal_plan : Turn → Decided → Option ℕ → Option Leaf → Refusal → Plan
+refusal_plan turn how rule leaf refusal = record { reply = Refused refusal; change = Nothing; row = row_of turn turn.request.id how rule leaf (Some refusal) }
 
 -- The plan of a refusal for a cause in the request itself, which no rule decides.
-unfoldable pub refused : Turn → Refusal → Plan
-refused turn refusal = refused_as turn decided.Refused None None refusal
+unfoldable pub rejection_plan : Turn → Refusal → Plan
+rejection_plan turn refusal = refusal_plan turn decided.Refused None None refusal
 
 -- The plan of a request for a resource that doesn't exist.
-unfoldable pub absent : Turn → Plan
-absent turn = refused_as turn decided.Absent None None NotFound
+unfoldable pub absence_plan : Turn → Plan
+absence_plan turn = refusal_plan turn decided.Absent None None NotFound
 
 -- The plan of a request for a resource that the client doesn't see, by this decision on reading its `id`; its
--- reply is that of `absent`.
-unfoldable pub hidden : Turn → Decision → Plan
-hidden turn d = refused_as turn decided.Hidden (Some d.rule) (Some (simple Id)) NotFound
+-- reply is that of `absence_plan`.
+unfoldable pub hidden_plan : Turn → Decision → Plan
+hidden_plan turn d = refusal_plan turn decided.Hidden (Some d.rule) (Some (simple Id)) NotFound
 
 -- The plan of a refusal by this decision at a leaf, which denies the request there, or would let the client
 -- do there what it couldn't before.
-unfoldable pub denied : Turn → Decision → Leaf → Refusal → Plan
-denied turn d l refusal = refused_as turn decided.Deny (Some d.rule) (Some l) refusal
+unfoldable pub denial_plan : Turn → Decision → Leaf → Refusal → Plan
+denial_plan turn d l refusal = refusal_plan turn decided.Deny (Some d.rule) (Some l) refusal
 
 -- ---- GET, search and DELETE
 
 -- The audit row of a request that a rule allows.
-abbrev pub allowed : Turn → ℕ → AuditRow
-allowed turn rule = row_of turn turn.request.id decided.Allow (Some rule) None None
+abbrev pub allowed_row : Turn → ℕ → AuditRow
+allowed_row turn rule = row_of turn turn.request.id decided.Allow (Some rule) None None
 
 -- The JSON of a resource as the client sees it, with its groups among `groups`, projected to the wanted
 -- attributes (RFC 7644 section 3.4.1).
@@ -108,8 +108,8 @@ unfoldable pub resource_text : Viewer → List Content → Wanted → Content �
 resource_text v groups wanted c = compact_text (part_data (shown wanted (with_groups v groups c)))
 
 -- The plan of a GET of a resource that the client sees.
-unfoldable pub got : Viewer → Turn → List Content → Wanted → Content → Plan
-got v turn cs wanted c = record { reply = Shown (resource_text v (of_kind Group cs) wanted c); change = Nothing; row = allowed turn (read_decision v c (simple Id)).rule }
+unfoldable pub get_plan : Viewer → Turn → List Content → Wanted → Content → Plan
+get_plan v turn cs wanted c = record { reply = Shown (resource_text v (of_kind Group cs) wanted c); change = Nothing; row = allowed_row turn (read_decision v c (simple Id)).rule }
 
 -- The client's view of the resources of the request's kind: those that it sees, as it sees them.
 abbrev pub view_of_kind : Viewer → Turn → List Content → List Content
@@ -120,8 +120,8 @@ abbrev pub list_text : Query → List Content → List ℕ
 list_text query view = compact_text (list_data (total_of query view) (first_position query.start) (shown_items query view))
 
 -- The plan of a search; its audit row names no rule, since no single rule decides it.
-unfoldable pub listed : Viewer → Turn → List Content → Query → Plan
-listed v turn cs query = record { reply = Shown (list_text query (view_of_kind v turn cs)); change = Nothing; row = row_of turn None decided.Allow None None None }
+unfoldable pub search_plan : Viewer → Turn → List Content → Query → Plan
+search_plan v turn cs query = record { reply = Shown (list_text query (view_of_kind v turn cs)); change = Nothing; row = row_of turn None decided.Allow None None None }
 
 -- The policy's decision on deleting a resource: that at its `id`.
 abbrev pub delete_decision : Viewer → Content → Decision
@@ -129,11 +129,11 @@ delete_decision v c = decide v.policy v.client Delete c (simple Id)
 
 -- The plan of a DELETE of a resource that the client sees: it is removed if the policy lets the client delete
 -- it (RFC 7644 section 3.6).
-unfoldable pub removed : Viewer → Turn → Content → Plan
-removed v turn c =
+unfoldable pub removal_plan : Viewer → Turn → Content → Plan
+removal_plan v turn c =
     if (delete_decision v c).allow
-    then record { reply = Done; change = TakeOut c.kind c.id; row = allowed turn (delete_decision v c).rule }
-    else denied turn (delete_decision v c) (simple Id) Denied
+    then record { reply = Done; change = TakeOut c.kind c.id; row = allowed_row turn (delete_decision v c).rule }
+    else denial_plan turn (delete_decision v c) (simple Id) Denied
 
 -- ---- create (RFC 7644 section 3.3)
 
@@ -161,36 +161,36 @@ abbrev pub kept_text : Viewer → List Content → Wanted → Content → Option
 kept_text v cs wanted c = if (read_decision v c (simple Id)).allow then Some (resource_text v (of_kind Group (keep c cs)) wanted c) else None
 
 -- The plan that stores a new resource, with this rule in its audit row and this text in its reply.
-abbrev pub made_with : Viewer → Turn → Content → ℕ → Option (List ℕ) → Plan
-made_with v turn c rule text = record {
+abbrev pub creation_plan_with : Viewer → Turn → Content → ℕ → Option (List ℕ) → Plan
+creation_plan_with v turn c rule text = record {
   reply = Created (location v.base c.kind c.id) text;
   change = Keep c;
   row = row_of turn (Some c.id) decided.Allow (Some rule) None None;
 }
 
 -- The plan that stores a new resource, with its JSON as the client sees it in the reply.
-abbrev pub made : Viewer → Turn → List Content → Wanted → Content → Plan
-made v turn cs wanted c = made_with v turn c (create_decision v c (simple Id)).rule (kept_text v cs wanted c)
+abbrev pub kept_creation_plan : Viewer → Turn → List Content → Wanted → Content → Plan
+kept_creation_plan v turn cs wanted c = creation_plan_with v turn c (create_decision v c (simple Id)).rule (kept_text v cs wanted c)
 
 -- The plan of a create that the policy allows: refused if a resource, seen or not, has its unique name or its
 -- id, and stored otherwise.
-abbrev pub made_if_free : Viewer → Turn → List Content → Wanted → Content → Plan
-made_if_free v turn cs wanted c =
-    if is_taken cs c then refused turn Taken else (if is_used cs c.id then refused turn IdInUse else made v turn cs wanted c)
+abbrev pub unique_creation_plan : Viewer → Turn → List Content → Wanted → Content → Plan
+unique_creation_plan v turn cs wanted c =
+    if is_taken cs c then rejection_plan turn Taken else (if is_used cs c.id then rejection_plan turn IdInUse else kept_creation_plan v turn cs wanted c)
 
 -- The plan of a create: denied at a leaf, if one is given, and otherwise allowed by the policy.
-abbrev pub made_if_allowed : Viewer → Turn → List Content → Wanted → Content → Option Leaf → Plan
-made_if_allowed v turn cs wanted c None = made_if_free v turn cs wanted c
-made_if_allowed v turn cs wanted c (Some l) = denied turn (create_decision v c l) l Denied
+abbrev pub decided_creation_plan : Viewer → Turn → List Content → Wanted → Content → Option Leaf → Plan
+decided_creation_plan v turn cs wanted c None = unique_creation_plan v turn cs wanted c
+decided_creation_plan v turn cs wanted c (Some l) = denial_plan turn (create_decision v c l) l Denied
 
 -- Whether a draft is of the request's kind and was read to create a resource.
 abbrev pub is_for : Turn → Draft → Bool
 is_for turn d = sameb the_kind d.kind turn.request.kind && sameb the_use_for d.use_for Creating
 
 -- The plan of a create from a draft.
-unfoldable pub creating : Viewer → Turn → List Content → Draft → Wanted → Plan
-creating v turn cs d wanted =
-    if is_for turn d then made_if_allowed v turn cs wanted (new_resource v turn d) (first_denied v d (new_resource v turn d)) else refused turn MessageValue
+unfoldable pub creation_plan : Viewer → Turn → List Content → Draft → Wanted → Plan
+creation_plan v turn cs d wanted =
+    if is_for turn d then decided_creation_plan v turn cs wanted (new_resource v turn d) (first_denied v d (new_resource v turn d)) else rejection_plan turn MessageValue
 
 -- ---- PUT (RFC 7644 section 3.5.1)
 
@@ -200,13 +200,13 @@ access_to v c = access v.policy v.client c
 
 -- The leaf that is denied and the decision, if the client may not write a unit and the body gives it other
 -- values than the client sees.
-abbrev pub unit_denied : Access → Draft → Content → AttributeUnit → Option (Leaf × Decision)
-unit_denied a d seen u = if is_fixed d.kind u || (not (gives d u) || agrees d u seen) then None else forbidding d.kind a u
+abbrev pub unit_denial : Access → Draft → Content → AttributeUnit → Option (Leaf × Decision)
+unit_denial a d seen u = if is_fixed d.kind u || (not (gives d u) || agrees d u seen) then None else forbidding d.kind a u
 
 -- The leaf that is denied and the decision, for the first of these units that is denied.
-abbrev pub first_unit_denied : Access → Draft → Content → List AttributeUnit → Option (Leaf × Decision)
-first_unit_denied a d seen [] = None
-first_unit_denied a d seen (u ∷ us) = or_else (unit_denied a d seen u) (first_unit_denied a d seen us)
+abbrev pub first_unit_denial : Access → Draft → Content → List AttributeUnit → Option (Leaf × Decision)
+first_unit_denial a d seen [] = None
+first_unit_denial a d seen (u ∷ us) = or_else (unit_denial a d seen u) (first_unit_denial a d seen us)
 
 -- Whether the client may write a unit: it isn't readOnly, and no leaf of it is forbidden.
 abbrev pub is_writable : Kind → Access → AttributeUnit → Bool
@@ -222,51 +222,51 @@ shown_or_done None = Done
 shown_or_done (Some text) = Shown text
 
 -- The change that stores a resource, or no change if it is as before.
-abbrev pub kept_if : Bool → Content → Change
-kept_if changed c = if changed then Keep c else Nothing
+abbrev pub change_keeping : Bool → Content → Change
+change_keeping changed c = if changed then Keep c else Nothing
 
 -- The plan that stores a changed resource, with this rule in its audit row and this text in its reply.
-abbrev pub kept_with : Turn → ℕ → Bool → Content → Option (List ℕ) → Plan
-kept_with turn rule changed c text = record { reply = shown_or_done text; change = kept_if changed c; row = allowed turn rule }
+abbrev pub kept_plan : Turn → ℕ → Bool → Content → Option (List ℕ) → Plan
+kept_plan turn rule changed c text = record { reply = shown_or_done text; change = change_keeping changed c; row = allowed_row turn rule }
 
 -- The plan that stores a changed resource, with its JSON as the client then sees it in the reply; `a` is the
 -- client's access before the change, by which it saw the resource.
-abbrev pub changed_with : Viewer → Turn → List Content → Wanted → Access → Bool → Content → Plan
-changed_with v turn cs wanted a changed c = kept_with turn (a.read (simple Id)).rule changed c (kept_text v cs wanted c)
+abbrev pub kept_change_plan : Viewer → Turn → List Content → Wanted → Access → Bool → Content → Plan
+kept_change_plan v turn cs wanted a changed c = kept_plan turn (a.read (simple Id)).rule changed c (kept_text v cs wanted c)
 
 -- The plan of a change: denied if it widens the client's access at a leaf, and stored otherwise.
-abbrev pub changed_if_narrow : Viewer → Turn → List Content → Wanted → Access → Bool → Content → Option (Op × Leaf × Decision) → Plan
-changed_if_narrow v turn cs wanted a changed c None = changed_with v turn cs wanted a changed c
-changed_if_narrow v turn cs wanted a changed c (Some (op, l, d)) = denied turn d l Widens
+abbrev pub narrow_change_plan : Viewer → Turn → List Content → Wanted → Access → Bool → Content → Option (Op × Leaf × Decision) → Plan
+narrow_change_plan v turn cs wanted a changed c None = kept_change_plan v turn cs wanted a changed c
+narrow_change_plan v turn cs wanted a changed c (Some (op, l, d)) = denial_plan turn d l Widens
 
 -- The plan of a change: refused if another resource, seen or not, has one of its unique names, denied if it
 -- widens the client's access, and stored otherwise.
-abbrev pub changed_if_free : Viewer → Turn → List Content → Wanted → Access → Bool → Content → Plan
-changed_if_free v turn cs wanted a changed c =
-    if is_taken (without c.id cs) c then refused turn Taken else changed_if_narrow v turn cs wanted a changed c (widening c.kind a (access_to v c))
+abbrev pub unique_change_plan : Viewer → Turn → List Content → Wanted → Access → Bool → Content → Plan
+unique_change_plan v turn cs wanted a changed c =
+    if is_taken (without c.id cs) c then rejection_plan turn Taken else narrow_change_plan v turn cs wanted a changed c (widening c.kind a (access_to v c))
 
 -- The plan of a change: refused if the result lacks a required attribute (None), and otherwise that of
--- `changed_if_free`.
-abbrev pub changed_if_complete : Viewer → Turn → List Content → Wanted → Access → Bool → Option Content → Plan
-changed_if_complete v turn cs wanted a changed None = refused turn ResultValue
-changed_if_complete v turn cs wanted a changed (Some c) = changed_if_free v turn cs wanted a changed c
+-- `unique_change_plan`.
+abbrev pub complete_change_plan : Viewer → Turn → List Content → Wanted → Access → Bool → Option Content → Plan
+complete_change_plan v turn cs wanted a changed None = rejection_plan turn ResultValue
+complete_change_plan v turn cs wanted a changed (Some c) = unique_change_plan v turn cs wanted a changed c
 
 -- The plan of a PUT that writes the draft's values to the units `us`.
-abbrev pub written : Viewer → Turn → List Content → Draft → Wanted → Content → List AttributeUnit → Plan
-written v turn cs d wanted c us = changed_if_complete v turn cs wanted (access_to v c) (changes d us (rows c)) (replaced d us turn.moment c)
+abbrev pub writable_replacement_plan : Viewer → Turn → List Content → Draft → Wanted → Content → List AttributeUnit → Plan
+writable_replacement_plan v turn cs d wanted c us = complete_change_plan v turn cs wanted (access_to v c) (changes d us (rows c)) (replaced d us turn.moment c)
 
 -- The plan of a PUT: denied at a leaf, if one is given, and otherwise writing to all units that the client
 -- may write.
-abbrev pub written_if_allowed : Viewer → Turn → List Content → Draft → Wanted → Content → Option (Leaf × Decision) → Plan
-written_if_allowed v turn cs d wanted c (Some (l, decision)) = denied turn decision l Denied
-written_if_allowed v turn cs d wanted c None = written v turn cs d wanted c (writable c.kind (access_to v c))
+abbrev pub decided_replacement_plan : Viewer → Turn → List Content → Draft → Wanted → Content → Option (Leaf × Decision) → Plan
+decided_replacement_plan v turn cs d wanted c (Some (l, decision)) = denial_plan turn decision l Denied
+decided_replacement_plan v turn cs d wanted c None = writable_replacement_plan v turn cs d wanted c (writable c.kind (access_to v c))
 
 -- The plan of a PUT of a draft to a resource that the client sees.
-unfoldable pub replacing : Viewer → Turn → List Content → Draft → Wanted → Content → Plan
-replacing v turn cs d wanted c =
+unfoldable pub replacement_plan : Viewer → Turn → List Content → Draft → Wanted → Content → Plan
+replacement_plan v turn cs d wanted c =
     if sameb the_kind d.kind c.kind
-    then written_if_allowed v turn cs d wanted c (first_unit_denied (access_to v c) d (visible v c) (units d.kind))
-    else refused turn MessageValue
+    then decided_replacement_plan v turn cs d wanted c (first_unit_denial (access_to v c) d (visible v c) (units d.kind))
+    else rejection_plan turn MessageValue
 
 -- ---- PATCH (RFC 7644 section 3.5.2)
 
@@ -283,44 +283,44 @@ step_refusal fault.Value = ResultValue
 
 -- The plan of a PATCH with this result: refused for a faulty step, and otherwise the change to the resource
 -- that the steps make.
-abbrev pub patched_with : Viewer → Turn → List Content → Wanted → Content → Result (Content × Bool) StepFault → Plan
-patched_with v turn cs wanted c (Err e) = refused turn (step_refusal e)
-patched_with v turn cs wanted c (Ok (x, changed)) = changed_if_free v turn cs wanted (access_to v c) changed x
+abbrev pub applied_patch_plan : Viewer → Turn → List Content → Wanted → Content → Result (Content × Bool) StepFault → Plan
+applied_patch_plan v turn cs wanted c (Err e) = rejection_plan turn (step_refusal e)
+applied_patch_plan v turn cs wanted c (Ok (x, changed)) = unique_change_plan v turn cs wanted (access_to v c) changed x
 
 -- The plan of a PATCH: denied at a leaf, if one is given, and otherwise with its steps applied to the stored
 -- resource, including what the client doesn't see of it.
-abbrev pub patched_if_allowed : Viewer → Turn → List Content → Patch → Wanted → Content → Option (Leaf × Decision) → Plan
-patched_if_allowed v turn cs p wanted c (Some (l, d)) = denied turn d l Denied
-patched_if_allowed v turn cs p wanted c None = patched_with v turn cs wanted c (applied p turn.moment c)
+abbrev pub decided_patch_plan : Viewer → Turn → List Content → Patch → Wanted → Content → Option (Leaf × Decision) → Plan
+decided_patch_plan v turn cs p wanted c (Some (l, d)) = denial_plan turn d l Denied
+decided_patch_plan v turn cs p wanted c None = applied_patch_plan v turn cs wanted c (applied p turn.moment c)
 
 -- The plan of a PATCH to a resource that the client sees.
-unfoldable pub patching : Viewer → Turn → List Content → Patch → Wanted → Content → Plan
-patching v turn cs p wanted c =
+unfoldable pub patch_plan : Viewer → Turn → List Content → Patch → Wanted → Content → Plan
+patch_plan v turn cs p wanted c =
     if sameb the_kind p.kind c.kind
-    then patched_if_allowed v turn cs p wanted c (first_forbidden p.kind (access_to v c) (touched p))
-    else refused turn MessageValue
+    then decided_patch_plan v turn cs p wanted c (first_forbidden p.kind (access_to v c) (touched p))
+    else rejection_plan turn MessageValue
 
 -- ---- all requests
 
 -- The resource that a request names, if it exists.
-abbrev pub sought : Turn → List Content → Option Content
-sought turn cs = option_and_then (λ id. find (is_at turn.request.kind id) cs) turn.request.id
+abbrev pub sought_resource : Turn → List Content → Option Content
+sought_resource turn cs = option_and_then (λ id. find (is_at turn.request.kind id) cs) turn.request.id
 
 -- The plan of a request for a resource: absent, hidden, or the one that `plan` gives for a resource that the
 -- client sees.
-abbrev pub at_seen : Viewer → Turn → (Content → Plan) → Option Content → Plan
-at_seen v turn plan None = absent turn
-at_seen v turn plan (Some c) = if (read_decision v c (simple Id)).allow then plan c else hidden turn (read_decision v c (simple Id))
+abbrev pub plan_for_seen : Viewer → Turn → (Content → Plan) → Option Content → Plan
+plan_for_seen v turn plan None = absence_plan turn
+plan_for_seen v turn plan (Some c) = if (read_decision v c (simple Id)).allow then plan c else hidden_plan turn (read_decision v c (simple Id))
 
 -- The plan of a request over the resources `cs`, by what it asks for.
-abbrev pub planned : Viewer → Turn → List Content → Result Ask Refusal → Plan
-planned v turn cs (Err refusal) = refused turn refusal
-planned v turn cs (Ok (Get wanted)) = at_seen v turn (got v turn cs wanted) (sought turn cs)
-planned v turn cs (Ok (Search query)) = listed v turn cs query
-planned v turn cs (Ok (MakeOne draft wanted)) = creating v turn cs draft wanted
-planned v turn cs (Ok (Replace draft wanted)) = at_seen v turn (replacing v turn cs draft wanted) (sought turn cs)
-planned v turn cs (Ok (PatchOne patch wanted)) = at_seen v turn (patching v turn cs (patch_of patch) wanted) (sought turn cs)
-planned v turn cs (Ok Remove) = at_seen v turn (removed v turn) (sought turn cs)
+abbrev pub request_plan : Viewer → Turn → List Content → Result Ask Refusal → Plan
+request_plan v turn cs (Err refusal) = rejection_plan turn refusal
+request_plan v turn cs (Ok (Get wanted)) = plan_for_seen v turn (get_plan v turn cs wanted) (sought_resource turn cs)
+request_plan v turn cs (Ok (Search query)) = search_plan v turn cs query
+request_plan v turn cs (Ok (MakeOne draft wanted)) = creation_plan v turn cs draft wanted
+request_plan v turn cs (Ok (Replace draft wanted)) = plan_for_seen v turn (replacement_plan v turn cs draft wanted) (sought_resource turn cs)
+request_plan v turn cs (Ok (PatchOne patch wanted)) = plan_for_seen v turn (patch_plan v turn cs (patch_of patch) wanted) (sought_resource turn cs)
+request_plan v turn cs (Ok Remove) = plan_for_seen v turn (removal_plan v turn) (sought_resource turn cs)
 
 -- The viewer of a turn: its client, under the policy, with this base URI.
 abbrev pub viewer_at : List Rule → List ℕ → Turn → Viewer
@@ -328,7 +328,7 @@ viewer_at policy base turn = record { policy = policy; client = turn.request.cli
 
 -- The plan of a turn: its reply, its change and its audit row.
 abbrev pub plan : List Rule → List ℕ → Turn → Store → Plan
-plan policy base turn store = planned (viewer_at policy base turn) turn store.resources turn.request.ask
+plan policy base turn store = request_plan (viewer_at policy base turn) turn store.resources turn.request.ask
 
 -- The store after a turn.
 abbrev pub next_store : List Rule → List ℕ → Turn → Store → Store

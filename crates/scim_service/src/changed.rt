@@ -43,7 +43,7 @@ fn changed_with(
     changed: Changed,
     text: Option<Text>,
 ) -> Result<Plan, NoMemory>
-    ensures { IfOk result (λ plan. plan ≡ spec.kept_with turn.now rule changed.changed changed.resource text) }
+    ensures { IfOk result (λ plan. plan ≡ spec.kept_plan turn.now rule changed.changed changed.resource text) }
 {
     let Changed { resource, changed } = changed;
     let row = allowed(alloc, turn, rule)?;
@@ -101,7 +101,7 @@ pub(crate) fn plan_changed<S: Shelf>(
 ) -> Result<Plan, Failed<ShelfFault>>
     ensures plan { IfOk result (Answers S.stands S.is_honest shelf.old shelf.new (λ store plan. (base : List ℕ) → IsStore base store
         → AreOf changed.resource.kind changed.resource.id store.resources
-        → plan ≡ spec.changed_if_free (viewer_of viewer.now) turn.now store.resources wanted.now (access_in rights.now) changed.changed changed.resource)) }
+        → plan ≡ spec.unique_change_plan (viewer_of viewer.now) turn.now store.resources wanted.now (access_in rights.now) changed.changed changed.resource)) }
     ensures read { OnlyReads S.stands S.is_honest S.failures shelf.old shelf.new result }
 {
     let after = viewer

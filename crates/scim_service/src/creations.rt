@@ -85,7 +85,7 @@ fn made(
     rule: u32,
     text: Option<Text>,
 ) -> Result<Plan, NoMemory>
-    ensures { IfOk result (λ plan. plan ≡ spec.made_with (viewer_of viewer.now) turn.now resource rule text) }
+    ensures { IfOk result (λ plan. plan ≡ spec.creation_plan_with (viewer_of viewer.now) turn.now resource rule text) }
 {
     let id = resource.id();
     let place = location(alloc, viewer.base, resource.kind(), id)?;
@@ -138,7 +138,7 @@ fn plan_if_free<S: Shelf>(
 ) -> Result<Plan, Failed<ShelfFault>>
     requires { rule ≡ (spec.create_decision (viewer_of viewer.now) resource (simple Attribute.Id)).rule }
     ensures plan { IfOk result (Answers S.stands S.is_honest shelf.old shelf.new (λ store plan. (base : List ℕ) → IsStore base store
-        → plan ≡ spec.made_if_free (viewer_of viewer.now) turn.now store.resources wanted.now resource)) }
+        → plan ≡ spec.unique_creation_plan (viewer_of viewer.now) turn.now store.resources wanted.now resource)) }
     ensures read { OnlyReads S.stands S.is_honest S.failures shelf.old shelf.new result }
 {
     let refusal = refusal_to_make(alloc, shelf, turn, &resource)?;
@@ -151,7 +151,7 @@ fn plan_if_free<S: Shelf>(
 }
 
 /// Plans a create from a draft.
-#[tactic(auto, unfolding(crate::specs::Step::creating))]
+#[tactic(auto, unfolding(crate::specs::Step::creation_plan))]
 pub(crate) fn plan_create<S: Shelf>(
     alloc: Global,
     viewer: &Viewer<'_>,
@@ -161,7 +161,7 @@ pub(crate) fn plan_create<S: Shelf>(
     wanted: &Wanted,
 ) -> Result<Plan, Failed<ShelfFault>>
     ensures plan { IfOk result (Answers S.stands S.is_honest shelf.old shelf.new (λ store plan. (base : List ℕ) → IsStore base store
-        → plan ≡ spec.creating (viewer_of viewer.now) turn.now store.resources draft.now wanted.now)) }
+        → plan ≡ spec.creation_plan (viewer_of viewer.now) turn.now store.resources draft.now wanted.now)) }
     ensures read { OnlyReads S.stands S.is_honest S.failures shelf.old shelf.new result }
 {
     if !is_for(turn, draft) {

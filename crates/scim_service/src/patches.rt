@@ -66,7 +66,7 @@ fn plan_allowed<S: Shelf>(
     requires kind { patch.now.kind ≡ resource.kind }
     ensures plan { IfOk result (Answers S.stands S.is_honest shelf.old shelf.new (λ store plan. (base : List ℕ) → IsStore base store
         → AreOf resource.kind resource.id store.resources
-        → plan ≡ spec.patched_if_allowed (viewer_of viewer.now) turn.now store.resources (patch_of patch.now) wanted.now resource None)) }
+        → plan ≡ spec.decided_patch_plan (viewer_of viewer.now) turn.now store.resources (patch_of patch.now) wanted.now resource None)) }
     ensures read { OnlyReads S.stands S.is_honest S.failures shelf.old shelf.new result }
 {
     match apply(alloc, resource, patch, turn.moment) {
@@ -77,7 +77,7 @@ fn plan_allowed<S: Shelf>(
 }
 
 /// Plans a PATCH of a resource that the client sees.
-#[tactic(auto, unfolding(crate::specs::Step::patching))]
+#[tactic(auto, unfolding(crate::specs::Step::patch_plan))]
 fn plan_seen<S: Shelf>(
     alloc: Global,
     viewer: &Viewer<'_>,
@@ -91,7 +91,7 @@ fn plan_seen<S: Shelf>(
     requires { access_in rights.now ≡ spec.access_to (viewer_of viewer.now) resource }
     ensures plan { IfOk result (Answers S.stands S.is_honest shelf.old shelf.new (λ store plan. (base : List ℕ) → IsStore base store
         → AreOf resource.kind resource.id store.resources
-        → plan ≡ spec.patching (viewer_of viewer.now) turn.now store.resources (patch_of patch.now) wanted.now resource)) }
+        → plan ≡ spec.patch_plan (viewer_of viewer.now) turn.now store.resources (patch_of patch.now) wanted.now resource)) }
     ensures read { OnlyReads S.stands S.is_honest S.failures shelf.old shelf.new result }
 {
     if patch.kind() != resource.kind() {
@@ -113,8 +113,8 @@ pub(crate) fn plan_patch<S: Shelf>(
     wanted: &Wanted,
 ) -> Result<Plan, Failed<ShelfFault>>
     ensures plan { IfOk result (Answers S.stands S.is_honest shelf.old shelf.new (λ store plan. (base : List ℕ) → IsStore base store
-        → plan ≡ spec.at_seen (viewer_of viewer.now) turn.now
-        (spec.patching (viewer_of viewer.now) turn.now store.resources (patch_of patch.now) wanted.now) (spec.sought turn.now store.resources))) }
+        → plan ≡ spec.plan_for_seen (viewer_of viewer.now) turn.now
+        (spec.patch_plan (viewer_of viewer.now) turn.now store.resources (patch_of patch.now) wanted.now) (spec.sought_resource turn.now store.resources))) }
     ensures read { OnlyReads S.stands S.is_honest S.failures shelf.old shelf.new result }
 {
     let reached = reach(alloc, viewer, shelf, turn)?;

@@ -99,7 +99,7 @@ pub(crate) fn refused_as(
     leaf: Option<Leaf>,
     refusal: Refusal,
 ) -> Result<Plan, NoMemory>
-    ensures { IfOk result (λ plan. plan ≡ spec.refused_as turn.now decided rule leaf refusal) }
+    ensures { IfOk result (λ plan. plan ≡ spec.refusal_plan turn.now decided rule leaf refusal) }
 {
     let finding = Finding {
         decided,
@@ -115,26 +115,26 @@ pub(crate) fn refused_as(
 }
 
 /// Returns the plan that refuses a turn for a cause in the request itself, which no rule decides.
-#[tactic(auto, unfolding(crate::specs::Step::refused))]
+#[tactic(auto, unfolding(crate::specs::Step::rejection_plan))]
 pub(crate) fn refused(alloc: Global, turn: &Turn, refusal: Refusal) -> Result<Plan, NoMemory>
-    ensures { IfOk result (λ plan. plan ≡ spec.refused turn.now refusal) }
+    ensures { IfOk result (λ plan. plan ≡ spec.rejection_plan turn.now refusal) }
 {
     refused_as(alloc, turn, Decided::Refused, None, None, refusal)
 }
 
 /// Returns the plan that refuses a turn because there is no such resource.
-#[tactic(auto, unfolding(crate::specs::Step::absent))]
+#[tactic(auto, unfolding(crate::specs::Step::absence_plan))]
 pub(crate) fn absent(alloc: Global, turn: &Turn) -> Result<Plan, NoMemory>
-    ensures { IfOk result (λ plan. plan ≡ spec.absent turn.now) }
+    ensures { IfOk result (λ plan. plan ≡ spec.absence_plan turn.now) }
 {
     refused_as(alloc, turn, Decided::Absent, None, None, Refusal::NotFound)
 }
 
 /// Returns the plan that refuses a turn because the client doesn't see the resource, by this decision on
 /// reading its `id`. The reply is that of `absent`.
-#[tactic(auto, unfolding(crate::specs::Step::hidden))]
+#[tactic(auto, unfolding(crate::specs::Step::hidden_plan))]
 pub(crate) fn hidden(alloc: Global, turn: &Turn, decision: Decision) -> Result<Plan, NoMemory>
-    ensures { IfOk result (λ plan. plan ≡ spec.hidden turn.now decision) }
+    ensures { IfOk result (λ plan. plan ≡ spec.hidden_plan turn.now decision) }
 {
     let id = Leaf::simple(Attribute::Id);
     refused_as(
@@ -148,7 +148,7 @@ pub(crate) fn hidden(alloc: Global, turn: &Turn, decision: Decision) -> Result<P
 }
 
 /// Returns the plan that refuses a turn because of this decision at a leaf.
-#[tactic(auto, unfolding(crate::specs::Step::denied))]
+#[tactic(auto, unfolding(crate::specs::Step::denial_plan))]
 pub(crate) fn denied(
     alloc: Global,
     turn: &Turn,
@@ -156,7 +156,7 @@ pub(crate) fn denied(
     leaf: Leaf,
     refusal: Refusal,
 ) -> Result<Plan, NoMemory>
-    ensures { IfOk result (λ plan. plan ≡ spec.denied turn.now decision leaf refusal) }
+    ensures { IfOk result (λ plan. plan ≡ spec.denial_plan turn.now decision leaf refusal) }
 {
     refused_as(
         alloc,
@@ -170,7 +170,7 @@ pub(crate) fn denied(
 
 /// Returns the audit row of a turn that the rule allows.
 pub(crate) fn allowed(alloc: Global, turn: &Turn, rule: u32) -> Result<AuditRow, NoMemory>
-    ensures { IfOk result (λ row. row ≡ spec.allowed turn.now rule) }
+    ensures { IfOk result (λ row. row ≡ spec.allowed_row turn.now rule) }
 {
     let finding = Finding {
         decided: Decided::Allow,
@@ -187,7 +187,7 @@ pub(crate) fn found<S: Shelf>(
     shelf: &mut S,
     turn: &Turn,
 ) -> Result<Option<Resource>, Failed<ShelfFault>>
-    ensures answer { IfOk result (Answers S.stands S.is_honest shelf.old shelf.new (λ store o. o ≡ spec.sought turn.now store.resources)) }
+    ensures answer { IfOk result (Answers S.stands S.is_honest shelf.old shelf.new (λ store o. o ≡ spec.sought_resource turn.now store.resources)) }
     ensures read { OnlyReads S.stands S.is_honest S.failures shelf.old shelf.new result }
 {
     match turn.request.id {
@@ -260,7 +260,7 @@ pub(crate) fn kept_text<S: Shelf>(
 }
 
 /// Plans a GET of this resource.
-#[tactic(auto, unfolding(crate::specs::Step::got))]
+#[tactic(auto, unfolding(crate::specs::Step::get_plan))]
 fn plan_show<S: Shelf>(
     alloc: Global,
     viewer: &Viewer<'_>,
@@ -270,8 +270,8 @@ fn plan_show<S: Shelf>(
     resource: &Resource,
 ) -> Result<Plan, Failed<ShelfFault>>
     ensures plan { IfOk result (Answers S.stands S.is_honest shelf.old shelf.new (λ store plan. (base : List ℕ) → IsStore base store
-        → plan ≡ spec.at_seen (viewer_of viewer.now) turn.now
-        (spec.got (viewer_of viewer.now) turn.now store.resources wanted.now) (Some resource.now))) }
+        → plan ≡ spec.plan_for_seen (viewer_of viewer.now) turn.now
+        (spec.get_plan (viewer_of viewer.now) turn.now store.resources wanted.now) (Some resource.now))) }
     ensures read { OnlyReads S.stands S.is_honest S.failures shelf.old shelf.new result }
 {
     let decisions = viewer.decisions(alloc, resource)?;
@@ -296,8 +296,8 @@ fn plan_get<S: Shelf>(
     wanted: &Wanted,
 ) -> Result<Plan, Failed<ShelfFault>>
     ensures plan { IfOk result (Answers S.stands S.is_honest shelf.old shelf.new (λ store plan. (base : List ℕ) → IsStore base store
-        → plan ≡ spec.at_seen (viewer_of viewer.now) turn.now
-        (spec.got (viewer_of viewer.now) turn.now store.resources wanted.now) (spec.sought turn.now store.resources))) }
+        → plan ≡ spec.plan_for_seen (viewer_of viewer.now) turn.now
+        (spec.get_plan (viewer_of viewer.now) turn.now store.resources wanted.now) (spec.sought_resource turn.now store.resources))) }
     ensures read { OnlyReads S.stands S.is_honest S.failures shelf.old shelf.new result }
 {
     let Some(resource) = found(alloc, shelf, turn)? else {
@@ -307,14 +307,14 @@ fn plan_get<S: Shelf>(
 }
 
 /// Plans a DELETE of a resource that the client sees.
-#[tactic(auto, unfolding(crate::specs::Step::removed))]
+#[tactic(auto, unfolding(crate::specs::Step::removal_plan))]
 fn removed(
     alloc: Global,
     viewer: &Viewer<'_>,
     turn: &Turn,
     resource: &Resource,
 ) -> Result<Plan, NoMemory>
-    ensures { IfOk result (λ plan. plan ≡ spec.removed (viewer_of viewer.now) turn.now resource.now) }
+    ensures { IfOk result (λ plan. plan ≡ spec.removal_plan (viewer_of viewer.now) turn.now resource.now) }
 {
     let id = Leaf::simple(Attribute::Id);
     let decision = viewer
@@ -338,7 +338,7 @@ fn removed_if_seen(
     resource: &Resource,
 ) -> Result<Plan, NoMemory>
     ensures { IfOk result (λ plan. plan
-        ≡ spec.at_seen (viewer_of viewer.now) turn.now (spec.removed (viewer_of viewer.now) turn.now) (Some resource.now)) }
+        ≡ spec.plan_for_seen (viewer_of viewer.now) turn.now (spec.removal_plan (viewer_of viewer.now) turn.now) (Some resource.now)) }
 {
     let id = Leaf::simple(Attribute::Id);
     let seen = viewer
@@ -358,7 +358,7 @@ fn plan_remove<S: Shelf>(
     turn: &Turn,
 ) -> Result<Plan, Failed<ShelfFault>>
     ensures plan { IfOk result (Answers S.stands S.is_honest shelf.old shelf.new (λ store plan.
-        plan ≡ spec.at_seen (viewer_of viewer.now) turn.now (spec.removed (viewer_of viewer.now) turn.now) (spec.sought turn.now store.resources))) }
+        plan ≡ spec.plan_for_seen (viewer_of viewer.now) turn.now (spec.removal_plan (viewer_of viewer.now) turn.now) (spec.sought_resource turn.now store.resources))) }
     ensures read { OnlyReads S.stands S.is_honest S.failures shelf.old shelf.new result }
 {
     let Some(resource) = found(alloc, shelf, turn)? else {
@@ -377,7 +377,7 @@ fn list_text(alloc: Global, found: Page, query: &Query) -> Result<Text, NoMemory
 }
 
 /// Plans a search.
-#[tactic(auto, unfolding(crate::specs::Step::listed))]
+#[tactic(auto, unfolding(crate::specs::Step::search_plan))]
 fn plan_search<S: Shelf>(
     alloc: Global,
     viewer: &Viewer<'_>,
@@ -386,7 +386,7 @@ fn plan_search<S: Shelf>(
     query: &Query,
 ) -> Result<Plan, Failed<ShelfFault>>
     ensures plan { IfOk result (Answers S.stands S.is_honest shelf.old shelf.new (λ store plan. (base : List ℕ) → IsStore base store
-        → plan ≡ spec.listed (viewer_of viewer.now) turn.now store.resources query.now)) }
+        → plan ≡ spec.search_plan (viewer_of viewer.now) turn.now store.resources query.now)) }
     ensures read { OnlyReads S.stands S.is_honest S.failures shelf.old shelf.new result }
 {
     let found = page_of_query(alloc, viewer, shelf, turn.request.kind, query)?;
@@ -412,7 +412,7 @@ pub(crate) fn planned<S: Shelf>(
     turn: &Turn,
 ) -> Result<Plan, Failed<ShelfFault>>
     ensures plan { IfOk result (Answers S.stands S.is_honest shelf.old shelf.new (λ store plan. (base : List ℕ) → IsStore base store
-        → plan ≡ spec.planned (viewer_of viewer.now) turn.now store.resources turn.now.request.ask)) }
+        → plan ≡ spec.request_plan (viewer_of viewer.now) turn.now store.resources turn.now.request.ask)) }
     ensures read { OnlyReads S.stands S.is_honest S.failures shelf.old shelf.new result }
 {
     match &turn.request.ask {

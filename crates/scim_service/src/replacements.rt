@@ -79,7 +79,7 @@ fn unit_denied(
     seen: &Part,
     unit: Unit,
 ) -> Result<Option<(Leaf, Decision)>, NoMemory>
-    ensures { IfOk result (λ o. o ≡ spec.unit_denied (access_in rights.now) draft.now seen.now unit) }
+    ensures { IfOk result (λ o. o ≡ spec.unit_denial (access_in rights.now) draft.now seen.now unit) }
 {
     if !is_questionable(rights, draft, unit) || agrees(alloc, draft, unit, seen)? {
         return Ok(None);
@@ -95,7 +95,7 @@ fn first_denied_among(
     seen: &Part,
     units: &[Unit],
 ) -> Result<Option<(Leaf, Decision)>, NoMemory>
-    ensures { IfOk result (λ o. o ≡ spec.first_unit_denied (access_in rights.now) draft.now seen.now units.now) }
+    ensures { IfOk result (λ o. o ≡ spec.first_unit_denial (access_in rights.now) draft.now seen.now units.now) }
 {
     for unit in units {
         let denied = unit_denied(alloc, rights, draft, seen, *unit)?;
@@ -116,7 +116,7 @@ fn first_unit_denied(
     resource: &Resource,
 ) -> Result<Option<(Leaf, Decision)>, NoMemory>
     requires { access_in rights.now ≡ spec.access_to (viewer_of viewer.now) resource.now }
-    ensures { IfOk result (λ o. o ≡ spec.first_unit_denied (spec.access_to (viewer_of viewer.now) resource.now)
+    ensures { IfOk result (λ o. o ≡ spec.first_unit_denial (spec.access_to (viewer_of viewer.now) resource.now)
         draft.now (visible (viewer_of viewer.now) resource.now) (units draft.now.kind)) }
 {
     let own = units(draft.kind());
@@ -142,7 +142,7 @@ fn plan_allowed<S: Shelf>(
     requires kind { draft.now.kind ≡ resource.kind }
     ensures plan { IfOk result (Answers S.stands S.is_honest shelf.old shelf.new (λ store plan. (base : List ℕ) → IsStore base store
         → AreOf resource.kind resource.id store.resources
-        → plan ≡ spec.written_if_allowed (viewer_of viewer.now) turn.now store.resources draft.now wanted.now resource None)) }
+        → plan ≡ spec.decided_replacement_plan (viewer_of viewer.now) turn.now store.resources draft.now wanted.now resource None)) }
     ensures read { OnlyReads S.stands S.is_honest S.failures shelf.old shelf.new result }
 {
     let kind = resource.kind();
@@ -155,7 +155,7 @@ fn plan_allowed<S: Shelf>(
 }
 
 /// What is to be done for a request to replace a resource that the client sees.
-#[tactic(auto, unfolding(crate::specs::Step::replacing))]
+#[tactic(auto, unfolding(crate::specs::Step::replacement_plan))]
 fn plan_seen<S: Shelf>(
     alloc: Global,
     viewer: &Viewer<'_>,
@@ -169,7 +169,7 @@ fn plan_seen<S: Shelf>(
     requires { access_in rights.now ≡ spec.access_to (viewer_of viewer.now) resource }
     ensures plan { IfOk result (Answers S.stands S.is_honest shelf.old shelf.new (λ store plan. (base : List ℕ) → IsStore base store
         → AreOf resource.kind resource.id store.resources
-        → plan ≡ spec.replacing (viewer_of viewer.now) turn.now store.resources draft.now wanted.now resource)) }
+        → plan ≡ spec.replacement_plan (viewer_of viewer.now) turn.now store.resources draft.now wanted.now resource)) }
     ensures read { OnlyReads S.stands S.is_honest S.failures shelf.old shelf.new result }
 {
     if draft.kind() != resource.kind() {
@@ -191,8 +191,8 @@ pub(crate) fn plan_replace<S: Shelf>(
     wanted: &Wanted,
 ) -> Result<Plan, Failed<ShelfFault>>
     ensures plan { IfOk result (Answers S.stands S.is_honest shelf.old shelf.new (λ store plan. (base : List ℕ) → IsStore base store
-        → plan ≡ spec.at_seen (viewer_of viewer.now) turn.now
-        (spec.replacing (viewer_of viewer.now) turn.now store.resources draft.now wanted.now) (spec.sought turn.now store.resources))) }
+        → plan ≡ spec.plan_for_seen (viewer_of viewer.now) turn.now
+        (spec.replacement_plan (viewer_of viewer.now) turn.now store.resources draft.now wanted.now) (spec.sought_resource turn.now store.resources))) }
     ensures read { OnlyReads S.stands S.is_honest S.failures shelf.old shelf.new result }
 {
     let reached = reach(alloc, viewer, shelf, turn)?;

@@ -47,11 +47,11 @@ fn answer_or_fault<S: Shelf>(
     turn: &Turn,
 ) -> Result<Reply, Failed<ShelfFault>>
     ensures done { IfOk result (Answers S.stands S.is_honest shelf.old shelf.new (λ store reply. IsStore viewer.now.base.now store
-        → (reply ≡ (spec.planned (viewer_of viewer.now) turn.now store.resources turn.now.request.ask).reply)
-        × S.stands shelf.new (after (spec.planned (viewer_of viewer.now) turn.now store.resources turn.now.request.ask).change
-        (spec.planned (viewer_of viewer.now) turn.now store.resources turn.now.request.ask).row store)
-        × IsStore viewer.now.base.now (after (spec.planned (viewer_of viewer.now) turn.now store.resources turn.now.request.ask).change
-        (spec.planned (viewer_of viewer.now) turn.now store.resources turn.now.request.ask).row store))) }
+        → (reply ≡ (spec.request_plan (viewer_of viewer.now) turn.now store.resources turn.now.request.ask).reply)
+        × S.stands shelf.new (after (spec.request_plan (viewer_of viewer.now) turn.now store.resources turn.now.request.ask).change
+        (spec.request_plan (viewer_of viewer.now) turn.now store.resources turn.now.request.ask).row store)
+        × IsStore viewer.now.base.now (after (spec.request_plan (viewer_of viewer.now) turn.now store.resources turn.now.request.ask).change
+        (spec.request_plan (viewer_of viewer.now) turn.now store.resources turn.now.request.ask).row store))) }
     ensures err { OnErr result (KeepsStore S.stands shelf.old shelf.new) }
     ensures honest { S.is_honest shelf.new → S.is_honest shelf.old }
     ensures counts { Counts (S.failures shelf.old) (S.failures shelf.new) result }

@@ -8,7 +8,7 @@ use Rattle.scim_view.specs.View.{Viewer, read_decision}
 use Rattle.scim_service.specs.declared.requests.Turn.{Turn}
 use Rattle.scim_service.specs.declared.plans.Plan.{Plan}
 use Rattle.scim_service.specs.declared.reached.Reached.{Reached}
-use Rattle.scim_service.specs.Step.{access_to, sought, at_seen}
+use Rattle.scim_service.specs.Step.{access_to, sought_resource, plan_for_seen}
 
 -- The rights that come with a resource are the client's access to it.
 abbrev pub HasRights : Viewer → Reached → Type 0
@@ -17,5 +17,5 @@ HasRights v (Reached.Told plan) = ⊤
 
 -- The resource exists and the client sees it, or the plan is the one of a resource that is absent or hidden.
 abbrev pub IsReached : Viewer → Turn → List Content → Reached → Type 0
-IsReached v turn cs (Reached.Seen c rights) = (Some c ≡ sought turn cs) × ((read_decision v c (simple Id)).allow ≡ true)
-IsReached v turn cs (Reached.Told plan) = (next : Content → Plan) → plan ≡ at_seen v turn next (sought turn cs)
+IsReached v turn cs (Reached.Seen c rights) = (Some c ≡ sought_resource turn cs) × ((read_decision v c (simple Id)).allow ≡ true)
+IsReached v turn cs (Reached.Told plan) = (next : Content → Plan) → plan ≡ plan_for_seen v turn next (sought_resource turn cs)

@@ -7,15 +7,15 @@ use Rattle.scim_view.specs.View.{Viewer}
 use Rattle.scim_shelf.specs.Stores.{is_taken, is_used, without}
 use Rattle.scim_service.specs.declared.requests.Turn.{Turn}
 use Rattle.scim_service.specs.declared.plans.Plan.{Plan}
-use Rattle.scim_service.specs.Step.{access_to, made_if_free, changed_if_free}
+use Rattle.scim_service.specs.Step.{access_to, unique_creation_plan, unique_change_plan}
 
 -- A plan is that of the create of the resource `c`; without one, its unique names and its id are free.
 abbrev pub IsRefusalToMake : Viewer → Turn → List Content → Content → Option Plan → Type 0
-IsRefusalToMake v turn cs c (Some plan) = (wanted : Wanted) → plan ≡ made_if_free v turn cs wanted c
+IsRefusalToMake v turn cs c (Some plan) = (wanted : Wanted) → plan ≡ unique_creation_plan v turn cs wanted c
 IsRefusalToMake v turn cs c None = (is_taken cs c ≡ false) × (is_used cs c.id ≡ false)
 
 -- A plan is that of the change that results in `c`; without one, the unique names of `c` are free, and the
 -- client's access isn't wider than `a`, its access before.
 abbrev pub IsRefusalToChange : Viewer → Turn → List Content → Access → Content → Option Plan → Type 0
-IsRefusalToChange v turn cs a c (Some plan) = (wanted : Wanted) (changed : Bool) → plan ≡ changed_if_free v turn cs wanted a changed c
+IsRefusalToChange v turn cs a c (Some plan) = (wanted : Wanted) (changed : Bool) → plan ≡ unique_change_plan v turn cs wanted a changed c
 IsRefusalToChange v turn cs a c None = (is_taken (without c.id cs) c ≡ false) × (widening c.kind a (access_to v c) ≡ None)

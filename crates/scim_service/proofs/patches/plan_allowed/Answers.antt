@@ -5,7 +5,7 @@ use Rattle.scim_patch_steps.specs.Kept.{patch_of}
 use Rattle.scim_policy.specs.Access.{Access}
 use Rattle.scim_view.specs.View.{viewer_of}
 use Rattle.scim_shelf.specs.Stores.{AreOf}
-use Rattle.scim_service.specs.Step.{changed_if_free}
+use Rattle.scim_service.specs.Step.{unique_change_plan}
 use Rattle.scim_service.proofs.PatchLemmas.{patched_is}
 use Rattle.scim_service.proofs.StepLemmas.{patched_kind}
 use Rattle.scim_service.proofs.patches.plan_allowed.Goals as goal
@@ -22,6 +22,6 @@ returns-in-Ok-clause-plan g c =
     (λ plan answer store stands honest base is own_kind.
     (let same = patched_kind patch turn.moment own next.resource next.changed (sym c.in-Ok.ensures.outcome) in
     answer store stands honest base is (subst₂ (λ (k : Kind) (i : List ℕ). AreOf k i store.resources) (sym same.0) (sym same.1) own_kind)
-    ∙ ap (λ (a : Access). changed_if_free viewer turn store.resources wanted a next.changed next.resource) c.requires.rights
+    ∙ ap (λ (a : Access). unique_change_plan viewer turn store.resources wanted a next.changed next.resource) c.requires.rights
     ∙ patched_is viewer turn store.resources patch wanted own next.resource next.changed c.in-Ok.ensures.outcome))
     c.plan_changed.ensures.plan

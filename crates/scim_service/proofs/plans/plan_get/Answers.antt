@@ -3,7 +3,7 @@ use Rattle.std.specs.Prelude.{Option}
 use Rattle.std.proofs.lemmas.Result.{IfOk-weaker}
 use Rattle.scim_cell.specs.Content.{Content}
 use Rattle.scim_view.specs.View.{viewer_of}
-use Rattle.scim_service.specs.Step.{got, at_seen}
+use Rattle.scim_service.specs.Step.{get_plan, plan_for_seen}
 use Rattle.scim_service.proofs.plans.plan_get.Goals as goal
 
 pub returns-clause-plan : goal.returns-clause-plan
@@ -14,5 +14,5 @@ returns-clause-plan g c =
     (λ plan answer store stands honest base is.
     (let found = sym c.in-Some.is ∙ c.in_ok-resource.ensures.answer store stands (c.plan_show.ensures.read.honest honest) in
     answer store (c.in_ok-resource.ensures.read.store store stands) honest base is
-    ∙ ap (λ (o : Option Content). at_seen viewer turn (got viewer turn store.resources c.args.wanted.now) o) found))
+    ∙ ap (λ (o : Option Content). plan_for_seen viewer turn (get_plan viewer turn store.resources c.args.wanted.now) o) found))
     c.plan_show.ensures.plan

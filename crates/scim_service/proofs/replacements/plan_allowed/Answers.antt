@@ -8,7 +8,7 @@ use Rattle.scim_policy.specs.Access.{Access}
 use Rattle.scim_policy.specs.Table.{access_in}
 use Rattle.scim_view.specs.View.{viewer_of}
 use Rattle.scim_shelf.specs.Stores.{AreOf}
-use Rattle.scim_service.specs.Step.{access_to, is_writable, writable, changed_if_free, written}
+use Rattle.scim_service.specs.Step.{access_to, is_writable, writable, unique_change_plan, writable_replacement_plan}
 use Rattle.scim_service.proofs.ReplaceLemmas.{writable_free, written_is}
 use Rattle.scim_service.proofs.StepLemmas.{replaced_kind}
 use Rattle.scim_service.proofs.replacements.plan_allowed.Goals as goal
@@ -37,7 +37,7 @@ returns-in-Ok-clause-plan g c =
     (λ plan answer store stands honest base is own_kind.
     (let same = replaced_kind draft us turn.moment own next.resource c.in-Ok.ensures.value in
     answer store stands honest base is (subst₂ (λ (k : Kind) (i : List ℕ). AreOf k i store.resources) (sym same.0) (sym same.1) own_kind)
-    ∙ ap (λ (a : Access). changed_if_free viewer turn store.resources wanted a next.changed next.resource) c.requires.rights
+    ∙ ap (λ (a : Access). unique_change_plan viewer turn store.resources wanted a next.changed next.resource) c.requires.rights
     ∙ written_is viewer turn store.resources draft wanted own us next.changed next.resource c.in-Ok.ensures.value c.in-Ok.ensures.changed
-    ∙ ap (λ (ws : List AttributeUnit). written viewer turn store.resources draft wanted own ws) writes))
+    ∙ ap (λ (ws : List AttributeUnit). writable_replacement_plan viewer turn store.resources draft wanted own ws) writes))
     c.plan_changed.ensures.plan

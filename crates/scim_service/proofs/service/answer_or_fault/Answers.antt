@@ -14,7 +14,7 @@ pub returns-clause-done : goal.returns-clause-done
 returns-clause-done g c store stands honest is =
     let viewer = viewer_of c.args.viewer.now in
     let turn = c.args.turn.now in
-    let next = spec.planned viewer turn store.resources turn.request.ask in
+    let next = spec.request_plan viewer turn store.resources turn.request.ask in
     let made = c.in_ok-plan.ensures.plan store stands (c.in_ok-commit.ensures.commits.honest honest) viewer.base is in
     let same : c.into_parts-reply.result ≡ (next.reply, next.change, next.row) = c.into_parts-reply.ensures ∙ ap (λ (p : Plan). (p.reply, p.change, p.row)) made in
     let may : CanKeep store c.into_parts-reply.result.1

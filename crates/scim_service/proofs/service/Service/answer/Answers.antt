@@ -1,7 +1,7 @@
 use Rattle.std.proofs.Common.{◌≡◌, refl, sym, ◌∙◌, ap, subst, inl, inr, ℕ, List}
 use Rattle.scim_view.specs.View.{Viewer}
 use Rattle.scim_shelf.specs.Stores.{IsStore, after}
-use Rattle.scim_service.specs.Step.{viewer_at, planned, next_store}
+use Rattle.scim_service.specs.Step.{viewer_at, request_plan, next_store}
 use Rattle.scim_service.proofs.service.Service.answer.Goals as goal
 
 pub returns-in-Ok-clause-answered : goal.returns-in-Ok-clause-answered
@@ -17,7 +17,7 @@ returns-in-Ok-clause-answered g c store stands honest is =
     let ask = turn.request.ask in
     let done = c.in-Ok.ensures.done store stands honest (subst (λ (b : List ℕ). IsStore b store) (sym base_is) is) in (
       next_store policy base turn store,
-      subst (λ (v : Viewer). g.S.Shelf.stands c.answer_or_fault.new.shelf (after (planned v turn cs ask).change (planned v turn cs ask).row store)) same done.1,
-      subst (λ (v : Viewer). IsStore v.base (after (planned v turn cs ask).change (planned v turn cs ask).row store)) same done.2,
-      inr (inl (done.0 ∙ ap (λ (v : Viewer). (planned v turn cs ask).reply) same, refl)),
+      subst (λ (v : Viewer). g.S.Shelf.stands c.answer_or_fault.new.shelf (after (request_plan v turn cs ask).change (request_plan v turn cs ask).row store)) same done.1,
+      subst (λ (v : Viewer). IsStore v.base (after (request_plan v turn cs ask).change (request_plan v turn cs ask).row store)) same done.2,
+      inr (inl (done.0 ∙ ap (λ (v : Viewer). (request_plan v turn cs ask).reply) same, refl)),
     )
