@@ -1,7 +1,7 @@
 //! Connections of which a script says beforehand what happens. What they took is looked at by cases: to a contract they are as sockets.
 use scim_cell::id_of;
-use scim_hub::{Happened, Recorded, Stamp};
-use scim_serve::{Incident, Peers, PeersFault};
+use scim_hub::{OwnedEvent, OwnedEventKind, Stamp};
+use scim_serve::{PeerEvent, Peers, PeersFault};
 use scim_text::Moment;
 use std::alloc::{AllocError, Global};
 use uuid::Uuid;
@@ -10,7 +10,7 @@ use uuid::Uuid;
 #[derive(Drop)]
 pub(crate) struct ScriptedPeers {
     // What happens yet, the last first.
-    left: Vec<Incident>,
+    left: Vec<PeerEvent>,
     step: usize,
     /// What connection 0 has taken.
     pub(crate) first: Vec<u8>,
@@ -21,22 +21,26 @@ pub(crate) struct ScriptedPeers {
 }
 
 /// What happens to a connection: it joins, where no bytes come.
-fn incident(alloc: Global, connection: u64, bytes: &str) -> Result<Option<Incident>, AllocError> {
+fn peer_event(
+    alloc: Global,
+    connection: u64,
+    bytes: &str,
+) -> Result<Option<PeerEvent>, AllocError> {
     let Some(moment) = Moment::new(0) else {
         return Ok(None);
     };
-    let happened = if bytes.is_empty() {
-        Happened::Joined
+    let kind = if bytes.is_empty() {
+        OwnedEventKind::Joined
     } else {
-        Happened::Piece(Vec::from_slice(alloc, bytes.as_bytes())?)
+        OwnedEventKind::Piece(Vec::from_slice(alloc, bytes.as_bytes())?)
     };
-    Ok(Some(Incident::Event(Recorded {
+    Ok(Some(PeerEvent::Event(OwnedEvent {
         connection,
         stamp: Stamp {
             moment,
             first: id_of(Uuid::nil()),
         },
-        happened,
+        kind,
     })))
 }
 
@@ -49,8 +53,8 @@ impl ScriptedPeers {
     ) -> Result<ScriptedPeers, AllocError> {
         let mut left = Vec::new(alloc);
         for (connection, bytes) in happenings.iter().rev() {
-            if let Some(incident) = incident(alloc, *connection, *bytes)? {
-                left.push(incident)?;
+            if let Some(peer_event) = peer_event(alloc, *connection, *bytes)? {
+                left.push(peer_event)?;
             }
         }
         Ok(ScriptedPeers {
@@ -87,7 +91,7 @@ impl Peers for ScriptedPeers {
 
     ghost is_over = { λ _. false };
 
-    fn next(&mut self, _alloc: Global) -> Result<Option<Incident>, PeersFault> {
+    fn next(&mut self, _alloc: Global) -> Result<Option<PeerEvent>, PeersFault> {
         Ok(self.left.pop())
     }
 
@@ -98,7 +102,7 @@ impl Peers for ScriptedPeers {
         }
         if count < bytes.len() {
             // It may take more at once. Where this isn't kept, the reply isn't whole.
-            let _kept = self.left.push(Incident::Ready(connection));
+            let _kept = self.left.push(PeerEvent::Ready(connection));
         }
         count
     }

@@ -5,7 +5,10 @@ use case_values::{
 };
 use scim_cell::Text;
 use scim_filter::{holds, holds_at};
-use scim_filter_grammar::{Filter, FilterFault, Literal, Meant, Named, Node, Operator, Token, WrittenPath, attribute_path, knows_names, lone_word, mentioned_names, read_filter, read_tokens, written_path};
+use scim_filter_grammar::{
+    Filter, FilterFault, Literal, Meant, Named, Node, Operator, Token, WrittenPath, attribute_path,
+    knows_names, lone_word, mentioned_names, read_filter, read_tokens, written_path,
+};
 use scim_samples::leaf_text;
 use scim_schema::Leaf;
 use scim_text::Failed;

@@ -2,7 +2,7 @@
 use crate::recordings::Texts;
 use case_values::{CaseFault, push_rows_after};
 use scim_command::{DatabaseFault, Recording, RunFault, events_of, read_events, service_over};
-use scim_hub::{Hub, Recorded};
+use scim_hub::{Hub, OwnedEvent};
 use scim_policy_file::read_policy;
 use scim_route::Routes;
 use scim_shelf::MemoryShelf;
@@ -49,7 +49,7 @@ pub(crate) fn hub_of(
 /// Lets the events of a file happen.
 fn run_events(alloc: Global, hub: &mut Hub<MemoryShelf>, events: &str) -> Result<(), CaseFault> {
     match read_events(alloc, events) {
-        Ok(recorded) => run_recorded(alloc, hub, recorded.as_slice()),
+        Ok(owned) => run_recorded(alloc, hub, owned.as_slice()),
         Err(_) => Err(CaseFault::Missing("events")),
     }
 }
@@ -57,9 +57,9 @@ fn run_events(alloc: Global, hub: &mut Hub<MemoryShelf>, events: &str) -> Result
 fn run_recorded(
     alloc: Global,
     hub: &mut Hub<MemoryShelf>,
-    recorded: &[Recorded],
+    owned: &[OwnedEvent],
 ) -> Result<(), CaseFault> {
-    let events = events_of(alloc, recorded)?;
+    let events = events_of(alloc, owned)?;
     let _results = hub.run(alloc, events.as_slice())?;
     Ok(())
 }

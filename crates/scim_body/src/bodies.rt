@@ -103,9 +103,11 @@ fn read_draft(
     use_for: UseFor,
 ) -> Result<Draft, Failed<WrongValue>>
     ensures given { IfOk result
-        (λ d. spec.body_with kind use_for (spec.all_given kind (members_view members.now)) ≡ spec.drafted d) }
+        (λ d. spec.body_with kind use_for (spec.all_given kind (members_view members.now))
+        ≡ spec.drafted d) }
     ensures wrong { OnFault result
-        (spec.body_with kind use_for (spec.all_given kind (members_view members.now)) ≡ spec.wrong) }
+        (spec.body_with kind use_for (spec.all_given kind (members_view members.now))
+        ≡ spec.wrong) }
 {
     let given = read_all(alloc, members, kind)?;
     draft_of(alloc, kind, use_for, given)
@@ -140,7 +142,8 @@ fn read_attributes(
     given: &mut Vec<UnitGiven>,
 ) -> Result<(), Failed<WrongValue>>
     ensures given { OnOk result
-        (with_given given.old.items (collected (spec.given_of kind (members_view members.now)) attributes.now)
+        (with_given given.old.items
+        (collected (spec.given_of kind (members_view members.now)) attributes.now)
         ≡ Some (units_given given.new.items)) }
     ensures wrong { OnFault result
         (collected (spec.given_of kind (members_view members.now)) attributes.now ≡ None) }
@@ -234,7 +237,8 @@ fn read_shaped(
     given: &mut Vec<UnitGiven>,
 ) -> Result<(), Failed<WrongValue>>
     ensures given { OnOk result
-        (with_given given.old.items (spec.shaped_given kind attribute (shape_of attribute) (view value.now))
+        (with_given given.old.items
+        (spec.shaped_given kind attribute (shape_of attribute) (view value.now))
         ≡ Some (units_given given.new.items)) }
     ensures wrong { OnFault result
         (spec.shaped_given kind attribute (shape_of attribute) (view value.now) ≡ None) }
@@ -260,7 +264,8 @@ pub fn read_units(
     attribute: Attribute,
 ) -> Result<Vec<UnitGiven>, Failed<WrongValue>>
     ensures given { IfOk result
-        (λ v. spec.shaped_given kind attribute (shape_of attribute) (view value.now) ≡ Some (units_given v.items)) }
+        (λ v. spec.shaped_given kind attribute (shape_of attribute) (view value.now)
+        ≡ Some (units_given v.items)) }
     ensures wrong { OnFault result
         (spec.shaped_given kind attribute (shape_of attribute) (view value.now) ≡ None) }
 {
@@ -279,7 +284,8 @@ fn read_simple(
     attribute: Attribute,
     given: &mut Vec<UnitGiven>,
 ) -> Result<(), Failed<WrongValue>>
-    ensures given { OnOk result (with_given given.old.items (spec.simple_given kind attribute (view value.now))
+    ensures given { OnOk result (with_given given.old.items
+        (spec.simple_given kind attribute (view value.now))
         ≡ Some (units_given given.new.items)) }
     ensures wrong { OnFault result (spec.simple_given kind attribute (view value.now) ≡ None) }
 {
@@ -327,7 +333,8 @@ fn read_complex(
     attribute: Attribute,
     given: &mut Vec<UnitGiven>,
 ) -> Result<(), Failed<WrongValue>>
-    ensures given { OnOk result (with_given given.old.items (spec.complex_given kind attribute (view value.now))
+    ensures given { OnOk result (with_given given.old.items
+        (spec.complex_given kind attribute (view value.now))
         ≡ Some (units_given given.new.items)) }
     ensures wrong { OnFault result (spec.complex_given kind attribute (view value.now) ≡ None) }
 {
@@ -363,7 +370,8 @@ fn read_multi_valued(
     given: &mut Vec<UnitGiven>,
 ) -> Result<(), Failed<WrongValue>>
     ensures given { OnOk result
-        (with_given given.old.items (option_map (spec.whole_given attribute) (values_of kind attribute (view value.now)))
+        (with_given given.old.items
+        (option_map (spec.whole_given attribute) (values_of kind attribute (view value.now)))
         ≡ Some (units_given given.new.items)) }
     ensures wrong { OnFault result (values_of kind attribute (view value.now) ≡ None) }
 {
@@ -386,7 +394,8 @@ fn draft_of(
 ) -> Result<Draft, Failed<WrongValue>>
     requires { AreOfBody kind given.items }
     ensures given { IfOk result
-        (λ d. spec.judged use_for (spec.draft_of kind use_for (units_given given.items)) ≡ spec.drafted d) }
+        (λ d. spec.judged use_for (spec.draft_of kind use_for (units_given given.items))
+        ≡ spec.drafted d) }
     ensures wrong { OnFault result
         (spec.judged use_for (spec.draft_of kind use_for (units_given given.items)) ≡ spec.wrong) }
 {
@@ -399,8 +408,10 @@ fn draft_of(
 
 /// Splits what is given into its units and the rows of all their values.
 fn parts_of(alloc: Global, given: Vec<UnitGiven>) -> Result<(Vec<Unit>, Vec<Row>), NoMemory>
-    ensures units { IfOk result (λ parts. parts.0.items ≡ map (λ g. g.unit) (units_given given.items)) }
-    ensures rows { IfOk result (λ parts. parts.1.items ≡ flat_map (λ g. g.values) (units_given given.items)) }
+    ensures units { IfOk result (λ parts. parts.0.items
+        ≡ map (λ g. g.unit) (units_given given.items)) }
+    ensures rows { IfOk result (λ parts. parts.1.items
+        ≡ flat_map (λ g. g.values) (units_given given.items)) }
 {
     let mut units = Vec::new(alloc);
     let mut rows = Vec::new(alloc);

@@ -36,7 +36,8 @@ pub fn value_clashes(value: &Tree<'_>, attribute: Attribute) -> bool
 
 /// Whether `value_clashes` holds for any of `values`.
 fn any_clashes(values: &[Tree<'_>], attribute: Attribute) -> bool
-    ensures { result ≡ list_any (spec.value_clashes attribute) (spec.items_list (items_view values.now)) }
+    ensures { result ≡ list_any (spec.value_clashes attribute)
+        (spec.items_list (items_view values.now)) }
 {
     for value in values {
         if value_clashes(value, attribute) {
@@ -107,7 +108,8 @@ fn extension_clashes(members: &[Member<'_>], kind: Kind, schema: Schema) -> bool
 
 /// Whether `extension_clashes` holds for any of `schemas`.
 fn any_extension_clashes(members: &[Member<'_>], kind: Kind, schemas: &[Schema]) -> bool
-    ensures { result ≡ list_any (spec.extension_clashes kind (members_view members.now)) schemas.now }
+    ensures { result ≡ list_any (spec.extension_clashes kind (members_view members.now))
+        schemas.now }
 {
     for schema in schemas {
         if extension_clashes(members, kind, *schema) {

@@ -58,7 +58,13 @@ impl Model for Draft {
 impl Draft {
     /// Makes a draft, which must satisfy `IsDraft`.
     pub(crate) fn new(kind: Kind, use_for: UseFor, given: Vec<Unit>, rows: Vec<Row>) -> Draft
-        requires { IsDraft (record { kind = kind; use_for = use_for; given = given.items; rows = rows.items }) }
+        requires { IsDraft (record {
+          kind = kind;
+          use_for = use_for;
+          given = given.items;
+          rows =
+              rows.items;
+        }) }
         ensures kind { result.kind ≡ kind }
         ensures use_for { result.use_for ≡ use_for }
         ensures given { result.given ≡ given.items }

@@ -9,7 +9,8 @@ use scim_text::same_name;
 
 /// The value under `name`. If two keys are the name, the first.
 pub fn value_named<'a, 'b>(members: &'a [Member<'b>], name: &str) -> Option<&'a Tree<'b>>
-    ensures { option_map (λ v. view v.now) result ≡ spec.value_named name.now (members_view members.now) }
+    ensures { option_map (λ v. view v.now) result
+        ≡ spec.value_named name.now (members_view members.now) }
 {
     for member in members {
         if same_name(name, member.0) {
@@ -53,7 +54,8 @@ pub fn is_absent(value: &Tree<'_>) -> bool
 
 /// The value that an object gives under `name`. `None` if there is none, or if it counts as absent.
 pub fn given_named<'a, 'b>(members: &'a [Member<'b>], name: &str) -> Option<&'a Tree<'b>>
-    ensures { option_map (λ v. view v.now) result ≡ values.given_named name.now (members_view members.now) }
+    ensures { option_map (λ v. view v.now) result
+        ≡ values.given_named name.now (members_view members.now) }
 {
     match value_named(members, name) {
         Some(value) => { if is_absent(value) { None } else { Some(value) } }

@@ -141,7 +141,8 @@ fn read_members<'a>(
 ///
 /// NotJson if there is neither.
 fn next_key<'a>(reader: &mut Reader<'a>) -> Result<Option<&'a str>, Failed<NotJson>>
-    ensures key { IfOk result (λ k. read_key reader.old ≡ Some (option_map (λ s. s.now) k, reader.new)) }
+    ensures key { IfOk result (λ k. read_key reader.old
+        ≡ Some (option_map (λ s. s.now) k, reader.new)) }
     ensures none { OnFault result (read_key reader.old ≡ None) }
 {
     match reader.next_key() {
@@ -157,7 +158,8 @@ fn put<'a>(
     value: Tree<'a>,
 ) -> Result<(), NoMemory>
     ensures { OnOk result
-        (members_view members.new.entries ≡ with_member key.now (view value.entry) (members_view members.old.entries)) }
+        (members_view members.new.entries
+        ≡ with_member key.now (view value.entry) (members_view members.old.entries)) }
 {
     drop(members.insert(key, value)?);
     Ok(())

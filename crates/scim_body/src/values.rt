@@ -91,7 +91,8 @@ pub fn read_field(
 ) -> Result<Field, Failed<WrongValue>>
     ensures given { IfOk result
         (λ f. spec.field_with kind attribute sub_attribute (view value.now) ≡ Some (f ∷ [])) }
-    ensures wrong { OnFault result (spec.field_with kind attribute sub_attribute (view value.now) ≡ None) }
+    ensures wrong { OnFault result (spec.field_with kind attribute sub_attribute (view value.now)
+        ≡ None) }
 {
     let leaf = Leaf::of(attribute, sub_attribute);
     let atom = read_atom(alloc, value, characteristics_of(kind, leaf).attribute_type)?;
@@ -110,7 +111,8 @@ fn read_sub_attribute(
     fields: &mut Vec<Field>,
 ) -> Result<(), Failed<WrongValue>>
     ensures given { OnOk result
-        (after fields.old.items (spec.field_in kind attribute (members_view members.now) sub_attribute)
+        (after fields.old.items
+        (spec.field_in kind attribute (members_view members.now) sub_attribute)
         ≡ Some fields.new.items) }
     ensures wrong { OnFault result
         (spec.field_in kind attribute (members_view members.now) sub_attribute ≡ None) }
@@ -168,7 +170,8 @@ fn read_alone(
     kind: Kind,
     attribute: Attribute,
 ) -> Result<Vec<Field>, Failed<WrongValue>>
-    ensures given { IfOk result (λ v. spec.value_alone kind attribute (view value.now) ≡ Some v.items) }
+    ensures given { IfOk result (λ v. spec.value_alone kind attribute (view value.now)
+        ≡ Some v.items) }
     ensures wrong { OnFault result (spec.value_alone kind attribute (view value.now) ≡ None) }
 {
     if !has_value(attribute) {
@@ -189,7 +192,8 @@ pub fn read_fields(
     kind: Kind,
     attribute: Attribute,
 ) -> Result<Vec<Field>, Failed<WrongValue>>
-    ensures given { IfOk result (λ v. spec.fields_of kind attribute (view value.now) ≡ Some v.items) }
+    ensures given { IfOk result (λ v. spec.fields_of kind attribute (view value.now)
+        ≡ Some v.items) }
     ensures wrong { OnFault result (spec.fields_of kind attribute (view value.now) ≡ None) }
 {
     match value.as_object() {
@@ -210,7 +214,8 @@ fn read_value(
     values: &mut Vec<Row>,
 ) -> Result<(), Failed<WrongValue>>
     ensures given { OnOk result
-        (after values.old.items (spec.value_of kind attribute (view value.now)) ≡ Some values.new.items) }
+        (after values.old.items (spec.value_of kind attribute (view value.now))
+        ≡ Some values.new.items) }
     ensures wrong { OnFault result (spec.value_of kind attribute (view value.now) ≡ None) }
 {
     if is_absent(value) {
@@ -236,7 +241,8 @@ pub fn read_listed(
     kind: Kind,
     attribute: Attribute,
 ) -> Result<Vec<Row>, Failed<WrongValue>>
-    ensures given { IfOk result (λ v. spec.listed_values kind attribute (view value.now) ≡ Some v.items) }
+    ensures given { IfOk result (λ v. spec.listed_values kind attribute (view value.now)
+        ≡ Some v.items) }
     ensures wrong { OnFault result (spec.listed_values kind attribute (view value.now) ≡ None) }
 {
     match value.as_array() {
@@ -255,7 +261,8 @@ fn read_items(
     attribute: Attribute,
 ) -> Result<Vec<Row>, Failed<WrongValue>>
     ensures given { IfOk result
-        (λ v. spec.collected (spec.value_of kind attribute) (items_list (items_view items.now)) ≡ Some v.items) }
+        (λ v. spec.collected (spec.value_of kind attribute) (items_list (items_view items.now))
+        ≡ Some v.items) }
     ensures wrong { OnFault result
         (spec.collected (spec.value_of kind attribute) (items_list (items_view items.now)) ≡ None) }
 {
@@ -303,7 +310,8 @@ pub(crate) fn read_values(
     kind: Kind,
     attribute: Attribute,
 ) -> Result<Vec<Row>, Failed<WrongValue>>
-    ensures given { IfOk result (λ v. spec.values_of kind attribute (view value.now) ≡ Some v.items) }
+    ensures given { IfOk result (λ v. spec.values_of kind attribute (view value.now)
+        ≡ Some v.items) }
     ensures wrong { OnFault result (spec.values_of kind attribute (view value.now) ≡ None) }
 {
     let read = read_listed(alloc, value, kind, attribute)?;

@@ -105,7 +105,8 @@ fn add_value(
     value: Row,
 ) -> Result<(), NoMemory>
     requires { Covers places.old attribute values.old.items }
-    ensures items { OnOk result (values.new.items ≡ spec.with_value attribute values.old.items value) }
+    ensures items { OnOk result (values.new.items
+        ≡ spec.with_value attribute values.old.items value) }
     ensures covers { OnOk result (Covers places.new attribute values.new.items) }
 {
     let key_of_value = key(alloc, attribute, &value)?;

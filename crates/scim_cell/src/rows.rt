@@ -176,7 +176,8 @@ fn copy_fields(alloc: Global, fields: &[Field]) -> Result<Vec<Field>, NoMemory>
 
 /// Copies the fields of the row that the test keeps.
 fn kept_fields<T: RowTest>(alloc: Global, row: &Row, test: &T) -> Result<Vec<Field>, NoMemory>
-    ensures { IfOk result (λ v. v.items ≡ filter (λ f. T.keeps test.now row.now f.leaf) row.now.fields) }
+    ensures { IfOk result (λ v. v.items
+        ≡ filter (λ f. T.keeps test.now row.now f.leaf) row.now.fields) }
 {
     if !test.may_keep(row) {
         return Ok(Vec::new(alloc));

@@ -46,10 +46,13 @@ pub fn replace(
 ) -> Result<Changed, Failed<MissingRequired>>
     requires kind { draft.now.kind ≡ resource.kind }
     requires writable { All (λ u. written.is_fixed resource.kind u ≡ false) units.now }
-    ensures value { IfOk result (λ c. spec.replaced draft.now units.now moment resource ≡ Some c.resource) }
-    ensures changed { IfOk result (λ c. c.changed ≡ spec.changes draft.now units.now (rows resource)) }
+    ensures value { IfOk result (λ c. spec.replaced draft.now units.now moment resource
+        ≡ Some c.resource) }
+    ensures changed { IfOk result (λ c. c.changed
+        ≡ spec.changes draft.now units.now (rows resource)) }
     ensures missing { OnFault result (spec.replaced draft.now units.now moment resource ≡ None) }
-    ensures base { (base : List ℕ) → HasBase base resource → IfOk result (λ c. HasBase base c.resource) }
+    ensures base { (base : List ℕ) → HasBase base resource
+        → IfOk result (λ c. HasBase base c.resource) }
 {
     if !changes(draft, units, resource.part()) {
         return Ok(Changed {
@@ -122,7 +125,8 @@ fn put_given(alloc: Global, part: Part, given: &[Row], unit: Unit) -> Result<Par
 
 /// Returns the part with `meta.lastModified` set to `moment` (RFC 7643 section 3.1).
 pub fn modified_at(alloc: Global, part: Part, moment: Moment) -> Result<Part, NoMemory>
-    ensures whole { IfOk result (λ p. p ≡ content part.kind part.id (spec.modified_at moment (rows part))) }
+    ensures whole { IfOk result (λ p. p
+        ≡ content part.kind part.id (spec.modified_at moment (rows part))) }
     ensures bound { IfOk result (λ p. moment ≤ last_moment) }
 {
     let mut values = Vec::with_capacity(alloc, 1)?;

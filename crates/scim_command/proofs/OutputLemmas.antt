@@ -9,9 +9,9 @@ use Rattle.scim_policy.specs.Rules.{Rule}
 use Rattle.scim_token.specs.TokenFile.{Entry}
 use Rattle.scim_hub.specs.declared.events.Event.{Event}
 use Rattle.scim_hub.specs.declared.events.Output.{Output}
-use Rattle.scim_hub.specs.Halls.{seen_of, done}
+use Rattle.scim_hub.specs.HubStates.{event_of, done}
 use Rattle.scim_hub.specs.declared.events.HubFault.{HubFault}
-use Rattle.scim_hub.specs.Events.{Deed, Seen, Hall, Runs}
+use Rattle.scim_hub.specs.Events.{HubOutput, HubEvent, HubState, Runs}
 use Rattle.scim_command.specs.Outputs.{result_lines, results_text}
 use Rattle.scim_command.specs.Replays.{AreResultsOf}
 
@@ -20,7 +20,7 @@ pub three_after : (a b c d : List ℕ) → a ++ (b ++ (c ++ d)) ≡ ((a ++ b) ++
 three_after a b c d = sym (append_assoc (a ++ b) c d ∙ append_assoc a b (c ++ d))
 
 -- one more event with its result
-pub results_more : (events : List Seen) (results : List (Result (List Deed) HubFault)) (event : Seen) (result : Result (List Deed) HubFault) → length events ≡ length results
+pub results_more : (events : List HubEvent) (results : List (Result (List HubOutput) HubFault)) (event : HubEvent) (result : Result (List HubOutput) HubFault) → length events ≡ length results
     → results_text (events ++ event ∷ []) (results ++ result ∷ []) ≡ results_text events results ++ result_lines event.connection result
 results_more [] [] event result same = append-nil (result_lines event.connection result)
 results_more [] (r ∷ results) event result same = absurd (omega (arith, same))
@@ -31,23 +31,23 @@ results_more (e ∷ events) (r ∷ results) event result same =
 
 -- the text up to an event, and the lines for that one
 pub text_more : (events : List Event) (results : List (Result (Vec Output) HubFault)) (i : ℕ) (d : Event) (e : Result (Vec Output) HubFault) → length events ≡ length results → i < length events
-    → results_text (map seen_of (take (i + 1) events)) (map done (take (i + 1) results))
-    ≡ results_text (map seen_of (take i events)) (map done (take i results)) ++ result_lines (get_or events i d).connection (done (get_or results i e))
+    → results_text (map event_of (take (i + 1) events)) (map done (take (i + 1) results))
+    ≡ results_text (map event_of (take i events)) (map done (take i results)) ++ result_lines (get_or events i d).connection (done (get_or results i e))
 text_more events results i d e same inside =
-    ap (λ (xs : List Seen). results_text xs (map done (take (i + 1) results))) (ap (map seen_of) (take_more events i d inside) ∙ map-append seen_of (take i events) (get_or events i d ∷ []))
-    ∙ ap (λ (ys : List (Result (List Deed) HubFault)). results_text (map seen_of (take i events) ++ seen_of (get_or events i d) ∷ []) ys)
+    ap (λ (xs : List HubEvent). results_text xs (map done (take (i + 1) results))) (ap (map event_of) (take_more events i d inside) ∙ map-append event_of (take i events) (get_or events i d ∷ []))
+    ∙ ap (λ (ys : List (Result (List HubOutput) HubFault)). results_text (map event_of (take i events) ++ event_of (get_or events i d) ∷ []) ys)
     (ap (map done) (take_more results i e (omega (arith, same, inside))) ∙ map-append done (take i results) (get_or results i e ∷ []))
-    ∙ results_more (map seen_of (take i events)) (map done (take i results)) (seen_of (get_or events i d)) (done (get_or results i e))
-    (length-map (take i events) seen_of ∙ length-take-le i events (omega (arith, inside)) ∙ sym (length-map (take i results) done ∙ length-take-le i results (omega (arith, same, inside))))
+    ∙ results_more (map event_of (take i events)) (map done (take i results)) (event_of (get_or events i d)) (done (get_or results i e))
+    (length-map (take i events) event_of ∙ length-take-le i events (omega (arith, inside)) ∙ sym (length-map (take i results) done ∙ length-take-le i results (omega (arith, same, inside))))
 
-module _ (policy : List Rule) (base : List ℕ) (entries : List Entry) (next : Hall) where
+module _ (policy : List Rule) (base : List ℕ) (entries : List Entry) (next : HubState) where
   -- each event has one result
-  pub runs_lengths : (hall : Hall) (events : List Seen) (results : List (Result (List Deed) HubFault)) → Runs policy base entries hall events results next → length events ≡ length results
-  runs_lengths hall [] results (none, same) = ap length (sym none)
-  runs_lengths hall (event ∷ events) results (first, mid, rest, split, hears, runs) = omega (arith, runs_lengths mid events rest runs, ap length split)
+  pub runs_lengths : (state : HubState) (events : List HubEvent) (results : List (Result (List HubOutput) HubFault)) → Runs policy base entries state events results next → length events ≡ length results
+  runs_lengths state [] results (none, same) = ap length (sym none)
+  runs_lengths state (event ∷ events) results (first, mid, rest, split, hears, runs) = omega (arith, runs_lengths mid events rest runs, ap length split)
 
   -- the text of results by which events are answered
-  pub are_results : (hall : Hall) (events : List Seen) (results : List (Result (List Deed) HubFault)) (r : Result (String Global) NoMemory) → Runs policy base entries hall events results next
-      → IfOk r (λ t. string_bytes t ≡ results_text events results) → IfOk r (λ t. AreResultsOf policy base entries hall events (string_bytes t))
-  are_results hall events results (Ok t) runs is = record { results = results; next = next; runs = runs; text_is = is }
-  are_results hall events results (Err e) runs is = tt
+  pub are_results : (state : HubState) (events : List HubEvent) (results : List (Result (List HubOutput) HubFault)) (r : Result (String Global) NoMemory) → Runs policy base entries state events results next
+      → IfOk r (λ t. string_bytes t ≡ results_text events results) → IfOk r (λ t. AreResultsOf policy base entries state events (string_bytes t))
+  are_results state events results (Ok t) runs is = record { results = results; next = next; runs = runs; text_is = is }
+  are_results state events results (Err e) runs is = tt

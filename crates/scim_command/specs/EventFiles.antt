@@ -6,7 +6,7 @@ use Rattle.std.specs.Str.Parse.{IsNumeral, digits_value}
 use Rattle.hex.specs.Hex.{decode_of}
 use Rattle.scim_text.specs.Moments.{moment_of}
 use Rattle.scim_cell.specs.Ids.{IsId, id_text}
-use Rattle.scim_hub.specs.Events.{Happened, joining, sending, leaving, Seen}
+use Rattle.scim_hub.specs.Events.{HubEventKind, joining, sending, leaving, HubEvent}
 
 -- whether a byte is a space
 abbrev pub is_space : ℕ → Bool
@@ -32,7 +32,7 @@ pub record IsHexText (text bytes : List ℕ) : Type 0 where
   pub any : bytes ≢ []
 
 -- the name and the text after it write an occurrence on connection n: `joined N`, `piece N HEX` or `left N`
-abbrev pub Tells : List ℕ → List ℕ → ℕ → Happened → Type 0
+abbrev pub Tells : List ℕ → List ℕ → ℕ → HubEventKind → Type 0
 Tells name rest n joining = (name ≡ codes "joined") × IsNumberText rest n
 Tells name rest n (sending bytes) = (name ≡ codes "piece") × IsNumberText (word rest) n × IsHexText (behind rest) bytes
 Tells name rest n leaving = (name ≡ codes "left") × IsNumberText rest n
@@ -47,18 +47,18 @@ pub record IsTextOfId (text id : List ℕ) : Type 0 where
   pub text_is : text ≡ id_text id
 
 -- the line writes an event: its time, its first id, and what occurred, with one space between two words
-pub record IsEventLine (line : List ℕ) (event : Seen) : Type 0 where
+pub record IsEventLine (line : List ℕ) (event : HubEvent) : Type 0 where
   pub moment : IsMomentText (word line) event.stamp.moment
   pub first : IsTextOfId (word (behind line)) event.stamp.first
-  pub happened : Tells (word (behind (behind line))) (behind (behind (behind line))) event.connection event.happened
+  pub kind : Tells (word (behind (behind line))) (behind (behind (behind line))) event.connection event.kind
 
 -- each line writes one of the events, in order
-abbrev pub AreEventLines : List (List ℕ) → List Seen → Type 0
+abbrev pub AreEventLines : List (List ℕ) → List HubEvent → Type 0
 AreEventLines [] events = events ≡ []
-AreEventLines (line ∷ ls) events = (event : Seen) × (rest : List Seen) × (events ≡ event ∷ rest) × IsEventLine line event × AreEventLines ls rest
+AreEventLines (line ∷ ls) events = (event : HubEvent) × (rest : List HubEvent) × (events ≡ event ∷ rest) × IsEventLine line event × AreEventLines ls rest
 
 -- the text is a file of these events
-abbrev pub IsEventFile : List ℕ → List Seen → Type 0
+abbrev pub IsEventFile : List ℕ → List HubEvent → Type 0
 IsEventFile text events = AreEventLines (lines text) events
 
 -- the line with this number, from 1, is the first that writes no event
@@ -68,6 +68,6 @@ pub record IsFaultyAt (ls : List (List ℕ)) (n : ℕ) : Type 0 where
   pub after : List (List ℕ)
   pub split : ls ≡ before ++ line ∷ after
   pub number : n ≡ length before + 1
-  pub events : List Seen
+  pub events : List HubEvent
   pub told : AreEventLines before events
-  pub faulty : (event : Seen) → ¬ (IsEventLine line event)
+  pub faulty : (event : HubEvent) → ¬ (IsEventLine line event)

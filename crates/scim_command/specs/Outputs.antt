@@ -4,10 +4,10 @@ use Rattle.std.specs.List.{flat_map}
 use Rattle.hex.specs.Hex.{encode_lower}
 use Rattle.scim_hub.specs.declared.events.HubFault.{HubFault}
 use Rattle.scim_hub.specs.declared.events.HubFault.TheVariants.{AlreadyJoined, Unknown, Closed, NoMemory}
-use Rattle.scim_hub.specs.Events.{Deed, writing, shutting, Seen}
+use Rattle.scim_hub.specs.Events.{HubOutput, writing, shutting, HubEvent}
 
 -- the line of an output: a text that is written to a connection, in hex, or a connection that is shut
-abbrev pub deed_line : Deed → List ℕ
+abbrev pub deed_line : HubOutput → List ℕ
 deed_line (writing n text) = codes "write " ++ decimal n ++ codes " " ++ encode_lower text ++ codes "\n"
 deed_line (shutting n) = codes "close " ++ decimal n ++ codes "\n"
 
@@ -19,11 +19,11 @@ fault_words Closed = codes "closed"
 fault_words NoMemory = codes "out of memory"
 
 -- the lines for the result of an event of connection n: its outputs, or its fault
-abbrev pub result_lines : ℕ → Result (List Deed) HubFault → List ℕ
-result_lines n (Ok deeds) = flat_map deed_line deeds
+abbrev pub result_lines : ℕ → Result (List HubOutput) HubFault → List ℕ
+result_lines n (Ok hub_outputs) = flat_map deed_line hub_outputs
 result_lines n (Err fault) = codes "fault " ++ decimal n ++ codes " " ++ fault_words fault ++ codes "\n"
 
 -- the lines for the results of events, in order
-abbrev pub results_text : List Seen → List (Result (List Deed) HubFault) → List ℕ
+abbrev pub results_text : List HubEvent → List (Result (List HubOutput) HubFault) → List ℕ
 results_text (event ∷ events) (result ∷ results) = result_lines event.connection result ++ results_text events results
 results_text _ _ = []

@@ -6,18 +6,18 @@ use Rattle.scim_policy_file.specs.File.{policy_of}
 use Rattle.scim_shelf.specs.Stores.{Store}
 use Rattle.scim_token.specs.TokenFile.{Entry, entries_from}
 use Rattle.scim_hub.specs.declared.events.HubFault.{HubFault}
-use Rattle.scim_hub.specs.Events.{Seen, Deed, Hall, none_joined, Runs}
+use Rattle.scim_hub.specs.Events.{HubEvent, HubOutput, HubState, none_joined, Runs}
 use Rattle.scim_command.specs.Once.{IsStoreOf}
 use Rattle.scim_command.specs.declared.replays.Recording.{Recording}
 use Rattle.scim_command.specs.EventFiles.{IsEventFile}
 use Rattle.scim_command.specs.Outputs.{results_text}
 
-module _ (policy : List Rule) (base : List ℕ) (entries : List Entry) (hall : Hall) where
+module _ (policy : List Rule) (base : List ℕ) (entries : List Entry) (state : HubState) where
   -- the text is the lines for the results of these events, one after another, from the hub's state on
-  pub record AreResultsOf (events : List Seen) (text : List ℕ) : Type 0 where
-    pub results : List (Result (List Deed) HubFault)
-    pub next : Hall
-    pub runs : Runs policy base entries hall events results next
+  pub record AreResultsOf (events : List HubEvent) (text : List ℕ) : Type 0 where
+    pub results : List (Result (List HubOutput) HubFault)
+    pub next : HubState
+    pub runs : Runs policy base entries state events results next
     pub text_is : text ≡ results_text events results
 
 -- the text is the lines for the results of the events file, by the policy, the resources and the tokens of
@@ -29,6 +29,6 @@ pub record Replays (r : Recording) (text : List ℕ) : Type 0 where
   pub holds : IsStoreOf r.base.now r.users.now store
   pub entries : List Entry
   pub knows : entries_from 1 [] (lines r.tokens.now) ≡ Ok entries
-  pub events : List Seen
+  pub events : List HubEvent
   pub tells : IsEventFile r.events.now events
   pub answers : AreResultsOf policy r.base.now entries (none_joined store) events text

@@ -22,8 +22,11 @@ pub(crate) fn reply_text(
     arrival: &Arrival<'_>,
     message: &Message,
 ) -> Result<String, NoMemory>
-    ensures { (store : Store) → ⟦<MemoryShelf as Shelf>⟧.stands service.old.shelf store → IsStore service.old.base store
-        → IfOk result (λ t. IsReplyTo service.old.policy service.old.base arrival.now store message.now (string_bytes t)) }
+    ensures { (store : Store) → ⟦<MemoryShelf as Shelf>⟧.stands service.old.shelf store
+        → IsStore service.old.base store
+        → IfOk result (λ t.
+        IsReplyTo service.old.policy service.old.base arrival.now store message.now
+        (string_bytes t)) }
 {
     let answer = answer(alloc, routes, service, arrival, message);
     answer.text(alloc, message.close)

@@ -34,8 +34,10 @@ pub fn check<W: Write>(
         × Appends (W.contents writer.old) (W.contents writer.new) (spec.check_text verbose rules)) }
     ensures policy { (rule : ℕ) (cause : Cause) → result ≡ Err (RunFault.Policy rule cause)
         → policy_of policy.now ≡ Err (record { rule = rule; cause = cause }) }
-    ensures output { result ≡ Err RunFault.Output → (rules : List Rule) × (policy_of policy.now ≡ Ok rules)
-        × AppendsFront (W.contents writer.old) (W.contents writer.new) (spec.check_text verbose rules) }
+    ensures output { result ≡ Err RunFault.Output → (rules : List Rule)
+        × (policy_of policy.now ≡ Ok rules)
+        × AppendsFront (W.contents writer.old) (W.contents writer.new)
+        (spec.check_text verbose rules) }
     ensures silent { IfErr result (λ f. f ≢ RunFault.Output → writer.new ≡ writer.old) }
     ensures faults { IfErr result spec.IsCheckFault }
 {

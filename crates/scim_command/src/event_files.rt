@@ -3,10 +3,10 @@ ghost use Rattle.std.specs.Prelude.{IfOk, map};
 ghost use Rattle.std.specs.Str.Lines.{lines};
 ghost use Rattle.scim_text.specs.Failures.{IfFault};
 ghost use Rattle.scim_command.specs.EventFiles.{IsEventFile, IsFaultyAt, AreEventLines};
-ghost use Rattle.scim_hub.specs.Halls.{recorded_of};
+ghost use Rattle.scim_hub.specs.HubStates.{owned_event_of};
 
 use crate::event_lines::read_line;
-use scim_hub::Recorded;
+use scim_hub::OwnedEvent;
 use scim_text::{Failed, push};
 use std::alloc::Global;
 use thiserror::Error;
@@ -27,8 +27,9 @@ pub struct FaultyLine(pub usize);
 /// of a piece, at least one, in hex digits of either case.
 ///
 /// Fails with the first invalid line.
-pub fn read_events(alloc: Global, text: &str) -> Result<Vec<Recorded>, Failed<FaultyLine>>
-    ensures events { IfOk result (λ events. IsEventFile text.now (map recorded_of events.items)) }
+pub fn read_events(alloc: Global, text: &str) -> Result<Vec<OwnedEvent>, Failed<FaultyLine>>
+    ensures events { IfOk result (λ events.
+        IsEventFile text.now (map owned_event_of events.items)) }
     ensures faulty { IfFault result (λ fault. IsFaultyAt (lines text.now) fault.0) }
 {
     let lines = text.lines().collect::<Vec<&str>>(alloc)?;
@@ -36,8 +37,9 @@ pub fn read_events(alloc: Global, text: &str) -> Result<Vec<Recorded>, Failed<Fa
 }
 
 /// Reads the events of the lines. Fails with the first invalid line.
-fn events_of_lines(alloc: Global, lines: &[&str]) -> Result<Vec<Recorded>, Failed<FaultyLine>>
-    ensures events { IfOk result (λ events. AreEventLines (map (λ l. l.now) lines.now) (map recorded_of events.items)) }
+fn events_of_lines(alloc: Global, lines: &[&str]) -> Result<Vec<OwnedEvent>, Failed<FaultyLine>>
+    ensures events { IfOk result (λ events.
+        AreEventLines (map (λ l. l.now) lines.now) (map owned_event_of events.items)) }
     ensures faulty { IfFault result (λ fault. IsFaultyAt (map (λ l. l.now) lines.now) fault.0) }
 {
     let mut events = Vec::new(alloc);

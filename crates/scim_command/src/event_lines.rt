@@ -2,20 +2,20 @@
 ghost use Rattle.std.specs.Prelude.{◌≡◌, IfOk, codes};
 ghost use Rattle.scim_command.specs.EventFiles as spec;
 ghost use Rattle.scim_command.specs.EventFiles.{IsNumberText, IsHexText, IsEventLine};
-ghost use Rattle.scim_hub.specs.Halls.{kept_happened, recorded_of};
-ghost use Rattle.scim_command.specs.code.Findings.{Finds, IsStampText, IsToldBy, IsAlone, happening_of};
+ghost use Rattle.scim_hub.specs.HubStates.{owned_event_kind_of, owned_event_of};
+ghost use Rattle.scim_command.specs.code.Findings.{Finds, IsStampText, IsToldBy, IsAlone, told_event_of};
 
 use hex::FromHexError;
 use scim_cell::Id;
-use scim_hub::{Happened, Recorded, Stamp};
+use scim_hub::{OwnedEvent, OwnedEventKind, Stamp};
 use scim_text::{NoMemory, read_printed_moment};
 use std::alloc::Global;
 
 /// What occurred on which connection.
 #[derive(Drop)]
-struct Change {
+struct ToldEvent {
     connection: u64,
-    happened: Happened,
+    kind: OwnedEventKind,
 }
 
 /// Splits a text at its first space; all of it and the empty text if there is no space.
@@ -68,50 +68,47 @@ fn stamp_in(alloc: Global, moment: &str, first: &str) -> Result<Option<Stamp>, N
 }
 
 /// Parses the words after `piece`: a number, and the piece in hex digits. `None` if one of them is invalid.
-fn piece_in(alloc: Global, text: &str) -> Result<Option<Change>, NoMemory>
-    ensures { IfOk result (Finds happening_of (IsToldBy (codes "piece") text.now)) }
+fn piece_in(alloc: Global, text: &str) -> Result<Option<ToldEvent>, NoMemory>
+    ensures { IfOk result (Finds told_event_of (IsToldBy (codes "piece") text.now)) }
 {
     let (number, digits) = cut(text);
     let Some(connection) = number_in(number) else {
         return Ok(None);
     };
     match bytes_in(alloc, digits)? {
-        Some(bytes) => Ok(Some(Change {
+        Some(bytes) => Ok(Some(ToldEvent {
             connection,
-            happened: Happened::Piece(bytes),
+            kind: OwnedEventKind::Piece(bytes),
         })),
         None => Ok(None),
     }
 }
 
 /// Returns the occurrence on the connection with the number in `text`; `None` if `text` isn't a number.
-fn change_of(text: &str, happened: Happened) -> Option<Change>
-    ensures { Finds happening_of (IsAlone (kept_happened happened) text.now) result }
+fn told_event(text: &str, kind: OwnedEventKind) -> Option<ToldEvent>
+    ensures { Finds told_event_of (IsAlone (owned_event_kind_of kind) text.now) result }
 {
     match number_in(text) {
-        Some(connection) => Some(Change {
-            connection,
-            happened,
-        }),
+        Some(connection) => Some(ToldEvent { connection, kind }),
         None => None,
     }
 }
 
 /// Parses the name of an occurrence and the text after it; `None` if they are invalid.
-fn change_in(alloc: Global, name: &str, text: &str) -> Result<Option<Change>, NoMemory>
-    ensures { IfOk result (Finds happening_of (IsToldBy name.now text.now)) }
+fn told_event_in(alloc: Global, name: &str, text: &str) -> Result<Option<ToldEvent>, NoMemory>
+    ensures { IfOk result (Finds told_event_of (IsToldBy name.now text.now)) }
 {
     match name {
-        "joined" => Ok(change_of(text, Happened::Joined)),
+        "joined" => Ok(told_event(text, OwnedEventKind::Joined)),
         "piece" => piece_in(alloc, text),
-        "left" => Ok(change_of(text, Happened::Left)),
+        "left" => Ok(told_event(text, OwnedEventKind::Left)),
         _ => Ok(None),
     }
 }
 
 /// Parses a line of an events file; `None` if it is invalid.
-pub(crate) fn read_line(alloc: Global, line: &str) -> Result<Option<Recorded>, NoMemory>
-    ensures { IfOk result (Finds recorded_of (IsEventLine line.now)) }
+pub(crate) fn read_line(alloc: Global, line: &str) -> Result<Option<OwnedEvent>, NoMemory>
+    ensures { IfOk result (Finds owned_event_of (IsEventLine line.now)) }
 {
     let (moment, line) = cut(line);
     let (first, line) = cut(line);
@@ -119,16 +116,11 @@ pub(crate) fn read_line(alloc: Global, line: &str) -> Result<Option<Recorded>, N
     let Some(stamp) = stamp_in(alloc, moment, first)? else {
         return Ok(None);
     };
-    match change_in(alloc, name, line)? {
-        Some(
-            Change {
-                connection,
-                happened,
-            },
-        ) => Ok(Some(Recorded {
+    match told_event_in(alloc, name, line)? {
+        Some(ToldEvent { connection, kind }) => Ok(Some(OwnedEvent {
             connection,
             stamp,
-            happened,
+            kind,
         })),
         None => Ok(None),
     }

@@ -43,8 +43,10 @@ pub(crate) fn read_first<R: Read>(
     alloc: Global,
     reader: &mut R,
 ) -> Result<Result<Message, Refusal>, Failed<InputFault>>
-    ensures first { IfOk result (λ first. IfSome (R.remaining reader.old) (λ input. OpensWith input first)) }
-    ensures ended { result ≡ Err (Failed.Because InputFault.Ended) → IfSome (R.remaining reader.old) IsUnended }
+    ensures first { IfOk result (λ first.
+        IfSome (R.remaining reader.old) (λ input. OpensWith input first)) }
+    ensures ended { result ≡ Err (Failed.Because InputFault.Ended)
+        → IfSome (R.remaining reader.old) IsUnended }
 {
     let mut wire = Wire::new(alloc);
     first_through(alloc, &mut wire, reader)
@@ -58,8 +60,10 @@ fn first_through<R: Read>(
     reader: &mut R,
 ) -> Result<Result<Message, Refusal>, Failed<InputFault>>
     requires { StandsFor wire.old [] [] }
-    ensures first { IfOk result (λ first. IfSome (R.remaining reader.old) (λ input. OpensWith input first)) }
-    ensures ended { result ≡ Err (Failed.Because InputFault.Ended) → IfSome (R.remaining reader.old) IsUnended }
+    ensures first { IfOk result (λ first.
+        IfSome (R.remaining reader.old) (λ input. OpensWith input first)) }
+    ensures ended { result ≡ Err (Failed.Because InputFault.Ended)
+        → IfSome (R.remaining reader.old) IsUnended }
 {
     let mut block = [0; 8192];
     for _ in 0..u64::MAX {

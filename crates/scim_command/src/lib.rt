@@ -3,6 +3,7 @@
 #![tactic(auto)]
 
 mod answers;
+mod borrowed_events;
 mod checks;
 mod command_faults;
 mod command_line;
@@ -15,7 +16,6 @@ mod files;
 mod inputs;
 mod options;
 mod outputs;
-mod recorded;
 mod replay_options;
 mod replaying;
 mod replays;
@@ -26,6 +26,7 @@ mod services;
 mod token_files;
 mod writing;
 
+pub use borrowed_events::events_of;
 pub use checks::check;
 pub use command_faults::CommandFault;
 pub use command_line::{CommandName, DEFAULT_BASE, command};
@@ -36,7 +37,6 @@ pub use faults::{DatabaseFault, RunFault};
 pub use files::{FileKind, find_file, policy_at, read_file};
 pub use options::{CheckOptions, OnceOptions};
 pub use outputs::results_text;
-pub use recorded::events_of;
 pub use replay_options::ReplayOptions;
 pub use replaying::{replay_over_files, tokens_at};
 pub use replays::{Recording, replay};

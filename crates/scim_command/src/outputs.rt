@@ -1,7 +1,7 @@
 //! Prints the results of events as lines.
 ghost use Rattle.std.specs.Prelude.{◌≡◌, ◌++◌, IfOk, OnOk, map, length, string_bytes};
 ghost use Rattle.std.specs.List.{flat_map};
-ghost use Rattle.scim_hub.specs.Halls.{deed_of, done, seen_of};
+ghost use Rattle.scim_hub.specs.HubStates.{output_of, done, event_of};
 ghost use Rattle.scim_command.specs.Outputs as spec;
 
 use scim_hub::{Event, HubFault, Output};
@@ -22,7 +22,7 @@ fn fault_words(fault: HubFault) -> &'static str
 
 /// Returns the line of an output.
 fn output_line(alloc: Global, output: &Output) -> Result<String, NoMemory>
-    ensures { IfOk result (λ line. string_bytes line ≡ spec.deed_line (deed_of output.now)) }
+    ensures { IfOk result (λ line. string_bytes line ≡ spec.deed_line (output_of output.now)) }
 {
     match output {
         Output::Write(connection, text) => {
@@ -35,7 +35,8 @@ fn output_line(alloc: Global, output: &Output) -> Result<String, NoMemory>
 
 /// Returns the lines of outputs, in order.
 fn output_lines(alloc: Global, outputs: &[Output]) -> Result<String, NoMemory>
-    ensures { IfOk result (λ text. string_bytes text ≡ flat_map spec.deed_line (map deed_of outputs.now)) }
+    ensures { IfOk result (λ text. string_bytes text
+        ≡ flat_map spec.deed_line (map output_of outputs.now)) }
 {
     let mut text = String::new(alloc);
     for output in outputs {
@@ -51,7 +52,8 @@ fn result_lines(
     connection: u64,
     answer: &Result<Vec<Output>, HubFault>,
 ) -> Result<String, NoMemory>
-    ensures { IfOk result (λ text. string_bytes text ≡ spec.result_lines connection (done answer.now)) }
+    ensures { IfOk result (λ text. string_bytes text
+        ≡ spec.result_lines connection (done answer.now)) }
 {
     match answer {
         Ok(outputs) => output_lines(alloc, outputs.as_slice()),
@@ -72,7 +74,9 @@ pub fn results_text(
     events: &[Event<'_>],
     results: &[Result<Vec<Output>, HubFault>],
 ) -> Result<String, NoMemory>
-    ensures { length events.now ≡ length results.now → IfOk result (λ text. string_bytes text ≡ spec.results_text (map seen_of events.now) (map done results.now)) }
+    ensures { length events.now ≡ length results.now
+        → IfOk result (λ text. string_bytes text
+        ≡ spec.results_text (map event_of events.now) (map done results.now)) }
 {
     let mut text = String::new(alloc);
     for index in 0..events.len().min(results.len()) {

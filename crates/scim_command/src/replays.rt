@@ -10,20 +10,20 @@ ghost use Rattle.scim_token.specs.Tokens.{Knows};
 ghost use Rattle.scim_token.specs.declared.faults.LineFault.{LineFault};
 ghost use Rattle.scim_wire.specs.Streams.{AppendsFront};
 ghost use Rattle.scim_command.specs.declared.faults.RunFault.{RunFault};
-ghost use Rattle.scim_hub.specs.Events.{Hall};
-ghost use Rattle.scim_hub.specs.Halls.{IsHall, recorded_of};
+ghost use Rattle.scim_hub.specs.Events.{HubState};
+ghost use Rattle.scim_hub.specs.HubStates.{IsHubState, owned_event_of};
 ghost use Rattle.scim_command.specs.EventFiles.{IsEventFile, IsFaultyAt};
 ghost use Rattle.scim_command.specs.Replays.{Replays, AreResultsOf};
 ghost use Rattle.scim_command.specs.code.ReplayExits.{IsHubOver, IsOfFiles, IsOfEvents, IsReplayFault};
 
+use crate::borrowed_events::events_of;
 use crate::event_files::{FaultyLine, read_events};
 use crate::faults::{DatabaseFault, RunFault};
 use crate::outputs::results_text;
-use crate::recorded::events_of;
 use crate::services::service_over;
 use crate::token_files::read_tokens;
 use crate::writing::write_or_fault;
-use scim_hub::{Hub, Recorded};
+use scim_hub::{Hub, OwnedEvent};
 use scim_policy_file::read_policy;
 use scim_route::Routes;
 use scim_shelf::{MemoryShelf, Shelf};
@@ -57,12 +57,19 @@ pub fn replay<W: Write>(
     recording: &Recording<'_>,
     writer: &mut W,
 ) -> Result<(), RunFault>
-    ensures told { OnOk result ((text : List ℕ) × Replays recording.now text × Appends (W.contents writer.old) (W.contents writer.new) text) }
-    ensures output { result ≡ Err RunFault.Output → (text : List ℕ) × Replays recording.now text × AppendsFront (W.contents writer.old) (W.contents writer.new) text }
-    ensures policy { (rule : ℕ) (cause : Cause) → result ≡ Err (RunFault.Policy rule cause) → policy_of recording.now.policy.now ≡ Err (record { rule = rule; cause = cause }) }
-    ensures users { (n : ℕ) → result ≡ Err (RunFault.Users n) → IsDamagedAt recording.now.base.now recording.now.users.now n }
-    ensures tokens { (n : ℕ) → result ≡ Err (RunFault.Tokens n) → (cause : LineFault) × (entries_from 1 [] (lines recording.now.tokens.now) ≡ Err (record { line = n; cause = cause })) }
-    ensures events { (n : ℕ) → result ≡ Err (RunFault.Events n) → IsFaultyAt (lines recording.now.events.now) n }
+    ensures told { OnOk result ((text : List ℕ) × Replays recording.now text
+        × Appends (W.contents writer.old) (W.contents writer.new) text) }
+    ensures output { result ≡ Err RunFault.Output → (text : List ℕ) × Replays recording.now text
+        × AppendsFront (W.contents writer.old) (W.contents writer.new) text }
+    ensures policy { (rule : ℕ) (cause : Cause) → result ≡ Err (RunFault.Policy rule cause)
+        → policy_of recording.now.policy.now ≡ Err (record { rule = rule; cause = cause }) }
+    ensures users { (n : ℕ) → result ≡ Err (RunFault.Users n)
+        → IsDamagedAt recording.now.base.now recording.now.users.now n }
+    ensures tokens { (n : ℕ) → result ≡ Err (RunFault.Tokens n) → (cause : LineFault)
+        × (entries_from 1 [] (lines recording.now.tokens.now)
+        ≡ Err (record { line = n; cause = cause })) }
+    ensures events { (n : ℕ) → result ≡ Err (RunFault.Events n)
+        → IsFaultyAt (lines recording.now.events.now) n }
     ensures silent { IfErr result (λ f. f ≢ RunFault.Output → writer.new ≡ writer.old) }
 {
     let text = replayed(alloc, recording)?;
@@ -72,14 +79,19 @@ pub fn replay<W: Write>(
 /// Returns the lines for the events. Errors: as [`replay`], except Output.
 fn replayed(alloc: Global, recording: &Recording<'_>) -> Result<String, RunFault>
     ensures told { IfOk result (λ text. Replays recording.now (string_bytes text)) }
-    ensures policy { (rule : ℕ) (cause : Cause) → result ≡ Err (RunFault.Policy rule cause) → policy_of recording.now.policy.now ≡ Err (record { rule = rule; cause = cause }) }
-    ensures users { (n : ℕ) → result ≡ Err (RunFault.Users n) → IsDamagedAt recording.now.base.now recording.now.users.now n }
-    ensures tokens { (n : ℕ) → result ≡ Err (RunFault.Tokens n) → (cause : LineFault) × (entries_from 1 [] (lines recording.now.tokens.now) ≡ Err (record { line = n; cause = cause })) }
-    ensures events { (n : ℕ) → result ≡ Err (RunFault.Events n) → IsFaultyAt (lines recording.now.events.now) n }
+    ensures policy { (rule : ℕ) (cause : Cause) → result ≡ Err (RunFault.Policy rule cause)
+        → policy_of recording.now.policy.now ≡ Err (record { rule = rule; cause = cause }) }
+    ensures users { (n : ℕ) → result ≡ Err (RunFault.Users n)
+        → IsDamagedAt recording.now.base.now recording.now.users.now n }
+    ensures tokens { (n : ℕ) → result ≡ Err (RunFault.Tokens n) → (cause : LineFault)
+        × (entries_from 1 [] (lines recording.now.tokens.now)
+        ≡ Err (record { line = n; cause = cause })) }
+    ensures events { (n : ℕ) → result ≡ Err (RunFault.Events n)
+        → IsFaultyAt (lines recording.now.events.now) n }
     ensures fault { IfErr result IsReplayFault }
 {
     let mut hub = hub_over(alloc, recording)?;
-    let events = recorded_in(alloc, recording.events)?;
+    let events = owned_events_in(alloc, recording.events)?;
     Ok(answered(alloc, &mut hub, events.as_slice())?)
 }
 
@@ -88,9 +100,13 @@ fn replayed(alloc: Global, recording: &Recording<'_>) -> Result<String, RunFault
 /// The fault of the first invalid file, in this order: Policy, Tokens, Users.
 fn hub_over(alloc: Global, recording: &Recording<'_>) -> Result<Hub<MemoryShelf>, RunFault>
     ensures hub { IfOk result (IsHubOver ⟦<MemoryShelf as Shelf>⟧.stands recording.now) }
-    ensures policy { (rule : ℕ) (cause : Cause) → result ≡ Err (RunFault.Policy rule cause) → policy_of recording.now.policy.now ≡ Err (record { rule = rule; cause = cause }) }
-    ensures users { (n : ℕ) → result ≡ Err (RunFault.Users n) → IsDamagedAt recording.now.base.now recording.now.users.now n }
-    ensures tokens { (n : ℕ) → result ≡ Err (RunFault.Tokens n) → (cause : LineFault) × (entries_from 1 [] (lines recording.now.tokens.now) ≡ Err (record { line = n; cause = cause })) }
+    ensures policy { (rule : ℕ) (cause : Cause) → result ≡ Err (RunFault.Policy rule cause)
+        → policy_of recording.now.policy.now ≡ Err (record { rule = rule; cause = cause }) }
+    ensures users { (n : ℕ) → result ≡ Err (RunFault.Users n)
+        → IsDamagedAt recording.now.base.now recording.now.users.now n }
+    ensures tokens { (n : ℕ) → result ≡ Err (RunFault.Tokens n) → (cause : LineFault)
+        × (entries_from 1 [] (lines recording.now.tokens.now)
+        ≡ Err (record { line = n; cause = cause })) }
     ensures fault { IfErr result IsOfFiles }
 {
     let policy = read_policy(alloc, recording.policy)?;
@@ -101,8 +117,9 @@ fn hub_over(alloc: Global, recording: &Recording<'_>) -> Result<Hub<MemoryShelf>
 }
 
 /// Returns the events of a file. Events if a line is invalid.
-fn recorded_in(alloc: Global, text: &str) -> Result<Vec<Recorded>, RunFault>
-    ensures events { IfOk result (λ events. IsEventFile text.now (map recorded_of events.items)) }
+fn owned_events_in(alloc: Global, text: &str) -> Result<Vec<OwnedEvent>, RunFault>
+    ensures events { IfOk result (λ events.
+        IsEventFile text.now (map owned_event_of events.items)) }
     ensures faulty { (n : ℕ) → result ≡ Err (RunFault.Events n) → IsFaultyAt (lines text.now) n }
     ensures fault { IfErr result IsOfEvents }
 {
@@ -117,12 +134,15 @@ fn recorded_in(alloc: Global, text: &str) -> Result<Vec<Recorded>, RunFault>
 fn answered(
     alloc: Global,
     hub: &mut Hub<MemoryShelf>,
-    recorded: &[Recorded],
+    owned: &[OwnedEvent],
 ) -> Result<String, NoMemory>
-    ensures { (entries : List Entry) (hall : Hall) → Knows entries hub.old.tokens → IsHall ⟦<MemoryShelf as Shelf>⟧.stands hub.old hall
-        → IfOk result (λ text. AreResultsOf hub.old.service.policy hub.old.service.base entries hall (map recorded_of recorded.now) (string_bytes text)) }
+    ensures { (entries : List Entry) (state : HubState) → Knows entries hub.old.tokens
+        → IsHubState ⟦<MemoryShelf as Shelf>⟧.stands hub.old state
+        → IfOk result (λ text.
+        AreResultsOf hub.old.service.policy hub.old.service.base entries state
+        (map owned_event_of owned.now) (string_bytes text)) }
 {
-    let events = events_of(alloc, recorded)?;
+    let events = events_of(alloc, owned)?;
     let results = hub.run(alloc, events.as_slice())?;
     results_text(alloc, events.as_slice(), results.as_slice())
 }

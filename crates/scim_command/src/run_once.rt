@@ -51,7 +51,8 @@ pub struct Setting<'a> {
 impl<'a> Setting<'a> {
     /// Returns a setting with the first moment, 1970-01-01T00:00:00Z, and the nil id.
     pub fn new(policy: &'a str, users: &'a str, client: &'a str, base: &'a str) -> Setting<'a>
-        ensures texts { (result.policy.now ≡ policy.now) × (result.users.now ≡ users.now) × (result.client.now ≡ client.now) × (result.base.now ≡ base.now) }
+        ensures texts { (result.policy.now ≡ policy.now) × (result.users.now ≡ users.now)
+            × (result.client.now ≡ client.now) × (result.base.now ≡ base.now) }
         ensures at { result.at ≡ 0 }
         ensures first { result.first ≡ zero_bytes }
     {
@@ -100,7 +101,8 @@ pub fn once<R: Read, W: Write>(
     ensures policy { (rule : ℕ) (cause : Cause) → result ≡ Err (RunFault.Policy rule cause)
         → policy_of setting.now.policy.now ≡ Err (record { rule = rule; cause = cause }) }
     ensures users { (n : ℕ) → result ≡ Err (RunFault.Users n)
-        → IsOk (policy_of setting.now.policy.now) × IsDamagedAt setting.now.base.now setting.now.users.now n }
+        → IsOk (policy_of setting.now.policy.now)
+        × IsDamagedAt setting.now.base.now setting.now.users.now n }
     ensures ended { result ≡ Err RunFault.InputEnded
         → AreSound setting.now
         × IfSome (R.remaining reader.old) IsUnended }
@@ -137,7 +139,8 @@ fn service_by(alloc: Global, setting: &Setting<'_>) -> Result<Service<MemoryShel
     ensures policy { (rule : ℕ) (cause : Cause) → result ≡ Err (RunFault.Policy rule cause)
         → policy_of setting.now.policy.now ≡ Err (record { rule = rule; cause = cause }) }
     ensures users { (n : ℕ) → result ≡ Err (RunFault.Users n)
-        → IsOk (policy_of setting.now.policy.now) × IsDamagedAt setting.now.base.now setting.now.users.now n }
+        → IsOk (policy_of setting.now.policy.now)
+        × IsDamagedAt setting.now.base.now setting.now.users.now n }
     ensures fault { IfErr result IsOfFiles }
 {
     let policy = read_policy(alloc, setting.policy)?;
@@ -154,9 +157,11 @@ fn reply_to<R: Read>(
     arrival: &Arrival<'_>,
     reader: &mut R,
 ) -> Result<Result<String, NoMemory>, RunFault>
-    ensures answer { (store : Store) → ⟦<MemoryShelf as Shelf>⟧.stands service.old.shelf store → IsStore service.old.base store
+    ensures answer { (store : Store) → ⟦<MemoryShelf as Shelf>⟧.stands service.old.shelf store
+        → IsStore service.old.base store
         → IfOk result (λ reply. IfSome (R.remaining reader.old) (λ input.
-        IsAnswer service.old.policy service.old.base arrival.now store input (text_or_store reply))) }
+        IsAnswer service.old.policy service.old.base arrival.now store input
+        (text_or_store reply))) }
     ensures ended { result ≡ Err RunFault.InputEnded → IfSome (R.remaining reader.old) IsUnended }
     ensures fault { IfErr result IsOfInput }
 {
@@ -178,9 +183,11 @@ fn write_reply<W: Write>(
     writer: &mut W,
 ) -> Result<(), RunFault>
     ensures whole { store.now ≡ replies.refusal_text Refusal.Store false
-        → OnOk result (Appends (W.contents writer.old) (W.contents writer.new) (text_or_store reply)) }
+        → OnOk result (Appends (W.contents writer.old) (W.contents writer.new)
+        (text_or_store reply)) }
     ensures front { store.now ≡ replies.refusal_text Refusal.Store false
-        → OnErr result (AppendsFront (W.contents writer.old) (W.contents writer.new) (text_or_store reply)) }
+        → OnErr result (AppendsFront (W.contents writer.old) (W.contents writer.new)
+        (text_or_store reply)) }
     ensures fault { IfErr result (λ f. f ≡ RunFault.Output) }
 {
     match reply {

@@ -16,8 +16,10 @@ use std::alloc::Global;
 ///
 /// Tokens with the first invalid line.
 pub fn read_tokens(alloc: Global, text: &str) -> Result<Tokens, RunFault>
-    ensures tokens { IfOk result (λ tokens. (entries : List Entry) × (entries_from 1 [] (lines text.now) ≡ Ok entries) × Knows entries tokens) }
-    ensures faulty { (n : ℕ) → result ≡ Err (RunFault.Tokens n) → (cause : LineFault) × (entries_from 1 [] (lines text.now) ≡ Err (record { line = n; cause = cause })) }
+    ensures tokens { IfOk result (λ tokens. (entries : List Entry)
+        × (entries_from 1 [] (lines text.now) ≡ Ok entries) × Knows entries tokens) }
+    ensures faulty { (n : ℕ) → result ≡ Err (RunFault.Tokens n) → (cause : LineFault)
+        × (entries_from 1 [] (lines text.now) ≡ Err (record { line = n; cause = cause })) }
     ensures fault { IfErr result IsOfTokens }
 {
     match Tokens::read(alloc, text) {

@@ -30,13 +30,19 @@ pub fn print_audit<S: Alter, W: Write>(
     count: u64,
     writer: &mut W,
 ) -> Result<(), RunFault>
-    ensures told { OnOk result ((store : Store) → ⟦<SqlShelf<S> as Shelf>⟧.stands shelf.old store → ⟦<SqlShelf<S> as Shelf>⟧.is_honest shelf.new
-        → Appends (W.contents writer.old) (W.contents writer.new) (spec.audit_text from count store.audit)) }
-    ensures output { result ≡ Err RunFault.Output → (store : Store) → ⟦<SqlShelf<S> as Shelf>⟧.stands shelf.old store → ⟦<SqlShelf<S> as Shelf>⟧.is_honest shelf.new
-        → AppendsFront (W.contents writer.old) (W.contents writer.new) (spec.audit_text from count store.audit) }
+    ensures told { OnOk result ((store : Store) → ⟦<SqlShelf<S> as Shelf>⟧.stands shelf.old store
+        → ⟦<SqlShelf<S> as Shelf>⟧.is_honest shelf.new
+        → Appends (W.contents writer.old) (W.contents writer.new)
+        (spec.audit_text from count store.audit)) }
+    ensures output { result ≡ Err RunFault.Output → (store : Store)
+        → ⟦<SqlShelf<S> as Shelf>⟧.stands shelf.old store
+        → ⟦<SqlShelf<S> as Shelf>⟧.is_honest shelf.new
+        → AppendsFront (W.contents writer.old) (W.contents writer.new)
+        (spec.audit_text from count store.audit) }
     ensures silent { IfErr result (λ f. f ≢ RunFault.Output → writer.new ≡ writer.old) }
     ensures store { KeepsStore ⟦<SqlShelf<S> as Shelf>⟧.stands shelf.old shelf.new }
-    ensures honest { ⟦<SqlShelf<S> as Shelf>⟧.is_honest shelf.new → ⟦<SqlShelf<S> as Shelf>⟧.is_honest shelf.old }
+    ensures honest { ⟦<SqlShelf<S> as Shelf>⟧.is_honest shelf.new
+        → ⟦<SqlShelf<S> as Shelf>⟧.is_honest shelf.old }
     ensures faults { IfErr result IsDatabaseFault }
 {
     let text = audit_text(alloc, shelf, from, count)?;
@@ -52,9 +58,11 @@ fn audit_text<S: Alter>(
     from: u64,
     count: u64,
 ) -> Result<String, RunFault>
-    ensures text { IfOk result (Answers ⟦<SqlShelf<S> as Shelf>⟧.stands ⟦<SqlShelf<S> as Shelf>⟧.is_honest shelf.old shelf.new (λ store text. string_bytes text ≡ spec.audit_text from count store.audit)) }
+    ensures text { IfOk result (Answers ⟦<SqlShelf<S> as Shelf>⟧.stands ⟦<SqlShelf<S> as Shelf>⟧.is_honest shelf.old shelf.new (λ store text. string_bytes text
+        ≡ spec.audit_text from count store.audit)) }
     ensures store { KeepsStore ⟦<SqlShelf<S> as Shelf>⟧.stands shelf.old shelf.new }
-    ensures honest { ⟦<SqlShelf<S> as Shelf>⟧.is_honest shelf.new → ⟦<SqlShelf<S> as Shelf>⟧.is_honest shelf.old }
+    ensures honest { ⟦<SqlShelf<S> as Shelf>⟧.is_honest shelf.new
+        → ⟦<SqlShelf<S> as Shelf>⟧.is_honest shelf.old }
     ensures fault { IfErr result IsOfShelf }
 {
     let rows = shelf.audit_rows(alloc, from, count)?;
@@ -65,7 +73,8 @@ fn audit_text<S: Alter>(
 ///
 /// The only error is [`NoMemory`].
 fn audit_lines(alloc: Global, first: u64, rows: &[AuditRow]) -> Result<String, NoMemory>
-    ensures { first + length rows.now ≤ 2 ^ 64 → IfOk result (λ text. string_bytes text ≡ spec.audit_lines first rows.now) }
+    ensures { first + length rows.now ≤ 2 ^ 64
+        → IfOk result (λ text. string_bytes text ≡ spec.audit_lines first rows.now) }
 {
     let mut text = String::new(alloc);
     for (index, row) in rows.iter().enumerate() {

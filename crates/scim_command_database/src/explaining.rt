@@ -62,11 +62,15 @@ pub fn explain<H: Shelf, W: Write>(
 ) -> Result<(), RunFault>
     ensures told { OnOk result ((store : Store) → H.stands shelf.old store → H.is_honest shelf.new
         → (c : Content) × (find (is_at question.now.kind question.now.id) store.resources ≡ Some c)
-        × Appends (W.contents writer.old) (W.contents writer.new) (spec.told policy.now question.now c)) }
-    ensures output { result ≡ Err RunFault.Output → (store : Store) → H.stands shelf.old store → H.is_honest shelf.new
+        × Appends (W.contents writer.old) (W.contents writer.new)
+        (spec.told policy.now question.now c)) }
+    ensures output { result ≡ Err RunFault.Output → (store : Store) → H.stands shelf.old store
+        → H.is_honest shelf.new
         → (c : Content) × (find (is_at question.now.kind question.now.id) store.resources ≡ Some c)
-        × AppendsFront (W.contents writer.old) (W.contents writer.new) (spec.told policy.now question.now c) }
-    ensures absent { result ≡ Err RunFault.Absent → (store : Store) → H.stands shelf.old store → H.is_honest shelf.new
+        × AppendsFront (W.contents writer.old) (W.contents writer.new)
+        (spec.told policy.now question.now c) }
+    ensures absent { result ≡ Err RunFault.Absent → (store : Store) → H.stands shelf.old store
+        → H.is_honest shelf.new
         → find (is_at question.now.kind question.now.id) store.resources ≡ None }
     ensures silent { IfErr result (λ f. f ≢ RunFault.Output → writer.new ≡ writer.old) }
     ensures store { KeepsStore H.stands shelf.old shelf.new }
@@ -87,7 +91,8 @@ fn told(
     question: &Question<'_>,
     resource: &Resource,
 ) -> Result<String, NoMemory>
-    ensures { IfOk result (λ text. string_bytes text ≡ spec.told policy.now question.now resource.now) }
+    ensures { IfOk result (λ text. string_bytes text
+        ≡ spec.told policy.now question.now resource.now) }
 {
     match question.leaf {
         Some(leaf) => {

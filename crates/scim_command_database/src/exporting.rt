@@ -30,7 +30,8 @@ struct Documents {
 impl Documents {
     /// The beginning of a list. NoMemory where none was to be had.
     fn new(alloc: Global) -> Result<Documents, NoMemory>
-        ensures { IfOk result (λ new. (string_bytes new.text ≡ codes "[") × (new.separator.now ≡ codes "")) }
+        ensures { IfOk result (λ new. (string_bytes new.text ≡ codes "[")
+            × (new.separator.now ≡ codes "")) }
     {
         Ok(Documents {
             text: String::from_str(alloc, "[")?,
@@ -75,9 +76,12 @@ pub fn export<H: Shelf, W: Write>(
     writer: &mut W,
 ) -> Result<(), RunFault>
     ensures told { OnOk result ((store : Store) → H.stands shelf.old store → H.is_honest shelf.new
-        → Appends (W.contents writer.old) (W.contents writer.new) (spec.export_text store.resources)) }
-    ensures output { result ≡ Err RunFault.Output → (store : Store) → H.stands shelf.old store → H.is_honest shelf.new
-        → AppendsFront (W.contents writer.old) (W.contents writer.new) (spec.export_text store.resources) }
+        → Appends (W.contents writer.old) (W.contents writer.new)
+        (spec.export_text store.resources)) }
+    ensures output { result ≡ Err RunFault.Output → (store : Store) → H.stands shelf.old store
+        → H.is_honest shelf.new
+        → AppendsFront (W.contents writer.old) (W.contents writer.new)
+        (spec.export_text store.resources) }
     ensures silent { IfErr result (λ f. f ≢ RunFault.Output → writer.new ≡ writer.old) }
     ensures store { KeepsStore H.stands shelf.old shelf.new }
     ensures honest { H.is_honest shelf.new → H.is_honest shelf.old }
@@ -91,7 +95,8 @@ pub fn export<H: Shelf, W: Write>(
 ///
 /// Database, where it can't be used; NoMemory where none was to be had.
 fn export_text<H: Shelf>(alloc: Global, shelf: &mut H) -> Result<String, RunFault>
-    ensures text { IfOk result (Answers H.stands H.is_honest shelf.old shelf.new (λ store text. string_bytes text ≡ spec.export_text store.resources)) }
+    ensures text { IfOk result (Answers H.stands H.is_honest shelf.old shelf.new (λ store text.
+        string_bytes text ≡ spec.export_text store.resources)) }
     ensures store { KeepsStore H.stands shelf.old shelf.new }
     ensures honest { H.is_honest shelf.new → H.is_honest shelf.old }
     ensures fault { IfErr result IsOfShelf }

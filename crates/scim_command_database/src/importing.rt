@@ -35,12 +35,20 @@ pub fn import<S: Alter>(
 ) -> Result<(), RunFault>
     requires { connection.old.in_transaction ≡ false }
     ensures idle { connection.new.in_transaction ≡ false }
-    ensures kept { HasCleanDisk (state S.Store connection.new) → OnOk result ((resources : List Content) × (store : Store) × IsDocumentsText base.now users.now resources × IsNewStore resources store × HasStore base.now (state S.Store connection.new) store) }
-    ensures empty { HasCleanDisk (state S.Store connection.new) → OnOk result ((state S.Store connection.old).now.schema ≡ no_schema) }
+    ensures kept { HasCleanDisk (state S.Store connection.new)
+        → OnOk result ((resources : List Content) × (store : Store)
+        × IsDocumentsText base.now users.now resources × IsNewStore resources store
+        × HasStore base.now (state S.Store connection.new) store) }
+    ensures empty { HasCleanDisk (state S.Store connection.new)
+        → OnOk result ((state S.Store connection.old).now.schema ≡ no_schema) }
     ensures users { (n : ℕ) → result ≡ Err (RunFault.Users n) → IsDamagedAt base.now users.now n }
-    ensures not_empty { HasCleanDisk (state S.Store connection.new) → result ≡ Err (RunFault.Database DatabaseFault.NotEmpty) → (state S.Store connection.old).now.schema ≢ no_schema }
-    ensures undone { HasCleanDisk (state S.Store connection.new) → OnErr result (Rests (state S.Store connection.old) (state S.Store connection.new)) }
-    ensures crash { Survives (state S.Store connection.old) (state S.Store connection.new) (LeavesUsers base.now users.now (state S.Store connection.old)) }
+    ensures not_empty { HasCleanDisk (state S.Store connection.new)
+        → result ≡ Err (RunFault.Database DatabaseFault.NotEmpty)
+        → (state S.Store connection.old).now.schema ≢ no_schema }
+    ensures undone { HasCleanDisk (state S.Store connection.new)
+        → OnErr result (Rests (state S.Store connection.old) (state S.Store connection.new)) }
+    ensures crash { Survives (state S.Store connection.old) (state S.Store connection.new)
+        (LeavesUsers base.now users.now (state S.Store connection.old)) }
     ensures faults { IfErr result IsImportFault }
 {
     let resources = read_documents(alloc, base, users)?;

@@ -20,7 +20,8 @@ fn members_for(
     name: &str,
     characteristics: Characteristics,
 ) -> Result<Map<String, Value>, NoMemory>
-    ensures { IfOk result (λ map. members_view map.entries ≡ spec.members_for name.now characteristics None) }
+    ensures { IfOk result (λ map. members_view map.entries
+        ≡ spec.members_for name.now characteristics None) }
 {
     let mut map = Map::new(alloc);
     put_members(&mut map, alloc, name, characteristics)?;
@@ -37,7 +38,8 @@ fn put_members(
     characteristics: Characteristics,
 ) -> Result<(), NoMemory>
     requires { members_view map.old.entries ≡ no_members }
-    ensures { OnOk result (members_view map.new.entries ≡ spec.members_for name.now characteristics None) }
+    ensures { OnOk result (members_view map.new.entries
+        ≡ spec.members_for name.now characteristics None) }
 {
     let Characteristics {
         attribute_type,

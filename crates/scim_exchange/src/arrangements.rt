@@ -63,7 +63,8 @@ pub(crate) fn arranged(
     start_index: Option<i64>,
     count: Option<i64>,
 ) -> Result<Arrangement, Refusal>
-    ensures { result ≡ spec.arranged kind (option_copied sort_by.entry) (option_copied sort_order.entry) start_index count }
+    ensures { result ≡ spec.arranged kind (option_copied sort_by.entry)
+        (option_copied sort_order.entry) start_index count }
 {
     let descending = is_descending(sort_order)?;
     Ok(Arrangement {

@@ -46,7 +46,8 @@ fn wanted_by_query(
     kind: Kind,
     query: Option<&[u8]>,
 ) -> Result<Wanted, Failed<Refusal>>
-    ensures { UnlessMemory (Tells (Wants kind) (spec.lists_asked (option_copied query.entry))) result }
+    ensures { UnlessMemory (Tells (Wants kind) (spec.lists_asked (option_copied query.entry)))
+        result }
 {
     let parameters = Parameters::read(alloc, query)?;
     wanted_of(alloc, kind, &parameters)
@@ -56,7 +57,8 @@ fn wanted_by_query(
 ///
 /// Errors: as `search_by`.
 fn listed(alloc: Global, kind: Kind, query: Option<&[u8]>) -> Result<Query, Failed<Refusal>>
-    ensures { UnlessMemory (Tells (IsQuery kind) (sought kind (search_of kind (parameters_of (option_copied query.entry))))) result }
+    ensures { UnlessMemory (Tells (IsQuery kind)
+        (sought kind (search_of kind (parameters_of (option_copied query.entry))))) result }
 {
     let parameters = Parameters::read(alloc, query)?;
     search_by(alloc, kind, &parameters)
@@ -89,7 +91,8 @@ fn draft_of(
     kind: Kind,
     body: &[u8],
 ) -> Result<Draft, Failed<Refusal>>
-    ensures { UnlessMemory (Tells (λ due d. d ≡ due) (spec.draft_asked use_for kind body.now)) result }
+    ensures { UnlessMemory (Tells (λ due d. d ≡ due) (spec.draft_asked use_for kind body.now))
+        result }
 {
     match str::from_utf8(body) {
         Ok(text) => draft_in(alloc, use_for, kind, text),
@@ -106,7 +109,8 @@ fn creation(
     query: Option<&[u8]>,
     body: &[u8],
 ) -> Result<Ask, Failed<Refusal>>
-    ensures { UnlessMemory (Tells (IsAsk kind) (spec.asked Form.Create kind (option_copied query.entry) body.now)) result }
+    ensures { UnlessMemory (Tells (IsAsk kind)
+        (spec.asked Form.Create kind (option_copied query.entry) body.now)) result }
 {
     let draft = draft_of(alloc, UseFor::Creating, kind, body)?;
     Ok(Ask::Create(draft, wanted_by_query(alloc, kind, query)?))
@@ -121,7 +125,8 @@ fn replacement(
     query: Option<&[u8]>,
     body: &[u8],
 ) -> Result<Ask, Failed<Refusal>>
-    ensures { UnlessMemory (Tells (IsAsk kind) (spec.asked Form.Replace kind (option_copied query.entry) body.now)) result }
+    ensures { UnlessMemory (Tells (IsAsk kind)
+        (spec.asked Form.Replace kind (option_copied query.entry) body.now)) result }
 {
     let draft = draft_of(alloc, UseFor::Replacing, kind, body)?;
     Ok(Ask::Replace(draft, wanted_by_query(alloc, kind, query)?))
@@ -132,7 +137,8 @@ fn replacement(
 /// Syntax, Path and MessageValue for the faults Syntax, Path and Value of [`read_patch`].
 #[tactic(auto, unfolding(crate::specs::Asks::patch_in_text))]
 fn patch_in_text(alloc: Global, kind: Kind, text: &str) -> Result<Patch, Failed<Refusal>>
-    ensures { UnlessMemory (Tells (λ due p. patch_of p ≡ due) (spec.patch_in_text kind text.now)) result }
+    ensures { UnlessMemory (Tells (λ due p. patch_of p ≡ due) (spec.patch_in_text kind text.now))
+        result }
 {
     match read_patch(alloc, kind, text) {
         Ok(patch) => Ok(patch),
@@ -145,7 +151,8 @@ fn patch_in_text(alloc: Global, kind: Kind, text: &str) -> Result<Patch, Failed<
 
 /// Reads a patch from a body. Syntax also if the body isn't UTF-8.
 fn patch_by(alloc: Global, kind: Kind, body: &[u8]) -> Result<Patch, Failed<Refusal>>
-    ensures { UnlessMemory (Tells (λ due p. patch_of p ≡ due) (spec.patch_asked kind body.now)) result }
+    ensures { UnlessMemory (Tells (λ due p. patch_of p ≡ due) (spec.patch_asked kind body.now))
+        result }
 {
     match str::from_utf8(body) {
         Ok(text) => patch_in_text(alloc, kind, text),
@@ -162,7 +169,8 @@ fn change(
     query: Option<&[u8]>,
     body: &[u8],
 ) -> Result<Ask, Failed<Refusal>>
-    ensures { UnlessMemory (Tells (IsAsk kind) (spec.asked Form.Patch kind (option_copied query.entry) body.now)) result }
+    ensures { UnlessMemory (Tells (IsAsk kind)
+        (spec.asked Form.Patch kind (option_copied query.entry) body.now)) result }
 {
     let patch = patch_by(alloc, kind, body)?;
     Ok(Ask::Patch(patch, wanted_by_query(alloc, kind, query)?))

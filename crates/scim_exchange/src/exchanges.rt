@@ -89,14 +89,16 @@ fn found_in<'m>(
     routes: &Routes,
     message: &'m Message,
 ) -> Result<Found<'m>, Failed<Refusal>>
-    ensures { UnlessMemory (Finds (named message.now.method message.now.target) (query_of message.now.target)) result }
+    ensures { UnlessMemory (Finds (named message.now.method message.now.target)
+        (query_of message.now.target)) result }
 {
     routes.find(alloc, message.method.as_slice(), message.target.as_slice())
 }
 
 /// Answers a request for a discovery page: the page, its refusal, or `Refusal::Store` if memory runs out.
 fn page_answer(alloc: Global, page: Page, query: Option<&[u8]>) -> Answer
-    ensures { IsPageOr page (option_copied query.entry) result ⊎ (result ≡ Answer.Refused Refusal.Store) }
+    ensures { IsPageOr page (option_copied query.entry) result
+        ⊎ (result ≡ Answer.Refused Refusal.Store) }
 {
     match page_reply(alloc, page, query) {
         Ok(text) => Answer::Page(text),
@@ -115,10 +117,12 @@ fn served<S: Shelf>(
 ) -> Answer
     ensures policy { service.new.policy ≡ service.old.policy }
     ensures base { service.new.base ≡ service.old.base }
-    ensures served { (store : Store) → S.stands service.old.shelf store → S.is_honest service.new.shelf → IsStore service.old.base store
+    ensures served { (store : Store) → S.stands service.old.shelf store
+        → S.is_honest service.new.shelf → IsStore service.old.base store
         → (next : Store) × S.stands service.new.shelf next × IsStore service.old.base next
         × (IsServedTo (option_copied arrival.now.client) service.old.policy service.old.base
-        (IsCause (S.failures service.old.shelf) (S.failures service.new.shelf) store) arrival.now route.now message.now store result next
+        (IsCause (S.failures service.old.shelf) (S.failures service.new.shelf) store) arrival.now
+        route.now message.now store result next
         ⊎ IsTold (Answer.Refused Refusal.Store) store result next) }
     ensures honest { S.is_honest service.new.shelf → S.is_honest service.old.shelf }
     ensures grown { S.failures service.old.shelf ≤ S.failures service.new.shelf }
@@ -149,9 +153,11 @@ pub fn answer<S: Shelf>(
 ) -> Answer
     ensures policy { service.new.policy ≡ service.old.policy }
     ensures base { service.new.base ≡ service.old.base }
-    ensures exchanged { (store : Store) → S.stands service.old.shelf store → S.is_honest service.new.shelf → IsStore service.old.base store
+    ensures exchanged { (store : Store) → S.stands service.old.shelf store
+        → S.is_honest service.new.shelf → IsStore service.old.base store
         → (next : Store) × S.stands service.new.shelf next × IsStore service.old.base next
-        × Exchanged service.old.policy service.old.base (IsCause (S.failures service.old.shelf) (S.failures service.new.shelf) store)
+        × Exchanged service.old.policy service.old.base
+        (IsCause (S.failures service.old.shelf) (S.failures service.new.shelf) store)
         arrival.now message.now store result next }
     ensures honest { S.is_honest service.new.shelf → S.is_honest service.old.shelf }
     ensures grown { S.failures service.old.shelf ≤ S.failures service.new.shelf }

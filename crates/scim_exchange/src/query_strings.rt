@@ -120,7 +120,8 @@ fn settings_of(
     kind: Kind,
     parameters: &Parameters,
 ) -> Result<Settings<'_>, Failed<Refusal>>
-    ensures { UnlessMemory (Tells (λ due settings. settings_in settings ≡ due) (spec.settings_of kind parameters.now)) result }
+    ensures { UnlessMemory (Tells (λ due settings. settings_in settings ≡ due)
+        (spec.settings_of kind parameters.now)) result }
 {
     match arrangement_of(kind, parameters) {
         Ok(arrangement) => {
@@ -140,7 +141,8 @@ pub(crate) fn search_by(
     kind: Kind,
     parameters: &Parameters,
 ) -> Result<Query, Failed<Refusal>>
-    ensures { UnlessMemory (Tells (IsQuery kind) (sought kind (spec.search_of kind parameters.now))) result }
+    ensures { UnlessMemory (Tells (IsQuery kind) (sought kind (spec.search_of kind parameters.now)))
+        result }
 {
     let filter = filter_of(alloc, kind, text_of(&parameters.filter))?;
     let settings = settings_of(alloc, kind, parameters)?;

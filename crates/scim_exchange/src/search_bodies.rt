@@ -72,7 +72,8 @@ fn integer_given(members: &[Member<'_>], name: &str) -> Result<Option<i64>, Refu
 ///
 /// MessageValue if the item is another JSON value. After an error `texts` is unchanged.
 fn add_item<'r>(value: &Tree<'r>, texts: &mut Vec<&'r str>) -> Result<(), Failed<Refusal>>
-    ensures given { OnOk result (after (texts_in texts.old) (spec.text_item (view value.now)) ≡ Some (texts_in texts.new)) }
+    ensures given { OnOk result (after (texts_in texts.old) (spec.text_item (view value.now))
+        ≡ Some (texts_in texts.new)) }
     ensures wrong { IsWrong (spec.text_item (view value.now)) result }
 {
     if is_absent(value) {
@@ -91,7 +92,8 @@ fn add_item<'r>(value: &Tree<'r>, texts: &mut Vec<&'r str>) -> Result<(), Failed
 ///
 /// Errors: as `add_item`.
 fn texts_of<'r>(alloc: Global, items: &[Tree<'r>]) -> Result<Vec<&'r str>, Failed<Refusal>>
-    ensures given { IfOk result (λ v. collected spec.text_item (items_list (items_view items.now)) ≡ Some (texts_in v)) }
+    ensures given { IfOk result (λ v. collected spec.text_item (items_list (items_view items.now))
+        ≡ Some (texts_in v)) }
     ensures wrong { IsWrong (collected spec.text_item (items_list (items_view items.now))) result }
 {
     let mut texts = Vec::new(alloc);
@@ -106,8 +108,10 @@ fn texts_of<'r>(alloc: Global, items: &[Tree<'r>]) -> Result<Vec<&'r str>, Faile
 /// Errors: as `add_item`.
 fn texts_in_value<'r>(alloc: Global, value: &Tree<'r>) -> Result<Vec<&'r str>, Failed<Refusal>>
     ensures given { IfOk result
-        (λ v. collected spec.text_item (listed (as_array (view value.now)) (view value.now)) ≡ Some (texts_in v)) }
-    ensures wrong { IsWrong (collected spec.text_item (listed (as_array (view value.now)) (view value.now))) result }
+        (λ v. collected spec.text_item (listed (as_array (view value.now)) (view value.now))
+        ≡ Some (texts_in v)) }
+    ensures wrong { IsWrong (collected spec.text_item
+        (listed (as_array (view value.now)) (view value.now))) result }
 {
     match value.as_array() {
         Some(items) => texts_of(alloc, items),
@@ -153,7 +157,8 @@ fn lists_in<'r>(
     alloc: Global,
     members: &[Member<'r>],
 ) -> Result<AttributeLists<'r>, Failed<Refusal>>
-    ensures { UnlessMemory (Tells (λ due lists. lists_in lists ≡ due) (spec.lists_in (members_view members.now))) result }
+    ensures { UnlessMemory (Tells (λ due lists. lists_in lists ≡ due)
+        (spec.lists_in (members_view members.now))) result }
 {
     let attributes = texts_given(alloc, members, "attributes")?;
     let excluded = texts_given(alloc, members, "excludedAttributes")?;
@@ -197,7 +202,8 @@ fn settings_in<'r>(
 
 /// Returns the text of the filter; `None` if none is given or if it isn't a text.
 fn filter_text<'r>(members: &[Member<'r>]) -> Option<&'r str>
-    ensures { option_copied result ≡ option_and_then as_str (given_named (codes "filter") (members_view members.now)) }
+    ensures { option_copied result
+        ≡ option_and_then as_str (given_named (codes "filter") (members_view members.now)) }
 {
     given_named(members, "filter")?.as_str()
 }
@@ -207,7 +213,8 @@ fn filter_text<'r>(members: &[Member<'r>]) -> Option<&'r str>
 /// Filter if the filter is invalid. Otherwise MessageValue if another value isn't allowed for its key, or if
 /// both attribute lists are given.
 fn search_in(alloc: Global, kind: Kind, members: &[Member<'_>]) -> Result<Query, Failed<Refusal>>
-    ensures { UnlessMemory (Tells (IsQuery kind) (sought kind (spec.search_in kind (members_view members.now)))) result }
+    ensures { UnlessMemory (Tells (IsQuery kind)
+        (sought kind (spec.search_in kind (members_view members.now)))) result }
 {
     let filter = filter_of(alloc, kind, filter_text(members))?;
     let settings = settings_in(alloc, kind, members)?;
@@ -218,7 +225,8 @@ fn search_in(alloc: Global, kind: Kind, members: &[Member<'_>]) -> Result<Query,
 ///
 /// Syntax if the value isn't an object, or if a key of a search occurs twice. Otherwise as `search_in`.
 fn search_of(alloc: Global, kind: Kind, value: &Tree<'_>) -> Result<Query, Failed<Refusal>>
-    ensures { UnlessMemory (Tells (IsQuery kind) (sought_of kind (spec.search_of_members kind (as_object (view value.now))))) result }
+    ensures { UnlessMemory (Tells (IsQuery kind)
+        (sought_of kind (spec.search_of_members kind (as_object (view value.now))))) result }
 {
     let Some(members) = value.as_object() else {
         return Err(Failed::Because(Refusal::Syntax));
@@ -237,7 +245,8 @@ fn tree_of<'a>(
     text: &'a str,
     scratch: &'a mut Scratch,
 ) -> Result<Tree<'a>, Failed<Refusal>>
-    ensures { UnlessMemory (Tells (λ due tree. view tree ≡ due) (ok_or (read text.now) Refusal.Syntax)) result }
+    ensures { UnlessMemory (Tells (λ due tree. view tree ≡ due)
+        (ok_or (read text.now) Refusal.Syntax)) result }
 {
     match Tree::read(alloc, text, scratch) {
         Ok(tree) => Ok(tree),
@@ -271,7 +280,8 @@ pub(crate) fn search_by_body(
     kind: Kind,
     body: &[u8],
 ) -> Result<Query, Failed<Refusal>>
-    ensures { UnlessMemory (Tells (IsQuery kind) (sought_of kind (spec.search_of_body kind body.now))) result }
+    ensures { UnlessMemory (Tells (IsQuery kind)
+        (sought_of kind (spec.search_of_body kind body.now))) result }
 {
     let mut scratch = Scratch::new(alloc);
     let tree = parse(alloc, body, &mut scratch)?;

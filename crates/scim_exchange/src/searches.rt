@@ -36,7 +36,8 @@ pub(crate) fn is_blank(text: &str) -> bool
 ///
 /// Refusal Filter if the text isn't a valid filter.
 fn spelled(alloc: Global, kind: Kind, text: &str) -> Result<Filter, Failed<Refusal>>
-    ensures { UnlessMemory (Tells (λ tree f. tree_of f ≡ tree) (ok_or (filter_in kind text.now) FilterRefused)) result }
+    ensures { UnlessMemory (Tells (λ tree f. tree_of f ≡ tree)
+        (ok_or (filter_in kind text.now) FilterRefused)) result }
 {
     match read_filter(alloc, kind, text) {
         Ok(filter) => Ok(filter),
@@ -54,7 +55,8 @@ pub(crate) fn filter_of(
     kind: Kind,
     text: Option<&str>,
 ) -> Result<Option<Filter>, Failed<Refusal>>
-    ensures { UnlessMemory (Tells (λ tree f. option_map tree_of f ≡ tree) (spec.filter_of kind (option_copied text.entry))) result }
+    ensures { UnlessMemory (Tells (λ tree f. option_map tree_of f ≡ tree)
+        (spec.filter_of kind (option_copied text.entry))) result }
 {
     let Some(text) = text else {
         return Ok(None);
@@ -74,7 +76,8 @@ pub(crate) fn query_of(
     filter: Option<Filter>,
     settings: &Settings<'_>,
 ) -> Result<Query, Failed<Refusal>>
-    ensures { UnlessMemory (Tells (spec.IsQuery kind) (spec.sought_with (option_map tree_of filter) (settings_in settings.now))) result }
+    ensures { UnlessMemory (Tells (spec.IsQuery kind)
+        (spec.sought_with (option_map tree_of filter) (settings_in settings.now))) result }
 {
     let wanted = wanted_by(alloc, kind, &settings.lists)?;
     let arrangement = settings.arrangement;

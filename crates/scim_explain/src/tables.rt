@@ -23,7 +23,8 @@ pub fn table(
     op: Op,
     resource: &Resource,
 ) -> Result<String, NoMemory>
-    ensures { IfOk result (λ text. string_bytes text ≡ spec.table policy.now client.now op resource.now) }
+    ensures { IfOk result (λ text. string_bytes text
+        ≡ spec.table policy.now client.now op resource.now) }
 {
     let decisions = policy.decisions(alloc, client, op, resource)?;
     decision_lines(alloc, &decisions, leaves(resource.kind()))
@@ -31,7 +32,8 @@ pub fn table(
 
 /// The lines of `leaves`.
 fn decision_lines(alloc: Global, decisions: &Decisions, leaves: &[Leaf]) -> Result<String, NoMemory>
-    ensures { IfOk result (λ text. string_bytes text ≡ spec.decision_lines (decision decisions.now) leaves.now) }
+    ensures { IfOk result (λ text. string_bytes text
+        ≡ spec.decision_lines (decision decisions.now) leaves.now) }
 {
     let mut text = String::new(alloc);
     for leaf in leaves {

@@ -45,7 +45,9 @@ impl<T: RowTest> Look<'_, T> {
     ///
     /// An empty slice for a hidden row saves reading the row's fields from memory.
     pub(crate) fn fields<'r>(&self, row: &'r Row) -> &'r [Field]
-        ensures { (passes : Field → Bool) → list_any (λ f. admitted T.keeps self.now row.now f.leaf && passes f) result.now ≡ list_any (λ f. admitted T.keeps self.now row.now f.leaf && passes f) row.now.fields }
+        ensures { (passes : Field → Bool)
+            → list_any (λ f. admitted T.keeps self.now row.now f.leaf && passes f) result.now
+            ≡ list_any (λ f. admitted T.keeps self.now row.now f.leaf && passes f) row.now.fields }
     {
         match self {
             Look::Admitted(test) if !test.may_keep(row) => &[],
@@ -55,7 +57,8 @@ impl<T: RowTest> Look<'_, T> {
 
     /// Whether the filter may see any field of the row.
     pub(crate) fn has_field(&self, row: &Row) -> bool
-        ensures { result ≡ list_any (λ f. admitted T.keeps self.now row.now f.leaf && true) row.now.fields }
+        ensures { result ≡ list_any (λ f. admitted T.keeps self.now row.now f.leaf
+            && true) row.now.fields }
     {
         for field in self.fields(row) {
             if self.admits(row, field.leaf) {

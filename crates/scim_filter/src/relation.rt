@@ -50,7 +50,8 @@ fn text_stands(
     text: &Text,
     literal: &StringLiteral,
 ) -> Result<bool, NoMemory>
-    ensures { IfOk result (λ b. b ≡ spec.text_stands op (spec.cased exact text.now) (spec.cased exact literal.now)) }
+    ensures { IfOk result (λ b. b
+        ≡ spec.text_stands op (spec.cased exact text.now) (spec.cased exact literal.now)) }
 {
     if exact {
         return Ok(texts_stand(op, text.as_str(), literal.as_str()));

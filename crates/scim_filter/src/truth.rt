@@ -35,7 +35,8 @@ impl<'a> Cells<'a> {
     /// Rows that include all rows of `attribute`.
     #[tactic(auto, using(crate::proofs::RowLemmas::none_of_another))]
     fn around(self, attribute: Attribute) -> &'a [Row]
-        ensures { attribute_rows attribute result.now ≡ attribute_rows attribute (rows_in self.entry) }
+        ensures { attribute_rows attribute result.now
+            ≡ attribute_rows attribute (rows_in self.entry) }
     {
         match self {
             Cells::All(part) => part.attribute_rows(attribute),
@@ -47,7 +48,8 @@ impl<'a> Cells<'a> {
 
 /// Whether the filter sees a cell of the leaf in the row.
 fn has_cell<T: RowTest>(look: &Look<'_, T>, leaf: Leaf, row: &Row) -> bool
-    ensures { result ≡ list_any (λ f. admitted T.keeps look.now row.now f.leaf && (is_same_leaf f.leaf leaf && true)) row.now.fields }
+    ensures { result ≡ list_any (λ f. admitted T.keeps look.now row.now f.leaf
+        && (is_same_leaf f.leaf leaf && true)) row.now.fields }
 {
     for field in look.fields(row) {
         if field.leaf == leaf && look.admits(row, field.leaf) {
@@ -106,7 +108,9 @@ fn fields_stand<T: RowTest>(
     exact: bool,
     row: &Row,
 ) -> Result<bool, NoMemory>
-    ensures { IfOk result (λ b. b ≡ list_any (λ f. admitted T.keeps look.now row.now f.leaf && (is_same_leaf f.leaf leaf && stands exact op f.atom literal.now)) row.now.fields) }
+    ensures { IfOk result (λ b. b
+        ≡ list_any (λ f. admitted T.keeps look.now row.now f.leaf
+        && (is_same_leaf f.leaf leaf && stands exact op f.atom literal.now)) row.now.fields) }
 {
     for field in look.fields(row) {
         if field.leaf == leaf
@@ -129,7 +133,9 @@ fn leaf_stands<T: RowTest>(
     exact: bool,
     rows: &[Row],
 ) -> Result<bool, NoMemory>
-    ensures { IfOk result (λ b. b ≡ spec.some_atom (λ a. stands exact op a literal.now) leaf (looked T.keeps look.now rows.now)) }
+    ensures { IfOk result (λ b. b
+        ≡ spec.some_atom (λ a. stands exact op a literal.now) leaf
+        (looked T.keeps look.now rows.now)) }
 {
     for row in rows {
         if row.unit().attribute == leaf.attribute
@@ -143,7 +149,8 @@ fn leaf_stands<T: RowTest>(
 
 /// Whether the operator is `ne` and the filter sees no cell of the leaf.
 fn is_unlike<T: RowTest>(look: &Look<'_, T>, op: Operator, leaf: Leaf, rows: &[Row]) -> bool
-    ensures { result ≡ spec.is_unlike op (spec.some_atom (λ a. true) leaf (looked T.keeps look.now rows.now)) }
+    ensures { result ≡ spec.is_unlike op
+        (spec.some_atom (λ a. true) leaf (looked T.keeps look.now rows.now)) }
 {
     op == Operator::Ne && !has_leaf(look, leaf, rows)
 }
@@ -157,7 +164,8 @@ fn leaf_compares<T: RowTest>(
     literal: &Literal,
     cells: Cells<'_>,
 ) -> Result<bool, NoMemory>
-    ensures { IfOk result (λ b. b ≡ spec.leaf_compares leaf op literal.now (looked T.keeps look.now (rows_in cells.entry))) }
+    ensures { IfOk result (λ b. b
+        ≡ spec.leaf_compares leaf op literal.now (looked T.keeps look.now (rows_in cells.entry))) }
 {
     let Some(leaf) = leaf else {
         return Ok(op == Operator::Ne);
@@ -178,7 +186,8 @@ fn compares<T: RowTest>(
     literal: &Literal,
     cells: Cells<'_>,
 ) -> Result<bool, NoMemory>
-    ensures { IfOk result (λ b. b ≡ spec.compares meant op literal.now (looked T.keeps look.now (rows_in cells.entry))) }
+    ensures { IfOk result (λ b. b
+        ≡ spec.compares meant op literal.now (looked T.keeps look.now (rows_in cells.entry))) }
 {
     match (op, literal) {
         (Operator::Eq, Literal::Null) => Ok(!is_present(look, meant, cells)),
@@ -198,7 +207,9 @@ fn some_value_holds<T: RowTest>(
     attribute: Attribute,
     rows: &[Row],
 ) -> Result<bool, NoMemory>
-    ensures { IfOk result (λ b. b ≡ list_any (λ r. spec.truth (view filter.now) (r ∷ [])) (attribute_rows attribute (looked T.keeps look.now rows.now))) }
+    ensures { IfOk result (λ b. b
+        ≡ list_any (λ r. spec.truth (view filter.now) (r ∷ []))
+        (attribute_rows attribute (looked T.keeps look.now rows.now))) }
 {
     for row in rows {
         if row.unit().attribute == attribute
@@ -225,7 +236,9 @@ fn some_position_holds<T: RowTest>(
     meant: Meant,
     cells: Cells<'_>,
 ) -> Result<bool, NoMemory>
-    ensures { IfOk result (λ b. b ≡ spec.some_position (spec.truth (view filter.now)) meant (looked T.keeps look.now (rows_in cells.entry))) }
+    ensures { IfOk result (λ b. b
+        ≡ spec.some_position (spec.truth (view filter.now)) meant
+        (looked T.keeps look.now (rows_in cells.entry))) }
 {
     let Meant::Attribute(attribute) = meant else {
         return Ok(false);
@@ -246,7 +259,8 @@ fn node_holds<T: RowTest>(
     node: &Node,
     cells: Cells<'_>,
 ) -> Result<bool, NoMemory>
-    ensures { IfOk result (λ b. b ≡ spec.truth (view node.now) (looked T.keeps look.now (rows_in cells.entry))) }
+    ensures { IfOk result (λ b. b
+        ≡ spec.truth (view node.now) (looked T.keeps look.now (rows_in cells.entry))) }
 {
     match node {
         Node::Or(a, b) => {
@@ -278,7 +292,8 @@ fn row_at(rows: &[Row], position: usize) -> &[Row]
 /// The rows at a position of an attribute, from 0. A single-valued attribute has only position 0.
 #[tactic(auto, using(crate::proofs::RowLemmas::own_again, crate::proofs::RowLemmas::one_again))]
 fn rows_at(part: &Part, attribute: Attribute, position: usize) -> &[Row]
-    ensures { attribute_rows attribute result.now ≡ spec.rows_at (meant.Attribute attribute) position (rows part.now) }
+    ensures { attribute_rows attribute result.now
+        ≡ spec.rows_at (meant.Attribute attribute) position (rows part.now) }
 {
     let own = part.attribute_rows(attribute);
     if is_multi_valued(attribute) {
@@ -317,7 +332,8 @@ pub fn holds_where<T: RowTest>(
     part: &Part,
     test: &T,
 ) -> Result<bool, NoMemory>
-    ensures { IfOk result (λ b. b ≡ spec.truth (tree_of filter.now) (restricted (T.keeps test.now) (rows part.now))) }
+    ensures { IfOk result (λ b. b
+        ≡ spec.truth (tree_of filter.now) (restricted (T.keeps test.now) (rows part.now))) }
 {
     node_holds(
         alloc,

@@ -25,8 +25,10 @@ pub fn lone_word(text: &str) -> Option<&[u8]>
 ///
 /// `None` if the text isn't a path, or has more than 4,096 bytes.
 pub fn attribute_path(kind: Kind, text: &str) -> Option<Meant>
-    ensures spelled { MatchOption result ((path : Path) → length text.now ≤ LONGEST_FILTER → ¬ (IsWritten kind 0 text.now (Plain path)))
-        (λ m. (path : Path) × (length text.now ≤ LONGEST_FILTER) × IsWritten kind 0 text.now (Plain path) × (path.meant ≡ m)) }
+    ensures spelled { MatchOption result ((path : Path) → length text.now ≤ LONGEST_FILTER
+        → ¬ (IsWritten kind 0 text.now (Plain path)))
+        (λ m. (path : Path) × (length text.now ≤ LONGEST_FILTER)
+        × IsWritten kind 0 text.now (Plain path) × (path.meant ≡ m)) }
     // `path_in` returns the path that a text spells.
     ensures same { result ≡ option_map (λ (path : Path). path.meant) (path_in kind text.now) }
 {

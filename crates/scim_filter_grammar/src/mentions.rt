@@ -34,7 +34,8 @@ impl Meant {
 
 /// The path as written.
 fn text_of(alloc: Global, path: &Path) -> Result<Text, NoMemory>
-    ensures { IfOk result (λ t. t ≡ path_text path.now.urn (names_text path.now.name path.now.sub_name)) }
+    ensures { IfOk result (λ t. t
+        ≡ path_text path.now.urn (names_text path.now.name path.now.sub_name)) }
 {
     let mut text = String::new(alloc);
     if let Some(urn) = &path.urn {
@@ -63,7 +64,8 @@ fn add_name(alloc: Global, path: &Path, names: &mut Vec<Named>) -> Result<(), No
 
 /// Appends the names in a tree to `names`, in the order of the text.
 fn add_names(alloc: Global, node: &Node, names: &mut Vec<Named>) -> Result<(), NoMemory>
-    ensures { OnOk result (names.new.items ≡ names.old.items ++ spec.mentioned_names (view node.now)) }
+    ensures { OnOk result (names.new.items ≡ names.old.items
+        ++ spec.mentioned_names (view node.now)) }
 {
     match node {
         Node::Or(a, b) | Node::And(a, b) => {

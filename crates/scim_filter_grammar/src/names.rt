@@ -94,7 +94,8 @@ pub(crate) fn name(word: &[u8]) -> Option<&str>
 /// The text before a colon as a URN, if there is a colon. `None` if it isn't a URN.
 #[tactic(auto, unfolding(crate::specs::Reading::urn_of))]
 fn urn(before: Option<&[u8]>) -> Option<Option<&str>>
-    ensures { ok_or (option_map (λ o. option_map (λ t. t.now) o) result) Syntax ≡ urn_of (option_map (λ t. t.now) before.entry) }
+    ensures { ok_or (option_map (λ o. option_map (λ t. t.now) o) result) Syntax
+        ≡ urn_of (option_map (λ t. t.now) before.entry) }
 {
     let Some(before) = before else {
         return Some(None);
@@ -111,7 +112,8 @@ fn urn(before: Option<&[u8]>) -> Option<Option<&str>>
 /// The text after a dot as a name, if there is a dot. `None` if it isn't a name.
 #[tactic(auto, unfolding(crate::specs::Reading::sub_of))]
 fn sub_name(behind: &[u8]) -> Option<Option<&str>>
-    ensures { ok_or (option_map (λ o. option_map (λ t. t.now) o) result) Syntax ≡ sub_of behind.now }
+    ensures { ok_or (option_map (λ o. option_map (λ t. t.now) o) result) Syntax
+        ≡ sub_of behind.now }
 {
     match behind {
         [] => Some(None),
@@ -121,7 +123,8 @@ fn sub_name(behind: &[u8]) -> Option<Option<&str>>
 
 /// Whether names may be combined so in `scope`: in the brackets of a value path a name stands alone.
 fn may_stand(scope: Scope, urn: Option<&str>, sub: Option<&str>) -> bool
-    ensures { result ≡ fits_scope scope (option_map (λ t. t.now) urn.entry) (option_map (λ t. t.now) sub.entry) }
+    ensures { result ≡ fits_scope scope (option_map (λ t. t.now) urn.entry)
+        (option_map (λ t. t.now) sub.entry) }
 {
     match scope {
         Scope::Attributes(_) => true,
@@ -162,7 +165,8 @@ fn named_in(attribute: Option<Attribute>, sub: Option<&str>) -> Meant
 
 /// Returns what the names of a path refer to in `scope`.
 fn named(scope: Scope, urn: Option<&str>, name: &str, sub: Option<&str>) -> Meant
-    ensures { result ≡ meant_by scope (option_map (λ t. t.now) urn.entry) name.now (option_map (λ t. t.now) sub.entry) }
+    ensures { result ≡ meant_by scope (option_map (λ t. t.now) urn.entry) name.now
+        (option_map (λ t. t.now) sub.entry) }
 {
     match scope {
         Scope::Attributes(kind) => named_in(attribute_of(kind, urn, name), sub),
@@ -184,7 +188,9 @@ fn copy_of(alloc: Global, text: Option<&str>) -> Result<Option<Text>, NoMemory>
 /// path.
 #[tactic(auto, unfolding(crate::specs::Reading::path_of))]
 fn parts(scope: Scope, word: &[u8]) -> Option<(Option<&str>, &str, Option<&str>)>
-    ensures { ok_or (option_map (λ x. path_for scope (option_map (λ t. t.now) x.0) x.1.now (option_map (λ t. t.now) x.2)) result) Syntax ≡ path_of scope word.now }
+    ensures { ok_or (option_map (λ x.
+        path_for scope (option_map (λ t. t.now) x.0) x.1.now (option_map (λ t. t.now) x.2)) result)
+        Syntax ≡ path_of scope word.now }
 {
     let (name_text, behind) = split_name(skip_urn(word));
     let urn = urn(urn_before(word))?;
@@ -195,7 +201,8 @@ fn parts(scope: Scope, word: &[u8]) -> Option<(Option<&str>, &str, Option<&str>)
 
 /// Returns what a path refers to. `None` if the word isn't a path.
 pub(crate) fn meant(scope: Scope, word: &[u8]) -> Option<Meant>
-    ensures { result ≡ option_map (λ (path : Path). path.meant) (result_ok (path_of scope word.now)) }
+    ensures { result ≡ option_map (λ (path : Path). path.meant)
+        (result_ok (path_of scope word.now)) }
 {
     let (urn, name, sub) = parts(scope, word)?;
     Some(named(scope, urn, name, sub))

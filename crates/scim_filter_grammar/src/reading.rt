@@ -82,7 +82,8 @@ fn enclosed(
     close: u8,
     bytes: &[u8],
 ) -> Result<(Node, &[u8]), Failed<ReadError>>
-    ensures gives { Gives (λ x. (view x.0, x.1.now)) result (enclosed_at close (filter_at depth scope) bytes.now) }
+    ensures gives { Gives (λ x. (view x.0, x.1.now)) result
+        (enclosed_at close (filter_at depth scope) bytes.now) }
     ensures shorter { IfOk result (λ x. length x.1.now < length bytes.now) }
 {
     let (node, rest) = filter(alloc, depth, scope, skip_spaces(bytes))?;
@@ -104,7 +105,8 @@ pub(crate) fn listed(
     path: Path,
     bytes: &[u8],
 ) -> Result<(Node, &[u8]), Failed<ReadError>>
-    ensures gives { Gives (λ x. (view x.0, x.1.now)) result (listed_at (filter_at depth) scope path bytes.now) }
+    ensures gives { Gives (λ x. (view x.0, x.1.now)) result
+        (listed_at (filter_at depth) scope path bytes.now) }
     ensures shorter { IfOk result (λ x. length x.1.now < length bytes.now) }
 {
     match scope {
@@ -127,7 +129,8 @@ fn behind_path(
     path: Path,
     bytes: &[u8],
 ) -> Result<(Node, &[u8]), Failed<ReadError>>
-    ensures gives { Gives (λ x. (view x.0, x.1.now)) result (behind_path_at (filter_at depth) scope path bytes.now) }
+    ensures gives { Gives (λ x. (view x.0, x.1.now)) result
+        (behind_path_at (filter_at depth) scope path bytes.now) }
     ensures shorter { IfOk result (λ x. length x.1.now < length bytes.now) }
 {
     if let [b'[', rest @ ..] = bytes {
@@ -148,7 +151,8 @@ fn worded(
     scope: Scope,
     bytes: &[u8],
 ) -> Result<(Node, &[u8]), Failed<ReadError>>
-    ensures gives { Gives (λ x. (view x.0, x.1.now)) result (worded_at (filter_at depth) scope bytes.now) }
+    ensures gives { Gives (λ x. (view x.0, x.1.now)) result
+        (worded_at (filter_at depth) scope bytes.now) }
     ensures shorter { IfOk result (λ x. length x.1.now < length bytes.now) }
 {
     let (word, behind) = split_word(bytes);
@@ -171,7 +175,8 @@ fn term(
     scope: Scope,
     bytes: &[u8],
 ) -> Result<(Node, &[u8]), Failed<ReadError>>
-    ensures gives { Gives (λ x. (view x.0, x.1.now)) result (term_at (filter_at depth) scope bytes.now) }
+    ensures gives { Gives (λ x. (view x.0, x.1.now)) result
+        (term_at (filter_at depth) scope bytes.now) }
     ensures shorter { IfOk result (λ x. length x.1.now < length bytes.now) }
 {
     match bytes {
@@ -204,7 +209,8 @@ fn conjunction(
     scope: Scope,
     bytes: &[u8],
 ) -> Result<(Node, &[u8]), Failed<ReadError>>
-    ensures gives { Gives (λ x. (view x.0, x.1.now)) result (conjunction_at (filter_at depth) scope bytes.now) }
+    ensures gives { Gives (λ x. (view x.0, x.1.now)) result
+        (conjunction_at (filter_at depth) scope bytes.now) }
     ensures shorter { IfOk result (λ x. length x.1.now < length bytes.now) }
 {
     let (first, rest) = term(alloc, depth, scope, bytes)?;
@@ -225,7 +231,8 @@ fn disjunction(
     scope: Scope,
     bytes: &[u8],
 ) -> Result<(Node, &[u8]), Failed<ReadError>>
-    ensures gives { Gives (λ x. (view x.0, x.1.now)) result (disjunction_at (filter_at depth) scope bytes.now) }
+    ensures gives { Gives (λ x. (view x.0, x.1.now)) result
+        (disjunction_at (filter_at depth) scope bytes.now) }
     ensures shorter { IfOk result (λ x. length x.1.now < length bytes.now) }
 {
     let (first, rest) = conjunction(alloc, depth, scope, bytes)?;
@@ -278,19 +285,25 @@ fn all(alloc: Global, scope: Scope, bytes: &[u8]) -> Result<Node, Failed<ReadErr
 #[tactic(auto, using(crate::proofs::NestingLemmas::all_deep))]
 pub fn read_filter(alloc: Global, kind: Kind, text: &str) -> Result<Filter, Failed<FilterFault>>
     // The text spells the tree returned, which has the right types.
-    ensures found { IfOk result (λ f. (length text.now ≤ LONGEST_FILTER) × IsFilter kind 32 text.now (tree_of f) × (fits (tree_of f) ≡ true)) }
+    ensures found { IfOk result (λ f. (length text.now ≤ LONGEST_FILTER)
+        × IsFilter kind 32 text.now (tree_of f) × (fits (tree_of f) ≡ true)) }
     // A tree that the text spells within the limits, with the right types, is returned, or NoMemory.
-    ensures only { (tree : Tree) → length text.now ≤ LONGEST_FILTER → IsFilter kind 32 text.now tree → fits tree ≡ true
+    ensures only { (tree : Tree) → length text.now ≤ LONGEST_FILTER → IsFilter kind 32 text.now tree
+        → fits tree ≡ true
         → MatchResult result (λ f. tree_of f ≡ tree) (λ e. e ≡ Failed.NoMemory) }
     // Each fault is returned only if its cause holds.
     ensures syntax { IfFault result (λ e. (at : ℕ) → e ≡ FilterFault.Syntax at
         → (at ≤ length text.now) × ((n : ℕ) (tree : Tree) → ¬ (IsFilter kind n text.now tree))) }
-    ensures wrong_type { IsErrOf result (Failed.Because FilterFault.WrongType) → (tree : Tree) × IsFilter kind 32 text.now tree × (fits tree ≡ false) }
-    ensures too_deep { IsErrOf result (Failed.Because FilterFault.TooDeep) → (tree : Tree) → ¬ (IsFilter kind 32 text.now tree) }
+    ensures wrong_type { IsErrOf result (Failed.Because FilterFault.WrongType) → (tree : Tree)
+        × IsFilter kind 32 text.now tree × (fits tree ≡ false) }
+    ensures too_deep { IsErrOf result (Failed.Because FilterFault.TooDeep) → (tree : Tree)
+        → ¬ (IsFilter kind 32 text.now tree) }
     ensures nested { IsErrOf result (Failed.Because FilterFault.TooDeep) → IsDeeper 32 text.now }
-    ensures too_long { IsErrOf result (Failed.Because FilterFault.TooLong) → LONGEST_FILTER < length text.now }
+    ensures too_long { IsErrOf result (Failed.Because FilterFault.TooLong)
+        → LONGEST_FILTER < length text.now }
     // `filter_in` returns the filter that a text spells.
-    ensures same { MatchResult result (λ f. filter_in kind text.now ≡ Some (tree_of f)) (λ e. (e ≡ Failed.NoMemory) ⊎ (filter_in kind text.now ≡ None)) }
+    ensures same { MatchResult result (λ f. filter_in kind text.now ≡ Some (tree_of f))
+        (λ e. (e ≡ Failed.NoMemory) ⊎ (filter_in kind text.now ≡ None)) }
 {
     let bytes = text.as_bytes();
     if bytes.len() > LONGEST_FILTER {

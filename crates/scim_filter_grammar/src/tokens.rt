@@ -40,14 +40,18 @@ fn skip_token(first: u8, others: &[u8]) -> Option<&[u8]>
 /// Syntax with the byte where an unclosed string begins. TooLong above 4,096 bytes.
 pub fn read_tokens<'a>(alloc: Global, text: &'a str) -> Result<Vec<Token<'a>>, Failed<FilterFault>>
     // The tokens returned are all tokens of the text, in order, each with the text of its span.
-    ensures found { IfOk result (λ v. (length text.now ≤ LONGEST_FILTER) × Tokens (length text.now) text.now (spans v.items)) }
+    ensures found { IfOk result (λ v. (length text.now ≤ LONGEST_FILTER)
+        × Tokens (length text.now) text.now (spans v.items)) }
     ensures slices { IfOk result (λ v. All (IsSlice text.now) v.items) }
     // Syntax means that a string isn't closed at that byte, so the text has no list of tokens.
     ensures syntax { IfFault result (λ e. (at : ℕ) → e ≡ FilterFault.Syntax at
         → (at < length text.now) × ((ts : List Span) → ¬ (Tokens (length text.now) text.now ts))) }
-    ensures unclosed { IfFault result (λ e. (at : ℕ) → e ≡ FilterFault.Syntax at → Unclosed (length text.now) text.now at) }
-    ensures too_long { IsErrOf result (Failed.Because FilterFault.TooLong) → LONGEST_FILTER < length text.now }
-    ensures no_other { IfFault result (λ e. (e ≢ FilterFault.WrongType) × (e ≢ FilterFault.TooDeep)) }
+    ensures unclosed { IfFault result (λ e. (at : ℕ) → e ≡ FilterFault.Syntax at
+        → Unclosed (length text.now) text.now at) }
+    ensures too_long { IsErrOf result (Failed.Because FilterFault.TooLong)
+        → LONGEST_FILTER < length text.now }
+    ensures no_other { IfFault result (λ e. (e ≢ FilterFault.WrongType)
+        × (e ≢ FilterFault.TooDeep)) }
 {
     if text.len() > LONGEST_FILTER {
         return Err(Failed::Because(FilterFault::TooLong));

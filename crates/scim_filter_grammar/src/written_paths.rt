@@ -104,7 +104,8 @@ fn written(alloc: Global, kind: Kind, bytes: &[u8]) -> Result<WrittenPath, Faile
 /// `None` if the text isn't such a path.
 pub fn written_path(alloc: Global, kind: Kind, text: &str) -> Result<Option<WrittenPath>, NoMemory>
     // The text spells the path returned.
-    ensures found { IfOk result (λ o. IfSome o (λ w. (length text.now ≤ LONGEST_FILTER) × IsWritten kind 32 text.now (written_of w))) }
+    ensures found { IfOk result (λ o. IfSome o (λ w. (length text.now ≤ LONGEST_FILTER)
+        × IsWritten kind 32 text.now (written_of w))) }
     // A path that the text spells within the limits is returned.
     ensures only { (w : Written) → length text.now ≤ LONGEST_FILTER → IsWritten kind 32 text.now w
         → IfOk result (λ o. IsSomeAnd o (λ p. written_of p ≡ w)) }

@@ -14,8 +14,8 @@ use Rattle.scim_hub.specs.declared.events.Stamp.{Stamp}
 use Rattle.scim_hub.specs.declared.events.Output.{Output}
 use Rattle.scim_hub.specs.declared.events.Output.TheVariants.{Write, Shut}
 use Rattle.scim_hub.specs.Answering.{IsAnswered, AreAnswered, whole_count}
-use Rattle.scim_hub.specs.Events.{deeds, Deed, writing, shutting}
-use Rattle.scim_hub.specs.Halls.{deed_of}
+use Rattle.scim_hub.specs.Events.{hub_outputs, HubOutput, writing, shutting}
+use Rattle.scim_hub.specs.HubStates.{output_of}
 use Rattle.scim_hub.specs.code.Replies.{GoesBefore, IsReplyToItem, IsReached, IsNextAnswered, IsFrontAnswered, AreAllAnswered}
 
 module _ (policy : List Rule) (base : List ℕ) (entries : List Entry) (stamp : Stamp) where
@@ -68,19 +68,19 @@ items_around items i item more =
 
 -- one text more is to be written
 pub deeds_more : (n : ℕ) (outputs : List Output) (texts : List (List ℕ)) (s : String Global) (text : List ℕ)
-    → map deed_of outputs ≡ map (writing n) texts → string_bytes s ≡ text → map deed_of (outputs ++ Write n s ∷ []) ≡ map (writing n) (texts ++ text ∷ [])
+    → map output_of outputs ≡ map (writing n) texts → string_bytes s ≡ text → map output_of (outputs ++ Write n s ∷ []) ≡ map (writing n) (texts ++ text ∷ [])
 deeds_more n outputs texts s text same is =
-    map-append deed_of outputs (Write n s ∷ [])
-    ∙ ap (λ (ds : List Deed). ds ++ writing n (string_bytes s) ∷ []) same
+    map-append output_of outputs (Write n s ∷ [])
+    ∙ ap (λ (ds : List HubOutput). ds ++ writing n (string_bytes s) ∷ []) same
     ∙ ap (λ (t : List ℕ). map (writing n) texts ++ writing n t ∷ []) is
     ∙ sym (map-append (writing n) texts (text ∷ []))
 
 -- the connection is to be shut after them
-pub deeds_shut : (n : ℕ) (outputs : List Output) (texts : List (List ℕ)) → map deed_of outputs ≡ map (writing n) texts → map deed_of (outputs ++ Shut n ∷ []) ≡ deeds n texts true
-deeds_shut n outputs texts same = map-append deed_of outputs (Shut n ∷ []) ∙ ap (λ (ds : List Deed). ds ++ shutting n ∷ []) same
+pub deeds_shut : (n : ℕ) (outputs : List Output) (texts : List (List ℕ)) → map output_of outputs ≡ map (writing n) texts → map output_of (outputs ++ Shut n ∷ []) ≡ hub_outputs n texts true
+deeds_shut n outputs texts same = map-append output_of outputs (Shut n ∷ []) ∙ ap (λ (ds : List HubOutput). ds ++ shutting n ∷ []) same
 
 -- or not
-pub deeds_open : (n : ℕ) (outputs : List Output) (texts : List (List ℕ)) → map deed_of outputs ≡ map (writing n) texts → map deed_of outputs ≡ deeds n texts false
+pub deeds_open : (n : ℕ) (outputs : List Output) (texts : List (List ℕ)) → map output_of outputs ≡ map (writing n) texts → map output_of outputs ≡ hub_outputs n texts false
 deeds_open n outputs texts same = same ∙ sym (append-nil (map (writing n) texts))
 
 -- the same policy and base
@@ -134,14 +134,14 @@ pub closed_by : (policy : List Rule) (base : List ℕ) (entries : List Entry) (s
     → between ≡ outputs ++ Write n s ∷ [] → after ≡ between ++ Shut n ∷ []
     → take (i + 1) items ≡ take i items ++ item ∷ []
     → GoesBefore policy base entries stamp (take i items) store texts k mid → IsAnswered policy base entries stamp k item mid text closing next
-    → map deed_of outputs ≡ map (writing n) texts → string_bytes s ≡ text → closing ≡ true
+    → map output_of outputs ≡ map (writing n) texts → string_bytes s ≡ text → closing ≡ true
     → AreAllAnswered policy base entries stamp n items store after true next
 closed_by policy base entries stamp n items i item store texts k mid text closing next outputs between after s pushed shut more before is told said closes = (
   texts ++ text ∷ [],
   subst (λ (xs : List Item). AreAnswered policy base entries stamp 0 xs store (texts ++ text ∷ []) true next) (sym (items_around items i item more))
       (last_answered policy base entries stamp (take i items) store texts k mid item (drop (i + 1) items) text next before
       (same_answer policy policy base base entries stamp k item mid text closing true next refl refl closes is)),
-  ap (map deed_of) (shut ∙ ap (λ (xs : List Output). xs ++ Shut n ∷ []) pushed) ∙ deeds_shut n (outputs ++ Write n s ∷ []) (texts ++ text ∷ []) (deeds_more n outputs texts s text told said),
+  ap (map output_of) (shut ∙ ap (λ (xs : List Output). xs ++ Shut n ∷ []) pushed) ∙ deeds_shut n (outputs ++ Write n s ∷ []) (texts ++ text ∷ []) (deeds_more n outputs texts s text told said),
 )
 
 -- the items and one more
@@ -160,7 +160,7 @@ reached_more Stands shelf policy base entries stamp n items i item store k l out
       (subst (λ (m : ℕ). GoesBefore policy base entries stamp (take i items ++ item ∷ []) store (texts ++ text ∷ []) m next) (sym count)
       (goes_on policy base entries stamp (take i items) store texts k mid item text next before
       (same_answer policy policy base base entries stamp k item mid text closing false next refl refl (sym says.1 ∙ open_) is))),
-  ap (map deed_of) pushed ∙ deeds_more n outputs texts reply.text text told says.0,
+  ap (map output_of) pushed ∙ deeds_more n outputs texts reply.text text told says.0,
 )
 
 -- an item is one whole message, or none

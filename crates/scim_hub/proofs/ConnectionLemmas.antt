@@ -15,7 +15,7 @@ use Rattle.scim_hub.specs.declared.connections.Connections.{Connections}
 use Rattle.scim_hub.specs.declared.events.HubFault.{HubFault}
 use Rattle.scim_hub.specs.declared.events.HubFault.TheVariants.{Closed}
 use Rattle.scim_hub.specs.Events.{Connection, absent, joined, shut, set}
-use Rattle.scim_hub.specs.Halls.{IsKept, AreConnections}
+use Rattle.scim_hub.specs.HubStates.{IsKept, AreConnections}
 use Rattle.scim_hub.specs.code.Changes.{IsRead, IsReadOn, IsFed, IsPieceTaken}
 
 err_is : (r : Result (Vec Item) HubFault) (a b : HubFault) → r ≡ Err a → r ≡ Err b → a ≡ b

@@ -15,11 +15,11 @@ use Rattle.scim_hub.specs.declared.events.Output.{Output}
 use Rattle.scim_hub.specs.declared.events.Stamp.{Stamp}
 use Rattle.scim_hub.specs.declared.streams.Written.{Written}
 use Rattle.scim_hub.specs.declared.streams.Served.{Served}
-use Rattle.scim_hub.specs.Halls.{deed_of}
+use Rattle.scim_hub.specs.HubStates.{output_of}
 use Rattle.scim_hub.specs.code.Servings.{IsPieceServed}
 use Rattle.scim_hub.specs.declared.io_faults.IoFault.{IoFault}
-use Rattle.scim_hub.specs.Events.{Seen, Hall, Deed, Hears}
-use Rattle.scim_hub.specs.Streams.{Grows, Turn, bytes_in, bytes_of, text_done, text_of, replies_of, is_shut, shuts, is_reply, is_shutting, text_in, IsPiece, IsPieceOf, IsWritten, AreBytesOf, AreServed, IsStreamServed}
+use Rattle.scim_hub.specs.Events.{HubEvent, HubState, HubOutput, Hears}
+use Rattle.scim_hub.specs.Streams.{Grows, AnsweredEvent, bytes_in, bytes_of, text_done, text_of, replies_of, is_shut, shuts, is_reply, is_shutting, text_in, IsPiece, IsPieceOf, IsWritten, AreBytesOf, AreServed, IsStreamServed}
 
 pub folds_on : {P A : Type 0} (R : P → A → P → Type 0) (p : P) (xs ys : List A) (m q : P) → FoldsTo R p xs m → FoldsTo R m ys q → FoldsTo R p (xs ++ ys) q
 folds_on {P} {A} R p [] ys m q before after = subst (λ (x : P). FoldsTo R x ys q) (sym before) after
@@ -53,41 +53,41 @@ written_on a b c text more (Err e) before after = front_after a b c text more be
 pub front_longer : (old new : Option (List ℕ)) (text more : List ℕ) → AppendsFront old new text → AppendsFront old new (text ++ more)
 front_longer old new text more (front, (back, split), appended) = (front, (back ++ more, ap (λ (l : List ℕ). l ++ more) split ∙ append_assoc front back more), appended)
 
-texts_append : (xs ys : List Output) → flat_map text_in (map deed_of (xs ++ ys)) ≡ flat_map text_in (map deed_of xs) ++ flat_map text_in (map deed_of ys)
-texts_append xs ys = ap (flat_map text_in) (map-append deed_of xs ys) ∙ flat_map-append text_in (map deed_of xs) (map deed_of ys)
+texts_append : (xs ys : List Output) → flat_map text_in (map output_of (xs ++ ys)) ≡ flat_map text_in (map output_of xs) ++ flat_map text_in (map output_of ys)
+texts_append xs ys = ap (flat_map text_in) (map-append output_of xs ys) ∙ flat_map-append text_in (map output_of xs) (map output_of ys)
 
 -- the texts of outputs up to one, of that one, and of those behind it
 pub texts_around : (outputs : List Output) (i : ℕ) (output : Output) → take (i + 1) outputs ≡ take i outputs ++ output ∷ []
-    → flat_map text_in (map deed_of outputs)
-    ≡ (flat_map text_in (map deed_of (take i outputs)) ++ text_in (deed_of output)) ++ flat_map text_in (map deed_of (drop (i + 1) outputs))
+    → flat_map text_in (map output_of outputs)
+    ≡ (flat_map text_in (map output_of (take i outputs)) ++ text_in (output_of output)) ++ flat_map text_in (map output_of (drop (i + 1) outputs))
 texts_around outputs i output more =
-    ap (λ (xs : List Output). flat_map text_in (map deed_of xs)) (sym (take-append-drop (i + 1) outputs))
+    ap (λ (xs : List Output). flat_map text_in (map output_of xs)) (sym (take-append-drop (i + 1) outputs))
     ∙ texts_append (take (i + 1) outputs) (drop (i + 1) outputs)
-    ∙ ap (λ (l : List ℕ). l ++ flat_map text_in (map deed_of (drop (i + 1) outputs)))
-    (ap (λ (xs : List Output). flat_map text_in (map deed_of xs)) more
+    ∙ ap (λ (l : List ℕ). l ++ flat_map text_in (map output_of (drop (i + 1) outputs)))
+    (ap (λ (xs : List Output). flat_map text_in (map output_of xs)) more
     ∙ texts_append (take i outputs) (output ∷ [])
-    ∙ ap (λ (l : List ℕ). flat_map text_in (map deed_of (take i outputs)) ++ l) (append-nil (text_in (deed_of output))))
+    ∙ ap (λ (l : List ℕ). flat_map text_in (map output_of (take i outputs)) ++ l) (append-nil (text_in (output_of output))))
 
 -- the replies of turns, and of more turns
-pub replies_on : (xs ys : List Turn) → replies_of (xs ++ ys) ≡ replies_of xs + replies_of ys
+pub replies_on : (xs ys : List AnsweredEvent) → replies_of (xs ++ ys) ≡ replies_of xs + replies_of ys
 replies_on [] ys = omega arith
 replies_on (x ∷ xs) ys = omega (arith, replies_on xs ys)
 
-pub shut_on : (xs ys : List Turn) → is_shut ys ≡ true → is_shut (xs ++ ys) ≡ true
+pub shut_on : (xs ys : List AnsweredEvent) → is_shut ys ≡ true → is_shut (xs ++ ys) ≡ true
 shut_on [] ys h = h
 shut_on (x ∷ xs) ys h = or_after (shuts x.done) (is_shut (xs ++ ys)) (shut_on xs ys h) where
   or_after : (a b : Bool) → b ≡ true → (a || b) ≡ true
   or_after true b e = refl
   or_after false b e = e
 
-bytes_on : {T : Type 0} (xs ys : List Turn) (bytes more : List ℕ) (result : Result T IoFault) → AreBytesOf {T = Unit {0}} xs bytes (Ok tt) → AreBytesOf ys more result → AreBytesOf (xs ++ ys) (bytes ++ more) result
+bytes_on : {T : Type 0} (xs ys : List AnsweredEvent) (bytes more : List ℕ) (result : Result T IoFault) → AreBytesOf {T = Unit {0}} xs bytes (Ok tt) → AreBytesOf ys more result → AreBytesOf (xs ++ ys) (bytes ++ more) result
 bytes_on xs ys bytes more result before after = record {
   lost = after.lost;
   split =
       ap (λ (l : List ℕ). l ++ more) (before.split ∙ ap (λ (l : List ℕ). bytes_of xs ++ l) before.none ∙ append-nil (bytes_of xs))
       ∙ ap (λ (l : List ℕ). bytes_of xs ++ l) after.split
       ∙ sym (append_assoc (bytes_of xs) (bytes_of ys) after.lost)
-      ∙ ap (λ (l : List ℕ). l ++ after.lost) (sym (flat_map-append (λ (t : Turn). bytes_in t.event.happened) xs ys));
+      ∙ ap (λ (l : List ℕ). l ++ after.lost) (sym (flat_map-append (λ (t : AnsweredEvent). bytes_in t.event.kind) xs ys));
   none = after.none;
 }
 
@@ -108,8 +108,8 @@ or_false false = refl
 
 module _ (policy : List Rule) (base : List ℕ) (entries : List Entry) (n : ℕ) where
   -- before the first turn
-  pub none_served : (hall : Hall) (given : Option (List Stamp)) (contents : Option (List ℕ)) → AreServed policy base entries n {T = Unit {0}} hall hall [] [] given given contents contents (Ok tt)
-  none_served hall given contents = record {
+  pub none_served : (state : HubState) (given : Option (List Stamp)) (contents : Option (List ℕ)) → AreServed policy base entries n {T = Unit {0}} state state [] [] given given contents contents (Ok tt)
+  none_served state given contents = record {
     runs = refl;
     pieces = All-nil (IsPieceOf n);
     brings = record { lost = []; split = refl; none = refl };
@@ -118,38 +118,38 @@ module _ (policy : List Rule) (base : List ℕ) (entries : List Entry) (n : ℕ)
   }
 
   -- turns after others
-  pub served_on : {T : Type 0} (hall mid next : Hall) (xs ys : List Turn) (bytes more : List ℕ) (g h i : Option (List Stamp)) (a b c : Option (List ℕ)) (result : Result T IoFault)
-      → AreServed policy base entries n {T = Unit {0}} hall mid xs bytes g h a b (Ok tt) → AreServed policy base entries n mid next ys more h i b c result
-      → AreServed policy base entries n hall next (xs ++ ys) (bytes ++ more) g i a c result
-  served_on hall mid next xs ys bytes more g h i a b c result before after = record {
-    runs = folds_on (λ (x : Hall) (t : Turn) (y : Hall). Hears policy base entries t.event x t.done y) hall xs ys mid next before.runs after.runs;
+  pub served_on : {T : Type 0} (state mid next : HubState) (xs ys : List AnsweredEvent) (bytes more : List ℕ) (g h i : Option (List Stamp)) (a b c : Option (List ℕ)) (result : Result T IoFault)
+      → AreServed policy base entries n {T = Unit {0}} state mid xs bytes g h a b (Ok tt) → AreServed policy base entries n mid next ys more h i b c result
+      → AreServed policy base entries n state next (xs ++ ys) (bytes ++ more) g i a c result
+  served_on state mid next xs ys bytes more g h i a b c result before after = record {
+    runs = folds_on (λ (x : HubState) (t : AnsweredEvent) (y : HubState). Hears policy base entries t.event x t.done y) state xs ys mid next before.runs after.runs;
     pieces = All-append (IsPieceOf n) xs ys before.pieces after.pieces;
     brings = bytes_on xs ys bytes more result before.brings after.brings;
-    stamps = subst (Grows g i) (sym (map-append (λ (t : Turn). t.event.stamp) xs ys)) (grows_on g h i (map (λ (t : Turn). t.event.stamp) xs) (map (λ (t : Turn). t.event.stamp) ys) before.stamps after.stamps);
-    written = subst (λ (text : List ℕ). IsWritten a c text result) (sym (flat_map-append (λ (t : Turn). text_done t.done) xs ys))
+    stamps = subst (Grows g i) (sym (map-append (λ (t : AnsweredEvent). t.event.stamp) xs ys)) (grows_on g h i (map (λ (t : AnsweredEvent). t.event.stamp) xs) (map (λ (t : AnsweredEvent). t.event.stamp) ys) before.stamps after.stamps);
+    written = subst (λ (text : List ℕ). IsWritten a c text result) (sym (flat_map-append (λ (t : AnsweredEvent). text_done t.done) xs ys))
         (written_on a b c (text_of xs) (text_of ys) result before.written after.written);
   }
 
   -- a turn that failed after others
-  pub served_failing : {T : Type 0} (hall mid next : Hall) (xs ys : List Turn) (bytes more : List ℕ) (g h i : Option (List Stamp)) (a b c : Option (List ℕ)) (fault : IoFault)
-      → AreServed policy base entries n {T = Unit {0}} hall mid xs bytes g h a b (Ok tt) → AreServed policy base entries n {T = Written} mid next ys more h i b c (Err fault)
-      → AreServed policy base entries n {T = T} hall next (xs ++ ys) (bytes ++ more) g i a c (Err fault)
-  served_failing {T} hall mid next xs ys bytes more g h i a b c fault before after =
-      served_on {T = T} hall mid next xs ys bytes more g h i a b c (Err fault) before
+  pub served_failing : {T : Type 0} (state mid next : HubState) (xs ys : List AnsweredEvent) (bytes more : List ℕ) (g h i : Option (List Stamp)) (a b c : Option (List ℕ)) (fault : IoFault)
+      → AreServed policy base entries n {T = Unit {0}} state mid xs bytes g h a b (Ok tt) → AreServed policy base entries n {T = Written} mid next ys more h i b c (Err fault)
+      → AreServed policy base entries n {T = T} state next (xs ++ ys) (bytes ++ more) g i a c (Err fault)
+  served_failing {T} state mid next xs ys bytes more g h i a b c fault before after =
+      served_on {T = T} state mid next xs ys bytes more g h i a b c (Err fault) before
       (record { runs = after.runs; pieces = after.pieces; brings = record { lost = after.brings.lost; split = after.brings.split; none = tt }; stamps = after.stamps; written = after.written })
 
   -- or didn't
-  pub served_well : (hall mid next : Hall) (xs ys : List Turn) (bytes more : List ℕ) (g h i : Option (List Stamp)) (a b c : Option (List ℕ)) (w : Written)
-      → AreServed policy base entries n {T = Unit {0}} hall mid xs bytes g h a b (Ok tt) → AreServed policy base entries n {T = Written} mid next ys more h i b c (Ok w)
-      → AreServed policy base entries n {T = Unit {0}} hall next (xs ++ ys) (bytes ++ more) g i a c (Ok tt)
-  served_well hall mid next xs ys bytes more g h i a b c w before after =
-      served_on {T = Unit {0}} hall mid next xs ys bytes more g h i a b c (Ok tt) before
+  pub served_well : (state mid next : HubState) (xs ys : List AnsweredEvent) (bytes more : List ℕ) (g h i : Option (List Stamp)) (a b c : Option (List ℕ)) (w : Written)
+      → AreServed policy base entries n {T = Unit {0}} state mid xs bytes g h a b (Ok tt) → AreServed policy base entries n {T = Written} mid next ys more h i b c (Ok w)
+      → AreServed policy base entries n {T = Unit {0}} state next (xs ++ ys) (bytes ++ more) g i a c (Ok tt)
+  served_well state mid next xs ys bytes more g h i a b c w before after =
+      served_on {T = Unit {0}} state mid next xs ys bytes more g h i a b c (Ok tt) before
       (record { runs = after.runs; pieces = after.pieces; brings = record { lost = after.brings.lost; split = after.brings.split; none = after.brings.none }; stamps = after.stamps; written = after.written })
 
   -- a fault after them
-  pub served_up_to : {T : Type 0} (hall next : Hall) (xs : List Turn) (bytes : List ℕ) (g h : Option (List Stamp)) (a b : Option (List ℕ)) (fault : IoFault)
-      → AreServed policy base entries n {T = Unit {0}} hall next xs bytes g h a b (Ok tt) → AreServed policy base entries n {T = T} hall next xs bytes g h a b (Err fault)
-  served_up_to hall next xs bytes g h a b fault served = record {
+  pub served_up_to : {T : Type 0} (state next : HubState) (xs : List AnsweredEvent) (bytes : List ℕ) (g h : Option (List Stamp)) (a b : Option (List ℕ)) (fault : IoFault)
+      → AreServed policy base entries n {T = Unit {0}} state next xs bytes g h a b (Ok tt) → AreServed policy base entries n {T = T} state next xs bytes g h a b (Err fault)
+  served_up_to state next xs bytes g h a b fault served = record {
     runs = served.runs;
     pieces = served.pieces;
     brings = record { lost = served.brings.lost; split = served.brings.split; none = tt };
@@ -158,9 +158,9 @@ module _ (policy : List Rule) (base : List ℕ) (entries : List Entry) (n : ℕ)
   }
 
   -- or none
-  pub served_all : {T : Type 0} (hall next : Hall) (xs : List Turn) (bytes : List ℕ) (g h : Option (List Stamp)) (a b : Option (List ℕ)) (x : T)
-      → AreServed policy base entries n {T = Unit {0}} hall next xs bytes g h a b (Ok tt) → AreServed policy base entries n {T = T} hall next xs bytes g h a b (Ok x)
-  served_all hall next xs bytes g h a b x served =
+  pub served_all : {T : Type 0} (state next : HubState) (xs : List AnsweredEvent) (bytes : List ℕ) (g h : Option (List Stamp)) (a b : Option (List ℕ)) (x : T)
+      → AreServed policy base entries n {T = Unit {0}} state next xs bytes g h a b (Ok tt) → AreServed policy base entries n {T = T} state next xs bytes g h a b (Ok x)
+  served_all state next xs bytes g h a b x served =
       record { runs = served.runs; pieces = served.pieces; brings = record { lost = served.brings.lost; split = served.brings.split; none = served.brings.none }; stamps = served.stamps; written = served.written }
 
   -- a front of no text
@@ -172,15 +172,15 @@ module _ (policy : List Rule) (base : List ℕ) (entries : List Entry) (n : ℕ)
   always (Err e) P p = tt
 
   -- one turn of a piece
-  pub one_served : {T : Type 0} (hall next : Hall) (event : Seen) (done : Result (List Deed) HubFault) (piece : List ℕ) (g h : Option (List Stamp)) (a b : Option (List ℕ)) (result : Result T IoFault)
-      → Hears policy base entries event hall done next → event.connection ≡ n → IsPiece event.happened → bytes_in event.happened ≡ piece → Grows g h (event.stamp ∷ [])
-      → IsWritten a b (text_done done) result → AreServed policy base entries n hall next (record { event = event; done = done } ∷ []) piece g h a b result
-  one_served hall next event done piece g h a b result hears number is_piece brings stamped wrote = record {
+  pub one_served : {T : Type 0} (state next : HubState) (event : HubEvent) (done : Result (List HubOutput) HubFault) (piece : List ℕ) (g h : Option (List Stamp)) (a b : Option (List ℕ)) (result : Result T IoFault)
+      → Hears policy base entries event state done next → event.connection ≡ n → IsPiece event.kind → bytes_in event.kind ≡ piece → Grows g h (event.stamp ∷ [])
+      → IsWritten a b (text_done done) result → AreServed policy base entries n state next (record { event = event; done = done } ∷ []) piece g h a b result
+  one_served state next event done piece g h a b result hears number is_piece brings stamped wrote = record {
     runs = (next, hears, refl);
     pieces = All-cons (IsPieceOf n) (record { event = event; done = done }) [] (number, is_piece) (All-nil (IsPieceOf n));
     brings = record {
       lost = [];
-      split = sym brings ∙ sym (append-nil (bytes_in event.happened)) ∙ sym (append-nil (bytes_in event.happened ++ []));
+      split = sym brings ∙ sym (append-nil (bytes_in event.kind)) ∙ sym (append-nil (bytes_in event.kind ++ []));
       none = always result ([] ≡ []) refl;
     };
     stamps = stamped;
@@ -188,9 +188,9 @@ module _ (policy : List Rule) (base : List ℕ) (entries : List Entry) (n : ℕ)
   }
 
   -- a piece for which there is no stamp
-  pub not_served : (hall : Hall) (piece : List ℕ) (g h : Option (List Stamp)) (a : Option (List ℕ)) (fault : IoFault)
-      → Grows g h [] → IsPieceServed policy base entries n hall hall piece g h a a (Err fault)
-  not_served hall piece g h a fault none = record {
+  pub not_served : (state : HubState) (piece : List ℕ) (g h : Option (List Stamp)) (a : Option (List ℕ)) (fault : IoFault)
+      → Grows g h [] → IsPieceServed policy base entries n state state piece g h a a (Err fault)
+  not_served state piece g h a fault none = record {
     turns = [];
     served = record {
       runs = refl;
@@ -203,95 +203,95 @@ module _ (policy : List Rule) (base : List ℕ) (entries : List Entry) (n : ℕ)
   }
 
   -- a piece that the hub answers a fault
-  pub piece_denied : (hall next : Hall) (event : Seen) (fault : HubFault) (piece : List ℕ) (g h : Option (List Stamp)) (a : Option (List ℕ)) (told : IoFault)
-      → Hears policy base entries event hall (Err fault) next → event.connection ≡ n → IsPiece event.happened → bytes_in event.happened ≡ piece → Grows g h (event.stamp ∷ [])
-      → IsPieceServed policy base entries n hall next piece g h a a (Err told)
-  piece_denied hall next event fault piece g h a told hears number is_piece brings stamped = record {
+  pub piece_denied : (state next : HubState) (event : HubEvent) (fault : HubFault) (piece : List ℕ) (g h : Option (List Stamp)) (a : Option (List ℕ)) (told : IoFault)
+      → Hears policy base entries event state (Err fault) next → event.connection ≡ n → IsPiece event.kind → bytes_in event.kind ≡ piece → Grows g h (event.stamp ∷ [])
+      → IsPieceServed policy base entries n state next piece g h a a (Err told)
+  piece_denied state next event fault piece g h a told hears number is_piece brings stamped = record {
     turns = record { event = event; done = Err fault } ∷ [];
-    served = one_served hall next event (Err fault) piece g h a a (Err told) hears number is_piece brings stamped (no_front a);
+    served = one_served state next event (Err fault) piece g h a a (Err told) hears number is_piece brings stamped (no_front a);
     told = tt;
   }
 
   -- a piece whose answer can't be written
-  pub piece_unwritten : (hall next : Hall) (event : Seen) (deeds : List Deed) (piece : List ℕ) (g h : Option (List Stamp)) (a b : Option (List ℕ)) (told : IoFault)
-      → Hears policy base entries event hall (Ok deeds) next → event.connection ≡ n → IsPiece event.happened → bytes_in event.happened ≡ piece → Grows g h (event.stamp ∷ [])
-      → AppendsFront a b (flat_map text_in deeds) → IsPieceServed policy base entries n hall next piece g h a b (Err told)
-  piece_unwritten hall next event deeds piece g h a b told hears number is_piece brings stamped wrote = record {
-    turns = record { event = event; done = Ok deeds } ∷ [];
-    served = one_served hall next event (Ok deeds) piece g h a b (Err told) hears number is_piece brings stamped wrote;
+  pub piece_unwritten : (state next : HubState) (event : HubEvent) (hub_outputs : List HubOutput) (piece : List ℕ) (g h : Option (List Stamp)) (a b : Option (List ℕ)) (told : IoFault)
+      → Hears policy base entries event state (Ok hub_outputs) next → event.connection ≡ n → IsPiece event.kind → bytes_in event.kind ≡ piece → Grows g h (event.stamp ∷ [])
+      → AppendsFront a b (flat_map text_in hub_outputs) → IsPieceServed policy base entries n state next piece g h a b (Err told)
+  piece_unwritten state next event hub_outputs piece g h a b told hears number is_piece brings stamped wrote = record {
+    turns = record { event = event; done = Ok hub_outputs } ∷ [];
+    served = one_served state next event (Ok hub_outputs) piece g h a b (Err told) hears number is_piece brings stamped wrote;
     told = tt;
   }
 
   -- a piece that is answered
-  pub piece_served : (hall next : Hall) (event : Seen) (outputs : List Output) (piece : List ℕ) (g h : Option (List Stamp)) (a b : Option (List ℕ)) (w : Written)
-      → Hears policy base entries event hall (Ok (map deed_of outputs)) next → event.connection ≡ n → IsPiece event.happened → bytes_in event.happened ≡ piece → Grows g h (event.stamp ∷ [])
-      → Appends a b (flat_map text_in (map deed_of outputs)) → w.replies ≡ count_by (λ o. is_reply (deed_of o)) outputs → w.shut ≡ list_any (λ o. is_shutting (deed_of o)) outputs
-      → IsPieceServed policy base entries n hall next piece g h a b (Ok w)
-  piece_served hall next event outputs piece g h a b w hears number is_piece brings stamped wrote replies shut = record {
-    turns = record { event = event; done = Ok (map deed_of outputs) } ∷ [];
-    served = one_served hall next event (Ok (map deed_of outputs)) piece g h a b (Ok w) hears number is_piece brings stamped wrote;
+  pub piece_served : (state next : HubState) (event : HubEvent) (outputs : List Output) (piece : List ℕ) (g h : Option (List Stamp)) (a b : Option (List ℕ)) (w : Written)
+      → Hears policy base entries event state (Ok (map output_of outputs)) next → event.connection ≡ n → IsPiece event.kind → bytes_in event.kind ≡ piece → Grows g h (event.stamp ∷ [])
+      → Appends a b (flat_map text_in (map output_of outputs)) → w.replies ≡ count_by (λ o. is_reply (output_of o)) outputs → w.shut ≡ list_any (λ o. is_shutting (output_of o)) outputs
+      → IsPieceServed policy base entries n state next piece g h a b (Ok w)
+  piece_served state next event outputs piece g h a b w hears number is_piece brings stamped wrote replies shut = record {
+    turns = record { event = event; done = Ok (map output_of outputs) } ∷ [];
+    served = one_served state next event (Ok (map output_of outputs)) piece g h a b (Ok w) hears number is_piece brings stamped wrote;
     told = (
-      replies ∙ sym (count_map is_reply deed_of outputs) ∙ sym (add-zero (count_by is_reply (map deed_of outputs))),
-      shut ∙ sym (any_map is_shutting deed_of outputs) ∙ sym (or_false (list_any is_shutting (map deed_of outputs))),
+      replies ∙ sym (count_map is_reply output_of outputs) ∙ sym (add-zero (count_by is_reply (map output_of outputs))),
+      shut ∙ sym (any_map is_shutting output_of outputs) ∙ sym (or_false (list_any is_shutting (map output_of outputs))),
     );
   }
 
   -- the stream after a read that failed
-  pub stream_unread : (hall next : Hall) (xs : List Turn) (bytes : List ℕ) (r s t : Option (List ℕ)) (g h : Option (List Stamp)) (a b : Option (List ℕ)) (fault : IoFault)
-      → Consumes r s bytes → Keeps s t → AreServed policy base entries n {T = Unit {0}} hall next xs bytes g h a b (Ok tt)
-      → IsStreamServed policy base entries n hall next r t g h a b (Err fault)
-  stream_unread hall next xs bytes r s t g h a b fault consumed kept served = record {
+  pub stream_unread : (state next : HubState) (xs : List AnsweredEvent) (bytes : List ℕ) (r s t : Option (List ℕ)) (g h : Option (List Stamp)) (a b : Option (List ℕ)) (fault : IoFault)
+      → Consumes r s bytes → Keeps s t → AreServed policy base entries n {T = Unit {0}} state next xs bytes g h a b (Ok tt)
+      → IsStreamServed policy base entries n state next r t g h a b (Err fault)
+  stream_unread state next xs bytes r s t g h a b fault consumed kept served = record {
     turns = xs;
     bytes = bytes;
     consumed = Consumes-kept r s t bytes consumed kept;
-    served = served_up_to hall next xs bytes g h a b fault served;
+    served = served_up_to state next xs bytes g h a b fault served;
     ended = tt;
     replies = tt;
   }
 
   -- the stream that was read too often
-  pub stream_endless : (hall next : Hall) (xs : List Turn) (bytes : List ℕ) (r s : Option (List ℕ)) (g h : Option (List Stamp)) (a b : Option (List ℕ)) (fault : IoFault)
-      → Consumes r s bytes → AreServed policy base entries n {T = Unit {0}} hall next xs bytes g h a b (Ok tt)
-      → IsStreamServed policy base entries n hall next r s g h a b (Err fault)
-  stream_endless hall next xs bytes r s g h a b fault consumed served = record {
+  pub stream_endless : (state next : HubState) (xs : List AnsweredEvent) (bytes : List ℕ) (r s : Option (List ℕ)) (g h : Option (List Stamp)) (a b : Option (List ℕ)) (fault : IoFault)
+      → Consumes r s bytes → AreServed policy base entries n {T = Unit {0}} state next xs bytes g h a b (Ok tt)
+      → IsStreamServed policy base entries n state next r s g h a b (Err fault)
+  stream_endless state next xs bytes r s g h a b fault consumed served = record {
     turns = xs;
     bytes = bytes;
     consumed = consumed;
-    served = served_up_to hall next xs bytes g h a b fault served;
+    served = served_up_to state next xs bytes g h a b fault served;
     ended = tt;
     replies = tt;
   }
 
   -- the stream at its end
-  pub stream_ended : (hall next : Hall) (xs : List Turn) (bytes piece : List ℕ) (r s t : Option (List ℕ)) (g h : Option (List Stamp)) (a b : Option (List ℕ)) (total : Served)
-      → Consumes r s bytes → Consumes s t piece → piece ≡ [] → IsAtEnd t → AreServed policy base entries n {T = Unit {0}} hall next xs bytes g h a b (Ok tt)
+  pub stream_ended : (state next : HubState) (xs : List AnsweredEvent) (bytes piece : List ℕ) (r s t : Option (List ℕ)) (g h : Option (List Stamp)) (a b : Option (List ℕ)) (total : Served)
+      → Consumes r s bytes → Consumes s t piece → piece ≡ [] → IsAtEnd t → AreServed policy base entries n {T = Unit {0}} state next xs bytes g h a b (Ok tt)
       → total.replies ≡ min (2 ^ 64 - 1) (replies_of xs)
-      → IsStreamServed policy base entries n hall next r t g h a b (Ok total)
-  stream_ended hall next xs bytes piece r s t g h a b total before after none ends served replies = record {
+      → IsStreamServed policy base entries n state next r t g h a b (Ok total)
+  stream_ended state next xs bytes piece r s t g h a b total before after none ends served replies = record {
     turns = xs;
     bytes = bytes;
     consumed = subst (Consumes r t) (ap (λ (l : List ℕ). bytes ++ l) none ∙ append-nil bytes) (Consumes-trans r s t bytes piece before after);
-    served = served_all hall next xs bytes g h a b total served;
+    served = served_all state next xs bytes g h a b total served;
     ended = inl ends;
     replies = replies;
   }
 
   -- the stream after a piece that couldn't be served
-  pub stream_failed : (hall mid next : Hall) (xs : List Turn) (bytes piece : List ℕ) (r s t : Option (List ℕ)) (g h i : Option (List Stamp)) (a b c : Option (List ℕ)) (fault : IoFault)
-      → Consumes r s bytes → Consumes s t piece → AreServed policy base entries n {T = Unit {0}} hall mid xs bytes g h a b (Ok tt)
+  pub stream_failed : (state mid next : HubState) (xs : List AnsweredEvent) (bytes piece : List ℕ) (r s t : Option (List ℕ)) (g h i : Option (List Stamp)) (a b c : Option (List ℕ)) (fault : IoFault)
+      → Consumes r s bytes → Consumes s t piece → AreServed policy base entries n {T = Unit {0}} state mid xs bytes g h a b (Ok tt)
       → IsPieceServed policy base entries n mid next piece h i b c (Err fault)
-      → IsStreamServed policy base entries n hall next r t g i a c (Err fault)
-  stream_failed hall mid next xs bytes piece r s t g h i a b c fault before after served last = record {
+      → IsStreamServed policy base entries n state next r t g i a c (Err fault)
+  stream_failed state mid next xs bytes piece r s t g h i a b c fault before after served last = record {
     turns = xs ++ last.turns;
     bytes = bytes ++ piece;
     consumed = Consumes-trans r s t bytes piece before after;
-    served = served_failing hall mid next xs last.turns bytes piece g h i a b c fault served last.served;
+    served = served_failing state mid next xs last.turns bytes piece g h i a b c fault served last.served;
     ended = tt;
     replies = tt;
   }
 
   -- the replies, with those of one piece more
-  pub replies_more : (xs : List Turn) (mid next : Hall) (piece : List ℕ) (h i : Option (List Stamp)) (b c : Option (List ℕ)) (w : Written) (total more : ℕ)
+  pub replies_more : (xs : List AnsweredEvent) (mid next : HubState) (piece : List ℕ) (h i : Option (List Stamp)) (b c : Option (List ℕ)) (w : Written) (total more : ℕ)
       → (last : IsPieceServed policy base entries n mid next piece h i b c (Ok w))
       → total ≡ min (2 ^ 64 - 1) (replies_of xs) → more ≡ min (total + w.replies) (2 ^ 64 - 1) → more ≡ min (2 ^ 64 - 1) (replies_of (xs ++ last.turns))
   replies_more xs mid next piece h i b c w total more last before added =
@@ -300,17 +300,17 @@ module _ (policy : List Rule) (base : List ℕ) (entries : List Entry) (n : ℕ)
       omega (arith, before, added, all, told)
 
   -- the stream after a piece by which the connection was shut
-  pub stream_shut : (hall mid next : Hall) (xs : List Turn) (bytes piece : List ℕ) (r s t : Option (List ℕ)) (g h i : Option (List Stamp)) (a b c : Option (List ℕ)) (w : Written) (sum : ℕ) (total : Served)
-      → Consumes r s bytes → Consumes s t piece → AreServed policy base entries n {T = Unit {0}} hall mid xs bytes g h a b (Ok tt)
+  pub stream_shut : (state mid next : HubState) (xs : List AnsweredEvent) (bytes piece : List ℕ) (r s t : Option (List ℕ)) (g h i : Option (List Stamp)) (a b c : Option (List ℕ)) (w : Written) (sum : ℕ) (total : Served)
+      → Consumes r s bytes → Consumes s t piece → AreServed policy base entries n {T = Unit {0}} state mid xs bytes g h a b (Ok tt)
       → IsPieceServed policy base entries n mid next piece h i b c (Ok w) → w.shut ≡ true
       → sum ≡ min (2 ^ 64 - 1) (replies_of xs) → total.replies ≡ min (sum + w.replies) (2 ^ 64 - 1)
-      → IsStreamServed policy base entries n hall next r t g i a c (Ok total)
-  stream_shut hall mid next xs bytes piece r s t g h i a b c w sum total before after served last shut counted added = record {
+      → IsStreamServed policy base entries n state next r t g i a c (Ok total)
+  stream_shut state mid next xs bytes piece r s t g h i a b c w sum total before after served last shut counted added = record {
     turns = xs ++ last.turns;
     bytes = bytes ++ piece;
     consumed = Consumes-trans r s t bytes piece before after;
-    served = served_all hall next (xs ++ last.turns) (bytes ++ piece) g i a c total
-        (served_well hall mid next xs last.turns bytes piece g h i a b c w served last.served);
+    served = served_all state next (xs ++ last.turns) (bytes ++ piece) g i a c total
+        (served_well state mid next xs last.turns bytes piece g h i a b c w served last.served);
     ended = inr (shut_on xs last.turns (sym last.told.1 ∙ shut));
     replies = replies_more xs mid next piece h i b c w sum total.replies last counted added;
   }

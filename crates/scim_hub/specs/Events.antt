@@ -12,16 +12,16 @@ use Rattle.scim_hub.specs.Answering.{AreAnswered}
 
 -- what occurs on a connection: it is opened, the next piece of its stream arrives with these bytes, or it is
 -- closed
-pub data Happened : Type 0 where
-  joining : Happened
-  sending : List ℕ → Happened
-  leaving : Happened
+pub data HubEventKind : Type 0 where
+  joining : HubEventKind
+  sending : List ℕ → HubEventKind
+  leaving : HubEventKind
 
 -- an event: what occurs on the connection with a number, with its stamp
-pub record Seen : Type 0 where
+pub record HubEvent : Type 0 where
   pub connection : ℕ
   pub stamp : Stamp
-  pub happened : Happened
+  pub kind : HubEventKind
 
 -- the state of a connection: absent; joined, with the stream read so far and the items that it gave; or shut,
 -- with its stream ignored
@@ -31,12 +31,12 @@ pub data Connection : Type 0 where
   shut : Connection
 
 -- the state of a hub: the connections by number, and the store
-pub record Hall : Type 0 where
+pub record HubState : Type 0 where
   pub connections : ℕ → Connection
   pub store : Store
 
 -- the state of a hub without connections over a store
-abbrev pub none_joined : Store → Hall
+abbrev pub none_joined : Store → HubState
 none_joined store = record { connections = λ _. absent; store = store }
 
 -- the connections with that of one number replaced
@@ -44,44 +44,44 @@ abbrev pub set : ℕ → Connection → (ℕ → Connection) → ℕ → Connect
 set n connection connections m = if n == m then connection else connections m
 
 -- an output of a hub: a text is written to a connection, or a connection is shut
-pub data Deed : Type 0 where
-  writing : ℕ → List ℕ → Deed
-  shutting : ℕ → Deed
+pub data HubOutput : Type 0 where
+  writing : ℕ → List ℕ → HubOutput
+  shutting : ℕ → HubOutput
 
 -- the outputs that write the texts to the connection in order, and shut it if it is closed
-abbrev pub deeds : ℕ → List (List ℕ) → Bool → List Deed
-deeds n texts closed = map (writing n) texts ++ (if closed then shutting n ∷ [] else [])
+abbrev pub hub_outputs : ℕ → List (List ℕ) → Bool → List HubOutput
+hub_outputs n texts closed = map (writing n) texts ++ (if closed then shutting n ∷ [] else [])
 
 -- the event fails with this fault and changes nothing
-abbrev pub IsDenied : HubFault → Hall → Result (List Deed) HubFault → Hall → Type 0
-IsDenied fault hall result next = (result ≡ Err fault) × (next ≡ hall)
+abbrev pub IsDenied : HubFault → HubState → Result (List HubOutput) HubFault → HubState → Type 0
+IsDenied fault state result next = (result ≡ Err fault) × (next ≡ state)
 
 -- the next state has this connection under the number and this store; all other connections are unchanged
-abbrev pub Becomes : ℕ → Connection → Store → Hall → Hall → Type 0
-Becomes n connection store hall next = next ≡ record { connections = set n connection hall.connections; store = store }
+abbrev pub Becomes : ℕ → Connection → Store → HubState → HubState → Type 0
+Becomes n connection store state next = next ≡ record { connections = set n connection state.connections; store = store }
 
 -- a connection joins under a number: it is added with nothing read if the number is free and memory suffices,
 -- else nothing changes
-abbrev pub Joins : Connection → ℕ → Hall → Result (List Deed) HubFault → Hall → Type 0
-Joins absent n hall result next = ((result ≡ Ok []) × Becomes n (joined [] []) hall.store hall next) ⊎ IsDenied NoMemory hall result next
-Joins _ n hall result next = IsDenied AlreadyJoined hall result next
+abbrev pub Joins : Connection → ℕ → HubState → Result (List HubOutput) HubFault → HubState → Type 0
+Joins absent n state result next = ((result ≡ Ok []) × Becomes n (joined [] []) state.store state next) ⊎ IsDenied NoMemory state result next
+Joins _ n state result next = IsDenied AlreadyJoined state result next
 
 -- a connection leaves: its number is free afterwards; a fault if no connection has the number
-abbrev pub Leaves : Connection → ℕ → Hall → Result (List Deed) HubFault → Hall → Type 0
-Leaves absent n hall result next = IsDenied Unknown hall result next
-Leaves _ n hall result next = (result ≡ Ok []) × Becomes n absent hall.store hall next
+abbrev pub Leaves : Connection → ℕ → HubState → Result (List HubOutput) HubFault → HubState → Type 0
+Leaves absent n state result next = IsDenied Unknown state result next
+Leaves _ n state result next = (result ≡ Ok []) × Becomes n absent state.store state next
 
 module _ (policy : List Rule) (base : List ℕ) (entries : List Entry) where
   -- the new items of the stream are answered, and the connection is shut after them or remains joined
-  pub record IsTaken (stamp : Stamp) (n : ℕ) (stream : List ℕ) (items : List Item) (hall : Hall) (result : Result (List Deed) HubFault) (next : Hall) : Type 0 where
+  pub record IsTaken (stamp : Stamp) (n : ℕ) (stream : List ℕ) (items : List Item) (state : HubState) (result : Result (List HubOutput) HubFault) (next : HubState) : Type 0 where
     pub new : List Item
     pub has_items : HasItems stream (items ++ new)
     pub texts : List (List ℕ)
     pub closed : Bool
     pub store : Store
-    pub answered : AreAnswered policy base entries stamp 0 new hall.store texts closed store
-    pub result_is : result ≡ Ok (deeds n texts closed)
-    pub becomes : Becomes n (if closed then shut else joined stream (items ++ new)) store hall next
+    pub answered : AreAnswered policy base entries stamp 0 new state.store texts closed store
+    pub result_is : result ≡ Ok (hub_outputs n texts closed)
+    pub becomes : Becomes n (if closed then shut else joined stream (items ++ new)) store state next
 
   -- a prefix of the new items of the stream has been answered and left this store
   pub record AreBegun (stamp : Stamp) (stream : List ℕ) (items : List Item) (old store : Store) : Type 0 where
@@ -94,32 +94,32 @@ module _ (policy : List Rule) (base : List ℕ) (entries : List Entry) where
 
   -- memory ran out: the connection is shut and the outputs are lost; the store is unchanged or as a prefix of
   -- the items left it
-  pub record IsCutOff (stamp : Stamp) (n : ℕ) (stream : List ℕ) (items : List Item) (hall : Hall) (result : Result (List Deed) HubFault) (next : Hall) : Type 0 where
+  pub record IsCutOff (stamp : Stamp) (n : ℕ) (stream : List ℕ) (items : List Item) (state : HubState) (result : Result (List HubOutput) HubFault) (next : HubState) : Type 0 where
     pub store : Store
-    pub changed : (store ≡ hall.store) ⊎ AreBegun stamp stream items hall.store store
+    pub changed : (store ≡ state.store) ⊎ AreBegun stamp stream items state.store store
     pub result_is : result ≡ Err NoMemory
-    pub becomes : Becomes n shut store hall next
+    pub becomes : Becomes n shut store state next
 
   -- the next piece of a connection's stream arrives: it is answered, or fails by the connection's state
-  abbrev pub Takes : Connection → Stamp → ℕ → List ℕ → Hall → Result (List Deed) HubFault → Hall → Type 0
-  Takes absent stamp n bytes hall result next = IsDenied Unknown hall result next
-  Takes shut stamp n bytes hall result next = IsDenied Closed hall result next
-  Takes (joined stream items) stamp n bytes hall result next =
-      IsTaken stamp n (stream ++ bytes) items hall result next ⊎ IsCutOff stamp n (stream ++ bytes) items hall result next
+  abbrev pub Takes : Connection → Stamp → ℕ → List ℕ → HubState → Result (List HubOutput) HubFault → HubState → Type 0
+  Takes absent stamp n bytes state result next = IsDenied Unknown state result next
+  Takes shut stamp n bytes state result next = IsDenied Closed state result next
+  Takes (joined stream items) stamp n bytes state result next =
+      IsTaken stamp n (stream ++ bytes) items state result next ⊎ IsCutOff stamp n (stream ++ bytes) items state result next
 
   -- the result and the next state of a hub for what occurs on the connection with this number
-  abbrev pub Meets : Happened → Stamp → ℕ → Hall → Result (List Deed) HubFault → Hall → Type 0
-  Meets joining stamp n hall result next = Joins (hall.connections n) n hall result next
-  Meets (sending bytes) stamp n hall result next = Takes (hall.connections n) stamp n bytes hall result next
-  Meets leaving stamp n hall result next = Leaves (hall.connections n) n hall result next
+  abbrev pub Meets : HubEventKind → Stamp → ℕ → HubState → Result (List HubOutput) HubFault → HubState → Type 0
+  Meets joining stamp n state result next = Joins (state.connections n) n state result next
+  Meets (sending bytes) stamp n state result next = Takes (state.connections n) stamp n bytes state result next
+  Meets leaving stamp n state result next = Leaves (state.connections n) n state result next
 
   -- the result and the next state of a hub for an event
-  abbrev pub Hears : Seen → Hall → Result (List Deed) HubFault → Hall → Type 0
-  Hears seen hall result next = Meets seen.happened seen.stamp seen.connection hall result next
+  abbrev pub Hears : HubEvent → HubState → Result (List HubOutput) HubFault → HubState → Type 0
+  Hears seen state result next = Meets seen.kind seen.stamp seen.connection state result next
 
   -- the results of events one after another, and the state after the last
-  abbrev pub Runs : Hall → List Seen → List (Result (List Deed) HubFault) → Hall → Type 0
-  Runs hall [] results next = (results ≡ []) × (next ≡ hall)
-  Runs hall (seen ∷ events) results next =
-      (result : Result (List Deed) HubFault) × (mid : Hall) × (rest : List (Result (List Deed) HubFault))
-      × (results ≡ result ∷ rest) × Hears seen hall result mid × Runs mid events rest next
+  abbrev pub Runs : HubState → List HubEvent → List (Result (List HubOutput) HubFault) → HubState → Type 0
+  Runs state [] results next = (results ≡ []) × (next ≡ state)
+  Runs state (seen ∷ events) results next =
+      (result : Result (List HubOutput) HubFault) × (mid : HubState) × (rest : List (Result (List HubOutput) HubFault))
+      × (results ≡ result ∷ rest) × Hears seen state result mid × Runs mid events rest next

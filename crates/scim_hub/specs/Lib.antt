@@ -1,5 +1,5 @@
 pub mod Answering
 pub mod Events
-pub mod Halls
+pub mod HubStates
 pub mod Streams
 pub mod code

@@ -12,7 +12,7 @@ use Rattle.scim_hub.specs.declared.io_faults.IoFault.{IoFault}
 use Rattle.scim_hub.specs.declared.io_faults.IoFault.TheVariants.{Hub}
 use Rattle.scim_hub.specs.declared.streams.Served.{Served}
 use Rattle.scim_hub.specs.Answering.{continue_text}
-use Rattle.scim_hub.specs.Events.{Happened, sending, Seen, Hall, Deed, writing, shutting, Joins, Leaves, Hears}
+use Rattle.scim_hub.specs.Events.{HubEventKind, sending, HubEvent, HubState, HubOutput, writing, shutting, Joins, Leaves, Hears}
 
 -- the stamps given, if known, grow by these
 abbrev pub Grows : Option (List Stamp) → Option (List Stamp) → List Stamp → Type 0
@@ -21,77 +21,77 @@ Grows (Some xs) None stamps = ⊥
 Grows (Some xs) (Some ys) stamps = ys ≡ xs ++ stamps
 
 -- an event and its result
-pub record Turn : Type 0 where
-  pub event : Seen
-  pub done : Result (List Deed) HubFault
+pub record AnsweredEvent : Type 0 where
+  pub event : HubEvent
+  pub done : Result (List HubOutput) HubFault
 
 -- the bytes of a piece, empty for other occurrences
-abbrev pub bytes_in : Happened → List ℕ
+abbrev pub bytes_in : HubEventKind → List ℕ
 bytes_in (sending bytes) = bytes
 bytes_in _ = []
 
 -- the bytes of the turns' pieces, in order
-abbrev pub bytes_of : List Turn → List ℕ
-bytes_of turns = flat_map (λ t. bytes_in t.event.happened) turns
+abbrev pub bytes_of : List AnsweredEvent → List ℕ
+bytes_of turns = flat_map (λ t. bytes_in t.event.kind) turns
 
 -- the text that an output writes, empty if it shuts the connection
-abbrev pub text_in : Deed → List ℕ
+abbrev pub text_in : HubOutput → List ℕ
 text_in (writing n text) = text
 text_in (shutting n) = []
 
 -- the text that is written for the result of an event
-abbrev pub text_done : Result (List Deed) HubFault → List ℕ
-text_done (Ok deeds) = flat_map text_in deeds
+abbrev pub text_done : Result (List HubOutput) HubFault → List ℕ
+text_done (Ok hub_outputs) = flat_map text_in hub_outputs
 text_done (Err fault) = []
 
 -- the text that is written in turns, in order
-abbrev pub text_of : List Turn → List ℕ
+abbrev pub text_of : List AnsweredEvent → List ℕ
 text_of turns = flat_map (λ t. text_done t.done) turns
 
 -- whether an output writes a reply, that is, a text other than 100 (Continue)
-abbrev pub is_reply : Deed → Bool
+abbrev pub is_reply : HubOutput → Bool
 is_reply (writing n text) = not (bytes_eq text continue_text)
 is_reply (shutting n) = false
 
 -- the number of replies written for the result of an event
-abbrev pub replies_done : Result (List Deed) HubFault → ℕ
-replies_done (Ok deeds) = count_by is_reply deeds
+abbrev pub replies_done : Result (List HubOutput) HubFault → ℕ
+replies_done (Ok hub_outputs) = count_by is_reply hub_outputs
 replies_done (Err fault) = 0
 
 -- the number of replies written in turns
-abbrev pub replies_of : List Turn → ℕ
+abbrev pub replies_of : List AnsweredEvent → ℕ
 replies_of [] = 0
 replies_of (t ∷ turns) = replies_done t.done + replies_of turns
 
 -- whether an output shuts the connection
-abbrev pub is_shutting : Deed → Bool
+abbrev pub is_shutting : HubOutput → Bool
 is_shutting (writing n text) = false
 is_shutting (shutting n) = true
 
 -- whether the result of an event shuts the connection
-abbrev pub shuts : Result (List Deed) HubFault → Bool
-shuts (Ok deeds) = list_any is_shutting deeds
+abbrev pub shuts : Result (List HubOutput) HubFault → Bool
+shuts (Ok hub_outputs) = list_any is_shutting hub_outputs
 shuts (Err fault) = false
 
 -- whether any turn shuts the connection
-abbrev pub is_shut : List Turn → Bool
+abbrev pub is_shut : List AnsweredEvent → Bool
 is_shut turns = list_any (λ t. shuts t.done) turns
 
 -- the occurrence is the next piece of the stream
-abbrev pub IsPiece : Happened → Type 0
+abbrev pub IsPiece : HubEventKind → Type 0
 IsPiece (sending bytes) = ⊤
 IsPiece _ = ⊥
 
 -- the turn is for a piece of this connection's stream
-abbrev pub IsPieceOf : ℕ → Turn → Type 0
-IsPieceOf n turn = (turn.event.connection ≡ n) × IsPiece turn.event.happened
+abbrev pub IsPieceOf : ℕ → AnsweredEvent → Type 0
+IsPieceOf n turn = (turn.event.connection ≡ n) × IsPiece turn.event.kind
 
 -- the whole text was written if the result is a success, else a prefix of it
 abbrev pub IsWritten : {T : Type 0} → Option (List ℕ) → Option (List ℕ) → List ℕ → Result T IoFault → Type 0
 IsWritten old new text result = MatchResult result (λ _. Appends old new text) (λ _. AppendsFront old new text)
 
 -- the bytes are those of the turns; after a fault further bytes may have been read that no turn handled
-pub record AreBytesOf {T : Type 0} (turns : List Turn) (bytes : List ℕ) (result : Result T IoFault) : Type 0 where
+pub record AreBytesOf {T : Type 0} (turns : List AnsweredEvent) (bytes : List ℕ) (result : Result T IoFault) : Type 0 where
   pub lost : List ℕ
   pub split : bytes ≡ bytes_of turns ++ lost
   pub none : OnOk result (lost ≡ [])
@@ -99,47 +99,47 @@ pub record AreBytesOf {T : Type 0} (turns : List Turn) (bytes : List ℕ) (resul
 module _ (policy : List Rule) (base : List ℕ) (entries : List Entry) (n : ℕ) where
   -- the turns of the connection's pieces lead from one state of the hub to the next, with these bytes, stamps
   -- and written text
-  pub record AreServed {T : Type 0} (hall next : Hall) (turns : List Turn) (bytes : List ℕ) (given given_then : Option (List Stamp)) (contents contents_then : Option (List ℕ))
+  pub record AreServed {T : Type 0} (state next : HubState) (turns : List AnsweredEvent) (bytes : List ℕ) (given given_then : Option (List Stamp)) (contents contents_then : Option (List ℕ))
       (result : Result T IoFault) : Type 0 where
-    pub runs : FoldsTo (λ h t u. Hears policy base entries t.event h t.done u) hall turns next
+    pub runs : FoldsTo (λ h t u. Hears policy base entries t.event h t.done u) state turns next
     pub pieces : All (IsPieceOf n) turns
     pub brings : AreBytesOf turns bytes result
     pub stamps : Grows given given_then (map (λ t. t.event.stamp) turns)
     pub written : IsWritten contents contents_then (text_of turns) result
 
   -- the stream is read and served to its end, until the connection is shut, or up to a fault
-  pub record IsStreamServed (hall next : Hall) (remaining remaining_then : Option (List ℕ)) (given given_then : Option (List Stamp)) (contents contents_then : Option (List ℕ))
+  pub record IsStreamServed (state next : HubState) (remaining remaining_then : Option (List ℕ)) (given given_then : Option (List Stamp)) (contents contents_then : Option (List ℕ))
       (result : Result Served IoFault) : Type 0 where
-    pub turns : List Turn
+    pub turns : List AnsweredEvent
     pub bytes : List ℕ
     pub consumed : Consumes remaining remaining_then bytes
-    pub served : AreServed hall next turns bytes given given_then contents contents_then result
+    pub served : AreServed state next turns bytes given given_then contents contents_then result
     pub ended : OnOk result (IsAtEnd remaining_then ⊎ (is_shut turns ≡ true))
     pub replies : IfOk result (λ s. s.replies ≡ min (2 ^ 64 - 1) (replies_of turns))
 
   -- the connection can't join, and nothing is read, stamped or written
-  pub record IsTurnedAway (hall next : Hall) (remaining remaining_then : Option (List ℕ)) (given given_then : Option (List Stamp)) (contents contents_then : Option (List ℕ))
+  pub record IsTurnedAway (state next : HubState) (remaining remaining_then : Option (List ℕ)) (given given_then : Option (List Stamp)) (contents contents_then : Option (List ℕ))
       (result : Result Served IoFault) : Type 0 where
     pub fault : HubFault
-    pub joins : Joins (hall.connections n) n hall (Err fault) next
+    pub joins : Joins (state.connections n) n state (Err fault) next
     pub unread : remaining_then ≡ remaining
     pub unstamped : given_then ≡ given
     pub unwritten : contents_then ≡ contents
     pub result_is : result ≡ Err (Hub fault)
 
   -- the connection joins, its stream is served, and it leaves
-  pub record IsServedWhole (hall next : Hall) (remaining remaining_then : Option (List ℕ)) (given given_then : Option (List Stamp)) (contents contents_then : Option (List ℕ))
+  pub record IsServedWhole (state next : HubState) (remaining remaining_then : Option (List ℕ)) (given given_then : Option (List Stamp)) (contents contents_then : Option (List ℕ))
       (result : Result Served IoFault) : Type 0 where
-    pub joined_at : Hall
-    pub deeds : List Deed
-    pub joins : Joins (hall.connections n) n hall (Ok deeds) joined_at
-    pub served_at : Hall
+    pub joined_at : HubState
+    pub hub_outputs : List HubOutput
+    pub joins : Joins (state.connections n) n state (Ok hub_outputs) joined_at
+    pub served_at : HubState
     pub served : IsStreamServed joined_at served_at remaining remaining_then given given_then contents contents_then result
-    pub left : Result (List Deed) HubFault
+    pub left : Result (List HubOutput) HubFault
     pub leaves : Leaves (served_at.connections n) n served_at left next
 
   -- the result of serving one stream: the connection can't join, or it is served and leaves
-  abbrev pub IsVisit : Hall → Hall → Option (List ℕ) → Option (List ℕ) → Option (List Stamp) → Option (List Stamp) → Option (List ℕ) → Option (List ℕ) → Result Served IoFault → Type 0
-  IsVisit hall next remaining remaining_then given given_then contents contents_then result =
-      IsTurnedAway hall next remaining remaining_then given given_then contents contents_then result
-      ⊎ IsServedWhole hall next remaining remaining_then given given_then contents contents_then result
+  abbrev pub IsVisit : HubState → HubState → Option (List ℕ) → Option (List ℕ) → Option (List Stamp) → Option (List Stamp) → Option (List ℕ) → Option (List ℕ) → Result Served IoFault → Type 0
+  IsVisit state next remaining remaining_then given given_then contents contents_then result =
+      IsTurnedAway state next remaining remaining_then given given_then contents contents_then result
+      ⊎ IsServedWhole state next remaining remaining_then given given_then contents contents_then result

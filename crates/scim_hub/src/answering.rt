@@ -51,7 +51,8 @@ fn id_after(first: Id, count: usize) -> Id
 
 /// Returns the client that has the message's token; `None` without a token or if no client has it.
 fn client_of<'t>(tokens: &'t Tokens, message: &Message) -> Option<&'t str>
-    ensures { (entries : List Entry) → Knows entries tokens.now → option_copied result ≡ spec.client_of entries message.now.token }
+    ensures { (entries : List Entry) → Knows entries tokens.now
+        → option_copied result ≡ spec.client_of entries message.now.token }
 {
     match &message.token {
         Some(token) => tokens.client_of(token.as_slice()),
@@ -61,7 +62,8 @@ fn client_of<'t>(tokens: &'t Tokens, message: &Message) -> Option<&'t str>
 
 /// Returns the arrival of a message that follows `count` whole messages of its event.
 fn arrival_of<'t>(tokens: &'t Tokens, stamp: &Stamp, count: usize, message: &Message) -> Arrival<'t>
-    ensures { (entries : List Entry) → Knows entries tokens.now → Arrives entries stamp.now count message.now result }
+    ensures { (entries : List Entry) → Knows entries tokens.now
+        → Arrives entries stamp.now count message.now result }
 {
     Arrival {
         client: client_of(tokens, message),
@@ -87,7 +89,8 @@ fn closes_by_itself(answer: &Answer) -> bool
 
 /// Returns the reply for an answer. The connection closes after it if `close` or if the answer requires it.
 fn reply_with(alloc: Global, answer: &Answer, close: bool) -> Result<Reply, NoMemory>
-    ensures { Says result (answer_text answer.now close) (close || spec.closes_by_itself answer.now) }
+    ensures { Says result (answer_text answer.now close) (close
+        || spec.closes_by_itself answer.now) }
 {
     let text = answer.text(alloc, close)?;
     let closes = close || closes_by_itself(answer);
@@ -116,9 +119,11 @@ fn answer_message<S: Shelf>(
 ) -> Result<Reply, NoMemory>
     ensures policy { service.new.policy ≡ service.old.policy }
     ensures base { service.new.base ≡ service.old.base }
-    ensures answered { (store : Store) → S.stands service.old.shelf store → S.is_honest service.new.shelf → IsStore service.old.base store
+    ensures answered { (store : Store) → S.stands service.old.shelf store
+        → S.is_honest service.new.shelf → IsStore service.old.base store
         → (next : Store) × S.stands service.new.shelf next × IsStore service.old.base next
-        × IsReplyToMessage service.old.policy service.old.base arrival.now message.now store result next }
+        × IsReplyToMessage service.old.policy service.old.base arrival.now message.now store result
+        next }
     ensures honest { S.is_honest service.new.shelf → S.is_honest service.old.shelf }
 {
     let answer = answer(alloc, routes, service, arrival, message);
@@ -139,10 +144,12 @@ fn answer_item<S: Shelf>(
 ) -> Result<Reply, NoMemory>
     ensures policy { service.new.policy ≡ service.old.policy }
     ensures base { service.new.base ≡ service.old.base }
-    ensures answered { (entries : List Entry) (store : Store) → Knows entries tokens.now → S.stands service.old.shelf store
+    ensures answered { (entries : List Entry) (store : Store) → Knows entries tokens.now
+        → S.stands service.old.shelf store
         → S.is_honest service.new.shelf → IsStore service.old.base store
         → (next : Store) × S.stands service.new.shelf next × IsStore service.old.base next
-        × IsReplyToItem service.old.policy service.old.base entries stamp.now count item.now store result next }
+        × IsReplyToItem service.old.policy service.old.base entries stamp.now count item.now store
+        result next }
     ensures honest { S.is_honest service.new.shelf → S.is_honest service.old.shelf }
 {
     match item {
@@ -179,10 +186,12 @@ pub(crate) fn answer_items<S: Shelf>(
 ) -> Result<Replies, NoMemory>
     ensures policy { service.new.policy ≡ service.old.policy }
     ensures base { service.new.base ≡ service.old.base }
-    ensures answered { (entries : List Entry) (store : Store) → Knows entries tokens.now → S.stands service.old.shelf store
+    ensures answered { (entries : List Entry) (store : Store) → Knows entries tokens.now
+        → S.stands service.old.shelf store
         → S.is_honest service.new.shelf → IsStore service.old.base store
         → (next : Store) × S.stands service.new.shelf next × IsStore service.old.base next
-        × AreReplies service.old.policy service.old.base entries stamp.now connection items.now store result next }
+        × AreReplies service.old.policy service.old.base entries stamp.now connection items.now
+        store result next }
     ensures honest { S.is_honest service.new.shelf → S.is_honest service.old.shelf }
 {
     let mut outputs = Vec::new(alloc);

@@ -2,7 +2,7 @@
 ghost use Rattle.std.specs.Prelude.{ℕ, List};
 ghost use Rattle.scim_hub.specs.Events as spec;
 ghost use Rattle.scim_hub.specs.Events.{set};
-ghost use Rattle.scim_hub.specs.Halls.{AreConnections};
+ghost use Rattle.scim_hub.specs.HubStates.{AreConnections};
 ghost use Rattle.scim_hub.specs.code.Changes.{IsRead, IsFed, IsJoined, IsGone, IsPieceTaken};
 
 use crate::events::HubFault;
@@ -74,7 +74,8 @@ impl Connections {
     ///
     /// AlreadyJoined if the number is in use. After any fault nothing has changed.
     pub(crate) fn join(&mut self, alloc: Global, number: u64) -> Result<(), HubFault>
-        ensures { (connections : ℕ → spec.Connection) → AreConnections self.old connections → IsJoined (connections number) number connections result self.new }
+        ensures { (connections : ℕ → spec.Connection) → AreConnections self.old connections
+            → IsJoined (connections number) number connections result self.new }
     {
         if self.by_number.contains_key(&number) {
             return Err(HubFault::AlreadyJoined);
@@ -94,7 +95,8 @@ impl Connections {
         number: u64,
         piece: &[u8],
     ) -> Result<Vec<Item>, HubFault>
-        ensures { (connections : ℕ → spec.Connection) → AreConnections self.old connections → IsPieceTaken (connections number) number piece.now connections result self.new }
+        ensures { (connections : ℕ → spec.Connection) → AreConnections self.old connections
+            → IsPieceTaken (connections number) number piece.now connections result self.new }
     {
         match self.by_number.get_mut(&number) {
             Some(connection) => connection.feed(alloc, piece),
@@ -104,7 +106,8 @@ impl Connections {
 
     /// Shuts an open connection: the hub ignores the rest of its stream.
     pub(crate) fn shut(&mut self, number: u64)
-        ensures { (connections : ℕ → spec.Connection) (stream : List ℕ) (items : List Item) → AreConnections self.old (set number (spec.joined stream items) connections)
+        ensures { (connections : ℕ → spec.Connection) (stream : List ℕ) (items : List Item)
+            → AreConnections self.old (set number (spec.joined stream items) connections)
             → AreConnections self.new (set number spec.shut connections) }
     {
         let Some(connection) = self.by_number.get_mut(&number) else {
@@ -115,7 +118,8 @@ impl Connections {
 
     /// Removes a connection. Unknown if no connection has the number; then nothing has changed.
     pub(crate) fn leave(&mut self, number: u64) -> Result<(), HubFault>
-        ensures { (connections : ℕ → spec.Connection) → AreConnections self.old connections → IsGone (connections number) number connections result self.new }
+        ensures { (connections : ℕ → spec.Connection) → AreConnections self.old connections
+            → IsGone (connections number) number connections result self.new }
     {
         match self.by_number.remove(&number) {
             Some(_) => Ok(()),

@@ -16,7 +16,7 @@ pub struct Stamp {
 
 /// What occurred on a connection.
 #[derive(Clone, Copy)]
-pub enum Happening<'a> {
+pub enum EventKind<'a> {
     /// The connection was opened.
     Joined,
     /// The next piece of its stream arrived.
@@ -31,7 +31,7 @@ pub struct Event<'a> {
     /// The number of the connection. After it has left, a new connection may use the number.
     pub connection: u64,
     pub stamp: Stamp,
-    pub happening: Happening<'a>,
+    pub kind: EventKind<'a>,
 }
 
 /// An instruction for a connection.

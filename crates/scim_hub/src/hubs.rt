@@ -3,13 +3,13 @@ ghost use Rattle.std.specs.Prelude.{◌≡◌, List, IfOk, OnErr, map};
 ghost use Rattle.scim_token.specs.TokenFile.{Entry};
 ghost use Rattle.scim_token.specs.Tokens.{Knows};
 ghost use Rattle.scim_shelf.specs.Stores.{Store, IsStore};
-ghost use Rattle.scim_hub.specs.Events.{Hall, Hears, Runs, none_joined};
-ghost use Rattle.scim_hub.specs.Halls.{IsHall, seen_of, done};
+ghost use Rattle.scim_hub.specs.Events.{HubState, Hears, Runs, none_joined};
+ghost use Rattle.scim_hub.specs.HubStates.{IsHubState, event_of, done};
 ghost use Rattle.scim_hub.specs.code.Changes.{TakesPiece};
 
 use crate::answering::{Replies, answer_items};
 use crate::connections::Connections;
-use crate::events::{Event, Happening, HubFault, Output, Stamp};
+use crate::events::{Event, EventKind, HubFault, Output, Stamp};
 use scim_route::Routes;
 use scim_service::Service;
 use scim_shelf::Shelf;
@@ -45,7 +45,8 @@ impl<S: Shelf> Hub<S> {
     pub fn new(alloc: Global, routes: Routes, service: Service<S>, tokens: Tokens) -> Hub<S>
         ensures service { result.service ≡ service }
         ensures tokens { result.tokens ≡ tokens }
-        ensures hall { (store : Store) → S.stands service.shelf store → IsStore service.base store → IsHall S.stands result (none_joined store) }
+        ensures state { (store : Store) → S.stands service.shelf store → IsStore service.base store
+            → IsHubState S.stands result (none_joined store) }
     {
         Hub {
             routes,
@@ -71,17 +72,20 @@ impl<S: Shelf> Hub<S> {
         ensures policy { self.new.service.policy ≡ self.old.service.policy }
         ensures base { self.new.service.base ≡ self.old.service.base }
         ensures tokens { self.new.tokens ≡ self.old.tokens }
-        ensures heard { (entries : List Entry) (hall : Hall) → Knows entries self.old.tokens → IsHall S.stands self.old hall → S.is_honest self.new.service.shelf
-            → (next : Hall) × IsHall S.stands self.new next × Hears self.old.service.policy self.old.service.base entries (seen_of event.now) hall (done result) next }
+        ensures heard { (entries : List Entry) (state : HubState) → Knows entries self.old.tokens
+            → IsHubState S.stands self.old state → S.is_honest self.new.service.shelf
+            → (next : HubState) × IsHubState S.stands self.new next
+            × Hears self.old.service.policy self.old.service.base entries (event_of event.now) state
+            (done result) next }
         ensures honest { S.is_honest self.new.service.shelf → S.is_honest self.old.service.shelf }
     {
-        match event.happening {
-            Happening::Joined => {
+        match event.kind {
+            EventKind::Joined => {
                 self.connections.join(alloc, event.connection)?;
                 Ok(Vec::new(alloc))
             }
-            Happening::Piece(piece) => self.take(alloc, event.connection, &event.stamp, piece),
-            Happening::Left => {
+            EventKind::Piece(piece) => self.take(alloc, event.connection, &event.stamp, piece),
+            EventKind::Left => {
                 self.connections.leave(event.connection)?;
                 Ok(Vec::new(alloc))
             }
@@ -102,9 +106,11 @@ impl<S: Shelf> Hub<S> {
         ensures policy { self.new.service.policy ≡ self.old.service.policy }
         ensures base { self.new.service.base ≡ self.old.service.base }
         ensures tokens { self.new.tokens ≡ self.old.tokens }
-        ensures heard { (entries : List Entry) (hall : Hall) → Knows entries self.old.tokens → IsHall S.stands self.old hall → S.is_honest self.new.service.shelf
-            → (next : Hall) × IsHall S.stands self.new next
-            × TakesPiece self.old.service.policy self.old.service.base entries stamp.now connection piece.now hall (done result) next }
+        ensures heard { (entries : List Entry) (state : HubState) → Knows entries self.old.tokens
+            → IsHubState S.stands self.old state → S.is_honest self.new.service.shelf
+            → (next : HubState) × IsHubState S.stands self.new next
+            × TakesPiece self.old.service.policy self.old.service.base entries stamp.now connection
+            piece.now state (done result) next }
         ensures honest { S.is_honest self.new.service.shelf → S.is_honest self.old.service.shelf }
     {
         let items = self.connections.feed(alloc, connection, piece)?;
@@ -145,10 +151,12 @@ impl<S: Shelf> Hub<S> {
         ensures policy { self.new.service.policy ≡ self.old.service.policy }
         ensures base { self.new.service.base ≡ self.old.service.base }
         ensures tokens { self.new.tokens ≡ self.old.tokens }
-        ensures ran { IfOk result (λ results. (entries : List Entry) (hall : Hall) → Knows entries self.old.tokens → IsHall S.stands self.old hall
+        ensures ran { IfOk result (λ results. (entries : List Entry) (state : HubState)
+            → Knows entries self.old.tokens → IsHubState S.stands self.old state
             → S.is_honest self.new.service.shelf
-            → (next : Hall) × IsHall S.stands self.new next
-            × Runs self.old.service.policy self.old.service.base entries hall (map seen_of events.now) (map done results.items) next) }
+            → (next : HubState) × IsHubState S.stands self.new next
+            × Runs self.old.service.policy self.old.service.base entries state
+            (map event_of events.now) (map done results.items) next) }
         ensures nothing { OnErr result (self.new ≡ self.old) }
         ensures honest { S.is_honest self.new.service.shelf → S.is_honest self.old.service.shelf }
     {

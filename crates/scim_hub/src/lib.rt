@@ -7,14 +7,14 @@ mod connections;
 mod events;
 mod hubs;
 mod io_faults;
-mod recorded;
+mod owned_events;
 mod stamps;
 mod streams;
 mod writing;
 
-pub use events::{Event, Happening, HubFault, Output, Stamp};
+pub use events::{Event, EventKind, HubFault, Output, Stamp};
 pub use hubs::Hub;
 pub use io_faults::IoFault;
-pub use recorded::{Happened, Recorded};
+pub use owned_events::{OwnedEvent, OwnedEventKind};
 pub use stamps::{NoStamp, Stamps};
 pub use streams::{Served, serve_stream};

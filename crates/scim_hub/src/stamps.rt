@@ -20,6 +20,7 @@ pub trait Stamps {
     ///
     /// [`NoStamp`] if none is available; then no stamp is given.
     fn next(&mut self) -> Result<Stamp, NoStamp>
-        ensures given { IfOk result (λ stamp. Grows (given self.old) (given self.new) (stamp ∷ [])) }
+        ensures given { IfOk result (λ stamp.
+            Grows (given self.old) (given self.new) (stamp ∷ [])) }
         ensures none { OnErr result (Grows (given self.old) (given self.new) []) };
 }

@@ -2,12 +2,12 @@
 ghost use Rattle.std.specs.Prelude.{◌≡◌, List};
 ghost use Rattle.scim_token.specs.TokenFile.{Entry};
 ghost use Rattle.scim_token.specs.Tokens.{Knows};
-ghost use Rattle.scim_hub.specs.Events.{Hall};
-ghost use Rattle.scim_hub.specs.Halls.{IsHall};
+ghost use Rattle.scim_hub.specs.Events.{HubState};
+ghost use Rattle.scim_hub.specs.HubStates.{IsHubState};
 ghost use Rattle.scim_hub.specs.Streams.{IsStreamServed, IsVisit};
 ghost use Rattle.scim_hub.specs.code.Servings.{IsPieceServed};
 
-use crate::events::{Event, Happening, Stamp};
+use crate::events::{Event, EventKind, Stamp};
 use crate::hubs::Hub;
 use crate::io_faults::IoFault;
 use crate::stamps::Stamps;
@@ -60,17 +60,20 @@ fn serve_piece<W: Write, S: Shelf, T: Stamps>(
     ensures policy { hub.new.service.policy ≡ hub.old.service.policy }
     ensures base { hub.new.service.base ≡ hub.old.service.base }
     ensures tokens { hub.new.tokens ≡ hub.old.tokens }
-    ensures served { (entries : List Entry) (hall : Hall) → Knows entries hub.old.tokens → IsHall S.stands hub.old hall → S.is_honest hub.new.service.shelf
-        → (next : Hall) × IsHall S.stands hub.new next
-        × IsPieceServed hub.old.service.policy hub.old.service.base entries connection hall next piece.now
-        (T.given stamps.old) (T.given stamps.new) (W.contents writer.old) (W.contents writer.new) result }
+    ensures served { (entries : List Entry) (state : HubState) → Knows entries hub.old.tokens
+        → IsHubState S.stands hub.old state → S.is_honest hub.new.service.shelf
+        → (next : HubState) × IsHubState S.stands hub.new next
+        × IsPieceServed hub.old.service.policy hub.old.service.base entries connection state next
+        piece.now
+        (T.given stamps.old) (T.given stamps.new) (W.contents writer.old)
+        (W.contents writer.new) result }
     ensures honest { S.is_honest hub.new.service.shelf → S.is_honest hub.old.service.shelf }
 {
     let stamp = stamps.next()?;
     let event = Event {
         connection,
         stamp,
-        happening: Happening::Piece(piece),
+        kind: EventKind::Piece(piece),
     };
     let outputs = hub.event(alloc, &event)?;
     write_outputs(outputs.as_slice(), writer)?;
@@ -95,10 +98,13 @@ fn serve_pieces<R: Read, W: Write, S: Shelf, T: Stamps>(
     ensures policy { hub.new.service.policy ≡ hub.old.service.policy }
     ensures base { hub.new.service.base ≡ hub.old.service.base }
     ensures tokens { hub.new.tokens ≡ hub.old.tokens }
-    ensures served { (entries : List Entry) (hall : Hall) → Knows entries hub.old.tokens → IsHall S.stands hub.old hall → S.is_honest hub.new.service.shelf
-        → (next : Hall) × IsHall S.stands hub.new next
-        × IsStreamServed hub.old.service.policy hub.old.service.base entries connection hall next (R.remaining reader.old) (R.remaining reader.new)
-        (T.given stamps.old) (T.given stamps.new) (W.contents writer.old) (W.contents writer.new) result }
+    ensures served { (entries : List Entry) (state : HubState) → Knows entries hub.old.tokens
+        → IsHubState S.stands hub.old state → S.is_honest hub.new.service.shelf
+        → (next : HubState) × IsHubState S.stands hub.new next
+        × IsStreamServed hub.old.service.policy hub.old.service.base entries connection state next
+        (R.remaining reader.old) (R.remaining reader.new)
+        (T.given stamps.old) (T.given stamps.new) (W.contents writer.old)
+        (W.contents writer.new) result }
     ensures honest { S.is_honest hub.new.service.shelf → S.is_honest hub.old.service.shelf }
 {
     let mut replies: u64 = 0;
@@ -142,23 +148,26 @@ pub fn serve_stream<R: Read, W: Write, S: Shelf, T: Stamps>(
     ensures policy { hub.new.service.policy ≡ hub.old.service.policy }
     ensures base { hub.new.service.base ≡ hub.old.service.base }
     ensures tokens { hub.new.tokens ≡ hub.old.tokens }
-    ensures visit { (entries : List Entry) (hall : Hall) → Knows entries hub.old.tokens → IsHall S.stands hub.old hall → S.is_honest hub.new.service.shelf
-        → (next : Hall) × IsHall S.stands hub.new next
-        × IsVisit hub.old.service.policy hub.old.service.base entries connection hall next (R.remaining reader.old) (R.remaining reader.new)
-        (T.given stamps.old) (T.given stamps.new) (W.contents writer.old) (W.contents writer.new) result }
+    ensures visit { (entries : List Entry) (state : HubState) → Knows entries hub.old.tokens
+        → IsHubState S.stands hub.old state → S.is_honest hub.new.service.shelf
+        → (next : HubState) × IsHubState S.stands hub.new next
+        × IsVisit hub.old.service.policy hub.old.service.base entries connection state next
+        (R.remaining reader.old) (R.remaining reader.new)
+        (T.given stamps.old) (T.given stamps.new) (W.contents writer.old)
+        (W.contents writer.new) result }
     ensures honest { S.is_honest hub.new.service.shelf → S.is_honest hub.old.service.shelf }
 {
     let joining = Event {
         connection,
         stamp: idle_stamp(),
-        happening: Happening::Joined,
+        kind: EventKind::Joined,
     };
     hub.event(alloc, &joining)?;
     let served = serve_pieces(alloc, reader, writer, hub, connection, stamps);
     let leaving = Event {
         connection,
         stamp: idle_stamp(),
-        happening: Happening::Left,
+        kind: EventKind::Left,
     };
     // The connection has joined, so this doesn't fail.
     let _left = hub.event(alloc, &leaving);

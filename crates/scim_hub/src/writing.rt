@@ -1,7 +1,7 @@
 //! Writes the texts of outputs.
 ghost use Rattle.std.specs.Prelude.{◌≡◌, count_by, map};
 ghost use Rattle.std.specs.List.{list_any, flat_map};
-ghost use Rattle.scim_hub.specs.Halls.{deed_of};
+ghost use Rattle.scim_hub.specs.HubStates.{output_of};
 ghost use Rattle.scim_hub.specs.Streams as spec;
 ghost use Rattle.scim_hub.specs.Streams.{IsWritten, text_in};
 
@@ -13,7 +13,8 @@ use std::io::Write;
 
 /// Writes the text of an output, if any. Write if a write fails; a prefix of the text has been written then.
 fn write_output<W: Write>(output: &Output, writer: &mut W) -> Result<(), IoFault>
-    ensures { IsWritten (W.contents writer.old) (W.contents writer.new) (text_in (deed_of output.now)) result }
+    ensures { IsWritten (W.contents writer.old) (W.contents writer.new)
+        (text_in (output_of output.now)) result }
 {
     match output {
         Output::Write(_, text) => match write_text(text.as_str(), writer) {
@@ -28,7 +29,8 @@ fn write_output<W: Write>(output: &Output, writer: &mut W) -> Result<(), IoFault
 ///
 /// Write if a write fails; a prefix of the texts together has been written then.
 pub(crate) fn write_outputs<W: Write>(outputs: &[Output], writer: &mut W) -> Result<(), IoFault>
-    ensures { IsWritten (W.contents writer.old) (W.contents writer.new) (flat_map text_in (map deed_of outputs.now)) result }
+    ensures { IsWritten (W.contents writer.old) (W.contents writer.new)
+        (flat_map text_in (map output_of outputs.now)) result }
 {
     for output in outputs {
         write_output(output, writer)?;
@@ -39,7 +41,7 @@ pub(crate) fn write_outputs<W: Write>(outputs: &[Output], writer: &mut W) -> Res
 /// Whether the output writes a reply, that is, a text other than 100 (Continue).
 #[tactic(auto, unfolding(crate::specs::Answering::continue_text))]
 fn is_reply(output: &Output) -> bool
-    ensures { result ≡ spec.is_reply (deed_of output.now) }
+    ensures { result ≡ spec.is_reply (output_of output.now) }
 {
     match output {
         Output::Write(_, text) => text.as_str() != CONTINUE,
@@ -49,7 +51,7 @@ fn is_reply(output: &Output) -> bool
 
 /// Whether the output shuts the connection.
 fn is_shutting(output: &Output) -> bool
-    ensures { result ≡ spec.is_shutting (deed_of output.now) }
+    ensures { result ≡ spec.is_shutting (output_of output.now) }
 {
     match output {
         Output::Write(_, _) => false,
@@ -59,14 +61,14 @@ fn is_shutting(output: &Output) -> bool
 
 /// Returns the number of replies in the outputs.
 pub(crate) fn reply_count(outputs: &[Output]) -> usize
-    ensures { result ≡ count_by (λ o. spec.is_reply (deed_of o)) outputs.now }
+    ensures { result ≡ count_by (λ o. spec.is_reply (output_of o)) outputs.now }
 {
     outputs.iter().filter(|output| is_reply(output)).count()
 }
 
 /// Whether any output shuts the connection.
 pub(crate) fn is_any_shutting(outputs: &[Output]) -> bool
-    ensures { result ≡ list_any (λ o. spec.is_shutting (deed_of o)) outputs.now }
+    ensures { result ≡ list_any (λ o. spec.is_shutting (output_of o)) outputs.now }
 {
     outputs.iter().any(|output| is_shutting(output))
 }

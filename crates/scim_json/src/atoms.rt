@@ -19,7 +19,8 @@ pub fn atom_of(
     text: Option<&str>,
     attribute_type: AttributeType,
 ) -> Result<Option<Atom>, NoMemory>
-    ensures { IfOk result (λ o. o ≡ spec.atom_from attribute_type truth (option_map (λ s. s.now) text.entry)) }
+    ensures { IfOk result (λ o. o
+        ≡ spec.atom_from attribute_type truth (option_map (λ s. s.now) text.entry)) }
 {
     match attribute_type {
         AttributeType::Boolean => Ok(truth.map(Atom::Truth)),
@@ -34,7 +35,8 @@ pub fn atom_of(
 /// The moment that the text is printed from, or None.
 fn moment_atom(alloc: Global, text: Option<&str>) -> Result<Option<Atom>, NoMemory>
     ensures { IfOk result
-        (λ o. o ≡ option_map moment_in (option_and_then moment_of (option_map (λ s. s.now) text.entry))) }
+        (λ o. o ≡ option_map moment_in
+        (option_and_then moment_of (option_map (λ s. s.now) text.entry))) }
 {
     match text {
         Some(text) => Ok(read_printed_moment(alloc, text)?.map(Atom::Moment)),

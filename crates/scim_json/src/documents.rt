@@ -220,7 +220,8 @@ impl Taken {
     fn add(&mut self, alloc: Global, resource: &Resource) -> Result<bool, NoMemory>
         ensures free { (cs : List Content) → Records self.old cs → IfOk result (λ free. IsTrue free
             → Records self.new (cs ++ resource.now ∷ []) × All (λ b. AreApart b resource.now) cs) }
-        ensures clash { (cs : List Content) → Records self.old cs → IfOk result (λ free. IsFalse free
+        ensures clash { (cs : List Content) → Records self.old cs
+            → IfOk result (λ free. IsFalse free
             → ¬ All (λ b. AreApart b resource.now) cs) }
     {
         let names = unique_names(alloc, resource)?;

@@ -25,7 +25,8 @@ pub fn to_list_json(
     start: usize,
     parts: &[Part],
 ) -> Result<String, NoMemory>
-    ensures { IfOk result (λ t. string_bytes t ≡ compact_text (spec.list_data total start parts.now)) }
+    ensures { IfOk result (λ t. string_bytes t
+        ≡ compact_text (spec.list_data total start parts.now)) }
 {
     let mut out = Writer::new(Vec::with_capacity(alloc, 1024)?);
     write_list(alloc, &mut out, total, start, parts)?;
@@ -41,7 +42,8 @@ fn write_list(
     start: usize,
     parts: &[Part],
 ) -> Result<(), NoMemory>
-    ensures { OnOk result (Adds out.old out.new (value_tokens (spec.list_data total start parts.now))) }
+    ensures { OnOk result (Adds out.old out.new
+        (value_tokens (spec.list_data total start parts.now))) }
 {
     out.begin_object()?;
     write_resources(alloc, out, parts)?;
@@ -89,7 +91,8 @@ fn write_counts(out: &mut Writer, total: usize, start: usize, shown: usize) -> R
 
 /// Writes a member with a number.
 fn write_count(out: &mut Writer, name: &str, count: usize) -> Result<(), NoMemory>
-    ensures { OnOk result (Adds out.old out.new (member_tokens name.now (Some (spec.count_data count)))) }
+    ensures { OnOk result (Adds out.old out.new
+        (member_tokens name.now (Some (spec.count_data count)))) }
 {
     out.key(name)?;
     out.u64(count as u64)?;
@@ -99,7 +102,8 @@ fn write_count(out: &mut Writer, name: &str, count: usize) -> Result<(), NoMemor
 /// Writes the member `schemas`.
 #[tactic(auto, unfolding(crate::specs::ListData::list_schemas))]
 fn write_schemas(out: &mut Writer) -> Result<(), NoMemory>
-    ensures { OnOk result (Adds out.old out.new (member_tokens (codes "schemas") (Some spec.list_schemas))) }
+    ensures { OnOk result (Adds out.old out.new
+        (member_tokens (codes "schemas") (Some spec.list_schemas))) }
 {
     out.key("schemas")?;
     out.begin_array()?;

@@ -185,7 +185,8 @@ fn read_attributes(
     cells: &mut Vec<Cell>,
 ) -> Result<(), NoMemory>
     ensures { OnOk result (entries_of cells.new.items
-        ≡ entries_of cells.old.items ++ flat_map (spec.found_attribute kind (view value.now)) attributes.now) }
+        ≡ entries_of cells.old.items
+        ++ flat_map (spec.found_attribute kind (view value.now)) attributes.now) }
 {
     for attribute in attributes {
         read_attribute(alloc, value, kind, *attribute, cells)?;
@@ -255,7 +256,8 @@ fn read_object(
     cells: &mut Vec<Cell>,
 ) -> Result<(), NoMemory>
     ensures { OnOk result (entries_of cells.new.items
-        ≡ entries_of cells.old.items ++ spec.found_object kind attribute position (view value.now)) }
+        ≡ entries_of cells.old.items
+        ++ spec.found_object kind attribute position (view value.now)) }
 {
     for sub_attribute in sub_attributes_by_place(attribute) {
         if let Some(found) = value.get(sub_attribute.name()) {

@@ -44,7 +44,8 @@ pub fn to_json(alloc: Global, part: &Part) -> Result<String, NoMemory>
 #[tactic(auto, unfolding(crate::specs::PartData::stored_data))]
 pub fn stored_text(alloc: Global, resource: &Resource) -> Result<String, NoMemory>
     ensures text { IfOk result (λ t. string_bytes t ≡ stored_text resource.now) }
-    ensures reads { IfOk result (λ t. read (string_bytes t) ≡ Some (spec.stored_data resource.now)) }
+    ensures reads { IfOk result (λ t. read (string_bytes t)
+        ≡ Some (spec.stored_data resource.now)) }
 {
     text_of(alloc, resource.part(), JsonForm::Stored)
 }
@@ -207,7 +208,8 @@ fn write_attribute(
     attribute: Attribute,
 ) -> Result<(), NoMemory>
     ensures { OnOk result (Adds out.old out.new
-        (member_tokens (attribute_name attribute) (spec.attribute_data form (rows part.now) attribute))) }
+        (member_tokens (attribute_name attribute)
+        (spec.attribute_data form (rows part.now) attribute))) }
 {
     let own = part.attribute_rows(attribute);
     if own.is_empty() {
@@ -345,7 +347,8 @@ fn write_value(
     form: JsonForm,
     attribute: Attribute,
 ) -> Result<(), NoMemory>
-    ensures { OnOk result (Adds out.old out.new (value_tokens (spec.value_data form attribute value.now))) }
+    ensures { OnOk result (Adds out.old out.new
+        (value_tokens (spec.value_data form attribute value.now))) }
 {
     out.begin_object()?;
     for sub_attribute in ordered_sub_attributes(form, attribute) {

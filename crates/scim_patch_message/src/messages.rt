@@ -113,7 +113,8 @@ fn push_valued(
     reading: &mut Reading,
 ) -> Result<(), NoMemory>
     ensures { OnOk result (read_of reading.new ≡ both (read_of reading.old)
-        (spec.valued_steps kind operation (path_target path) (option_map (λ v. view v.now) value.entry))) }
+        (spec.valued_steps kind operation (path_target path)
+        (option_map (λ v. view v.now) value.entry))) }
 {
     match value {
         Some(value) => push_target(alloc, kind, operation, path, present(value), reading),
@@ -137,7 +138,8 @@ fn push_text(
     reading: &mut Reading,
 ) -> Result<(), NoMemory>
     ensures { OnOk result (read_of reading.new ≡ both (read_of reading.old)
-        (spec.text_steps kind operation (option_map (λ v. view v.now) value.entry) (Some text.now))) }
+        (spec.text_steps kind operation (option_map (λ v. view v.now) value.entry)
+        (Some text.now))) }
 {
     match target_of(alloc, kind, text) {
         Ok(path) => push_valued(alloc, kind, operation, path, value, reading),
@@ -219,7 +221,8 @@ fn push_operation(
     item: &Tree<'_>,
     reading: &mut Reading,
 ) -> Result<(), NoMemory>
-    ensures { OnOk result (read_of reading.new ≡ both (read_of reading.old) (spec.operation_steps kind (view item.now))) }
+    ensures { OnOk result (read_of reading.new
+        ≡ both (read_of reading.old) (spec.operation_steps kind (view item.now))) }
 {
     match item.as_object() {
         Some(members) => push_object(alloc, kind, members, reading),
@@ -248,7 +251,8 @@ fn push_operations(
 
 /// Records a fault if there are too many operations.
 fn refuse_many(items: &[Tree<'_>], reading: &mut Reading)
-    ensures { read_of reading.new ≡ both (read_of reading.old) (spec.if_few (items_list (items_view items.now))) }
+    ensures { read_of reading.new
+        ≡ both (read_of reading.old) (spec.if_few (items_list (items_view items.now))) }
 {
     if items.len() > MOST_OPERATIONS {
         reading.refuse(PatchFault::Value);

@@ -31,7 +31,8 @@ fn push_unit_emptied(
     unit: Unit,
     reading: &mut Reading,
 ) -> Result<(), NoMemory>
-    ensures { OnOk result (read_of reading.new ≡ both (read_of reading.old) (spec.unit_emptied kind operation unit)) }
+    ensures { OnOk result (read_of reading.new
+        ≡ both (read_of reading.old) (spec.unit_emptied kind operation unit)) }
 {
     if mutability_of(kind, unit) == Mutability::ReadOnly {
         return Ok(());
@@ -51,7 +52,8 @@ fn push_sub_attributes_emptied(
     reading: &mut Reading,
 ) -> Result<(), NoMemory>
     ensures { OnOk result (read_of reading.new ≡ both (read_of reading.old)
-        (joined (map (spec.sub_attribute_emptied_at kind operation attribute) sub_attributes.now))) }
+        (joined (map (spec.sub_attribute_emptied_at kind operation attribute)
+        sub_attributes.now))) }
 {
     for sub_attribute in sub_attributes {
         push_unit_emptied(
@@ -71,7 +73,8 @@ fn push_emptied(
     attribute: Attribute,
     reading: &mut Reading,
 ) -> Result<(), NoMemory>
-    ensures { OnOk result (read_of reading.new ≡ both (read_of reading.old) (spec.emptied kind operation attribute)) }
+    ensures { OnOk result (read_of reading.new
+        ≡ both (read_of reading.old) (spec.emptied kind operation attribute)) }
 {
     if is_multi_valued(attribute) {
         return push_unit_emptied(kind, operation, Unit::whole(attribute), reading);
@@ -86,7 +89,8 @@ fn push_emptied(
 /// Appends the step of an operation at a readOnly attribute, which is refused when the patch is applied.
 /// A complex attribute has no step, since readOnly sub-attributes are left out.
 fn push_fixed(attribute: Attribute, reading: &mut Reading) -> Result<(), NoMemory>
-    ensures { OnOk result (read_of reading.new ≡ both (read_of reading.old) (Ok (spec.fixed_steps attribute (shape_in attribute)))) }
+    ensures { OnOk result (read_of reading.new
+        ≡ both (read_of reading.old) (Ok (spec.fixed_steps attribute (shape_in attribute)))) }
 {
     match shape_of(attribute) {
         JsonShape::Complex => Ok(()),
@@ -105,7 +109,8 @@ fn push_set(
     reading: &mut Reading,
 ) -> Result<(), NoMemory>
     ensures { OnOk result (read_of reading.new ≡ both (read_of reading.old)
-        (spec.value_read_of attribute (view value.now) (spec.set_units kind attribute (view value.now)))) }
+        (spec.value_read_of attribute (view value.now)
+        (spec.set_units kind attribute (view value.now)))) }
 {
     if values_clash(value, attribute) {
         reading.refuse(PatchFault::Syntax);
@@ -163,7 +168,8 @@ fn push_listed(
     reading: &mut Reading,
 ) -> Result<(), NoMemory>
     ensures { OnOk result (read_of reading.new ≡ both (read_of reading.old)
-        (spec.value_read_of attribute (view value.now) (spec.listed_steps kind operation attribute (view value.now)))) }
+        (spec.value_read_of attribute (view value.now)
+        (spec.listed_steps kind operation attribute (view value.now)))) }
 {
     if values_clash(value, attribute) {
         reading.refuse(PatchFault::Syntax);
@@ -214,7 +220,8 @@ pub(crate) fn push_attribute(
     reading: &mut Reading,
 ) -> Result<(), NoMemory>
     ensures { OnOk result (read_of reading.new ≡ both (read_of reading.old)
-        (spec.attribute_steps kind operation attribute (option_map (λ v. view v.now) value.entry))) }
+        (spec.attribute_steps kind operation attribute
+        (option_map (λ v. view v.now) value.entry))) }
 {
     if is_read_only(kind, Leaf::simple(attribute)) {
         return push_fixed(attribute, reading);

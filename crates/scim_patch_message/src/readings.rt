@@ -57,7 +57,8 @@ impl Reading {
 
     /// Appends a step that changes a unit.
     pub(crate) fn push(&mut self, unit: Unit, change: Change) -> Result<(), NoMemory>
-        ensures { OnOk result (read_of self.new ≡ both (read_of self.old) (Ok (step_of (Step.Of unit change) ∷ []))) }
+        ensures { OnOk result (read_of self.new
+            ≡ both (read_of self.old) (Ok (step_of (Step.Of unit change) ∷ []))) }
     {
         push(&mut self.steps, Step::Of(unit, change))?;
         Ok(())
@@ -65,7 +66,8 @@ impl Reading {
 
     /// Appends a remove without a path.
     pub(crate) fn push_pathless(&mut self) -> Result<(), NoMemory>
-        ensures { OnOk result (read_of self.new ≡ both (read_of self.old) (Ok (step_of Step.Pathless ∷ []))) }
+        ensures { OnOk result (read_of self.new
+            ≡ both (read_of self.old) (Ok (step_of Step.Pathless ∷ []))) }
     {
         push(&mut self.steps, Step::Pathless)?;
         Ok(())
@@ -73,7 +75,8 @@ impl Reading {
 
     /// Appends steps that set the units to the values given for them.
     pub(crate) fn set_units(&mut self, given: Vec<UnitGiven>) -> Result<(), NoMemory>
-        ensures { OnOk result (read_of self.new ≡ both (read_of self.old) (Ok (map set_to (units_given given.items)))) }
+        ensures { OnOk result (read_of self.new
+            ≡ both (read_of self.old) (Ok (map set_to (units_given given.items)))) }
     {
         for one in given {
             let UnitGiven { unit, values } = one;

@@ -63,7 +63,8 @@ fn push_own(
     attribute: Attribute,
     reading: &mut Reading,
 ) -> Result<(), NoMemory>
-    ensures { OnOk result (read_of reading.new ≡ both (read_of reading.old) (spec.own_emptied kind operation schema attribute)) }
+    ensures { OnOk result (read_of reading.new
+        ≡ both (read_of reading.old) (spec.own_emptied kind operation schema attribute)) }
 {
     if schema_of(kind, attribute) != schema {
         return Ok(());
@@ -164,7 +165,8 @@ fn push_values(
     reading: &mut Reading,
 ) -> Result<(), NoMemory>
     ensures { OnOk result (read_of reading.new ≡ both (read_of reading.old)
-        (spec.target_steps kind operation (path_target (Path.Values path)) (option_map (λ v. view v.now) value.entry))) }
+        (spec.target_steps kind operation (path_target (Path.Values path))
+        (option_map (λ v. view v.now) value.entry))) }
 {
     let ValuePath {
         attribute,
@@ -196,7 +198,8 @@ pub(crate) fn push_target(
     reading: &mut Reading,
 ) -> Result<(), NoMemory>
     ensures { OnOk result (read_of reading.new ≡ both (read_of reading.old)
-        (spec.target_steps kind operation (path_target path) (option_map (λ v. view v.now) value.entry))) }
+        (spec.target_steps kind operation (path_target path)
+        (option_map (λ v. view v.now) value.entry))) }
 {
     match path {
         Path::Extension(schema) => push_extension(alloc, kind, operation, schema, value, reading),

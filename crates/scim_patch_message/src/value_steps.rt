@@ -82,7 +82,8 @@ pub(crate) fn push_sub_attribute(
     reading: &mut Reading,
 ) -> Result<(), NoMemory>
     ensures { OnOk result (read_of reading.new ≡ both (read_of reading.old)
-        (spec.sub_attribute_steps kind operation attribute sub_attribute (option_map (λ v. view v.now) value.entry))) }
+        (spec.sub_attribute_steps kind operation attribute sub_attribute
+        (option_map (λ v. view v.now) value.entry))) }
 {
     let leaf = Leaf::of(attribute, sub_attribute);
     let unit = unit_of(leaf);
@@ -146,7 +147,8 @@ pub(crate) fn push_matches(
     reading: &mut Reading,
 ) -> Result<(), NoMemory>
     ensures { OnOk result (read_of reading.new ≡ both (read_of reading.old)
-        (spec.matches_steps kind operation attribute (tree_of filter) (option_map (λ v. view v.now) value.entry))) }
+        (spec.matches_steps kind operation attribute (tree_of filter)
+        (option_map (λ v. view v.now) value.entry))) }
 {
     let unit = Unit::whole(attribute);
     if is_read_only(kind, Leaf::simple(attribute)) {
@@ -179,7 +181,8 @@ fn push_at_matches_given(
     reading: &mut Reading,
 ) -> Result<(), NoMemory>
     ensures { OnOk result (read_of reading.new ≡ both (read_of reading.old)
-        (spec.at_matches_set kind replaces attribute (tree_of filter) sub_attribute (view value.now))) }
+        (spec.at_matches_set kind replaces attribute (tree_of filter) sub_attribute
+        (view value.now))) }
 {
     match read_field(alloc, value, kind, attribute, sub_attribute) {
         Ok(field) if replaces => {
@@ -207,7 +210,8 @@ pub(crate) fn push_at_matches(
     reading: &mut Reading,
 ) -> Result<(), NoMemory>
     ensures { OnOk result (read_of reading.new ≡ both (read_of reading.old)
-        (spec.at_matches_steps kind operation attribute (tree_of filter) sub_attribute (option_map (λ v. view v.now) value.entry))) }
+        (spec.at_matches_steps kind operation attribute (tree_of filter) sub_attribute
+        (option_map (λ v. view v.now) value.entry))) }
 {
     let unit = Unit::whole(attribute);
     if is_read_only(kind, Leaf::of(attribute, sub_attribute)) {

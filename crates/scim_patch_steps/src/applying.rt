@@ -33,9 +33,11 @@ struct Apart {
 
 /// Splits the rows at the unit.
 fn parted(alloc: Global, rows: Vec<Row>, unit: Unit) -> Result<Apart, NoMemory>
-    ensures before { IfOk result (λ a. a.before.items ≡ filter (λ r. is_lt (unit_cmp r.unit unit)) rows.items) }
+    ensures before { IfOk result (λ a. a.before.items
+        ≡ filter (λ r. is_lt (unit_cmp r.unit unit)) rows.items) }
     ensures own { IfOk result (λ a. a.own.items ≡ values unit rows.items) }
-    ensures behind { IfOk result (λ a. a.behind.items ≡ filter (λ r. is_gt (unit_cmp r.unit unit)) rows.items) }
+    ensures behind { IfOk result (λ a. a.behind.items
+        ≡ filter (λ r. is_gt (unit_cmp r.unit unit)) rows.items) }
 {
     let mut before = Vec::new(alloc);
     let mut own = Vec::new(alloc);
@@ -65,7 +67,8 @@ fn changed_rows(
     rows: Vec<Row>,
 ) -> Result<Vec<Row>, Failed<StepFault>>
     ensures { UnlessMemory (λ r. rows_answered r
-        ≡ spec.with_outcome unit rows.items (after kind unit (change_of change.now) (values unit rows.items))) result }
+        ≡ spec.with_outcome unit rows.items
+        (after kind unit (change_of change.now) (values unit rows.items))) result }
 {
     let Apart {
         mut before,
@@ -83,7 +86,8 @@ fn changed_rows(
 /// Errors: as [`apply`].
 fn stepped(alloc: Global, resource: Resource, step: &Step) -> Result<Resource, Failed<StepFault>>
     requires { spec.IsStep resource.kind (step_of step.now) }
-    ensures rows { UnlessMemory (λ r. rows_left r ≡ spec.stepped resource.kind (step_of step.now) (rows resource)) result }
+    ensures rows { UnlessMemory (λ r. rows_left r
+        ≡ spec.stepped resource.kind (step_of step.now) (rows resource)) result }
     ensures kind { IfOk result (λ r. r.kind ≡ resource.kind) }
     ensures id { IfOk result (λ r. r.id ≡ resource.id) }
     ensures base { (base : List ℕ) → HasBase base resource → IfOk result (HasBase base) }
@@ -134,8 +138,10 @@ pub fn apply(
     moment: Moment,
 ) -> Result<Changed, Failed<StepFault>>
     requires { patch.now.kind ≡ resource.kind }
-    ensures outcome { UnlessMemory (λ r. outcome r ≡ spec.applied (patch_of patch.now) moment resource) result }
-    ensures base { (base : List ℕ) → HasBase base resource → IfOk result (λ c. HasBase base c.resource) }
+    ensures outcome { UnlessMemory (λ r. outcome r
+        ≡ spec.applied (patch_of patch.now) moment resource) result }
+    ensures base { (base : List ℕ) → HasBase base resource
+        → IfOk result (λ c. HasBase base c.resource) }
 {
     let before = before_of(alloc, patch, resource.part())?;
     let resource = all_stepped(alloc, resource, patch.steps())?;

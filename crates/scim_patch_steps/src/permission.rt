@@ -42,7 +42,8 @@ fn changes_member(
     filter: &Filter,
     values: &[Row],
 ) -> Result<bool, NoMemory>
-    ensures { IfOk result (λ b. b ≡ (is_members unit.attribute && matches.is_any_match (tree_of filter.now) values.now)) }
+    ensures { IfOk result (λ b. b
+        ≡ (is_members unit.attribute && matches.is_any_match (tree_of filter.now) values.now)) }
 {
     if unit.attribute != Attribute::Members {
         return Ok(false);

@@ -27,7 +27,8 @@ fn has_fields(value: &Row) -> bool
 
 /// Removes the positions whose value has no field.
 fn close_up(alloc: Global, positions: Vec<Position>) -> Result<Vec<Position>, NoMemory>
-    ensures { IfOk result (λ v. v.items ≡ filter (λ (p : Position). has_fields p.value) positions.items) }
+    ensures { IfOk result (λ v. v.items
+        ≡ filter (λ (p : Position). has_fields p.value) positions.items) }
 {
     let mut left = Vec::with_capacity(alloc, positions.len())?;
     for position in positions {
@@ -47,7 +48,8 @@ fn count_chosen(positions: &[Position]) -> usize
 
 /// Whether any of the values is a member without `value`.
 fn any_nameless(attribute: Attribute, positions: &[Position]) -> bool
-    ensures { result ≡ list_any (λ (p : Position). lists.is_nameless attribute p.value) positions.now }
+    ensures { result ≡ list_any (λ (p : Position). lists.is_nameless attribute p.value)
+        positions.now }
 {
     positions
         .iter()
@@ -100,7 +102,8 @@ pub(crate) fn settle(
     attribute: Attribute,
     positions: Vec<Position>,
 ) -> Result<Vec<Row>, Failed<StepFault>>
-    ensures { UnlessMemory (λ r. rows_answered r ≡ spec.settled attribute (Some positions.items)) result }
+    ensures { UnlessMemory (λ r. rows_answered r
+        ≡ spec.settled attribute (Some positions.items)) result }
 {
     let positions = close_up(alloc, positions)?;
     if are_refused(attribute, positions.as_slice()) {

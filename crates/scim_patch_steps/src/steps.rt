@@ -58,7 +58,8 @@ pub fn values_after(
     change: &Change,
     values: Vec<Row>,
 ) -> Result<Vec<Row>, Failed<StepFault>>
-    ensures { UnlessMemory (λ r. rows_answered r ≡ spec.after kind unit (change_of change.now) values.items) result }
+    ensures { UnlessMemory (λ r. rows_answered r
+        ≡ spec.after kind unit (change_of change.now) values.items) result }
 {
     if is_forbidden(alloc, kind, unit, change, values.as_slice())? {
         return Err(Failed::Because(StepFault::Mutability));

@@ -83,7 +83,8 @@ fn append(
     given: &[Row],
     values: Vec<Row>,
 ) -> Result<Option<Vec<Position>>, NoMemory>
-    ensures { IfOk result (λ o. Is o (Some (map (matches.marked unit.attribute (matches.given_primary unit.attribute given.now))
+    ensures { IfOk result (λ o. Is o
+        (Some (map (matches.marked unit.attribute (matches.given_primary unit.attribute given.now))
         (lists.with_values unit.attribute values.items given.now)))) }
 {
     let primary = given_primary(alloc, unit.attribute, given)?;
@@ -100,7 +101,8 @@ fn replace_at_matches(
     given: &[Field],
     values: Vec<Row>,
 ) -> Result<Option<Vec<Position>>, NoMemory>
-    ensures { IfOk result (λ o. Is o (spec.row unit (ReplaceMatches (tree_of filter.now) given.now) values.items)) }
+    ensures { IfOk result (λ o. Is o
+        (spec.row unit (ReplaceMatches (tree_of filter.now) given.now) values.items)) }
 {
     if !is_any_match(alloc, filter, values.as_slice())? {
         return Ok(None);

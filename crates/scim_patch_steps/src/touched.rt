@@ -70,7 +70,8 @@ fn rows_of(alloc: Global, units: &[Unit], rows: &[Row]) -> Result<Vec<Row>, NoMe
 
 /// Copies the rows of the part for the units that the patch names.
 fn touched_rows(alloc: Global, patch: &Patch, part: &Part) -> Result<Vec<Row>, NoMemory>
-    ensures rows { IfOk result (λ v. v.items ≡ rows_about (spec.touched (patch_of patch.now)) (rows part.now)) }
+    ensures rows { IfOk result (λ v. v.items
+        ≡ rows_about (spec.touched (patch_of patch.now)) (rows part.now)) }
     ensures sorted { IfOk result (λ v. AllPairs (λ r s. Precedes r.unit s.unit) v.items) }
 {
     let units = patch.touched(alloc)?;
@@ -126,7 +127,8 @@ fn is_any_unseen_writing(kind: Kind, steps: &[Step]) -> bool
 /// Whether the part has other values than `before` for any unit of the steps.
 fn is_any_other(steps: &[Step], before: &[Row], part: &Part) -> bool
     requires { AllPairs (λ r s. Precedes r.unit s.unit) before.now }
-    ensures { result ≡ list_any (is_other before.now (rows part.now)) (flat_map spec.units_in (map step_of steps.now)) }
+    ensures { result ≡ list_any (is_other before.now (rows part.now))
+        (flat_map spec.units_in (map step_of steps.now)) }
 {
     for step in steps {
         if let Step::Of(unit, _) = step {

@@ -79,7 +79,8 @@ fn push_equality(
     literal: &Literal,
     fields: &mut Vec<Field>,
 ) -> Result<bool, NoMemory>
-    ensures { IfOk result (λ b. Gathers b fields.old.items fields.new.items (spec.equality attribute meant literal.now)) }
+    ensures { IfOk result (λ b. Gathers b fields.old.items fields.new.items
+        (spec.equality attribute meant literal.now)) }
 {
     let Meant::SubAttribute(_, sub_attribute) = meant else {
         return Ok(false);
@@ -101,7 +102,8 @@ fn push_equalities(
     node: &Node,
     fields: &mut Vec<Field>,
 ) -> Result<bool, NoMemory>
-    ensures { IfOk result (λ b. Gathers b fields.old.items fields.new.items (spec.equalities attribute (view node.now))) }
+    ensures { IfOk result (λ b. Gathers b fields.old.items fields.new.items
+        (spec.equalities attribute (view node.now))) }
 {
     match node {
         Node::Compare(path, Operator::Eq, literal) => {
@@ -139,7 +141,8 @@ pub(crate) fn described(
     attribute: Attribute,
     filter: &Filter,
 ) -> Result<Option<Vec<Field>>, NoMemory>
-    ensures { IfOk result (λ o. option_map (λ v. v.items) o ≡ spec.described attribute (tree_of filter.now)) }
+    ensures { IfOk result (λ o. option_map (λ v. v.items) o
+        ≡ spec.described attribute (tree_of filter.now)) }
 {
     let Node::Values(_, inner) = filter.tree() else {
         return Ok(None);

@@ -33,9 +33,11 @@ impl Sides {
     /// Adds `other` to its side of `field`, or drops it if both have the same place.
     fn add(&mut self, other: Field, field: &Field) -> Result<(), NoMemory>
         ensures before { OnOk result (self.new.before.items
-            ≡ self.old.before.items ++ filter (λ f. is_lt (spec.field_cmp f field.now)) (other ∷ [])) }
+            ≡ self.old.before.items
+            ++ filter (λ f. is_lt (spec.field_cmp f field.now)) (other ∷ [])) }
         ensures behind { OnOk result (self.new.behind.items
-            ≡ self.old.behind.items ++ filter (λ f. is_gt (spec.field_cmp f field.now)) (other ∷ [])) }
+            ≡ self.old.behind.items
+            ++ filter (λ f. is_gt (spec.field_cmp f field.now)) (other ∷ [])) }
     {
         match place_of(&other).compare(place_of(field)) {
             Ordering::Less => push(&mut self.before, other)?,
@@ -48,8 +50,10 @@ impl Sides {
 
 /// Splits the fields at the place of `field`, dropping any field at that place.
 fn parted(alloc: Global, fields: Vec<Field>, field: &Field) -> Result<Sides, NoMemory>
-    ensures before { IfOk result (λ sides. sides.before.items ≡ filter (λ other. is_lt (spec.field_cmp other field.now)) fields.items) }
-    ensures behind { IfOk result (λ sides. sides.behind.items ≡ filter (λ other. is_gt (spec.field_cmp other field.now)) fields.items) }
+    ensures before { IfOk result (λ sides. sides.before.items
+        ≡ filter (λ other. is_lt (spec.field_cmp other field.now)) fields.items) }
+    ensures behind { IfOk result (λ sides. sides.behind.items
+        ≡ filter (λ other. is_gt (spec.field_cmp other field.now)) fields.items) }
 {
     let mut sides = Sides {
         before: Vec::new(alloc),

@@ -22,7 +22,8 @@ fn set_of(alloc: Global, texts: &[Text]) -> Result<BTreeSet<String>, NoMemory>
 
 /// Whether the value's `value` is one of the texts in the set.
 fn is_listed(set: &BTreeSet<String>, value: &Row) -> bool
-    ensures { (texts : List (List ℕ)) → HoldsTexts set.now texts → result ≡ spec.is_listed texts value.now }
+    ensures { (texts : List (List ℕ)) → HoldsTexts set.now texts
+        → result ≡ spec.is_listed texts value.now }
 {
     match value.get(Leaf::of(value.unit().attribute, SubAttribute::Value)) {
         Some(Atom::Text(text)) => set.contains(text.as_str()),
@@ -32,7 +33,8 @@ fn is_listed(set: &BTreeSet<String>, value: &Row) -> bool
 
 /// Removes the values whose `value` is one of the texts, case included; the others keep their order.
 pub fn remove_listed(alloc: Global, texts: &[Text], values: Vec<Row>) -> Result<Vec<Row>, NoMemory>
-    ensures { IfOk result (λ v. v.items ≡ filter (λ value. not (spec.is_listed texts.now value)) values.items) }
+    ensures { IfOk result (λ v. v.items
+        ≡ filter (λ value. not (spec.is_listed texts.now value)) values.items) }
 {
     let set = set_of(alloc, texts)?;
     let mut left = Vec::new(alloc);

@@ -35,7 +35,8 @@ pub fn set_at_matches(
     given: &[Field],
     values: Vec<Row>,
 ) -> Result<Vec<Position>, NoMemory>
-    ensures { IfOk result (λ v. v.items ≡ map (spec.set_at_match (tree_of matching.now) given.now) values.items) }
+    ensures { IfOk result (λ v. v.items
+        ≡ map (spec.set_at_match (tree_of matching.now) given.now) values.items) }
 {
     let mut positions = Vec::with_capacity(alloc, values.len())?;
     for value in values {
@@ -59,7 +60,8 @@ pub fn replace_matches(
     given: &Row,
     values: Vec<Row>,
 ) -> Result<Vec<Row>, NoMemory>
-    ensures { IfOk result (λ v. v.items ≡ map (spec.replaced_at_match (tree_of matching.now) given.now) values.items) }
+    ensures { IfOk result (λ v. v.items
+        ≡ map (spec.replaced_at_match (tree_of matching.now) given.now) values.items) }
 {
     let mut left = Vec::with_capacity(alloc, values.len())?;
     for value in values {
@@ -79,7 +81,8 @@ pub fn remove_matches(
     matching: &Filter,
     values: Vec<Row>,
 ) -> Result<Vec<Row>, NoMemory>
-    ensures { IfOk result (λ v. v.items ≡ filter (λ value. not (truth_in_value (tree_of matching.now) value)) values.items) }
+    ensures { IfOk result (λ v. v.items
+        ≡ filter (λ value. not (truth_in_value (tree_of matching.now) value)) values.items) }
 {
     let mut left = Vec::new(alloc);
     for value in values {
@@ -97,7 +100,8 @@ pub fn clear_at_matches(
     sub_attribute: SubAttribute,
     values: Vec<Row>,
 ) -> Result<Vec<Row>, NoMemory>
-    ensures { IfOk result (λ v. v.items ≡ map (spec.cleared_at_match (tree_of matching.now) sub_attribute) values.items) }
+    ensures { IfOk result (λ v. v.items
+        ≡ map (spec.cleared_at_match (tree_of matching.now) sub_attribute) values.items) }
 {
     let mut left = Vec::with_capacity(alloc, values.len())?;
     for value in values {
@@ -124,7 +128,8 @@ pub fn add_at_matches(
     given: &[Field],
     values: Vec<Row>,
 ) -> Result<Option<Vec<Position>>, NoMemory>
-    ensures { IfOk result (λ o. Is o (spec.added_at_matches unit (tree_of matching.now) given.now values.items)) }
+    ensures { IfOk result (λ o. Is o
+        (spec.added_at_matches unit (tree_of matching.now) given.now values.items)) }
 {
     if is_any_match(alloc, matching, values.as_slice())? {
         return Ok(Some(set_at_matches(alloc, matching, given, values)?));

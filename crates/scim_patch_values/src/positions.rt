@@ -59,7 +59,8 @@ pub fn given_primary(
 
 /// Whether any of the values is the same as `value`.
 fn has_same(attribute: Attribute, values: &[Row], value: &Row) -> bool
-    ensures { result ≡ list_any (λ other. lists.is_same_value attribute other value.now) values.now }
+    ensures { result ≡ list_any (λ other.
+        lists.is_same_value attribute other value.now) values.now }
 {
     values
         .iter()

@@ -54,7 +54,8 @@ fn path_of_names(meant: Meant) -> Result<Path, PathFault>
 ///
 /// Unknown if `attribute` doesn't have it.
 fn chosen(attribute: Attribute, sub_name: Option<&Text>) -> Result<Option<SubAttribute>, PathFault>
-    ensures { (tree : Tree) → values_read tree attribute result ≡ spec.chosen attribute tree (option_map (λ t. t.now) sub_name.entry) }
+    ensures { (tree : Tree) → values_read tree attribute result
+        ≡ spec.chosen attribute tree (option_map (λ t. t.now) sub_name.entry) }
 {
     match sub_name {
         None => Ok(None),
@@ -70,7 +71,9 @@ fn chosen(attribute: Attribute, sub_name: Option<&Text>) -> Result<Option<SubAtt
 /// Unknown if the kind lacks an attribute or sub-attribute named. Syntax if the attribute isn't
 /// multi-valued, or a comparison in the filter doesn't suit its attribute's type.
 fn filtered_attribute(meant: Meant, filter: &Filter) -> Result<Attribute, PathFault>
-    ensures { (sub : Option (List ℕ)) → chosen_read (tree_of filter.now) sub result ≡ spec.filtered_target meant (tree_of filter.now) sub }
+    ensures { (sub : Option (List ℕ))
+        → chosen_read (tree_of filter.now) sub result
+        ≡ spec.filtered_target meant (tree_of filter.now) sub }
 {
     let attribute = match meant {
         Meant::Nothing => return Err(PathFault::Unknown),
@@ -88,7 +91,9 @@ fn filtered_attribute(meant: Meant, filter: &Filter) -> Result<Attribute, PathFa
 
 /// What the path before the brackets names. `None` if the filter isn't a value path.
 fn meant_before(filter: &Filter) -> Option<Meant>
-    ensures { (sub : Option (List ℕ)) → filtered_read (tree_of filter.now) sub result ≡ spec.written_target (Filtered (tree_of filter.now) sub) }
+    ensures { (sub : Option (List ℕ))
+        → filtered_read (tree_of filter.now) sub result
+        ≡ spec.written_target (Filtered (tree_of filter.now) sub) }
 {
     match filter.tree() {
         Node::Values(path, _) => Some(path.meant),
@@ -101,7 +106,9 @@ fn parts_of(
     filter: &Filter,
     sub_name: Option<&Text>,
 ) -> Result<(Attribute, Option<SubAttribute>), PathFault>
-    ensures { parts_read (tree_of filter.now) result ≡ spec.written_target (Filtered (tree_of filter.now) (option_map (λ t. t.now) sub_name.entry)) }
+    ensures { parts_read (tree_of filter.now) result
+        ≡ spec.written_target (Filtered (tree_of filter.now)
+        (option_map (λ t. t.now) sub_name.entry)) }
 {
     let meant = meant_before(filter).ok_or(PathFault::Syntax)?;
     let attribute = filtered_attribute(meant, filter)?;
@@ -111,7 +118,8 @@ fn parts_of(
 
 /// The target of a value path and the name after its brackets.
 fn filtered(filter: Filter, sub_name: Option<&Text>) -> Result<Path, PathFault>
-    ensures { target_read result ≡ spec.written_target (Filtered (tree_of filter) (option_map (λ t. t.now) sub_name.entry)) }
+    ensures { target_read result ≡ spec.written_target
+        (Filtered (tree_of filter) (option_map (λ t. t.now) sub_name.entry)) }
 {
     match parts_of(&filter, sub_name) {
         Ok((attribute, sub_attribute)) => Ok(Path::Values(ValuePath {

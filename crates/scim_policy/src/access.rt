@@ -147,7 +147,8 @@ impl Rights {
 
     /// Whether each table has a decision on the rest, so that every leaf is decided for each operation.
     fn is_complete(&self) -> bool
-        ensures { result ≡ (is_some self.now.read.rest && (is_some self.now.modify.rest && is_some self.now.delete.rest)) }
+        ensures { result ≡ (is_some self.now.read.rest
+            && (is_some self.now.modify.rest && is_some self.now.delete.rest)) }
     {
         self.read.has_rest() && self.modify.has_rest() && self.delete.has_rest()
     }
@@ -161,11 +162,14 @@ impl Rights {
         rules: &[Rule],
     ) -> Result<(), NoMemory>
         requires { length rules.now ≤ MOST_RULES }
-        ensures read { OnOk result (Adds (λ l. by_rules client.now Op.Read resource.now l 1 rules.now)
+        ensures read { OnOk result (Adds (λ l.
+            by_rules client.now Op.Read resource.now l 1 rules.now)
             self.old.read self.new.read) }
-        ensures modify { OnOk result (Adds (λ l. by_rules client.now Op.Modify resource.now l 1 rules.now)
+        ensures modify { OnOk result (Adds (λ l.
+            by_rules client.now Op.Modify resource.now l 1 rules.now)
             self.old.modify self.new.modify) }
-        ensures delete { OnOk result (Adds (λ l. by_rules client.now Op.Delete resource.now l 1 rules.now)
+        ensures delete { OnOk result (Adds (λ l.
+            by_rules client.now Op.Delete resource.now l 1 rules.now)
             self.old.delete self.new.delete) }
     {
         let mut number = 0;
@@ -189,11 +193,14 @@ impl Rights {
         rule: &Rule,
         number: u32,
     ) -> Result<(), NoMemory>
-        ensures read { OnOk result (Adds (λ l. by_rule client.now Op.Read resource.now l number rule.now)
+        ensures read { OnOk result (Adds (λ l.
+            by_rule client.now Op.Read resource.now l number rule.now)
             self.old.read self.new.read) }
-        ensures modify { OnOk result (Adds (λ l. by_rule client.now Op.Modify resource.now l number rule.now)
+        ensures modify { OnOk result (Adds (λ l.
+            by_rule client.now Op.Modify resource.now l number rule.now)
             self.old.modify self.new.modify) }
-        ensures delete { OnOk result (Adds (λ l. by_rule client.now Op.Delete resource.now l number rule.now)
+        ensures delete { OnOk result (Adds (λ l.
+            by_rule client.now Op.Delete resource.now l number rule.now)
             self.old.delete self.new.delete) }
     {
         if !rule.is_for(alloc, client, resource)? {
@@ -232,7 +239,8 @@ fn first_opened(
     before: &Decisions,
     after: &Decisions,
 ) -> Option<(Op, Leaf, Decision)>
-    ensures { result ≡ first (spec.opened kind op (table.decision before.now) (table.decision after.now)) }
+    ensures { result ≡ first (spec.opened kind op (table.decision before.now)
+        (table.decision after.now)) }
 {
     for leaf in leaves(kind) {
         let decision = after.of(*leaf);

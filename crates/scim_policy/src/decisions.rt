@@ -127,7 +127,8 @@ impl Decisions {
         rules: &[Rule],
     ) -> Result<(), NoMemory>
         requires { length rules.now ≤ MOST_RULES }
-        ensures { OnOk result ((l : Leaf) → table.decided self.new l ≡ or_else (table.decided self.old l)
+        ensures { OnOk result ((l : Leaf)
+            → table.decided self.new l ≡ or_else (table.decided self.old l)
             (walk.by_rules client.now op resource.now l 1 rules.now)) }
     {
         let mut number = 0;
@@ -176,8 +177,10 @@ impl Decisions {
         kind: Kind,
         number: u32,
     ) -> Result<(), NoMemory>
-        ensures { OnOk result ((l : Leaf) → table.decided self.new l ≡ or_else (table.decided self.old l)
-            (walk.by_paths (paths_on kind rule.now.paths) (record { rule = number; allow = rule.now.allow }) l)) }
+        ensures { OnOk result ((l : Leaf)
+            → table.decided self.new l ≡ or_else (table.decided self.old l)
+            (walk.by_paths (paths_on kind rule.now.paths)
+            (record { rule = number; allow = rule.now.allow }) l)) }
     {
         let decision = Decision {
             rule: number,
@@ -235,7 +238,8 @@ impl Decisions {
     ) -> Result<(), NoMemory>
         requires { self.old.rest ≡ None }
         ensures { OnOk result ((l : Leaf) → table.decided self.new l
-            ≡ or_else (table.decided self.old l) (walk.by_path (PolicyPath.Attribute attribute) decision l)) }
+            ≡ or_else (table.decided self.old l)
+            (walk.by_path (PolicyPath.Attribute attribute) decision l)) }
     {
         let number = attribute as usize;
         grow(alloc, &mut self.attributes, number)?;
@@ -254,7 +258,8 @@ impl Decisions {
     ) -> Result<(), NoMemory>
         requires { self.old.rest ≡ None }
         ensures { OnOk result ((l : Leaf) → table.decided self.new l
-            ≡ or_else (table.decided self.old l) (walk.by_path (PolicyPath.SubAttribute attribute sub_attribute) decision l)) }
+            ≡ or_else (table.decided self.old l)
+            (walk.by_path (PolicyPath.SubAttribute attribute sub_attribute) decision l)) }
     {
         let number = attribute as usize;
         grow(alloc, &mut self.attributes, number)?;
@@ -281,7 +286,8 @@ fn at_number(
 fn grow(alloc: Global, entries: &mut Vec<AttributeDecisions>, number: usize) -> Result<(), NoMemory>
     ensures long { OnOk result (number < length entries.new.items) }
     ensures same { OnOk result ((n : ℕ) (sub : Option SubAttribute)
-        → table.in_attributes n sub entries.new.items ≡ table.in_attributes n sub entries.old.items) }
+        → table.in_attributes n sub entries.new.items
+        ≡ table.in_attributes n sub entries.old.items) }
 {
     while entries.len() <= number {
         let undecided = AttributeDecisions {

@@ -39,7 +39,8 @@ impl Policy {
     ) -> Result<Option<Misfit>, NoMemory>
         requires numbered { 1 ≤ rule }
         requires there { rule ≤ length self.now }
-        ensures { IfOk result (λ o. Some o ≡ option_map (spec.misfit_of client.now op resource.now leaf)
+        ensures { IfOk result (λ o. Some o
+            ≡ option_map (spec.misfit_of client.now op resource.now leaf)
             (slice_get self.now (rule - 1))) }
     {
         self.rules()[rule - 1].misfit(alloc, client, op, resource, leaf)
@@ -59,8 +60,10 @@ impl Rule {
         resource: &Resource,
         leaf: Leaf,
     ) -> Result<Option<Misfit>, NoMemory>
-        ensures first { IfOk result (λ o. o ≡ spec.misfit_of client.now op resource.now leaf self.now) }
-        ensures fits { IfOk result (λ o. is_some o ≡ not (spec.fits client.now op resource.now leaf self.now)) }
+        ensures first { IfOk result (λ o. o
+            ≡ spec.misfit_of client.now op resource.now leaf self.now) }
+        ensures fits { IfOk result (λ o. is_some o
+            ≡ not (spec.fits client.now op resource.now leaf self.now)) }
     {
         Ok(if !is_named(self.clients(), client) {
             Some(Misfit::Client)

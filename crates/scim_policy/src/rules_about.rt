@@ -67,7 +67,8 @@ impl RulesAbout<'_> {
     /// denies. Targets are evaluated in the order of the rules, up to the first rule that matches and
     /// covers everything.
     pub fn decisions(&self, alloc: Global, resource: &Resource) -> Result<Decisions, NoMemory>
-        ensures { IfOk result (λ ds. (l : Leaf) → decision ds l ≡ decided_by self.now resource.now l) }
+        ensures { IfOk result (λ ds. (l : Leaf)
+            → decision ds l ≡ decided_by self.now resource.now l) }
     {
         let mut decisions = Decisions::none(alloc);
         for numbered in &self.rules {

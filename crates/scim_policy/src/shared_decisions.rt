@@ -26,7 +26,8 @@ impl Policy {
     ) -> Result<Option<Decisions>, NoMemory>
         ensures same { IfOk result (λ o. IfSome o (λ ds. (c : Content) → c.kind ≡ kind → (l : Leaf)
             → decision ds l ≡ spec.decide self.now client.now op c l)) }
-        ensures none { IfOk result (λ o. IfNone o (list_any (spec.has_target_for client.now op kind) self.now ≡ true)) }
+        ensures none { IfOk result (λ o. IfNone o
+            (list_any (spec.has_target_for client.now op kind) self.now ≡ true)) }
     {
         let mut decisions = Decisions::none(alloc);
         let mut number = 0;

@@ -91,10 +91,12 @@ fn parse<'t>(
 ///
 /// Errors: the cause of the first fault of the file itself.
 fn file_rules<'v, 't>(value: &'v Value<'t>) -> Result<&'v [Value<'t>], Cause>
-    ensures rules { IfOk result (λ vs. spec.policy_in (value_view value.now) ≡ spec.rules_from 1 (map value_view vs.now)) }
+    ensures rules { IfOk result (λ vs. spec.policy_in (value_view value.now)
+        ≡ spec.rules_from 1 (map value_view vs.now)) }
     ensures few { IfOk result (λ vs. length vs.now ≤ MOST_RULES) }
     ensures faulty { IfErr result
-        (λ cause. spec.policy_in (value_view value.now) ≡ Err (record { rule = 0; cause = cause })) }
+        (λ cause. spec.policy_in (value_view value.now)
+        ≡ Err (record { rule = 0; cause = cause })) }
 {
     let Some(parts) = file_parts(value) else {
         return Err(Cause::Shape);
@@ -196,7 +198,8 @@ fn array_in<'v, 't>(value: &'v Value<'t>) -> Option<&'v [Value<'t>]>
 
 /// The items of a non-empty array. `None` if the value isn't one.
 fn items_in<'v, 't>(value: &'v Value<'t>) -> Option<&'v [Value<'t>]>
-    ensures { option_map (λ vs. map value_view vs.now) result ≡ spec.items_in (value_view value.now) }
+    ensures { option_map (λ vs. map value_view vs.now) result
+        ≡ spec.items_in (value_view value.now) }
 {
     let items = array_in(value)?;
     if items.is_empty() {
@@ -212,7 +215,8 @@ fn read_rules(alloc: Global, values: &[Value<'_>]) -> Result<Vec<Rule>, Failed<P
     requires { length values.now ≤ MOST_RULES }
     ensures rules { IfOk result (λ v. spec.rules_from 1 (map value_view values.now) ≡ Ok v.items) }
     ensures count { IfOk result (λ v. length v.items ≡ length values.now) }
-    ensures faulty { IfFault result (λ fault. spec.rules_from 1 (map value_view values.now) ≡ Err fault) }
+    ensures faulty { IfFault result (λ fault. spec.rules_from 1 (map value_view values.now)
+        ≡ Err fault) }
 {
     let mut rules = Vec::new(alloc);
     let mut number = 0;
@@ -228,7 +232,8 @@ fn read_rules(alloc: Global, values: &[Value<'_>]) -> Result<Vec<Rule>, Failed<P
 /// Errors: the first fault of the rule.
 fn read_rule(alloc: Global, value: &Value<'_>, number: u32) -> Result<Rule, Failed<PolicyFault>>
     ensures rule { IfOk result (λ r. spec.rule_of number (value_view value.now) ≡ Ok r) }
-    ensures faulty { IfFault result (λ fault. spec.rule_of number (value_view value.now) ≡ Err fault) }
+    ensures faulty { IfFault result (λ fault. spec.rule_of number (value_view value.now)
+        ≡ Err fault) }
 {
     let Some(written) = written_rule(alloc, value)? else {
         return Err(Failed::Because(PolicyFault {
@@ -323,7 +328,8 @@ fn allow_in(value: &Value<'_>) -> Option<bool>
 
 /// The text of the target, or `Some(None)` if there is no target. `None` if it isn't a text.
 fn target_in<'t>(value: &Value<'t>) -> Option<Option<&'t str>>
-    ensures { option_map (λ o. option_map text_at o) result ≡ spec.target_in (value_view value.now) }
+    ensures { option_map (λ o. option_map text_at o) result
+        ≡ spec.target_in (value_view value.now) }
 {
     match value.get("target") {
         Some(found) => Some(Some(found.as_str()?)),
@@ -337,7 +343,8 @@ fn texts_at<'t>(
     value: &Value<'t>,
     key: &str,
 ) -> Result<Option<Vec<&'t str>>, NoMemory>
-    ensures { IfOk result (λ o. option_map texts_view o ≡ spec.texts_at key.now (value_view value.now)) }
+    ensures { IfOk result (λ o. option_map texts_view o
+        ≡ spec.texts_at key.now (value_view value.now)) }
 {
     match value.get(key) {
         Some(found) => texts_in(alloc, found),
@@ -394,7 +401,8 @@ fn rule_named(alloc: Global, written: &WrittenRule<'_>) -> Result<Rule, Failed<C
 
 /// Reads the clients. `None` if one is invalid.
 fn clients_named(alloc: Global, texts: &[&str]) -> Result<Option<Vec<ClientName>>, NoMemory>
-    ensures { IfOk result (λ o. option_map (λ v. v.items) o ≡ each client_named (map text_at texts.now)) }
+    ensures { IfOk result (λ o. option_map (λ v. v.items) o
+        ≡ each client_named (map text_at texts.now)) }
 {
     let mut clients = Vec::new(alloc);
     for text in texts {
@@ -408,7 +416,8 @@ fn clients_named(alloc: Global, texts: &[&str]) -> Result<Option<Vec<ClientName>
 
 /// Reads the operations. `None` if one is unknown.
 fn ops_named(alloc: Global, texts: &[&str]) -> Result<Option<Vec<Op>>, NoMemory>
-    ensures { IfOk result (λ o. option_map (λ v. v.items) o ≡ each operation_named (map text_at texts.now)) }
+    ensures { IfOk result (λ o. option_map (λ v. v.items) o
+        ≡ each operation_named (map text_at texts.now)) }
 {
     let mut ops = Vec::new(alloc);
     for text in texts {
@@ -422,7 +431,8 @@ fn ops_named(alloc: Global, texts: &[&str]) -> Result<Option<Vec<Op>>, NoMemory>
 
 /// Reads the kinds. `None` if one is unknown.
 fn kinds_named(alloc: Global, texts: &[&str]) -> Result<Option<Vec<Kind>>, NoMemory>
-    ensures { IfOk result (λ o. option_map (λ v. v.items) o ≡ each kind_named (map text_at texts.now)) }
+    ensures { IfOk result (λ o. option_map (λ v. v.items) o
+        ≡ each kind_named (map text_at texts.now)) }
 {
     let mut kinds = Vec::new(alloc);
     for text in texts {

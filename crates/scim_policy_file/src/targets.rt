@@ -20,7 +20,8 @@ pub(crate) fn targets_for(
     kinds: &[Kind],
     text: Option<&str>,
 ) -> Result<Vec<Target>, Failed<Cause>>
-    ensures { Gives (λ v. v.items) result (spec.targets_for kinds.now (option_map text_at text.entry)) }
+    ensures { Gives (λ v. v.items) result
+        (spec.targets_for kinds.now (option_map text_at text.entry)) }
 {
     match text {
         None => Ok(Vec::new(alloc)),
@@ -51,7 +52,8 @@ fn targets_in(alloc: Global, kinds: &[Kind], text: &str) -> Result<Vec<Target>, 
 
 /// Reads the text as a filter on each of the kinds. `None` if it isn't a filter on one of them.
 fn targets_on(alloc: Global, kinds: &[Kind], text: &str) -> Result<Option<Vec<Target>>, NoMemory>
-    ensures { IfOk result (λ o. option_map (λ v. v.items) o ≡ each (spec.target_on text.now) kinds.now) }
+    ensures { IfOk result (λ o. option_map (λ v. v.items) o
+        ≡ each (spec.target_on text.now) kinds.now) }
 {
     let mut targets = Vec::new(alloc);
     for kind in kinds {

@@ -20,7 +20,8 @@ pub(crate) fn joined(
     mark: &str,
     last: &str,
 ) -> Result<String, NoMemory>
-    ensures { IfOk result (λ text. string_bytes text ≡ spec.joined mark.now last.now (map string_bytes words.now)) }
+    ensures { IfOk result (λ text. string_bytes text
+        ≡ spec.joined mark.now last.now (map string_bytes words.now)) }
 {
     if words.is_empty() {
         return Ok(String::from_str(alloc, "nothing")?);

@@ -53,7 +53,8 @@ fn sentence(alloc: Global, rule: &Rule) -> Result<String, NoMemory>
 
 /// The clients of a rule, as a list of words.
 fn clients_text(alloc: Global, clients: &[ClientName]) -> Result<String, NoMemory>
-    ensures { IfOk result (λ text. string_bytes text ≡ listed_words (map spec.client_word clients.now)) }
+    ensures { IfOk result (λ text. string_bytes text
+        ≡ listed_words (map spec.client_word clients.now)) }
 {
     let mut words = Vec::new(alloc);
     for client in clients {
@@ -126,7 +127,8 @@ fn target_on(targets: &[Target], kind: Kind) -> Option<&Target>
 
 /// The paths of a rule, as a list of words.
 fn paths_text(alloc: Global, paths: &[PolicyPath]) -> Result<String, NoMemory>
-    ensures { IfOk result (λ text. string_bytes text ≡ listed_words (map spec.path_word paths.now)) }
+    ensures { IfOk result (λ text. string_bytes text
+        ≡ listed_words (map spec.path_word paths.now)) }
 {
     let mut words = Vec::new(alloc);
     for path in paths {

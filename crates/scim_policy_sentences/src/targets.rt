@@ -28,7 +28,8 @@ fn operator_word(operator: Operator) -> &'static str
 
 /// A literal as JSON text.
 fn literal_text(alloc: Global, literal: &Literal) -> Result<String, NoMemory>
-    ensures { IfOk result (λ text. string_bytes text ≡ compact_text (spec.literal_data literal.now)) }
+    ensures { IfOk result (λ text. string_bytes text
+        ≡ compact_text (spec.literal_data literal.now)) }
 {
     let value = match literal {
         Literal::Text(text) => Value::String(String::from_str(alloc, text.as_str())?),
@@ -41,7 +42,8 @@ fn literal_text(alloc: Global, literal: &Literal) -> Result<String, NoMemory>
 
 /// Appends a path as it was written. On an error `text` has a part of it.
 fn push_path(path: &Path, text: &mut String) -> Result<(), NoMemory>
-    ensures { OnOk result (string_bytes text.new ≡ string_bytes text.old ++ spec.path_words path.now) }
+    ensures { OnOk result (string_bytes text.new ≡ string_bytes text.old
+        ++ spec.path_words path.now) }
 {
     if let Some(urn) = &path.urn {
         text.push_str(urn.as_str())?;
@@ -64,7 +66,8 @@ fn push_comparison(
     text: &mut String,
 ) -> Result<(), NoMemory>
     ensures { OnOk result (string_bytes text.new ≡ string_bytes text.old
-        ++ (spec.path_words path.now ++ codes " " ++ spec.operator_word operator ++ codes " " ++ compact_text (spec.literal_data literal.now))) }
+        ++ (spec.path_words path.now ++ codes " " ++ spec.operator_word operator ++ codes " "
+        ++ compact_text (spec.literal_data literal.now))) }
 {
     let literal = literal_text(alloc, literal)?;
     push_path(path, text)?;
@@ -91,7 +94,8 @@ fn is_join(node: &Node) -> bool
 
 /// Appends `mark` if it is needed.
 fn push_if(needs: bool, mark: &str, text: &mut String) -> Result<(), NoMemory>
-    ensures { OnOk result (string_bytes text.new ≡ string_bytes text.old ++ (if needs then mark.now else [])) }
+    ensures { OnOk result (string_bytes text.new ≡ string_bytes text.old
+        ++ (if needs then mark.now else [])) }
 {
     if needs {
         text.push_str(mark)?;
@@ -101,7 +105,8 @@ fn push_if(needs: bool, mark: &str, text: &mut String) -> Result<(), NoMemory>
 
 /// Appends a tree, with brackets where the nesting needs them. On an error `text` may have a part of it.
 fn push_tree(alloc: Global, node: &Node, text: &mut String) -> Result<(), NoMemory>
-    ensures { OnOk result (string_bytes text.new ≡ string_bytes text.old ++ spec.tree_text (view node.now)) }
+    ensures { OnOk result (string_bytes text.new ≡ string_bytes text.old
+        ++ spec.tree_text (view node.now)) }
 {
     match node {
         Node::Or(first, second) => {

@@ -39,7 +39,8 @@ pub(crate) fn is_matching_where<T: RowTest>(
     part: &Part,
     test: &T,
 ) -> Result<bool, NoMemory>
-    ensures { IfOk result (λ b. b ≡ is_match query.now.filter (restricted_part (T.keeps test.now) part.now)) }
+    ensures { IfOk result (λ b. b
+        ≡ is_match query.now.filter (restricted_part (T.keeps test.now) part.now)) }
 {
     // The call tells the proof that the part is valid, so the restricted part has just the restricted rows.
     let _ = part.rows();
@@ -74,7 +75,8 @@ pub(crate) fn matching_entries<'a>(
     parts: &'a [Part],
     query: &Query,
 ) -> Result<Vec<Entry<'a>>, NoMemory>
-    ensures members { IfOk result (λ v. spec.parts_of v.items ≡ matching query.now.filter parts.now) }
+    ensures members { IfOk result (λ v. spec.parts_of v.items
+        ≡ matching query.now.filter parts.now) }
     ensures keys { IfOk result (λ v. All (spec.HasKey query.now.sort_by) v.items) }
 {
     let mut entries = Vec::new(alloc);
@@ -95,7 +97,8 @@ fn compare(descending: bool, a: &Entry<'_>, b: &Entry<'_>) -> Ordering
 pub(crate) fn sort_entries(entries: &mut Vec<Entry<'_>>, descending: bool) -> Result<(), NoMemory>
     ensures members { IsPermutation entries.old.items entries.new.items }
     ensures in_order { OnOk result (IsSorted (spec.entry_cmp descending) entries.new.items) }
-    ensures stable { OnOk result (IsStable (spec.entry_cmp descending) entries.old.items entries.new.items) }
+    ensures stable { OnOk result (IsStable
+        (spec.entry_cmp descending) entries.old.items entries.new.items) }
 {
     entries.sort_by(|a, b| compare(descending, a, b))?;
     Ok(())

@@ -44,9 +44,11 @@ fn room_of(query: &Query) -> usize
 /// None if it comes after the end of the page.
 fn place_in_order(held: &[KeptPart], query: &Query, key: &Option<Atom>, id: Id) -> Option<usize>
     ensures inside { IfSome result (λ place. place ≤ length held.now) }
-    ensures place { (part : _) → code.kept_rank part ≡ (key.now, id) → IsSorted (code.kept_cmp query.now.descending) held.now
+    ensures place { (part : _) → code.kept_rank part ≡ (key.now, id)
+        → IsSorted (code.kept_cmp query.now.descending) held.now
         → take (spec.most_held query.now) (code.held_with result part held.now)
-        ≡ take (spec.most_held query.now) (placed (code.comes_before query.now.descending) part held.now) }
+        ≡ take (spec.most_held query.now)
+        (placed (code.comes_before query.now.descending) part held.now) }
 {
     let place = held.partition_point(|other| !comes_before(query.descending, key, id, other));
     if place < room_of(query) {
@@ -101,7 +103,8 @@ pub(crate) fn put_in_place(
     part: KeptPart,
 ) -> Result<(), NoMemory>
     requires { place ≤ length held.old.items }
-    ensures held { OnOk result (held.new.items ≡ take (spec.most_held query.now) (insert held.old.items place part)) }
+    ensures held { OnOk result (held.new.items
+        ≡ take (spec.most_held query.now) (insert held.old.items place part)) }
     ensures refused { OnErr result (held.new.items ≡ held.old.items) }
 {
     held.insert(place, part)?;

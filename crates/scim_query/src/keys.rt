@@ -51,14 +51,17 @@ fn is_left<T: RowTest>(value: &Row, test: &T) -> bool
 
 /// Returns the first value that a field admitted by the test marks as primary.
 fn first_primary<'r, T: RowTest>(values: &'r [Row], test: &T) -> Option<&'r Row>
-    ensures { option_copied result ≡ find (λ r. cells.is_primary r && T.keeps test.now r (leaf_at r.unit.attribute SubAttribute.Primary)) values.now }
+    ensures { option_copied result
+        ≡ find (λ r. cells.is_primary r
+        && T.keeps test.now r (leaf_at r.unit.attribute SubAttribute.Primary)) values.now }
 {
     values.iter().find(|value| is_primary(value, test))
 }
 
 /// Returns the first value with a field that the test admits.
 fn first_left<'r, T: RowTest>(values: &'r [Row], test: &T) -> Option<&'r Row>
-    ensures { option_copied result ≡ find (λ r. list_any (λ f. T.keeps test.now r f.leaf) r.fields) values.now }
+    ensures { option_copied result
+        ≡ find (λ r. list_any (λ f. T.keeps test.now r f.leaf) r.fields) values.now }
 {
     values.iter().find(|value| is_left(value, test))
 }
@@ -91,7 +94,8 @@ fn compared(alloc: Global, leaf: Leaf, atom: &Atom) -> Result<Atom, NoMemory>
 /// Returns the atom by which a part is sorted, with only the fields that the test admits.
 fn sorting_atom<'p, T: RowTest>(leaf: Leaf, part: &'p Part, test: &T) -> Option<&'p Atom>
     ensures atom { option_copied result ≡ spec.atom_of leaf
-        (spec.sorting_value (values (unit_of leaf) (restricted (T.keeps test.now) (rows part.now)))) }
+        (spec.sorting_value
+        (values (unit_of leaf) (restricted (T.keeps test.now) (rows part.now)))) }
     ensures valid { IsPart part.now }
 {
     let value = sorting_value(part.values(unit_of(leaf)), test)?;
@@ -110,7 +114,8 @@ fn key_at<T: RowTest>(
     part: &Part,
     test: &T,
 ) -> Result<Option<Atom>, NoMemory>
-    ensures key { IfOk result (λ key. key ≡ spec.sort_key leaf (restricted (T.keeps test.now) (rows part.now))) }
+    ensures key { IfOk result (λ key. key
+        ≡ spec.sort_key leaf (restricted (T.keeps test.now) (rows part.now))) }
     ensures valid { IsPart part.now }
 {
     let Some(atom) = sorting_atom(leaf, part, test) else {
@@ -141,7 +146,8 @@ pub(crate) fn key_where<T: RowTest>(
     part: &Part,
     test: &T,
 ) -> Result<Option<Atom>, NoMemory>
-    ensures { IfOk result (λ key. key ≡ spec.key_by sort_by (rows (restricted_part (T.keeps test.now) part.now))) }
+    ensures { IfOk result (λ key. key
+        ≡ spec.key_by sort_by (rows (restricted_part (T.keeps test.now) part.now))) }
 {
     match sort_by {
         Some(leaf) => key_at(alloc, leaf, part, test),

@@ -16,7 +16,8 @@ fn text_compared(
     literal: &Literal,
     leaf: Leaf,
 ) -> Option<&StringLiteral>
-    ensures { IfSome result (λ text. (rs : List Row) → compares meant operator literal.now rs ≡ true → spec.has_text leaf text.now rs ≡ true) }
+    ensures { IfSome result (λ text. (rs : List Row) → compares meant operator literal.now rs ≡ true
+        → spec.has_text leaf text.now rs ≡ true) }
 {
     match literal {
         Literal::Text(text) if operator == Operator::Eq && meant.compared_leaf() == Some(leaf) => {
@@ -28,7 +29,8 @@ fn text_compared(
 
 /// Returns a text that the leaf must have for the filter to hold, if the filter shows one.
 fn text_needed(node: &Node, leaf: Leaf) -> Option<&StringLiteral>
-    ensures { IfSome result (λ text. (rs : List Row) → truth (view node.now) rs ≡ true → spec.has_text leaf text.now rs ≡ true) }
+    ensures { IfSome result (λ text. (rs : List Row) → truth (view node.now) rs ≡ true
+        → spec.has_text leaf text.now rs ≡ true) }
 {
     match node {
         Node::And(first, second) => match text_needed(first, leaf) {

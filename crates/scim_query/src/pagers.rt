@@ -96,7 +96,8 @@ impl<'q> Pager<'q> {
         requires { place ≤ length self.old.held.items }
         ensures query { self.new.query ≡ self.old.query }
         ensures counted { OnOk result (code.HasCounted
-            (take (spec.most_held self.old.query.now) (insert self.old.held.items place part)) self.old self.new) }
+            (take (spec.most_held self.old.query.now) (insert self.old.held.items place part))
+            self.old self.new) }
         ensures refused { OnErr result (spec.IsUnchanged self.old self.new) }
     {
         let Some(total) = self.total.checked_add(1) else {
@@ -133,7 +134,8 @@ impl<'q> Pager<'q> {
     /// Returns the page of the parts taken, as [`crate::queries::search`] returns it for a list of them.
     pub fn end(self) -> Result<Page, NoMemory>
         ensures { IfOk result (λ page. (parts : List _) → spec.HasTaken parts self.entry
-            → spec.ComeInOrder self.entry.query.now parts → IsPage parts self.entry.query.now page) }
+            → spec.ComeInOrder self.entry.query.now parts
+            → IsPage parts self.entry.query.now page) }
     {
         let Pager {
             alloc,

@@ -51,7 +51,8 @@ fn may_be_seen(meant: Meant, kind: Kind, decisions: &Decisions) -> bool
 /// Whether the filter can hold of the visible part of some resource of the kind.
 /// False only if it holds of none; true may be a guess.
 fn may_hold(node: &Node, kind: Kind, decisions: &Decisions) -> bool
-    ensures { result ≡ false → spec.NeverHolds (truth (view node.now)) kind (decision decisions.now) }
+    ensures { result ≡ false → spec.NeverHolds (truth (view node.now)) kind
+        (decision decisions.now) }
 {
     match node {
         Node::Or(first, second) => {

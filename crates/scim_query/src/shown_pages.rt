@@ -12,7 +12,8 @@ use std::alloc::Global;
 pub fn shown_page(alloc: Global, found: Page, wanted: &Wanted) -> Result<Page, NoMemory>
     ensures total { IfOk result (λ page. page.total ≡ found.total) }
     ensures start { IfOk result (λ page. page.start ≡ found.start) }
-    ensures items { IfOk result (λ page. page.items.items ≡ map (shown wanted.now) found.items.items) }
+    ensures items { IfOk result (λ page. page.items.items
+        ≡ map (shown wanted.now) found.items.items) }
 {
     let Page {
         total,

@@ -57,7 +57,8 @@ fn take(
     name: &Text,
     value: &[u8],
 ) -> Result<(), NoMemory>
-    ensures { OnOk result (held.new ≡ taken parameter.now (name.now, spec.decoded_text value.now) held.old) }
+    ensures { OnOk result (held.new
+        ≡ taken parameter.now (name.now, spec.decoded_text value.now) held.old) }
 {
     if held.is_none() && same_name(name.as_str(), parameter) {
         *held = Some(decoded_text(alloc, value)?);
@@ -84,7 +85,8 @@ impl Parameters {
     /// Stores the value of a pair for the parameter that it names. After NoMemory it may be stored
     /// for one parameter and not for another.
     fn take_pair(&mut self, alloc: Global, name: &[u8], value: &[u8]) -> Result<(), NoMemory>
-        ensures { OnOk result (self.new ≡ with_pair (spec.decoded_pair (name.now, value.now)) self.old) }
+        ensures { OnOk result (self.new
+            ≡ with_pair (spec.decoded_pair (name.now, value.now)) self.old) }
     {
         let name = decoded_text(alloc, name)?;
         take(alloc, &mut self.attributes, "attributes", &name, value)?;
@@ -101,7 +103,8 @@ impl Parameters {
     /// to ASCII case. The first value of a name counts, and other names are ignored. Bytes that
     /// aren't UTF-8 become U+FFFD.
     pub fn read(alloc: Global, query: Option<&[u8]>) -> Result<Parameters, NoMemory>
-        ensures { IfOk result (λ parameters. parameters ≡ spec.parameters_of (option_copied query.entry)) }
+        ensures { IfOk result (λ parameters. parameters
+            ≡ spec.parameters_of (option_copied query.entry)) }
     {
         let mut parameters = Parameters::none();
         for (name, value) in raw_pairs(query.unwrap_or(&[])) {

@@ -67,7 +67,8 @@ impl Drop for Routes {
 /// Adds a route to the router. An error is a failed allocation, since the routes are valid and
 /// differ.
 fn enter(router: &mut Router<Leads>, path: &str, leads: Leads) -> Result<(), NoMemory>
-    ensures { OnOk result (rename (λ r. r.value) router.new ≡ spec.with_path path.now leads (rename (λ r. r.value) router.old)) }
+    ensures { OnOk result (rename (λ r. r.value) router.new
+        ≡ spec.with_path path.now leads (rename (λ r. r.value) router.old)) }
 {
     if router.insert(path, leads).is_err() {
         return Err(NoMemory);
@@ -77,7 +78,8 @@ fn enter(router: &mut Router<Leads>, path: &str, leads: Leads) -> Result<(), NoM
 
 /// Makes a router with these routes.
 fn router_of(alloc: Global, routes: &[(&str, Leads)]) -> Result<Router<Leads>, NoMemory>
-    ensures { IfOk result (λ router. rename (λ r. r.value) router ≡ spec.with_paths (map (λ r. (r.0.now, r.1)) routes.now) []) }
+    ensures { IfOk result (λ router. rename (λ r. r.value) router
+        ≡ spec.with_paths (map (λ r. (r.0.now, r.1)) routes.now) []) }
 {
     let mut router = Router::new(alloc);
     for (path, leads) in routes {

@@ -76,7 +76,8 @@ pub enum Found<'t> {
 
 /// The route with these values and the form's operation.
 fn route_of(form: Form, kind: Kind, id: Option<Id>, query: Option<&[u8]>) -> Route<'_>
-    ensures { (text : Option (List ℕ)) → IsIdOf text id → Says form kind text (option_copied query.entry) result }
+    ensures { (text : Option (List ℕ)) → IsIdOf text id
+        → Says form kind text (option_copied query.entry) result }
 {
     let op = form.op();
     Route {
@@ -132,7 +133,8 @@ fn found_at<'t>(
     endpoint: Endpoint<'_>,
     query: Option<&'t [u8]>,
 ) -> Result<Found<'t>, Refusal>
-    ensures { Finds (spec.named_at method.now (place_at endpoint.entry)) (option_copied query.entry) result }
+    ensures { Finds (spec.named_at method.now (place_at endpoint.entry))
+        (option_copied query.entry) result }
 {
     match endpoint {
         Endpoint::Unsupported => Err(Refusal::NotSupported),
@@ -172,7 +174,8 @@ impl Routes {
         method: &[u8],
         target: &'t [u8],
     ) -> Result<Found<'t>, Failed<Refusal>>
-        ensures { UnlessMemory (Finds (spec.named method.now target.now) (query_of target.now)) result }
+        ensures { UnlessMemory (Finds (spec.named method.now target.now) (query_of target.now))
+            result }
     {
         let target = read_target(target);
         let path = decoded(alloc, target.path)?;

@@ -98,7 +98,8 @@ pub(crate) fn decoded<'t>(
     path: &'t [u8],
 ) -> Result<CowStr<'t, Global>, Failed<Refusal>>
     ensures ok { IfOk result (λ text. spec.decoded path.now ≡ Some (cow_str_bytes text)) }
-    ensures fault { IfFault result (λ refusal. (refusal ≡ NoRoute) × (spec.decoded path.now ≡ None)) }
+    ensures fault { IfFault result (λ refusal. (refusal ≡ NoRoute)
+        × (spec.decoded path.now ≡ None)) }
 {
     match percent_decode(path).decode_utf8(alloc) {
         Ok(text) => Ok(text),

@@ -32,7 +32,8 @@ pub fn groups_beside<S: Shelf>(
     shelf: &mut S,
     resource: &Resource,
 ) -> Result<ListingGroups, Failed<ShelfFault>>
-    ensures groups { IfOk result (Answers S.stands S.is_honest shelf.old shelf.new (λ store groups. (base : List ℕ) → IsStore base store
+    ensures groups { IfOk result (Answers S.stands S.is_honest shelf.old shelf.new
+        (λ store groups. (base : List ℕ) → IsStore base store
         → spec.TellGroups (viewer_of viewer.now) store.resources resource.now groups)) }
     ensures read { OnlyReads S.stands S.is_honest S.failures shelf.old shelf.new result }
 {
@@ -48,8 +49,10 @@ fn gather_groups<S: Shelf>(
     shelf: &mut S,
     resource: &Resource,
 ) -> Result<(), Failed<ShelfFault>>
-    ensures groups { IfOk result (Answers S.stands S.is_honest shelf.old shelf.new (λ store _. (base : List ℕ) (v : SpecViewer) → IsStore base store
-        → Tells v store.resources listing.old → Tells v store.resources listing.new × spec.TellGroups v store.resources resource.now listing.new.groups)) }
+    ensures groups { IfOk result (Answers S.stands S.is_honest shelf.old shelf.new
+        (λ store _. (base : List ℕ) (v : SpecViewer) → IsStore base store
+        → Tells v store.resources listing.old → Tells v store.resources listing.new
+        × spec.TellGroups v store.resources resource.now listing.new.groups)) }
     ensures read { OnlyReads S.stands S.is_honest S.failures shelf.old shelf.new result }
 {
     listing.clear(alloc);
@@ -66,9 +69,11 @@ fn gather_listing<S: Shelf>(
     shelf: &mut S,
     resource: &Resource,
 ) -> Result<(), Failed<ShelfFault>>
-    ensures groups { IfOk result (Answers S.stands S.is_honest shelf.old shelf.new (λ store _. (base : List ℕ) (v : SpecViewer) → IsStore base store
+    ensures groups { IfOk result (Answers S.stands S.is_honest shelf.old shelf.new
+        (λ store _. (base : List ℕ) (v : SpecViewer) → IsStore base store
         → Tells v store.resources listing.old → AreListing v resource.now.id [] listing.old.groups
-        → Tells v store.resources listing.new × spec.TellGroups v store.resources resource.now listing.new.groups)) }
+        → Tells v store.resources listing.new
+        × spec.TellGroups v store.resources resource.now listing.new.groups)) }
     ensures read { OnlyReads S.stands S.is_honest S.failures shelf.old shelf.new result }
 {
     let mut buffer = [0; Id::TEXT_LENGTH];
@@ -86,9 +91,13 @@ pub(crate) fn view_beside<S: Shelf>(
     shelf: &mut S,
     resource: &Resource,
 ) -> Result<Option<Part>, Failed<ShelfFault>>
-    ensures part { IfOk result (Answers S.stands S.is_honest shelf.old shelf.new (λ store part. (base : List ℕ) → IsStore base store
-        → AreFor (viewer_of viewer.now) resource.now decisions.now → Tells (viewer_of viewer.now) store.resources listing.old → Tells (viewer_of viewer.now) store.resources listing.new
-        × (part ≡ view_with_groups (viewer_of viewer.now) (of_kind Kind.Group store.resources) resource.now))) }
+    ensures part { IfOk result (Answers S.stands S.is_honest shelf.old shelf.new
+        (λ store part. (base : List ℕ) → IsStore base store
+        → AreFor (viewer_of viewer.now) resource.now decisions.now
+        → Tells (viewer_of viewer.now) store.resources listing.old
+        → Tells (viewer_of viewer.now) store.resources listing.new
+        × (part ≡ view_with_groups (viewer_of viewer.now)
+        (of_kind Kind.Group store.resources) resource.now))) }
     ensures read { OnlyReads S.stands S.is_honest S.failures shelf.old shelf.new result }
 {
     let seen = decisions.of(Leaf::simple(Attribute::Id));

@@ -28,7 +28,8 @@ pub(crate) struct Decided {
 impl Decided {
     /// Returns an empty cache, without allocating.
     pub(crate) fn new(alloc: Global) -> Decided
-        ensures { (v : SpecViewer) (kind : SpecKind) (cs : List Content) → spec.Recalls v kind cs result }
+        ensures { (v : SpecViewer) (kind : SpecKind) (cs : List Content)
+            → spec.Recalls v kind cs result }
     {
         Decided {
             by_id: HashMap::new(alloc),
@@ -38,7 +39,8 @@ impl Decided {
     /// Returns the cached decisions on the resource with this id, if any.
     pub(crate) fn of(&self, id: Id) -> Option<&Decisions>
         ensures value { option_copied result ≡ get is_same_id self.now.by_id id }
-        ensures recalls { (v : SpecViewer) (kind : SpecKind) (cs : List Content) → spec.Recalls v kind cs self.now
+        ensures recalls { (v : SpecViewer) (kind : SpecKind) (cs : List Content)
+            → spec.Recalls v kind cs self.now
             → IfSome result (λ decisions. spec.AreOn v kind cs id decisions.now) }
     {
         self.by_id.get(&id)
@@ -48,7 +50,8 @@ impl Decided {
     /// If 4,096 are cached already, all of those are dropped first; they are evaluated again when needed.
     pub(crate) fn keep(&mut self, id: Id, decisions: Decisions) -> Result<(), NoMemory>
         ensures kept { OnOk result (get is_same_id self.new.by_id id ≡ Some decisions) }
-        ensures recalls { OnOk result ((v : SpecViewer) (kind : SpecKind) (cs : List Content) → spec.AreOn v kind cs id decisions
+        ensures recalls { OnOk result ((v : SpecViewer) (kind : SpecKind) (cs : List Content)
+            → spec.AreOn v kind cs id decisions
             → spec.Recalls v kind cs self.old → spec.Recalls v kind cs self.new) }
     {
         if self.by_id.len() >= MOST_KEPT {

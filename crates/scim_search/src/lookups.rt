@@ -47,7 +47,8 @@ pub(crate) fn needed_name(
     kind: Kind,
     query: &Query,
 ) -> Result<Option<UniqueName>, NoMemory>
-    ensures { IfOk result (λ o. IfSome o (λ name. spec.OnlyThose kind query.now.filter (has_name (name_of name)))) }
+    ensures { IfOk result (λ o. IfSome o (λ name.
+        spec.OnlyThose kind query.now.filter (has_name (name_of name)))) }
 {
     for leaf in unique_leaves(kind) {
         if let Some(text) = query.needed_text(*leaf) {
@@ -60,7 +61,8 @@ pub(crate) fn needed_name(
 /// Returns the id that every match must have.
 /// None if the query requires none, or requires a text that isn't an id.
 pub(crate) fn needed_id(query: &Query) -> Option<Id>
-    ensures { IfSome result (λ id. (kind : Kind) → spec.OnlyThose kind query.now.filter (is_at kind id)) }
+    ensures { IfSome result (λ id. (kind : Kind)
+        → spec.OnlyThose kind query.now.filter (is_at kind id)) }
 {
     let text = query.needed_text(Leaf::simple(Attribute::Id))?;
     Id::read(text.as_str())
@@ -75,8 +77,11 @@ fn seen_part<S: Shelf>(
     kind: Kind,
     resource: &Resource,
 ) -> Result<Option<Part>, Failed<ShelfFault>>
-    ensures part { IfOk result (Answers S.stands S.is_honest shelf.old shelf.new (λ store part. (base : List ℕ) → IsStore base store
-        → and_those part [] ≡ views (viewer_of viewer.now) (of_kind Kind.Group store.resources) (of_kind kind (resource.now ∷ [])))) }
+    ensures part { IfOk result (Answers S.stands S.is_honest shelf.old shelf.new
+        (λ store part. (base : List ℕ) → IsStore base store
+        → and_those part []
+        ≡ views (viewer_of viewer.now) (of_kind Kind.Group store.resources)
+        (of_kind kind (resource.now ∷ [])))) }
     ensures read { OnlyReads S.stands S.is_honest S.failures shelf.old shelf.new result }
 {
     if resource.kind() != kind {
@@ -95,8 +100,11 @@ fn seen_if_found<S: Shelf>(
     kind: Kind,
     found: Option<Resource>,
 ) -> Result<Option<Part>, Failed<ShelfFault>>
-    ensures part { IfOk result (Answers S.stands S.is_honest shelf.old shelf.new (λ store part. (base : List ℕ) → IsStore base store
-        → and_those part [] ≡ views (viewer_of viewer.now) (of_kind Kind.Group store.resources) (of_kind kind (and_those found [])))) }
+    ensures part { IfOk result (Answers S.stands S.is_honest shelf.old shelf.new
+        (λ store part. (base : List ℕ) → IsStore base store
+        → and_those part []
+        ≡ views (viewer_of viewer.now) (of_kind Kind.Group store.resources)
+        (of_kind kind (and_those found [])))) }
     ensures read { OnlyReads S.stands S.is_honest S.failures shelf.old shelf.new result }
 {
     match found {
@@ -133,8 +141,10 @@ fn page_found<S: Shelf>(
     found: Option<Resource>,
     query: &Query,
 ) -> Result<Page, Failed<ShelfFault>>
-    ensures page { IfOk result (Answers S.stands S.is_honest shelf.old shelf.new (λ store page. (base : List ℕ) → IsStore base store
-        → IsPage (views (viewer_of viewer.now) (of_kind Kind.Group store.resources) (of_kind kind (and_those found []))) query.now page)) }
+    ensures page { IfOk result (Answers S.stands S.is_honest shelf.old shelf.new
+        (λ store page. (base : List ℕ) → IsStore base store
+        → IsPage (views (viewer_of viewer.now) (of_kind Kind.Group store.resources)
+        (of_kind kind (and_those found []))) query.now page)) }
     ensures read { OnlyReads S.stands S.is_honest S.failures shelf.old shelf.new result }
 {
     let part = seen_if_found(alloc, viewer, shelf, kind, found)?;
@@ -152,8 +162,10 @@ pub(crate) fn page_named<S: Shelf>(
     query: &Query,
 ) -> Result<Page, Failed<ShelfFault>>
     requires { spec.OnlyThose kind query.now.filter (has_name (name_of name.now)) }
-    ensures page { IfOk result (Answers S.stands S.is_honest shelf.old shelf.new (λ store page. (base : List ℕ) → IsStore base store
-        → IsPage (views (viewer_of viewer.now) (of_kind Kind.Group store.resources) (of_kind kind store.resources)) query.now page)) }
+    ensures page { IfOk result (Answers S.stands S.is_honest shelf.old shelf.new
+        (λ store page. (base : List ℕ) → IsStore base store
+        → IsPage (views (viewer_of viewer.now) (of_kind Kind.Group store.resources)
+        (of_kind kind store.resources)) query.now page)) }
     ensures read { OnlyReads S.stands S.is_honest S.failures shelf.old shelf.new result }
 {
     let owner = shelf.name_owner(alloc, name)?;
@@ -170,8 +182,10 @@ pub(crate) fn page_with_id<S: Shelf>(
     query: &Query,
 ) -> Result<Page, Failed<ShelfFault>>
     requires { spec.OnlyThose kind query.now.filter (is_at kind id) }
-    ensures page { IfOk result (Answers S.stands S.is_honest shelf.old shelf.new (λ store page. (base : List ℕ) → IsStore base store
-        → IsPage (views (viewer_of viewer.now) (of_kind Kind.Group store.resources) (of_kind kind store.resources)) query.now page)) }
+    ensures page { IfOk result (Answers S.stands S.is_honest shelf.old shelf.new
+        (λ store page. (base : List ℕ) → IsStore base store
+        → IsPage (views (viewer_of viewer.now) (of_kind Kind.Group store.resources)
+        (of_kind kind store.resources)) query.now page)) }
     ensures read { OnlyReads S.stands S.is_honest S.failures shelf.old shelf.new result }
 {
     let owner = shelf.by_id(alloc, kind, id)?;

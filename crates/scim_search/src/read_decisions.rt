@@ -45,7 +45,8 @@ impl<'a> ReadDecisions<'a> {
         viewer: &'a Viewer<'a>,
         kind: Kind,
     ) -> Result<ReadDecisions<'a>, NoMemory>
-        ensures decisions { IfOk result (λ decisions. AreDecisions (viewer_of viewer.entry.now) decisions) }
+        ensures decisions { IfOk result (λ decisions.
+            AreDecisions (viewer_of viewer.entry.now) decisions) }
         ensures kind { IfOk result (λ decisions. decisions.kind ≡ kind) }
     {
         let form = match viewer.decisions_on_all(alloc, kind)? {
@@ -64,7 +65,8 @@ impl<'a> ReadDecisions<'a> {
     /// None as well if the resource isn't of the kind.
     pub(crate) fn on_all(&self, resource: &Resource) -> Option<&Decisions>
         ensures { (v : SpecViewer) → AreDecisions v self.now
-            → IfSome result (λ decisions. (l : Leaf) → decision decisions.now l ≡ read_decision v resource.now l) }
+            → IfSome result (λ decisions. (l : Leaf)
+            → decision decisions.now l ≡ read_decision v resource.now l) }
     {
         match &self.form {
             Form::Alike(decisions) if resource.kind() == self.kind => Some(decisions),
@@ -79,9 +81,11 @@ impl<'a> ReadDecisions<'a> {
         decided: &'d Decided,
         resource: &Resource,
     ) -> Option<&'d Decisions>
-        ensures { (v : SpecViewer) (kind : SpecKind) (cs : List Content) → AreDecisions v self.now → Recalls v kind cs decided.now
+        ensures { (v : SpecViewer) (kind : SpecKind) (cs : List Content) → AreDecisions v self.now
+            → Recalls v kind cs decided.now
             → find (is_at kind resource.now.id) cs ≡ Some resource.now
-            → IfSome result (λ decisions. (l : Leaf) → decision decisions.now l ≡ read_decision v resource.now l) }
+            → IfSome result (λ decisions. (l : Leaf)
+            → decision decisions.now l ≡ read_decision v resource.now l) }
     {
         match self.on_all(resource) {
             Some(decisions) => Some(decisions),
@@ -97,7 +101,8 @@ impl<'a> ReadDecisions<'a> {
         resource: &Resource,
     ) -> Result<Decisions, NoMemory>
         ensures { IfOk result (λ decisions. AreDecisions (viewer_of viewer.now) self.now
-            → (l : Leaf) → decision decisions l ≡ read_decision (viewer_of viewer.now) resource.now l) }
+            → (l : Leaf) → decision decisions l
+            ≡ read_decision (viewer_of viewer.now) resource.now l) }
     {
         match &self.form {
             Form::ByTarget(rules) if resource.kind() == self.kind => {
@@ -110,8 +115,10 @@ impl<'a> ReadDecisions<'a> {
     /// Whether the query can find any resource of the kind for the client.
     /// False only if the decisions are the same for all resources of the kind, and let none of them match.
     pub(crate) fn may_find(&self, query: &Query) -> bool
-        ensures { result ≡ false → (v : SpecViewer) (groups : List Content) (c : Content) → AreDecisions v self.now
-            → IsPart c → c.kind ≡ self.now.kind → sees v c ≡ true → is_match query.now.filter (with_groups v groups c) ≡ false }
+        ensures { result ≡ false → (v : SpecViewer) (groups : List Content) (c : Content)
+            → AreDecisions v self.now
+            → IsPart c → c.kind ≡ self.now.kind → sees v c ≡ true
+            → is_match query.now.filter (with_groups v groups c) ≡ false }
     {
         match &self.form {
             Form::Alike(decisions) => {

@@ -40,7 +40,12 @@ impl<'a> Sight<'a> {
         decisions: &'a ReadDecisions<'a>,
         shows: Shows<'a>,
     ) -> Sight<'a>
-        ensures { result ≡ record { viewer = viewer.entry; decisions = decisions.entry; shows = shows.entry } }
+        ensures { result ≡ record {
+          viewer = viewer.entry;
+          decisions = decisions.entry;
+          shows =
+              shows.entry;
+        } }
     {
         Sight {
             viewer,
@@ -52,7 +57,8 @@ impl<'a> Sight<'a> {
     /// Returns the decisions for the whole kind, if they don't differ by resource.
     pub(crate) fn on_all(&self, resource: &Resource) -> Option<&Decisions>
         ensures { (groups : List Content) → spec.IsSight groups self.now
-            → IfSome result (λ decisions. AreFor (viewer_of self.now.viewer.now) resource.now decisions.now) }
+            → IfSome result (λ decisions.
+            AreFor (viewer_of self.now.viewer.now) resource.now decisions.now) }
     {
         self.decisions.on_all(resource)
     }
@@ -76,8 +82,10 @@ impl<'a> Sight<'a> {
     ) -> Result<bool, NoMemory>
         ensures query { pager.new.query ≡ pager.old.query }
         ensures taken { OnOk result ((groups parts : List Content) → spec.IsSight groups self.now
-            → AreFor (viewer_of self.now.viewer.now) resource.now decisions.now → HasTaken parts pager.old
-            → HasTaken (parts ++ and_those (spec.part_of groups self.now resource.now) []) pager.new) }
+            → AreFor (viewer_of self.now.viewer.now) resource.now decisions.now
+            → HasTaken parts pager.old
+            → HasTaken (parts ++ and_those (spec.part_of groups self.now resource.now) [])
+            pager.new) }
     {
         match self.shows {
             Shows::Named(attributes) => show_named(decisions, attributes, resource, pager),
@@ -100,8 +108,11 @@ fn show_named(
     pager: &mut Pager<'_>,
 ) -> Result<bool, NoMemory>
     ensures query { pager.new.query ≡ pager.old.query }
-    ensures taken { OnOk result ((v : SpecViewer) (parts : List Content) → AreFor v resource.now decisions.now → HasTaken parts pager.old
-        → HasTaken (parts ++ and_those (spec.made_if_seen (λ c. seen_attributes attributes.now (read_decision v c) c) v resource.now) []) pager.new) }
+    ensures taken { OnOk result ((v : SpecViewer) (parts : List Content)
+        → AreFor v resource.now decisions.now → HasTaken parts pager.old
+        → HasTaken (parts ++ and_those
+        (spec.made_if_seen (λ c. seen_attributes attributes.now (read_decision v c) c) v
+        resource.now) []) pager.new) }
 {
     if !decisions.of(Leaf::simple(Attribute::Id)).allow {
         return Ok(false);
@@ -113,7 +124,8 @@ fn show_named(
 /// Gives a pager a whole part, if there is one. Always returns false: the decisions aren't needed again.
 fn show_if_seen(part: Option<Part>, pager: &mut Pager<'_>) -> Result<bool, NoMemory>
     ensures query { pager.new.query ≡ pager.old.query }
-    ensures taken { OnOk result ((parts : List Content) → HasTaken parts pager.old → HasTaken (parts ++ and_those part []) pager.new) }
+    ensures taken { OnOk result ((parts : List Content) → HasTaken parts pager.old
+        → HasTaken (parts ++ and_those part []) pager.new) }
 {
     if let Some(part) = part {
         pager.push(part)?;

@@ -34,7 +34,8 @@ impl<'a> GroupVisitor<'a> {
     /// Returns a visitor with an empty index.
     pub(crate) fn new(alloc: Global, viewer: &'a Viewer<'a>) -> Result<GroupVisitor<'a>, NoMemory>
         ensures viewer { IfOk result (λ visitor. visitor.viewer ≡ viewer.entry) }
-        ensures decisions { IfOk result (λ visitor. AreDecisions (viewer_of viewer.entry.now) visitor.decisions) }
+        ensures decisions { IfOk result (λ visitor.
+            AreDecisions (viewer_of viewer.entry.now) visitor.decisions) }
         ensures index { IfOk result (λ visitor. (v : SpecViewer) → IsIndexOf v [] visitor.index) }
     {
         let decisions = ReadDecisions::of(alloc, viewer, Kind::Group)?;
@@ -81,7 +82,8 @@ pub(crate) struct ListingVisitor<'a> {
 impl<'a> ListingVisitor<'a> {
     /// Returns a visitor without groups.
     pub(crate) fn new(alloc: Global, viewer: &'a Viewer<'a>) -> Result<ListingVisitor<'a>, NoMemory>
-        ensures { IfOk result (λ listing. (cs : List Content) → Tells (viewer_of viewer.entry.now) cs listing) }
+        ensures { IfOk result (λ listing. (cs : List Content)
+            → Tells (viewer_of viewer.entry.now) cs listing) }
     {
         let decisions = ReadDecisions::of(alloc, viewer, Kind::Group)?;
         Ok(ListingVisitor {
@@ -94,7 +96,8 @@ impl<'a> ListingVisitor<'a> {
 
     /// Drops the gathered groups, before those of another resource are gathered. Doesn't allocate.
     pub(crate) fn clear(&mut self, alloc: Global)
-        ensures tells { (v : SpecViewer) (cs : List Content) → Tells v cs self.old → Tells v cs self.new }
+        ensures tells { (v : SpecViewer) (cs : List Content) → Tells v cs self.old
+            → Tells v cs self.new }
         ensures groups { (v : SpecViewer) (id : List ℕ) → AreListing v id [] self.new.groups }
     {
         self.groups = ListingGroups::new(alloc);
@@ -151,7 +154,8 @@ impl<'a> SearchVisitor<'a> {
         ensures sight { result.sight ≡ sight.entry }
         ensures query { result.pager.query ≡ query.entry }
         ensures taken { HasTaken [] result.pager }
-        ensures decided { (v : SpecViewer) (kind : SpecKind) (cs : List Content) → Recalls v kind cs result.decided }
+        ensures decided { (v : SpecViewer) (kind : SpecKind) (cs : List Content)
+            → Recalls v kind cs result.decided }
     {
         SearchVisitor {
             sight,
@@ -162,8 +166,10 @@ impl<'a> SearchVisitor<'a> {
 
     /// Returns the page and the cached decisions.
     pub(crate) fn end(self) -> Result<Found, NoMemory>
-        ensures page { IfOk result (λ found. (parts : List Content) → HasTaken parts self.entry.pager
-            → ComeInOrder self.entry.pager.query.now parts → IsPage parts self.entry.pager.query.now found.page) }
+        ensures page { IfOk result (λ found. (parts : List Content)
+            → HasTaken parts self.entry.pager
+            → ComeInOrder self.entry.pager.query.now parts
+            → IsPage parts self.entry.pager.query.now found.page) }
         ensures decided { IfOk result (λ found. found.decided ≡ self.entry.decided) }
     {
         let page = self.pager.end()?;

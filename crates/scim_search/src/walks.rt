@@ -68,7 +68,8 @@ fn page_made<S: Shelf>(
     kind: Kind,
     query: &Query,
 ) -> Result<Found, Failed<ShelfFault>>
-    ensures page { IfOk result (Answers S.stands S.is_honest shelf.old shelf.new (λ store found. (groups : List Content) (base : List ℕ)
+    ensures page { IfOk result (Answers S.stands S.is_honest shelf.old shelf.new
+        (λ store found. (groups : List Content) (base : List ℕ)
         → sights.IsSight groups sight.entry → IsStore base store
         → IsPage (spec.made_of_kind groups sight.entry kind store.resources) query.now found.page
         × Recalls (viewer_of sight.entry.viewer.now) kind store.resources found.decided)) }
@@ -89,8 +90,10 @@ fn page_by_groups<S: Shelf>(
     query: &Query,
 ) -> Result<Page, Failed<ShelfFault>>
     requires { AreDecisions (viewer_of viewer.now) decisions.now }
-    ensures page { IfOk result (Answers S.stands S.is_honest shelf.old shelf.new (λ store page. (base : List ℕ) → IsStore base store
-        → IsPage (views (viewer_of viewer.now) (of_kind Kind.Group store.resources) (of_kind kind store.resources)) query.now page)) }
+    ensures page { IfOk result (Answers S.stands S.is_honest shelf.old shelf.new
+        (λ store page. (base : List ℕ) → IsStore base store
+        → IsPage (views (viewer_of viewer.now) (of_kind Kind.Group store.resources)
+        (of_kind kind store.resources)) query.now page)) }
     ensures read { OnlyReads S.stands S.is_honest S.failures shelf.old shelf.new result }
 {
     let index = groups_for(alloc, viewer, shelf, kind)?;
@@ -113,8 +116,10 @@ fn page_by_named<S: Shelf>(
     requires decisions { AreDecisions (viewer_of viewer.now) decisions.now }
     requires named { attributes.now ≡ attributes_of query.now }
     requires no_groups { names_groups query.now ≡ false }
-    ensures page { IfOk result (Answers S.stands S.is_honest shelf.old shelf.new (λ store page. (base : List ℕ) → IsStore base store
-        → IsPage (views (viewer_of viewer.now) (of_kind Kind.Group store.resources) (of_kind kind store.resources)) query.now page)) }
+    ensures page { IfOk result (Answers S.stands S.is_honest shelf.old shelf.new
+        (λ store page. (base : List ℕ) → IsStore base store
+        → IsPage (views (viewer_of viewer.now) (of_kind Kind.Group store.resources)
+        (of_kind kind store.resources)) query.now page)) }
     ensures read { OnlyReads S.stands S.is_honest S.failures shelf.old shelf.new result }
 {
     let sight = Sight::new(viewer, decisions, Shows::Named(attributes));
@@ -140,8 +145,10 @@ pub(crate) fn page_of_all<S: Shelf>(
     kind: Kind,
     query: &Query,
 ) -> Result<Page, Failed<ShelfFault>>
-    ensures page { IfOk result (Answers S.stands S.is_honest shelf.old shelf.new (λ store page. (base : List ℕ) → IsStore base store
-        → IsPage (views (viewer_of viewer.now) (of_kind Kind.Group store.resources) (of_kind kind store.resources)) query.now page)) }
+    ensures page { IfOk result (Answers S.stands S.is_honest shelf.old shelf.new
+        (λ store page. (base : List ℕ) → IsStore base store
+        → IsPage (views (viewer_of viewer.now) (of_kind Kind.Group store.resources)
+        (of_kind kind store.resources)) query.now page)) }
     ensures read { OnlyReads S.stands S.is_honest S.failures shelf.old shelf.new result }
 {
     let decisions = ReadDecisions::of(alloc, viewer, kind)?;

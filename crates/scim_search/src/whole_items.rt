@@ -38,7 +38,12 @@ impl<'a> ItemSight<'a> {
         decisions: &'a ReadDecisions<'a>,
         decided: &'a Decided,
     ) -> ItemSight<'a>
-        ensures { result ≡ record { viewer = viewer.entry; kind = kind; decisions = decisions.entry; decided = decided.entry } }
+        ensures { result ≡ record {
+          viewer = viewer.entry;
+          kind = kind;
+          decisions = decisions.entry;
+          decided = decided.entry;
+        } }
     {
         ItemSight {
             viewer,
@@ -56,10 +61,14 @@ impl<'a> ItemSight<'a> {
         shelf: &mut S,
         resource: &Resource,
     ) -> Result<Option<Part>, Failed<ShelfFault>>
-        ensures part { IfOk result (Answers S.stands S.is_honest shelf.old shelf.new (λ store part. (base : List ℕ) → IsStore base store
-            → spec.IsItemSight store.resources self.now → find (is_at self.now.kind resource.now.id) store.resources ≡ Some resource.now
-            → Tells (viewer_of self.now.viewer.now) store.resources listing.old → Tells (viewer_of self.now.viewer.now) store.resources listing.new
-            × (part ≡ view_with_groups (viewer_of self.now.viewer.now) (of_kind Kind.Group store.resources) resource.now))) }
+        ensures part { IfOk result (Answers S.stands S.is_honest shelf.old shelf.new
+            (λ store part. (base : List ℕ) → IsStore base store
+            → spec.IsItemSight store.resources self.now
+            → find (is_at self.now.kind resource.now.id) store.resources ≡ Some resource.now
+            → Tells (viewer_of self.now.viewer.now) store.resources listing.old
+            → Tells (viewer_of self.now.viewer.now) store.resources listing.new
+            × (part ≡ view_with_groups (viewer_of self.now.viewer.now)
+            (of_kind Kind.Group store.resources) resource.now))) }
         ensures read { OnlyReads S.stands S.is_honest S.failures shelf.old shelf.new result }
     {
         match self.decisions.known(self.decided, resource) {
@@ -91,10 +100,15 @@ fn push_part<S: Shelf>(
     resource: Option<Resource>,
     parts: &mut Vec<Part>,
 ) -> Result<(), Failed<ShelfFault>>
-    ensures parts { IfOk result (Answers S.stands S.is_honest shelf.old shelf.new (λ store _. (base : List ℕ) (c : Content) → IsStore base store
-        → spec.IsItemSight store.resources sight.entry → resource ≡ Some c → find (is_at sight.entry.kind c.id) store.resources ≡ Some c
-        → Tells (viewer_of sight.entry.viewer.now) store.resources listing.old → Tells (viewer_of sight.entry.viewer.now) store.resources listing.new
-        × (parts.new.items ≡ parts.old.items ++ and_those (view_with_groups (viewer_of sight.entry.viewer.now) (of_kind Kind.Group store.resources) c) []))) }
+    ensures parts { IfOk result (Answers S.stands S.is_honest shelf.old shelf.new
+        (λ store _. (base : List ℕ) (c : Content) → IsStore base store
+        → spec.IsItemSight store.resources sight.entry → resource ≡ Some c
+        → find (is_at sight.entry.kind c.id) store.resources ≡ Some c
+        → Tells (viewer_of sight.entry.viewer.now) store.resources listing.old
+        → Tells (viewer_of sight.entry.viewer.now) store.resources listing.new
+        × (parts.new.items ≡ parts.old.items
+        ++ and_those (view_with_groups (viewer_of sight.entry.viewer.now)
+        (of_kind Kind.Group store.resources) c) []))) }
     ensures read { OnlyReads S.stands S.is_honest S.failures shelf.old shelf.new result }
 {
     let Some(resource) = resource else {
@@ -114,11 +128,16 @@ fn push_parts<S: Shelf>(
     items: &[Part],
     parts: &mut Vec<Part>,
 ) -> Result<(), Failed<ShelfFault>>
-    ensures parts { IfOk result (Answers S.stands S.is_honest shelf.old shelf.new (λ store _. (base : List ℕ)
-        (found : List (spec.Seen (viewer_of sight.entry.viewer.now) sight.entry.kind store.resources))
-        → IsStore base store → spec.IsItemSight store.resources sight.entry → Tells (viewer_of sight.entry.viewer.now) store.resources listing.old
+    ensures parts { IfOk result (Answers S.stands S.is_honest shelf.old shelf.new
+        (λ store _. (base : List ℕ)
+        (found : List (spec.Seen
+        (viewer_of sight.entry.viewer.now) sight.entry.kind store.resources))
+        → IsStore base store → spec.IsItemSight store.resources sight.entry
+        → Tells (viewer_of sight.entry.viewer.now) store.resources listing.old
         → map (λ p. p.id) items.now ≡ map (λ x. x.own.id) found
-        → parts.new.items ≡ parts.old.items ++ map (λ x. with_groups (viewer_of sight.entry.viewer.now) (of_kind Kind.Group store.resources) x.own) found)) }
+        → parts.new.items ≡ parts.old.items
+        ++ map (λ x. with_groups (viewer_of sight.entry.viewer.now)
+        (of_kind Kind.Group store.resources) x.own) found)) }
     ensures read { OnlyReads S.stands S.is_honest S.failures shelf.old shelf.new result }
 {
     match items {
@@ -140,8 +159,11 @@ pub(crate) fn whole_items<S: Shelf>(
     shelf: &mut S,
     items: &[Part],
 ) -> Result<Vec<Part>, Failed<ShelfFault>>
-    ensures whole { IfOk result (Answers S.stands S.is_honest shelf.old shelf.new (λ store whole. (base : List ℕ) → IsStore base store
-        → spec.IsItemSight store.resources sight.entry → spec.AreWhole (viewer_of sight.entry.viewer.now) sight.entry.kind store.resources items.now whole.items)) }
+    ensures whole { IfOk result (Answers S.stands S.is_honest shelf.old shelf.new
+        (λ store whole. (base : List ℕ) → IsStore base store
+        → spec.IsItemSight store.resources sight.entry
+        → spec.AreWhole (viewer_of sight.entry.viewer.now) sight.entry.kind store.resources
+        items.now whole.items)) }
     ensures read { OnlyReads S.stands S.is_honest S.failures shelf.old shelf.new result }
 {
     let mut listing = ListingVisitor::new(alloc, sight.viewer)?;

@@ -7,7 +7,7 @@ use Rattle.std.proofs.lemmas.Bool.{eqb-true}
 use Rattle.std.proofs.lemmas.List.{append-nil, map-append}
 use Rattle.std.proofs.lemmas.Grind.{flat_map-append}
 use Rattle.scim_hub.specs.declared.events.Output.{Output}
-use Rattle.scim_hub.specs.Halls.{deed_of}
+use Rattle.scim_hub.specs.HubStates.{output_of}
 use Rattle.scim_serve.specs.declared.waiting.Waiting.{Waiting}
 use Rattle.scim_serve.specs.Serving.{IsFront, text_to}
 use Rattle.scim_serve.specs.code.Waiting.{waiting_for, Becomes}
@@ -53,12 +53,12 @@ text_added n m old new written due text becomes fits =
 
 -- the texts of outputs up to one, and of that one
 pub texts_more : (m i : ℕ) (outputs : List Output) (output : Output) → take (i + 1) outputs ≡ take i outputs ++ output ∷ []
-    → flat_map (text_to m) (map deed_of (take (i + 1) outputs)) ≡ flat_map (text_to m) (map deed_of (take i outputs)) ++ text_to m (deed_of output)
+    → flat_map (text_to m) (map output_of (take (i + 1) outputs)) ≡ flat_map (text_to m) (map output_of (take i outputs)) ++ text_to m (output_of output)
 texts_more m i outputs output more =
-    ap (λ (xs : List Output). flat_map (text_to m) (map deed_of xs)) more
-    ∙ ap (flat_map (text_to m)) (map-append deed_of (take i outputs) (output ∷ []))
-    ∙ flat_map-append (text_to m) (map deed_of (take i outputs)) (deed_of output ∷ [])
-    ∙ ap (λ (t : List ℕ). flat_map (text_to m) (map deed_of (take i outputs)) ++ t) (append-nil (text_to m (deed_of output)))
+    ap (λ (xs : List Output). flat_map (text_to m) (map output_of xs)) more
+    ∙ ap (flat_map (text_to m)) (map-append output_of (take i outputs) (output ∷ []))
+    ∙ flat_map-append (text_to m) (map output_of (take i outputs)) (output_of output ∷ [])
+    ∙ ap (λ (t : List ℕ). flat_map (text_to m) (map output_of (take i outputs)) ++ t) (append-nil (text_to m (output_of output)))
 
 -- two texts are none only if each is
 pub none_of_both : (xs ys : List ℕ) → xs ++ ys ≡ [] → (xs ≡ []) × (ys ≡ [])

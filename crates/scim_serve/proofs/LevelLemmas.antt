@@ -5,7 +5,7 @@ use Rattle.std.proofs.lemmas.Bool.{eqb-true}
 use Rattle.std.proofs.lemmas.List.{append-nil}
 use Rattle.std.proofs.lemmas.Grind.{flat_map-append}
 use Rattle.scim_hub.specs.declared.events.HubFault.{HubFault}
-use Rattle.scim_hub.specs.Events.{Deed}
+use Rattle.scim_hub.specs.Events.{HubOutput}
 use Rattle.scim_serve.specs.declared.waiting.Waiting.{Waiting}
 use Rattle.scim_serve.specs.Serving.{IsFront, due_for, due}
 use Rattle.scim_serve.specs.code.Waiting.{waiting_for, Becomes}
@@ -51,7 +51,7 @@ level_entered written old mid new due n fresh same higher becomes level = record
 }
 
 -- an event of a connection whose number was had
-pub level_on : (written written_then : ℕ → List ℕ) (old new : Waiting) (due : ℕ → List ℕ) (n : ℕ) (result : Result (List Deed) HubFault)
+pub level_on : (written written_then : ℕ → List ℕ) (old new : Waiting) (due : ℕ → List ℕ) (n : ℕ) (result : Result (List HubOutput) HubFault)
     → Grows (λ m. due_for m result) written old written_then new → new.next ≡ old.next → n < old.next → IsOnlyTo n result → IsLevel written old due
     → IsLevel written_then new (λ m. due m ++ due_for m result)
 level_on written written_then old new due n result grows next noted only level = record {
@@ -62,10 +62,10 @@ level_on written written_then old new due n result grows next noted only level =
 }
 
 -- what is due after one more event
-pub due_more : (m : ℕ) (results : List (Result (List Deed) HubFault)) (result : Result (List Deed) HubFault) → due m (results ++ result ∷ []) ≡ due m results ++ due_for m result
+pub due_more : (m : ℕ) (results : List (Result (List HubOutput) HubFault)) (result : Result (List HubOutput) HubFault) → due m (results ++ result ∷ []) ≡ due m results ++ due_for m result
 due_more m results result = flat_map-append (due_for m) results (result ∷ []) ∙ ap (λ (t : List ℕ). due m results ++ t) (append-nil (due_for m result))
 
-pub level_more : (written : ℕ → List ℕ) (waiting : Waiting) (results : List (Result (List Deed) HubFault)) (result : Result (List Deed) HubFault)
+pub level_more : (written : ℕ → List ℕ) (waiting : Waiting) (results : List (Result (List HubOutput) HubFault)) (result : Result (List HubOutput) HubFault)
     → IsLevel written waiting (λ m. due m results ++ due_for m result) → IsLevel written waiting (λ m. due m (results ++ result ∷ []))
 level_more written waiting results result level = record {
   fits = λ m. subst (Fits (waiting_for waiting m) (written m)) (sym (due_more m results result)) (level.fits m);

@@ -5,5 +5,5 @@ mod peers;
 mod serving;
 mod waiting;
 
-pub use peers::{Incident, Peers, PeersFault};
+pub use peers::{PeerEvent, Peers, PeersFault};
 pub use serving::serve;

@@ -1,25 +1,25 @@
 //! The connections that a server serves, and the incidents that they report.
 ghost use Rattle.std.specs.Prelude.{◌≡◌, ◌≤◌, ℕ, ◌==◌, Bool, true, false, IsTrue, List, [], ◌++◌, length, take, if◌then◌else◌};
-ghost use Rattle.scim_hub.specs.Events.{Seen};
+ghost use Rattle.scim_hub.specs.Events.{HubEvent};
 ghost use Rattle.scim_serve.specs.Peers.{told_by, ends};
 
-use scim_hub::Recorded;
+use scim_hub::OwnedEvent;
 use std::alloc::Global;
 use thiserror::Error;
 
-/// An incident that the connections report.
-pub enum Incident {
+/// An event that the connections report.
+pub enum PeerEvent {
     /// An event for the hub.
-    Event(Recorded),
+    Event(OwnedEvent),
     /// The connection took less than it was offered, and may take more now.
     Ready(u64),
 }
 
-impl Drop for Incident {
+impl Drop for PeerEvent {
     fn drop(self) {
         match self {
-            Incident::Event(_event) => (),
-            Incident::Ready(_) => (),
+            PeerEvent::Event(_event) => (),
+            PeerEvent::Ready(_) => (),
         }
     }
 }
@@ -38,7 +38,7 @@ pub trait Peers {
     ghost is_known: { Bool };
 
     /// The events reported so far.
-    ghost seen: { Self → List Seen };
+    ghost seen: { Self → List HubEvent };
 
     /// The bytes that each connection has taken, by number.
     ghost written: { Self → ℕ → List ℕ };
@@ -52,11 +52,12 @@ pub trait Peers {
     /// Whether the last call of `next` returned `None`.
     ghost is_over: { Self → Bool };
 
-    /// Waits for the next incident, and returns it; `None` if no connection is open and none can join.
-    fn next(&mut self, alloc: Global) -> Result<Option<Incident>, PeersFault>
+    /// Waits for the next event, and returns it; `None` if no connection is open and none can join.
+    fn next(&mut self, alloc: Global) -> Result<Option<PeerEvent>, PeersFault>
         ensures seen { IsTrue is_known → seen self.new ≡ seen self.old ++ told_by result }
         ensures written { IsTrue is_known → (m : ℕ) → written self.new m ≡ written self.old m }
-        ensures takes { IsTrue is_known → (m : ℕ) → takes_all self.new m ≡ true → takes_all self.old m ≡ true }
+        ensures takes { IsTrue is_known → (m : ℕ) → takes_all self.new m ≡ true
+            → takes_all self.old m ≡ true }
         ensures closed { IsTrue is_known → (m : ℕ) → is_closed self.new m ≡ is_closed self.old m }
         ensures over { IsTrue is_known → is_over self.new ≡ ends result };
 
@@ -66,15 +67,21 @@ pub trait Peers {
     fn write(&mut self, connection: u64, bytes: &[u8]) -> usize
         ensures count { result ≤ length bytes.now }
         ensures seen { IsTrue is_known → seen self.new ≡ seen self.old }
-        ensures written { IsTrue is_known → (m : ℕ) → written self.new m ≡ written self.old m ++ (if connection == m then take result bytes.now else []) }
-        ensures takes { IsTrue is_known → (m : ℕ) → takes_all self.new m ≡ true → (if connection == m then result == length bytes.now else takes_all self.old m) ≡ true }
+        ensures written { IsTrue is_known → (m : ℕ)
+            → written self.new m ≡ written self.old m
+            ++ (if connection == m then take result bytes.now else []) }
+        ensures takes { IsTrue is_known → (m : ℕ) → takes_all self.new m ≡ true
+            → (if connection == m then result == length bytes.now else takes_all self.old m)
+            ≡ true }
         ensures closed { IsTrue is_known → (m : ℕ) → is_closed self.new m ≡ is_closed self.old m };
 
     /// Closes the connection with the number, if there is one. `next` reports later that it has left.
     fn close(&mut self, connection: u64)
         ensures seen { IsTrue is_known → seen self.new ≡ seen self.old }
         ensures written { IsTrue is_known → (m : ℕ) → written self.new m ≡ written self.old m }
-        ensures takes { IsTrue is_known → (m : ℕ) → takes_all self.new m ≡ true → takes_all self.old m ≡ true }
+        ensures takes { IsTrue is_known → (m : ℕ) → takes_all self.new m ≡ true
+            → takes_all self.old m ≡ true }
         ensures closed { IsTrue is_known → is_closed self.new connection ≡ true }
-        ensures others { IsTrue is_known → (m : ℕ) → is_closed self.new m ≡ false → is_closed self.old m ≡ false };
+        ensures others { IsTrue is_known → (m : ℕ) → is_closed self.new m ≡ false
+            → is_closed self.old m ≡ false };
 }

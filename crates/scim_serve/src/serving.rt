@@ -4,16 +4,16 @@ ghost use Rattle.std.specs.List.{flat_map};
 ghost use Rattle.scim_token.specs.TokenFile.{Entry};
 ghost use Rattle.scim_token.specs.Tokens.{Knows};
 ghost use Rattle.scim_hub.specs.declared.events.HubFault.{HubFault};
-ghost use Rattle.scim_hub.specs.Events.{Seen, absent, Deed, Hall, Hears, Runs, joining};
-ghost use Rattle.scim_hub.specs.Halls.{IsHall, deed_of, done, recorded_of};
+ghost use Rattle.scim_hub.specs.Events.{HubEvent, absent, HubOutput, HubState, Hears, Runs, joining};
+ghost use Rattle.scim_hub.specs.HubStates.{IsHubState, output_of, done, owned_event_of};
 ghost use Rattle.scim_serve.specs.Serving.{IsFront, text_to, due_for, due, leaves, has_left};
 ghost use Rattle.scim_serve.specs.code.Levels.{Fits, IsLevel, Keeps, Grows};
 ghost use Rattle.scim_serve.specs.code.Waiting.{waiting_for};
 ghost use Rattle.scim_serve.specs.code.Wholes.{AllTaken, StaysOpen, IsWhole};
 
-use crate::peers::{Incident, Peers, PeersFault};
+use crate::peers::{PeerEvent, Peers, PeersFault};
 use crate::waiting::Waiting;
-use scim_hub::{Happened, Hub, HubFault, Output, Recorded};
+use scim_hub::{Hub, HubFault, Output, OwnedEvent, OwnedEventKind};
 use scim_shelf::Shelf;
 use scim_text::NoMemory;
 use std::alloc::Global;
@@ -22,10 +22,15 @@ use std::alloc::Global;
 fn close<P: Peers>(peers: &mut P, waiting: &mut Waiting, connection: u64)
     ensures seen { IsTrue P.is_known → P.seen peers.new ≡ P.seen peers.old }
     ensures written { IsTrue P.is_known → (m : ℕ) → P.written peers.new m ≡ P.written peers.old m }
-    ensures kept { IsTrue P.is_known → Keeps (P.written peers.old) waiting.old (P.written peers.new) waiting.new }
+    ensures kept { IsTrue P.is_known → Keeps (P.written peers.old) waiting.old
+        (P.written peers.new) waiting.new }
     ensures gone { waiting_for waiting.new connection ≡ None }
-    ensures taken { IsTrue P.is_known → (m : ℕ) → AllTaken (waiting_for waiting.old m) (P.takes_all peers.old m) → AllTaken (waiting_for waiting.new m) (P.takes_all peers.new m) }
-    ensures stays { IsTrue P.is_known → (m : ℕ) → StaysOpen (waiting_for waiting.old m) (P.is_closed peers.old m) (waiting_for waiting.new m) (P.is_closed peers.new m) }
+    ensures taken { IsTrue P.is_known → (m : ℕ)
+        → AllTaken (waiting_for waiting.old m) (P.takes_all peers.old m)
+        → AllTaken (waiting_for waiting.new m) (P.takes_all peers.new m) }
+    ensures stays { IsTrue P.is_known → (m : ℕ)
+        → StaysOpen (waiting_for waiting.old m) (P.is_closed peers.old m)
+        (waiting_for waiting.new m) (P.is_closed peers.new m) }
     ensures closed { IsTrue P.is_known → P.is_closed peers.new connection ≡ true }
     ensures next { waiting.new.next ≡ waiting.old.next }
 {
@@ -36,10 +41,16 @@ fn close<P: Peers>(peers: &mut P, waiting: &mut Waiting, connection: u64)
 /// Offers a connection its pending bytes, if any.
 fn offer<P: Peers>(peers: &mut P, waiting: &mut Waiting, connection: u64)
     ensures seen { IsTrue P.is_known → P.seen peers.new ≡ P.seen peers.old }
-    ensures kept { IsTrue P.is_known → Keeps (P.written peers.old) waiting.old (P.written peers.new) waiting.new }
-    ensures taken { IsTrue P.is_known → (m : ℕ) → ((connection ≡ m → ⊥) → AllTaken (waiting_for waiting.old m) (P.takes_all peers.old m)) → AllTaken (waiting_for waiting.new m) (P.takes_all peers.new m) }
-    ensures stays { IsTrue P.is_known → (m : ℕ) → StaysOpen (waiting_for waiting.old m) (P.is_closed peers.old m) (waiting_for waiting.new m) (P.is_closed peers.new m) }
-    ensures closed { IsTrue P.is_known → (m : ℕ) → P.is_closed peers.new m ≡ P.is_closed peers.old m }
+    ensures kept { IsTrue P.is_known → Keeps (P.written peers.old) waiting.old
+        (P.written peers.new) waiting.new }
+    ensures taken { IsTrue P.is_known → (m : ℕ)
+        → ((connection ≡ m → ⊥) → AllTaken (waiting_for waiting.old m) (P.takes_all peers.old m))
+        → AllTaken (waiting_for waiting.new m) (P.takes_all peers.new m) }
+    ensures stays { IsTrue P.is_known → (m : ℕ)
+        → StaysOpen (waiting_for waiting.old m) (P.is_closed peers.old m)
+        (waiting_for waiting.new m) (P.is_closed peers.new m) }
+    ensures closed { IsTrue P.is_known → (m : ℕ)
+        → P.is_closed peers.new m ≡ P.is_closed peers.old m }
     ensures next { waiting.new.next ≡ waiting.old.next }
 {
     let Some(rest) = waiting.rest(connection) else {
@@ -55,11 +66,18 @@ fn offer<P: Peers>(peers: &mut P, waiting: &mut Waiting, connection: u64)
 /// Offers a connection its pending bytes, and closes it if it has taken all and is to be closed.
 fn flush<P: Peers>(peers: &mut P, waiting: &mut Waiting, connection: u64)
     ensures seen { IsTrue P.is_known → P.seen peers.new ≡ P.seen peers.old }
-    ensures kept { IsTrue P.is_known → Keeps (P.written peers.old) waiting.old (P.written peers.new) waiting.new }
-    ensures taken { IsTrue P.is_known → (m : ℕ) → ((connection ≡ m → ⊥) → AllTaken (waiting_for waiting.old m) (P.takes_all peers.old m)) → AllTaken (waiting_for waiting.new m) (P.takes_all peers.new m) }
-    ensures stays { IsTrue P.is_known → (m : ℕ) → StaysOpen (waiting_for waiting.old m) (P.is_closed peers.old m) (waiting_for waiting.new m) (P.is_closed peers.new m) }
-    ensures finished { IsTrue P.is_known → (due : List ℕ) → Fits (waiting_for waiting.old connection) (P.written peers.old connection) due
-        → P.is_closed peers.old connection ≡ false → P.is_closed peers.new connection ≡ true → P.written peers.new connection ≡ due }
+    ensures kept { IsTrue P.is_known → Keeps (P.written peers.old) waiting.old
+        (P.written peers.new) waiting.new }
+    ensures taken { IsTrue P.is_known → (m : ℕ)
+        → ((connection ≡ m → ⊥) → AllTaken (waiting_for waiting.old m) (P.takes_all peers.old m))
+        → AllTaken (waiting_for waiting.new m) (P.takes_all peers.new m) }
+    ensures stays { IsTrue P.is_known → (m : ℕ)
+        → StaysOpen (waiting_for waiting.old m) (P.is_closed peers.old m)
+        (waiting_for waiting.new m) (P.is_closed peers.new m) }
+    ensures finished { IsTrue P.is_known → (due : List ℕ)
+        → Fits (waiting_for waiting.old connection) (P.written peers.old connection) due
+        → P.is_closed peers.old connection ≡ false → P.is_closed peers.new connection ≡ true
+        → P.written peers.new connection ≡ due }
     ensures next { waiting.new.next ≡ waiting.old.next }
 {
     offer(peers, waiting, connection);
@@ -74,9 +92,14 @@ fn flush<P: Peers>(peers: &mut P, waiting: &mut Waiting, connection: u64)
 /// Closes the connection at once if memory runs out.
 fn queue_one<P: Peers>(peers: &mut P, waiting: &mut Waiting, output: &Output)
     ensures seen { IsTrue P.is_known → P.seen peers.new ≡ P.seen peers.old }
-    ensures queued { IsTrue P.is_known → Grows (λ m. text_to m (deed_of output.now)) (P.written peers.old) waiting.old (P.written peers.new) waiting.new }
-    ensures taken { IsTrue P.is_known → (m : ℕ) → text_to m (deed_of output.now) ≡ [] → AllTaken (waiting_for waiting.old m) (P.takes_all peers.old m) → AllTaken (waiting_for waiting.new m) (P.takes_all peers.new m) }
-    ensures stays { IsTrue P.is_known → (m : ℕ) → StaysOpen (waiting_for waiting.old m) (P.is_closed peers.old m) (waiting_for waiting.new m) (P.is_closed peers.new m) }
+    ensures queued { IsTrue P.is_known → Grows (λ m. text_to m (output_of output.now))
+        (P.written peers.old) waiting.old (P.written peers.new) waiting.new }
+    ensures taken { IsTrue P.is_known → (m : ℕ) → text_to m (output_of output.now) ≡ []
+        → AllTaken (waiting_for waiting.old m) (P.takes_all peers.old m)
+        → AllTaken (waiting_for waiting.new m) (P.takes_all peers.new m) }
+    ensures stays { IsTrue P.is_known → (m : ℕ)
+        → StaysOpen (waiting_for waiting.old m) (P.is_closed peers.old m)
+        (waiting_for waiting.new m) (P.is_closed peers.new m) }
     ensures next { waiting.new.next ≡ waiting.old.next }
 {
     match output {
@@ -92,9 +115,16 @@ fn queue_one<P: Peers>(peers: &mut P, waiting: &mut Waiting, output: &Output)
 /// Handles the outputs in order, as `queue_one`.
 fn queue<P: Peers>(peers: &mut P, waiting: &mut Waiting, outputs: &[Output])
     ensures seen { IsTrue P.is_known → P.seen peers.new ≡ P.seen peers.old }
-    ensures queued { IsTrue P.is_known → Grows (λ m. flat_map (text_to m) (map deed_of outputs.now)) (P.written peers.old) waiting.old (P.written peers.new) waiting.new }
-    ensures taken { IsTrue P.is_known → (m : ℕ) → flat_map (text_to m) (map deed_of outputs.now) ≡ [] → AllTaken (waiting_for waiting.old m) (P.takes_all peers.old m) → AllTaken (waiting_for waiting.new m) (P.takes_all peers.new m) }
-    ensures stays { IsTrue P.is_known → (m : ℕ) → StaysOpen (waiting_for waiting.old m) (P.is_closed peers.old m) (waiting_for waiting.new m) (P.is_closed peers.new m) }
+    ensures queued { IsTrue P.is_known → Grows (λ m.
+        flat_map (text_to m) (map output_of outputs.now)) (P.written peers.old) waiting.old
+        (P.written peers.new) waiting.new }
+    ensures taken { IsTrue P.is_known → (m : ℕ)
+        → flat_map (text_to m) (map output_of outputs.now) ≡ []
+        → AllTaken (waiting_for waiting.old m) (P.takes_all peers.old m)
+        → AllTaken (waiting_for waiting.new m) (P.takes_all peers.new m) }
+    ensures stays { IsTrue P.is_known → (m : ℕ)
+        → StaysOpen (waiting_for waiting.old m) (P.is_closed peers.old m)
+        (waiting_for waiting.new m) (P.is_closed peers.new m) }
     ensures next { waiting.new.next ≡ waiting.old.next }
 {
     for output in outputs {
@@ -107,10 +137,17 @@ fn queue<P: Peers>(peers: &mut P, waiting: &mut Waiting, outputs: &[Output])
 /// Closes it if its number isn't greater than all earlier ones, or if memory runs out.
 fn welcome<P: Peers>(alloc: Global, peers: &mut P, waiting: &mut Waiting, connection: u64)
     ensures seen { IsTrue P.is_known → P.seen peers.new ≡ P.seen peers.old }
-    ensures level { IsTrue P.is_known → (due : ℕ → List ℕ) → IsLevel (P.written peers.old) waiting.old due → IsLevel (P.written peers.new) waiting.new due }
-    ensures taken { IsTrue P.is_known → (m : ℕ) → AllTaken (waiting_for waiting.old m) (P.takes_all peers.old m) → AllTaken (waiting_for waiting.new m) (P.takes_all peers.new m) }
-    ensures stays { IsTrue P.is_known → (m : ℕ) → StaysOpen (waiting_for waiting.old m) (P.is_closed peers.old m) (waiting_for waiting.new m) (P.is_closed peers.new m) }
-    ensures entered { IsTrue P.is_known → P.is_closed peers.new connection ≡ false → IsSome (waiting_for waiting.new connection) }
+    ensures level { IsTrue P.is_known → (due : ℕ → List ℕ)
+        → IsLevel (P.written peers.old) waiting.old due
+        → IsLevel (P.written peers.new) waiting.new due }
+    ensures taken { IsTrue P.is_known → (m : ℕ)
+        → AllTaken (waiting_for waiting.old m) (P.takes_all peers.old m)
+        → AllTaken (waiting_for waiting.new m) (P.takes_all peers.new m) }
+    ensures stays { IsTrue P.is_known → (m : ℕ)
+        → StaysOpen (waiting_for waiting.old m) (P.is_closed peers.old m)
+        (waiting_for waiting.new m) (P.is_closed peers.new m) }
+    ensures entered { IsTrue P.is_known → P.is_closed peers.new connection ≡ false
+        → IsSome (waiting_for waiting.new connection) }
     ensures noted { connection < waiting.new.next }
 {
     if !waiting.note(connection) || waiting.enter(alloc, connection).is_err() {
@@ -119,20 +156,28 @@ fn welcome<P: Peers>(alloc: Global, peers: &mut P, waiting: &mut Waiting, connec
 }
 
 /// Prepares the pending bytes for an event, before the hub handles it.
-fn prepare<P: Peers>(alloc: Global, peers: &mut P, waiting: &mut Waiting, event: &Recorded)
+fn prepare<P: Peers>(alloc: Global, peers: &mut P, waiting: &mut Waiting, event: &OwnedEvent)
     ensures seen { IsTrue P.is_known → P.seen peers.new ≡ P.seen peers.old }
-    ensures level { IsTrue P.is_known → (due : ℕ → List ℕ) → IsLevel (P.written peers.old) waiting.old due → IsLevel (P.written peers.new) waiting.new due }
-    ensures taken { IsTrue P.is_known → (m : ℕ) → AllTaken (waiting_for waiting.old m) (P.takes_all peers.old m) → AllTaken (waiting_for waiting.new m) (P.takes_all peers.new m) }
-    ensures stays { IsTrue P.is_known → (m : ℕ) → leaves m (recorded_of event.now) ≡ false → StaysOpen (waiting_for waiting.old m) (P.is_closed peers.old m) (waiting_for waiting.new m) (P.is_closed peers.new m) }
-    ensures entered { IsTrue P.is_known → (recorded_of event.now).happened ≡ joining → P.is_closed peers.new event.now.connection ≡ false → IsSome (waiting_for waiting.new event.now.connection) }
+    ensures level { IsTrue P.is_known → (due : ℕ → List ℕ)
+        → IsLevel (P.written peers.old) waiting.old due
+        → IsLevel (P.written peers.new) waiting.new due }
+    ensures taken { IsTrue P.is_known → (m : ℕ)
+        → AllTaken (waiting_for waiting.old m) (P.takes_all peers.old m)
+        → AllTaken (waiting_for waiting.new m) (P.takes_all peers.new m) }
+    ensures stays { IsTrue P.is_known → (m : ℕ) → leaves m (owned_event_of event.now) ≡ false
+        → StaysOpen (waiting_for waiting.old m) (P.is_closed peers.old m)
+        (waiting_for waiting.new m) (P.is_closed peers.new m) }
+    ensures entered { IsTrue P.is_known → (owned_event_of event.now).kind ≡ joining
+        → P.is_closed peers.new event.now.connection ≡ false
+        → IsSome (waiting_for waiting.new event.now.connection) }
     ensures noted { event.now.connection < waiting.new.next }
 {
-    match &event.happened {
-        Happened::Joined => welcome(alloc, peers, waiting, event.connection),
-        Happened::Piece(_) => {
+    match &event.kind {
+        OwnedEventKind::Joined => welcome(alloc, peers, waiting, event.connection),
+        OwnedEventKind::Piece(_) => {
             waiting.note(event.connection);
         }
-        Happened::Left => {
+        OwnedEventKind::Left => {
             waiting.note(event.connection);
             waiting.leave(event.connection);
         }
@@ -150,9 +195,15 @@ fn settle<P: Peers>(
     answer: &Result<Vec<Output>, HubFault>,
 )
     ensures seen { IsTrue P.is_known → P.seen peers.new ≡ P.seen peers.old }
-    ensures settled { IsTrue P.is_known → Grows (λ m. due_for m (done answer.now)) (P.written peers.old) waiting.old (P.written peers.new) waiting.new }
-    ensures taken { IsTrue P.is_known → (m : ℕ) → ((connection ≡ m → ⊥) → due_for m (done answer.now) ≡ []) → AllTaken (waiting_for waiting.old m) (P.takes_all peers.old m) → AllTaken (waiting_for waiting.new m) (P.takes_all peers.new m) }
-    ensures stays { IsTrue P.is_known → (m : ℕ) → StaysOpen (waiting_for waiting.old m) (P.is_closed peers.old m) (waiting_for waiting.new m) (P.is_closed peers.new m) }
+    ensures settled { IsTrue P.is_known → Grows (λ m. due_for m (done answer.now))
+        (P.written peers.old) waiting.old (P.written peers.new) waiting.new }
+    ensures taken { IsTrue P.is_known → (m : ℕ)
+        → ((connection ≡ m → ⊥) → due_for m (done answer.now) ≡ [])
+        → AllTaken (waiting_for waiting.old m) (P.takes_all peers.old m)
+        → AllTaken (waiting_for waiting.new m) (P.takes_all peers.new m) }
+    ensures stays { IsTrue P.is_known → (m : ℕ)
+        → StaysOpen (waiting_for waiting.old m) (P.is_closed peers.old m)
+        (waiting_for waiting.new m) (P.is_closed peers.new m) }
     ensures next { waiting.new.next ≡ waiting.old.next }
 {
     match answer {
@@ -171,18 +222,25 @@ fn hear<P: Peers, S: Shelf>(
     peers: &mut P,
     hub: &mut Hub<S>,
     waiting: &mut Waiting,
-    event: &Recorded,
+    event: &OwnedEvent,
 )
     ensures policy { hub.new.service.policy ≡ hub.old.service.policy }
     ensures base { hub.new.service.base ≡ hub.old.service.base }
     ensures tokens { hub.new.tokens ≡ hub.old.tokens }
     ensures seen { IsTrue P.is_known → P.seen peers.new ≡ P.seen peers.old }
-    ensures heard { IsTrue P.is_known → (entries : List Entry) (hall : Hall) → Knows entries hub.old.tokens → IsHall S.stands hub.old hall → S.is_honest hub.new.service.shelf
-        → (result : Result (List Deed) HubFault) × (next : Hall) × IsHall S.stands hub.new next
-        × Hears hub.old.service.policy hub.old.service.base entries (recorded_of event.now) hall result next
-        × ((due : ℕ → List ℕ) → IsLevel (P.written peers.old) waiting.old due → IsLevel (P.written peers.new) waiting.new (λ m. due m ++ due_for m result))
-        × ((first : Hall) (seen : List Seen) (due : ℕ → List ℕ) → IsWhole first hall seen (P.takes_all peers.old) (P.is_closed peers.old) waiting.old due
-        → IsWhole first next (seen ++ recorded_of event.now ∷ []) (P.takes_all peers.new) (P.is_closed peers.new) waiting.new (λ m. due m ++ due_for m result)) }
+    ensures heard { IsTrue P.is_known → (entries : List Entry) (state : HubState)
+        → Knows entries hub.old.tokens → IsHubState S.stands hub.old state
+        → S.is_honest hub.new.service.shelf
+        → (result : Result (List HubOutput) HubFault) × (next : HubState)
+        × IsHubState S.stands hub.new next
+        × Hears hub.old.service.policy hub.old.service.base entries
+        (owned_event_of event.now) state result next
+        × ((due : ℕ → List ℕ) → IsLevel (P.written peers.old) waiting.old due
+        → IsLevel (P.written peers.new) waiting.new (λ m. due m ++ due_for m result))
+        × ((first : HubState) (seen : List HubEvent) (due : ℕ → List ℕ)
+        → IsWhole first state seen (P.takes_all peers.old) (P.is_closed peers.old) waiting.old due
+        → IsWhole first next (seen ++ owned_event_of event.now ∷ []) (P.takes_all peers.new)
+        (P.is_closed peers.new) waiting.new (λ m. due m ++ due_for m result)) }
     ensures honest { S.is_honest hub.new.service.shelf → S.is_honest hub.old.service.shelf }
 {
     prepare(alloc, peers, waiting, event);
@@ -206,24 +264,29 @@ pub fn serve<P: Peers, S: Shelf>(
     ensures policy { hub.new.service.policy ≡ hub.old.service.policy }
     ensures base { hub.new.service.base ≡ hub.old.service.base }
     ensures tokens { hub.new.tokens ≡ hub.old.tokens }
-    ensures fronts { IsTrue P.is_known → (entries : List Entry) (hall : Hall) → P.seen peers.old ≡ [] → ((m : ℕ) → P.written peers.old m ≡ [])
-        → Knows entries hub.old.tokens → IsHall S.stands hub.old hall → S.is_honest hub.new.service.shelf
-        → (results : List (Result (List Deed) HubFault)) × (next : Hall) × IsHall S.stands hub.new next
-        × Runs hub.old.service.policy hub.old.service.base entries hall (P.seen peers.new) results next
+    ensures fronts { IsTrue P.is_known → (entries : List Entry) (state : HubState)
+        → P.seen peers.old ≡ [] → ((m : ℕ) → P.written peers.old m ≡ [])
+        → Knows entries hub.old.tokens → IsHubState S.stands hub.old state
+        → S.is_honest hub.new.service.shelf
+        → (results : List (Result (List HubOutput) HubFault)) × (next : HubState)
+        × IsHubState S.stands hub.new next
+        × Runs hub.old.service.policy hub.old.service.base entries state
+        (P.seen peers.new) results next
         × ((m : ℕ) → IsFront (P.written peers.new m) (due m results))
-        × ((m : ℕ) → hall.connections m ≡ absent → has_left m (P.seen peers.new) ≡ false → P.is_closed peers.new m ≡ false → P.takes_all peers.new m ≡ true
+        × ((m : ℕ) → state.connections m ≡ absent → has_left m (P.seen peers.new) ≡ false
+        → P.is_closed peers.new m ≡ false → P.takes_all peers.new m ≡ true
         → P.written peers.new m ≡ due m results) }
     ensures over { IsTrue P.is_known → OnOk result (P.is_over peers.new ≡ true) }
     ensures honest { S.is_honest hub.new.service.shelf → S.is_honest hub.old.service.shelf }
 {
     let mut waiting = Waiting::new(alloc);
     for _ in 0..u64::MAX {
-        let Some(incident) = peers.next(alloc)? else {
+        let Some(peer_event) = peers.next(alloc)? else {
             return Ok(());
         };
-        match &incident {
-            Incident::Event(event) => hear(alloc, peers, hub, &mut waiting, event),
-            Incident::Ready(connection) => flush(peers, &mut waiting, *connection),
+        match &peer_event {
+            PeerEvent::Event(event) => hear(alloc, peers, hub, &mut waiting, event),
+            PeerEvent::Ready(connection) => flush(peers, &mut waiting, *connection),
         }
     }
     Err(PeersFault)

@@ -147,7 +147,9 @@ impl Waiting {
     ///
     /// After `NoMemory` nothing has changed.
     pub(crate) fn add(&mut self, connection: u64, bytes: &[u8]) -> Result<(), NoMemory>
-        ensures ok { OnOk result (Becomes connection (option_map (λ rest. rest ++ bytes.now) (waiting_for self.old connection)) self.old self.new) }
+        ensures ok { OnOk result (Becomes connection
+            (option_map (λ rest. rest ++ bytes.now) (waiting_for self.old connection)) self.old
+            self.new) }
         ensures err { OnErr result (Stays self.old self.new) }
     {
         match self.by_number.get_mut(&connection) {
@@ -159,7 +161,8 @@ impl Waiting {
     /// Drops the first `count` pending bytes of a connection.
     pub(crate) fn take(&mut self, connection: u64, count: usize)
         requires { IfSome (waiting_for self.old connection) (λ rest. count ≤ length rest) }
-        ensures { Becomes connection (option_map (drop count) (waiting_for self.old connection)) self.old self.new }
+        ensures { Becomes connection (option_map (drop count) (waiting_for self.old connection))
+            self.old self.new }
     {
         match self.by_number.get_mut(&connection) {
             Some(pending) => pending.take(count),

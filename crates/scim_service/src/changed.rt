@@ -43,7 +43,8 @@ fn changed_with(
     changed: Changed,
     text: Option<Text>,
 ) -> Result<Plan, NoMemory>
-    ensures { IfOk result (λ plan. plan ≡ spec.kept_plan turn.now rule changed.changed changed.resource text) }
+    ensures { IfOk result (λ plan. plan
+        ≡ spec.kept_plan turn.now rule changed.changed changed.resource text) }
 {
     let Changed { resource, changed } = changed;
     let row = allowed(alloc, turn, rule)?;
@@ -71,8 +72,10 @@ fn refusal_to_change<S: Shelf>(
     resource: &Resource,
 ) -> Result<Option<Plan>, Failed<ShelfFault>>
     requires { access_in after.now ≡ spec.access_to (viewer_of viewer.now) resource.now }
-    ensures refusal { IfOk result (Answers S.stands S.is_honest shelf.old shelf.new (λ store refusal. (base : List ℕ) → IsStore base store
-        → IsRefusalToChange (viewer_of viewer.now) turn.now store.resources (access_in before.now) resource.now refusal)) }
+    ensures refusal { IfOk result (Answers S.stands S.is_honest shelf.old shelf.new
+        (λ store refusal. (base : List ℕ) → IsStore base store
+        → IsRefusalToChange (viewer_of viewer.now) turn.now store.resources
+        (access_in before.now) resource.now refusal)) }
     ensures read { OnlyReads S.stands S.is_honest S.failures shelf.old shelf.new result }
 {
     if has_taken_name(alloc, shelf, &Some(resource.id()), resource)? {
@@ -99,9 +102,11 @@ pub(crate) fn plan_changed<S: Shelf>(
     rights: &Rights,
     changed: Changed,
 ) -> Result<Plan, Failed<ShelfFault>>
-    ensures plan { IfOk result (Answers S.stands S.is_honest shelf.old shelf.new (λ store plan. (base : List ℕ) → IsStore base store
+    ensures plan { IfOk result (Answers S.stands S.is_honest shelf.old shelf.new
+        (λ store plan. (base : List ℕ) → IsStore base store
         → AreOf changed.resource.kind changed.resource.id store.resources
-        → plan ≡ spec.unique_change_plan (viewer_of viewer.now) turn.now store.resources wanted.now (access_in rights.now) changed.changed changed.resource)) }
+        → plan ≡ spec.unique_change_plan (viewer_of viewer.now) turn.now store.resources wanted.now
+        (access_in rights.now) changed.changed changed.resource)) }
     ensures read { OnlyReads S.stands S.is_honest S.failures shelf.old shelf.new result }
 {
     let after = viewer

@@ -45,7 +45,8 @@ fn is_decided(draft: &Draft, leaf: Leaf) -> bool
 
 /// Returns the first of these leaves at which creating from the draft is decided and denied.
 fn first_denied_of(decisions: &Decisions, draft: &Draft, leaves: &[Leaf]) -> Option<Leaf>
-    ensures { result ≡ find (λ l. spec.is_decided draft.now l && not (decision decisions.now l).allow) leaves.now }
+    ensures { result ≡ find (λ l. spec.is_decided draft.now l
+        && not (decision decisions.now l).allow) leaves.now }
 {
     for leaf in leaves {
         if is_decided(draft, *leaf) && !decisions.of(*leaf).allow {
@@ -57,14 +58,16 @@ fn first_denied_of(decisions: &Decisions, draft: &Draft, leaves: &[Leaf]) -> Opt
 
 /// Returns the first leaf, in leaf order, at which creating from the draft is decided and denied.
 fn first_denied(decisions: &Decisions, draft: &Draft) -> Option<Leaf>
-    ensures { result ≡ find (λ l. spec.is_decided draft.now l && not (decision decisions.now l).allow) (leaves draft.now.kind) }
+    ensures { result ≡ find (λ l. spec.is_decided draft.now l
+        && not (decision decisions.now l).allow) (leaves draft.now.kind) }
 {
     first_denied_of(decisions, draft, leaves(draft.kind()))
 }
 
 /// Whether a resource of either kind has the id.
 fn has_used_id<S: Shelf>(alloc: Global, shelf: &mut S, id: Id) -> Result<bool, Failed<ShelfFault>>
-    ensures answer { IfOk result (Answers S.stands S.is_honest shelf.old shelf.new (λ store b. b ≡ is_used store.resources id)) }
+    ensures answer { IfOk result (Answers S.stands S.is_honest shelf.old shelf.new (λ store b. b
+        ≡ is_used store.resources id)) }
     ensures read { OnlyReads S.stands S.is_honest S.failures shelf.old shelf.new result }
 {
     let user = shelf.by_id(alloc, Kind::User, id)?;
@@ -85,7 +88,8 @@ fn made(
     rule: u32,
     text: Option<Text>,
 ) -> Result<Plan, NoMemory>
-    ensures { IfOk result (λ plan. plan ≡ spec.creation_plan_with (viewer_of viewer.now) turn.now resource rule text) }
+    ensures { IfOk result (λ plan. plan
+        ≡ spec.creation_plan_with (viewer_of viewer.now) turn.now resource rule text) }
 {
     let id = resource.id();
     let place = location(alloc, viewer.base, resource.kind(), id)?;
@@ -111,7 +115,8 @@ fn refusal_to_make<S: Shelf>(
     turn: &Turn,
     resource: &Resource,
 ) -> Result<Option<Plan>, Failed<ShelfFault>>
-    ensures refusal { IfOk result (Answers S.stands S.is_honest shelf.old shelf.new (λ store refusal. (base : List ℕ) (viewer : view.Viewer) → IsStore base store
+    ensures refusal { IfOk result (Answers S.stands S.is_honest shelf.old shelf.new
+        (λ store refusal. (base : List ℕ) (viewer : view.Viewer) → IsStore base store
         → IsRefusalToMake viewer turn.now store.resources resource.now refusal)) }
     ensures read { OnlyReads S.stands S.is_honest S.failures shelf.old shelf.new result }
 {
@@ -136,9 +141,12 @@ fn plan_if_free<S: Shelf>(
     rule: u32,
     wanted: &Wanted,
 ) -> Result<Plan, Failed<ShelfFault>>
-    requires { rule ≡ (spec.create_decision (viewer_of viewer.now) resource (simple Attribute.Id)).rule }
-    ensures plan { IfOk result (Answers S.stands S.is_honest shelf.old shelf.new (λ store plan. (base : List ℕ) → IsStore base store
-        → plan ≡ spec.unique_creation_plan (viewer_of viewer.now) turn.now store.resources wanted.now resource)) }
+    requires { rule ≡ (spec.create_decision (viewer_of viewer.now) resource
+        (simple Attribute.Id)).rule }
+    ensures plan { IfOk result (Answers S.stands S.is_honest shelf.old shelf.new
+        (λ store plan. (base : List ℕ) → IsStore base store
+        → plan ≡ spec.unique_creation_plan
+        (viewer_of viewer.now) turn.now store.resources wanted.now resource)) }
     ensures read { OnlyReads S.stands S.is_honest S.failures shelf.old shelf.new result }
 {
     let refusal = refusal_to_make(alloc, shelf, turn, &resource)?;
@@ -160,8 +168,10 @@ pub(crate) fn plan_create<S: Shelf>(
     draft: &Draft,
     wanted: &Wanted,
 ) -> Result<Plan, Failed<ShelfFault>>
-    ensures plan { IfOk result (Answers S.stands S.is_honest shelf.old shelf.new (λ store plan. (base : List ℕ) → IsStore base store
-        → plan ≡ spec.creation_plan (viewer_of viewer.now) turn.now store.resources draft.now wanted.now)) }
+    ensures plan { IfOk result (Answers S.stands S.is_honest shelf.old shelf.new
+        (λ store plan. (base : List ℕ) → IsStore base store
+        → plan ≡ spec.creation_plan
+        (viewer_of viewer.now) turn.now store.resources draft.now wanted.now)) }
     ensures read { OnlyReads S.stands S.is_honest S.failures shelf.old shelf.new result }
 {
     if !is_for(turn, draft) {
@@ -182,7 +192,8 @@ fn create_decisions(
     viewer: &Viewer<'_>,
     resource: &Resource,
 ) -> Result<Decisions, NoMemory>
-    ensures { IfOk result (λ decisions. (l : Leaf) → decision decisions l ≡ spec.create_decision (viewer_of viewer.now) resource.now l) }
+    ensures { IfOk result (λ decisions. (l : Leaf)
+        → decision decisions l ≡ spec.create_decision (viewer_of viewer.now) resource.now l) }
 {
     viewer
         .policy

@@ -32,8 +32,10 @@ fn any_taken<S: Shelf>(
     own: &Option<Id>,
     names: &[UniqueName],
 ) -> Result<bool, Failed<ShelfFault>>
-    ensures answer { IfOk result (Answers S.stands S.is_honest shelf.old shelf.new (λ store b. (base : List ℕ) → IsStore base store
-        → b ≡ list_any (λ n. list_any (has_name n) (spec.beside own.now store.resources)) (map name_of names.now))) }
+    ensures answer { IfOk result (Answers S.stands S.is_honest shelf.old shelf.new
+        (λ store b. (base : List ℕ) → IsStore base store
+        → b ≡ list_any (λ n. list_any (has_name n) (spec.beside own.now store.resources))
+        (map name_of names.now))) }
     ensures read { OnlyReads S.stands S.is_honest S.failures shelf.old shelf.new result }
 {
     match names {
@@ -55,7 +57,8 @@ pub(crate) fn has_taken_name<S: Shelf>(
     own: &Option<Id>,
     new: &Resource,
 ) -> Result<bool, Failed<ShelfFault>>
-    ensures answer { IfOk result (Answers S.stands S.is_honest shelf.old shelf.new (λ store b. (base : List ℕ) → IsStore base store
+    ensures answer { IfOk result (Answers S.stands S.is_honest shelf.old shelf.new
+        (λ store b. (base : List ℕ) → IsStore base store
         → b ≡ is_taken (spec.beside own.now store.resources) new.now)) }
     ensures read { OnlyReads S.stands S.is_honest S.failures shelf.old shelf.new result }
 {

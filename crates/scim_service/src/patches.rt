@@ -36,7 +36,8 @@ fn step_refusal(fault: StepFault) -> Refusal
 /// Returns the leaf that is denied and the decision, of the first unit in the patch that the client may not
 /// write.
 fn first_forbidden(rights: &Rights, patch: &Patch) -> Option<(Leaf, Decision)>
-    ensures { result ≡ spec.first_forbidden patch.now.kind (access_in rights.now) (touched (patch_of patch.now)) }
+    ensures { result ≡ spec.first_forbidden patch.now.kind (access_in rights.now)
+        (touched (patch_of patch.now)) }
 {
     let kind = patch.kind();
     let steps = patch.steps();
@@ -64,9 +65,11 @@ fn plan_allowed<S: Shelf>(
 ) -> Result<Plan, Failed<ShelfFault>>
     requires rights { access_in rights.now ≡ spec.access_to (viewer_of viewer.now) resource }
     requires kind { patch.now.kind ≡ resource.kind }
-    ensures plan { IfOk result (Answers S.stands S.is_honest shelf.old shelf.new (λ store plan. (base : List ℕ) → IsStore base store
+    ensures plan { IfOk result (Answers S.stands S.is_honest shelf.old shelf.new
+        (λ store plan. (base : List ℕ) → IsStore base store
         → AreOf resource.kind resource.id store.resources
-        → plan ≡ spec.decided_patch_plan (viewer_of viewer.now) turn.now store.resources (patch_of patch.now) wanted.now resource None)) }
+        → plan ≡ spec.decided_patch_plan (viewer_of viewer.now) turn.now store.resources
+        (patch_of patch.now) wanted.now resource None)) }
     ensures read { OnlyReads S.stands S.is_honest S.failures shelf.old shelf.new result }
 {
     match apply(alloc, resource, patch, turn.moment) {
@@ -89,9 +92,11 @@ fn plan_seen<S: Shelf>(
     resource: Resource,
 ) -> Result<Plan, Failed<ShelfFault>>
     requires { access_in rights.now ≡ spec.access_to (viewer_of viewer.now) resource }
-    ensures plan { IfOk result (Answers S.stands S.is_honest shelf.old shelf.new (λ store plan. (base : List ℕ) → IsStore base store
+    ensures plan { IfOk result (Answers S.stands S.is_honest shelf.old shelf.new
+        (λ store plan. (base : List ℕ) → IsStore base store
         → AreOf resource.kind resource.id store.resources
-        → plan ≡ spec.patch_plan (viewer_of viewer.now) turn.now store.resources (patch_of patch.now) wanted.now resource)) }
+        → plan ≡ spec.patch_plan (viewer_of viewer.now) turn.now store.resources
+        (patch_of patch.now) wanted.now resource)) }
     ensures read { OnlyReads S.stands S.is_honest S.failures shelf.old shelf.new result }
 {
     if patch.kind() != resource.kind() {
@@ -112,9 +117,11 @@ pub(crate) fn plan_patch<S: Shelf>(
     patch: &Patch,
     wanted: &Wanted,
 ) -> Result<Plan, Failed<ShelfFault>>
-    ensures plan { IfOk result (Answers S.stands S.is_honest shelf.old shelf.new (λ store plan. (base : List ℕ) → IsStore base store
+    ensures plan { IfOk result (Answers S.stands S.is_honest shelf.old shelf.new
+        (λ store plan. (base : List ℕ) → IsStore base store
         → plan ≡ spec.plan_for_seen (viewer_of viewer.now) turn.now
-        (spec.patch_plan (viewer_of viewer.now) turn.now store.resources (patch_of patch.now) wanted.now) (spec.sought_resource turn.now store.resources))) }
+        (spec.patch_plan (viewer_of viewer.now) turn.now store.resources
+        (patch_of patch.now) wanted.now) (spec.sought_resource turn.now store.resources))) }
     ensures read { OnlyReads S.stands S.is_honest S.failures shelf.old shelf.new result }
 {
     let reached = reach(alloc, viewer, shelf, turn)?;

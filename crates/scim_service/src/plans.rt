@@ -187,7 +187,8 @@ pub(crate) fn found<S: Shelf>(
     shelf: &mut S,
     turn: &Turn,
 ) -> Result<Option<Resource>, Failed<ShelfFault>>
-    ensures answer { IfOk result (Answers S.stands S.is_honest shelf.old shelf.new (λ store o. o ≡ spec.sought_resource turn.now store.resources)) }
+    ensures answer { IfOk result (Answers S.stands S.is_honest shelf.old shelf.new (λ store o. o
+        ≡ spec.sought_resource turn.now store.resources)) }
     ensures read { OnlyReads S.stands S.is_honest S.failures shelf.old shelf.new result }
 {
     match turn.request.id {
@@ -207,8 +208,10 @@ pub(crate) fn resource_text(
     resource: &Resource,
     wanted: &Wanted,
 ) -> Result<Text, NoMemory>
-    requires { (l : Leaf) → decision decisions.now l ≡ view.read_decision (viewer_of viewer.now) resource.now l }
-    ensures { IfOk result (λ text. (gathered : List Content) → AreListing (viewer_of viewer.now) resource.now.id gathered groups.now
+    requires { (l : Leaf) → decision decisions.now l
+        ≡ view.read_decision (viewer_of viewer.now) resource.now l }
+    ensures { IfOk result (λ text. (gathered : List Content)
+        → AreListing (viewer_of viewer.now) resource.now.id gathered groups.now
         → text ≡ spec.resource_text (viewer_of viewer.now) gathered wanted.now resource.now) }
 {
     let visible = viewer.with_groups_by(alloc, decisions, groups, resource)?;
@@ -226,9 +229,12 @@ fn seen_text<S: Shelf>(
     resource: &Resource,
     wanted: &Wanted,
 ) -> Result<Text, Failed<ShelfFault>>
-    requires { (l : Leaf) → decision decisions.now l ≡ view.read_decision (viewer_of viewer.now) resource.now l }
-    ensures text { IfOk result (Answers S.stands S.is_honest shelf.old shelf.new (λ store text. (base : List ℕ) → IsStore base store
-        → text ≡ spec.resource_text (viewer_of viewer.now) (of_kind Kind.Group store.resources) wanted.now resource.now)) }
+    requires { (l : Leaf) → decision decisions.now l
+        ≡ view.read_decision (viewer_of viewer.now) resource.now l }
+    ensures text { IfOk result (Answers S.stands S.is_honest shelf.old shelf.new
+        (λ store text. (base : List ℕ) → IsStore base store
+        → text ≡ spec.resource_text (viewer_of viewer.now)
+        (of_kind Kind.Group store.resources) wanted.now resource.now)) }
     ensures read { OnlyReads S.stands S.is_honest S.failures shelf.old shelf.new result }
 {
     let groups = groups_beside(alloc, viewer, shelf, resource)?;
@@ -245,8 +251,10 @@ pub(crate) fn kept_text<S: Shelf>(
     resource: &Resource,
     wanted: &Wanted,
 ) -> Result<Option<Text>, Failed<ShelfFault>>
-    requires { (l : Leaf) → decision decisions.now l ≡ view.read_decision (viewer_of viewer.now) resource.now l }
-    ensures text { IfOk result (Answers S.stands S.is_honest shelf.old shelf.new (λ store text. (base : List ℕ) → IsStore base store
+    requires { (l : Leaf) → decision decisions.now l
+        ≡ view.read_decision (viewer_of viewer.now) resource.now l }
+    ensures text { IfOk result (Answers S.stands S.is_honest shelf.old shelf.new
+        (λ store text. (base : List ℕ) → IsStore base store
         → AreOf resource.now.kind resource.now.id store.resources
         → text ≡ spec.kept_text (viewer_of viewer.now) store.resources wanted.now resource.now)) }
     ensures read { OnlyReads S.stands S.is_honest S.failures shelf.old shelf.new result }
@@ -269,9 +277,11 @@ fn plan_show<S: Shelf>(
     wanted: &Wanted,
     resource: &Resource,
 ) -> Result<Plan, Failed<ShelfFault>>
-    ensures plan { IfOk result (Answers S.stands S.is_honest shelf.old shelf.new (λ store plan. (base : List ℕ) → IsStore base store
+    ensures plan { IfOk result (Answers S.stands S.is_honest shelf.old shelf.new
+        (λ store plan. (base : List ℕ) → IsStore base store
         → plan ≡ spec.plan_for_seen (viewer_of viewer.now) turn.now
-        (spec.get_plan (viewer_of viewer.now) turn.now store.resources wanted.now) (Some resource.now))) }
+        (spec.get_plan (viewer_of viewer.now) turn.now store.resources wanted.now)
+        (Some resource.now))) }
     ensures read { OnlyReads S.stands S.is_honest S.failures shelf.old shelf.new result }
 {
     let decisions = viewer.decisions(alloc, resource)?;
@@ -295,9 +305,11 @@ fn plan_get<S: Shelf>(
     turn: &Turn,
     wanted: &Wanted,
 ) -> Result<Plan, Failed<ShelfFault>>
-    ensures plan { IfOk result (Answers S.stands S.is_honest shelf.old shelf.new (λ store plan. (base : List ℕ) → IsStore base store
+    ensures plan { IfOk result (Answers S.stands S.is_honest shelf.old shelf.new
+        (λ store plan. (base : List ℕ) → IsStore base store
         → plan ≡ spec.plan_for_seen (viewer_of viewer.now) turn.now
-        (spec.get_plan (viewer_of viewer.now) turn.now store.resources wanted.now) (spec.sought_resource turn.now store.resources))) }
+        (spec.get_plan (viewer_of viewer.now) turn.now store.resources wanted.now)
+        (spec.sought_resource turn.now store.resources))) }
     ensures read { OnlyReads S.stands S.is_honest S.failures shelf.old shelf.new result }
 {
     let Some(resource) = found(alloc, shelf, turn)? else {
@@ -314,7 +326,8 @@ fn removed(
     turn: &Turn,
     resource: &Resource,
 ) -> Result<Plan, NoMemory>
-    ensures { IfOk result (λ plan. plan ≡ spec.removal_plan (viewer_of viewer.now) turn.now resource.now) }
+    ensures { IfOk result (λ plan. plan
+        ≡ spec.removal_plan (viewer_of viewer.now) turn.now resource.now) }
 {
     let id = Leaf::simple(Attribute::Id);
     let decision = viewer
@@ -338,7 +351,8 @@ fn removed_if_seen(
     resource: &Resource,
 ) -> Result<Plan, NoMemory>
     ensures { IfOk result (λ plan. plan
-        ≡ spec.plan_for_seen (viewer_of viewer.now) turn.now (spec.removal_plan (viewer_of viewer.now) turn.now) (Some resource.now)) }
+        ≡ spec.plan_for_seen (viewer_of viewer.now) turn.now
+        (spec.removal_plan (viewer_of viewer.now) turn.now) (Some resource.now)) }
 {
     let id = Leaf::simple(Attribute::Id);
     let seen = viewer
@@ -358,7 +372,9 @@ fn plan_remove<S: Shelf>(
     turn: &Turn,
 ) -> Result<Plan, Failed<ShelfFault>>
     ensures plan { IfOk result (Answers S.stands S.is_honest shelf.old shelf.new (λ store plan.
-        plan ≡ spec.plan_for_seen (viewer_of viewer.now) turn.now (spec.removal_plan (viewer_of viewer.now) turn.now) (spec.sought_resource turn.now store.resources))) }
+        plan ≡ spec.plan_for_seen (viewer_of viewer.now) turn.now
+        (spec.removal_plan (viewer_of viewer.now) turn.now)
+        (spec.sought_resource turn.now store.resources))) }
     ensures read { OnlyReads S.stands S.is_honest S.failures shelf.old shelf.new result }
 {
     let Some(resource) = found(alloc, shelf, turn)? else {
@@ -369,7 +385,8 @@ fn plan_remove<S: Shelf>(
 
 /// Returns the JSON of a page, each item projected to the attributes that the query wants.
 fn list_text(alloc: Global, found: Page, query: &Query) -> Result<Text, NoMemory>
-    ensures { IfOk result (λ text. (view : List Content) → IsPage view query.now found → text ≡ spec.list_text query.now view) }
+    ensures { IfOk result (λ text. (view : List Content) → IsPage view query.now found
+        → text ≡ spec.list_text query.now view) }
 {
     let page = shown_page(alloc, found, &query.wanted)?;
     let text = to_list_json(alloc, page.total, page.start, page.items.as_slice())?;
@@ -385,7 +402,8 @@ fn plan_search<S: Shelf>(
     turn: &Turn,
     query: &Query,
 ) -> Result<Plan, Failed<ShelfFault>>
-    ensures plan { IfOk result (Answers S.stands S.is_honest shelf.old shelf.new (λ store plan. (base : List ℕ) → IsStore base store
+    ensures plan { IfOk result (Answers S.stands S.is_honest shelf.old shelf.new
+        (λ store plan. (base : List ℕ) → IsStore base store
         → plan ≡ spec.search_plan (viewer_of viewer.now) turn.now store.resources query.now)) }
     ensures read { OnlyReads S.stands S.is_honest S.failures shelf.old shelf.new result }
 {
@@ -411,8 +429,10 @@ pub(crate) fn planned<S: Shelf>(
     shelf: &mut S,
     turn: &Turn,
 ) -> Result<Plan, Failed<ShelfFault>>
-    ensures plan { IfOk result (Answers S.stands S.is_honest shelf.old shelf.new (λ store plan. (base : List ℕ) → IsStore base store
-        → plan ≡ spec.request_plan (viewer_of viewer.now) turn.now store.resources turn.now.request.ask)) }
+    ensures plan { IfOk result (Answers S.stands S.is_honest shelf.old shelf.new
+        (λ store plan. (base : List ℕ) → IsStore base store
+        → plan ≡ spec.request_plan
+        (viewer_of viewer.now) turn.now store.resources turn.now.request.ask)) }
     ensures read { OnlyReads S.stands S.is_honest S.failures shelf.old shelf.new result }
 {
     match &turn.request.ask {

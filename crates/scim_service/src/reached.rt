@@ -31,7 +31,8 @@ pub(crate) fn reach<S: Shelf>(
     shelf: &mut S,
     turn: &Turn,
 ) -> Result<Reached, Failed<ShelfFault>>
-    ensures answer { IfOk result (Answers S.stands S.is_honest shelf.old shelf.new (λ store it. (base : List ℕ) → IsStore base store
+    ensures answer { IfOk result (Answers S.stands S.is_honest shelf.old shelf.new
+        (λ store it. (base : List ℕ) → IsStore base store
         → IsReached (viewer_of viewer.now) turn.now store.resources it)) }
     ensures rights { IfOk result (HasRights (viewer_of viewer.now)) }
     ensures read { OnlyReads S.stands S.is_honest S.failures shelf.old shelf.new result }

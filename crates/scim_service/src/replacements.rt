@@ -38,7 +38,8 @@ fn writable_of(
     kind: Kind,
     units: &[Unit],
 ) -> Result<Vec<Unit>, NoMemory>
-    ensures { IfOk result (λ v. v.items ≡ filter (spec.is_writable kind (access_in rights.now)) units.now) }
+    ensures { IfOk result (λ v. v.items
+        ≡ filter (spec.is_writable kind (access_in rights.now)) units.now) }
 {
     let mut writable = Vec::new(alloc);
     for unit in units {
@@ -79,7 +80,8 @@ fn unit_denied(
     seen: &Part,
     unit: Unit,
 ) -> Result<Option<(Leaf, Decision)>, NoMemory>
-    ensures { IfOk result (λ o. o ≡ spec.unit_denial (access_in rights.now) draft.now seen.now unit) }
+    ensures { IfOk result (λ o. o
+        ≡ spec.unit_denial (access_in rights.now) draft.now seen.now unit) }
 {
     if !is_questionable(rights, draft, unit) || agrees(alloc, draft, unit, seen)? {
         return Ok(None);
@@ -95,7 +97,8 @@ fn first_denied_among(
     seen: &Part,
     units: &[Unit],
 ) -> Result<Option<(Leaf, Decision)>, NoMemory>
-    ensures { IfOk result (λ o. o ≡ spec.first_unit_denial (access_in rights.now) draft.now seen.now units.now) }
+    ensures { IfOk result (λ o. o
+        ≡ spec.first_unit_denial (access_in rights.now) draft.now seen.now units.now) }
 {
     for unit in units {
         let denied = unit_denied(alloc, rights, draft, seen, *unit)?;
@@ -116,7 +119,8 @@ fn first_unit_denied(
     resource: &Resource,
 ) -> Result<Option<(Leaf, Decision)>, NoMemory>
     requires { access_in rights.now ≡ spec.access_to (viewer_of viewer.now) resource.now }
-    ensures { IfOk result (λ o. o ≡ spec.first_unit_denial (spec.access_to (viewer_of viewer.now) resource.now)
+    ensures { IfOk result (λ o. o
+        ≡ spec.first_unit_denial (spec.access_to (viewer_of viewer.now) resource.now)
         draft.now (visible (viewer_of viewer.now) resource.now) (units draft.now.kind)) }
 {
     let own = units(draft.kind());
@@ -140,9 +144,11 @@ fn plan_allowed<S: Shelf>(
 ) -> Result<Plan, Failed<ShelfFault>>
     requires rights { access_in rights.now ≡ spec.access_to (viewer_of viewer.now) resource }
     requires kind { draft.now.kind ≡ resource.kind }
-    ensures plan { IfOk result (Answers S.stands S.is_honest shelf.old shelf.new (λ store plan. (base : List ℕ) → IsStore base store
+    ensures plan { IfOk result (Answers S.stands S.is_honest shelf.old shelf.new
+        (λ store plan. (base : List ℕ) → IsStore base store
         → AreOf resource.kind resource.id store.resources
-        → plan ≡ spec.decided_replacement_plan (viewer_of viewer.now) turn.now store.resources draft.now wanted.now resource None)) }
+        → plan ≡ spec.decided_replacement_plan
+        (viewer_of viewer.now) turn.now store.resources draft.now wanted.now resource None)) }
     ensures read { OnlyReads S.stands S.is_honest S.failures shelf.old shelf.new result }
 {
     let kind = resource.kind();
@@ -167,9 +173,11 @@ fn plan_seen<S: Shelf>(
     resource: Resource,
 ) -> Result<Plan, Failed<ShelfFault>>
     requires { access_in rights.now ≡ spec.access_to (viewer_of viewer.now) resource }
-    ensures plan { IfOk result (Answers S.stands S.is_honest shelf.old shelf.new (λ store plan. (base : List ℕ) → IsStore base store
+    ensures plan { IfOk result (Answers S.stands S.is_honest shelf.old shelf.new
+        (λ store plan. (base : List ℕ) → IsStore base store
         → AreOf resource.kind resource.id store.resources
-        → plan ≡ spec.replacement_plan (viewer_of viewer.now) turn.now store.resources draft.now wanted.now resource)) }
+        → plan ≡ spec.replacement_plan
+        (viewer_of viewer.now) turn.now store.resources draft.now wanted.now resource)) }
     ensures read { OnlyReads S.stands S.is_honest S.failures shelf.old shelf.new result }
 {
     if draft.kind() != resource.kind() {
@@ -190,9 +198,11 @@ pub(crate) fn plan_replace<S: Shelf>(
     draft: &Draft,
     wanted: &Wanted,
 ) -> Result<Plan, Failed<ShelfFault>>
-    ensures plan { IfOk result (Answers S.stands S.is_honest shelf.old shelf.new (λ store plan. (base : List ℕ) → IsStore base store
+    ensures plan { IfOk result (Answers S.stands S.is_honest shelf.old shelf.new
+        (λ store plan. (base : List ℕ) → IsStore base store
         → plan ≡ spec.plan_for_seen (viewer_of viewer.now) turn.now
-        (spec.replacement_plan (viewer_of viewer.now) turn.now store.resources draft.now wanted.now) (spec.sought_resource turn.now store.resources))) }
+        (spec.replacement_plan (viewer_of viewer.now) turn.now store.resources draft.now wanted.now)
+        (spec.sought_resource turn.now store.resources))) }
     ensures read { OnlyReads S.stands S.is_honest S.failures shelf.old shelf.new result }
 {
     let reached = reach(alloc, viewer, shelf, turn)?;

@@ -46,16 +46,25 @@ fn answer_or_fault<S: Shelf>(
     shelf: &mut S,
     turn: &Turn,
 ) -> Result<Reply, Failed<ShelfFault>>
-    ensures done { IfOk result (Answers S.stands S.is_honest shelf.old shelf.new (λ store reply. IsStore viewer.now.base.now store
-        → (reply ≡ (spec.request_plan (viewer_of viewer.now) turn.now store.resources turn.now.request.ask).reply)
-        × S.stands shelf.new (after (spec.request_plan (viewer_of viewer.now) turn.now store.resources turn.now.request.ask).change
-        (spec.request_plan (viewer_of viewer.now) turn.now store.resources turn.now.request.ask).row store)
-        × IsStore viewer.now.base.now (after (spec.request_plan (viewer_of viewer.now) turn.now store.resources turn.now.request.ask).change
-        (spec.request_plan (viewer_of viewer.now) turn.now store.resources turn.now.request.ask).row store))) }
+    ensures done { IfOk result (Answers S.stands S.is_honest shelf.old shelf.new (λ store reply.
+        IsStore viewer.now.base.now store
+        → (reply ≡ (spec.request_plan
+        (viewer_of viewer.now) turn.now store.resources turn.now.request.ask).reply)
+        × S.stands shelf.new
+        (after (spec.request_plan (viewer_of viewer.now) turn.now store.resources
+        turn.now.request.ask).change
+        (spec.request_plan (viewer_of viewer.now) turn.now store.resources turn.now.request.ask).row
+        store)
+        × IsStore viewer.now.base.now
+        (after (spec.request_plan (viewer_of viewer.now) turn.now store.resources
+        turn.now.request.ask).change
+        (spec.request_plan (viewer_of viewer.now) turn.now store.resources turn.now.request.ask).row
+        store))) }
     ensures err { OnErr result (KeepsStore S.stands shelf.old shelf.new) }
     ensures honest { S.is_honest shelf.new → S.is_honest shelf.old }
     ensures counts { Counts (S.failures shelf.old) (S.failures shelf.new) result }
-    ensures full { result ≡ Err (Failed.Because ShelfFault.Full) → (store : Store) → S.stands shelf.old store → length store.audit ≡ last_number }
+    ensures full { result ≡ Err (Failed.Because ShelfFault.Full) → (store : Store)
+        → S.stands shelf.old store → length store.audit ≡ last_number }
 {
     turn_is_sound(turn);
     let plan = planned(alloc, viewer, shelf, turn)?;
@@ -86,9 +95,12 @@ impl<S: Shelf> Service<S> {
     pub fn answer(&mut self, alloc: Global, turn: &Turn) -> Reply
         ensures policy { self.new.policy ≡ self.old.policy }
         ensures base { self.new.base ≡ self.old.base }
-        ensures answered { (store : Store) → S.stands self.old.shelf store → S.is_honest self.new.shelf → IsStore self.old.base store
+        ensures answered { (store : Store) → S.stands self.old.shelf store
+            → S.is_honest self.new.shelf → IsStore self.old.base store
             → (next : Store) × S.stands self.new.shelf next × IsStore self.old.base next
-            × Answered self.old.policy self.old.base (IsCause (S.failures self.old.shelf) (S.failures self.new.shelf) store) turn.now store result next }
+            × Answered self.old.policy self.old.base
+            (IsCause (S.failures self.old.shelf) (S.failures self.new.shelf) store) turn.now store
+            result next }
         ensures honest { S.is_honest self.new.shelf → S.is_honest self.old.shelf }
         ensures grown { S.failures self.old.shelf ≤ S.failures self.new.shelf }
     {
@@ -109,7 +121,8 @@ impl<S: Shelf> Service<S> {
     /// Answers turns in order. On an error, for which memory for the replies is the only cause, no turn was
     /// answered.
     pub fn run(&mut self, alloc: Global, turns: &[Turn]) -> Result<Vec<Reply>, NoMemory>
-        ensures ran { IfOk result (λ replies. (store : Store) → S.stands self.old.shelf store → S.is_honest self.new.shelf → IsStore self.old.base store
+        ensures ran { IfOk result (λ replies. (store : Store) → S.stands self.old.shelf store
+            → S.is_honest self.new.shelf → IsStore self.old.base store
             → (next : Store) × S.stands self.new.shelf next × IsStore self.old.base next
             × Runs self.old.policy self.old.base store turns.now replies.items next) }
         ensures nothing { OnErr result (self.new ≡ self.old) }

@@ -38,7 +38,8 @@ impl<S: Shelf> CachedShelf<S> {
     /// Returns a shelf over another, with an empty cache.
     pub fn over(lower: S) -> CachedShelf<S>
         ensures lower { result.lower ≡ lower }
-        ensures stands { (store : Store) → S.stands lower store → ⟦<CachedShelf<S> as Shelf>⟧.stands result store }
+        ensures stands { (store : Store) → S.stands lower store
+            → ⟦<CachedShelf<S> as Shelf>⟧.stands result store }
     {
         CachedShelf {
             resources: None,
@@ -71,7 +72,9 @@ impl<S: Shelf> CachedShelf<S> {
     /// Returns the shelf below, for what only it has, such as its audit rows. The cache doesn't follow a
     /// change that is made through this reference: it counts as a write by others.
     pub fn lower_mut(&mut self) -> &mut S
-        ensures* writes_back { sem 𝓛 (Lends (the_row S.row) S.row self.entry result (λ lower. record self.old { lower = lower })) }
+        ensures* writes_back { sem 𝓛
+            (Lends (the_row S.row) S.row self.entry result (λ lower.
+            record self.old { lower = lower })) }
         ensures shows { result.now ≡ self.old.lower }
     {
         &mut self.lower
@@ -88,7 +91,8 @@ impl<S: Shelf> CachedShelf<S> {
 
 /// The resources in memory after a change; None where memory was wanting for it.
 fn follow(alloc: Global, resources: Option<Collection>, change: Change) -> Option<Collection>
-    ensures { (store : Store) → AreThose store.resources resources → CanKeep store change → AreThose (changed change store.resources) result }
+    ensures { (store : Store) → AreThose store.resources resources → CanKeep store change
+        → AreThose (changed change store.resources) result }
 {
     let mut resources = resources?;
     match resources.make(alloc, change) {

@@ -83,7 +83,8 @@ impl Collection {
     /// Returns the collection of these resources, which may come in any order.
     pub(crate) fn of(alloc: Global, resources: Vec<Resource>) -> Result<Collection, NoMemory>
         requires { AllPairs AreApart resources.items }
-        ensures { IfOk result (λ collection. (cs : List Content) × IsPermutation resources.items cs × IsCollection cs collection) }
+        ensures { IfOk result (λ collection. (cs : List Content) × IsPermutation resources.items cs
+            × IsCollection cs collection) }
     {
         let mut collection = Collection::new(alloc);
         let mut left = resources;
@@ -101,7 +102,8 @@ impl Collection {
         kind: Kind,
         id: Id,
     ) -> Result<Option<Resource>, NoMemory>
-        ensures { IfOk result (λ found. (cs : List Content) → IsCollection cs self.now → found ≡ find (is_at kind id) cs) }
+        ensures { IfOk result (λ found. (cs : List Content) → IsCollection cs self.now
+            → found ≡ find (is_at kind id) cs) }
     {
         copy_of(alloc, if_of(kind, self.with_id(id)))
     }
@@ -109,14 +111,16 @@ impl Collection {
     /// Returns a copy of the resource that has the unique name; None if no resource has it (RFC 7643 section
     /// 2.2, uniqueness).
     pub fn name_owner(&self, alloc: Global, name: &UniqueName) -> Result<Option<Resource>, NoMemory>
-        ensures { IfOk result (λ found. (cs : List Content) → IsCollection cs self.now → found ≡ find (has_name (name_of name.now)) cs) }
+        ensures { IfOk result (λ found. (cs : List Content) → IsCollection cs self.now
+            → found ≡ find (has_name (name_of name.now)) cs) }
     {
         copy_of(alloc, self.named(name))
     }
 
     /// Returns the resource with the id, of either kind.
     fn with_id(&self, id: Id) -> Option<&Resource>
-        ensures { (cs : List Content) → IsCollection cs self.now → option_copied result ≡ find (has_id id) cs }
+        ensures { (cs : List Content) → IsCollection cs self.now
+            → option_copied result ≡ find (has_id id) cs }
     {
         self.by_id.get(&id)
     }
@@ -124,7 +128,8 @@ impl Collection {
     /// Returns the resource that the id of the change has now, of either kind; None if the id is unused or
     /// the change is `Nothing`.
     pub fn old_of(&self, change: &Change) -> Option<&Resource>
-        ensures { (cs : List Content) → IsCollection cs self.now → IsOld cs change.now (option_copied result) }
+        ensures { (cs : List Content) → IsCollection cs self.now
+            → IsOld cs change.now (option_copied result) }
     {
         match change {
             Change::Nothing => None,
@@ -135,7 +140,8 @@ impl Collection {
 
     /// Returns the resource that has the unique name.
     fn named(&self, name: &UniqueName) -> Option<&Resource>
-        ensures { (cs : List Content) → IsCollection cs self.now → option_copied result ≡ find (has_name (name_of name.now)) cs }
+        ensures { (cs : List Content) → IsCollection cs self.now
+            → option_copied result ≡ find (has_name (name_of name.now)) cs }
     {
         let id = self.owners.of(name)?;
         self.with_id(id)
@@ -156,7 +162,8 @@ impl Collection {
     /// index entries are removed when the new one is stored.
     fn values_gone(&self, alloc: Global, new: &Resource) -> Result<Vec<Text>, NoMemory>
         ensures { IfOk result (λ gone. (cs : List Content) → IsCollection cs self.now
-            → (v : List ℕ) → is_one_of v gone.items ≡ (is_group_in v (find (has_id new.now.id) cs) && not (is_group_with v new.now))) }
+            → (v : List ℕ) → is_one_of v gone.items
+            ≡ (is_group_in v (find (has_id new.now.id) cs) && not (is_group_with v new.now))) }
     {
         match self.with_id(new.id()) {
             Some(old) => values_beyond(alloc, old, new),
@@ -168,7 +175,8 @@ impl Collection {
     /// index entries before the new one is stored.
     fn values_come(&self, alloc: Global, new: &Resource) -> Result<Vec<Text>, NoMemory>
         ensures { IfOk result (λ come. (cs : List Content) → IsCollection cs self.now
-            → (v : List ℕ) → is_one_of v come.items ≡ (is_group_with v new.now && not (is_group_in v (find (has_id new.now.id) cs)))) }
+            → (v : List ℕ) → is_one_of v come.items
+            ≡ (is_group_with v new.now && not (is_group_in v (find (has_id new.now.id) cs)))) }
     {
         let members = self.members_to_note(new);
         self.members.values_unnoted(alloc, members, new.id())
@@ -178,7 +186,8 @@ impl Collection {
     /// id, which is indexed already; all members if there is no stored group.
     fn members_to_note<'a>(&self, new: &'a Resource) -> &'a [Row]
         ensures { (cs : List Content) → IsCollection cs self.now → (v : List ℕ)
-            → (is_value_of v result.now || is_group_in v (find (has_id new.now.id) cs)) ≡ (is_group_with v new.now || is_group_in v (find (has_id new.now.id) cs)) }
+            → (is_value_of v result.now || is_group_in v (find (has_id new.now.id) cs))
+            ≡ (is_group_with v new.now || is_group_in v (find (has_id new.now.id) cs)) }
     {
         match self.with_id(new.id()) {
             Some(old) => members_beyond(old, new),
@@ -191,9 +200,11 @@ impl Collection {
     ///
     /// On an error nothing is changed.
     pub fn make(&mut self, alloc: Global, change: Change) -> Result<(), NoMemory>
-        ensures ok { OnOk result ((store : Store) → IsCollection store.resources self.old → CanKeep store change
+        ensures ok { OnOk result ((store : Store) → IsCollection store.resources self.old
+            → CanKeep store change
             → IsCollection (changed change store.resources) self.new) }
-        ensures err { OnErr result ((cs : List Content) → IsCollection cs self.old → IsCollection cs self.new) }
+        ensures err { OnErr result ((cs : List Content) → IsCollection cs self.old
+            → IsCollection cs self.new) }
     {
         match change {
             Change::Nothing => Ok(()),
@@ -205,9 +216,11 @@ impl Collection {
     /// Stores a resource, in place of the one with its id, if any. On an error every look-up returns what it
     /// did before.
     pub(crate) fn keep(&mut self, alloc: Global, resource: Resource) -> Result<(), NoMemory>
-        ensures ok { OnOk result ((cs : List Content) → IsCollection cs self.old → HasPlace cs resource
+        ensures ok { OnOk result ((cs : List Content) → IsCollection cs self.old
+            → HasPlace cs resource
             → IsCollection (keep resource cs) self.new) }
-        ensures err { OnErr result ((cs : List Content) → IsCollection cs self.old → IsCollection cs self.new) }
+        ensures err { OnErr result ((cs : List Content) → IsCollection cs self.old
+            → IsCollection cs self.new) }
     {
         let id = resource.id();
         let names = unique_names(alloc, &resource)?;
@@ -228,11 +241,15 @@ impl Collection {
     /// On an error nothing is changed, provided that the id isn't indexed under any of those values before.
     fn insert(&mut self, alloc: Global, resource: Resource, come: &[Text]) -> Result<(), NoMemory>
         ensures owners { self.new.owners ≡ self.old.owners }
-        ensures resources { OnOk result (self.new.by_id.entries ≡ insert_entry (slice_cmp nat_cmp) self.old.by_id.entries resource.id resource) }
+        ensures resources { OnOk result (self.new.by_id.entries
+            ≡ insert_entry (slice_cmp nat_cmp) self.old.by_id.entries resource.id resource) }
         ensures noted { OnOk result ((v i : List ℕ)
-            → is_noted self.new.members v i ≡ cond (is_one_of v come.now && is_same resource.id i) true (is_noted self.old.members v i)) }
+            → is_noted self.new.members v i
+            ≡ cond (is_one_of v come.now && is_same resource.id i) true
+            (is_noted self.old.members v i)) }
         ensures err_resources { OnErr result (self.new.by_id.entries ≡ self.old.by_id.entries) }
-        ensures err_noted { OnErr result (IsUnnoted self.old.members come.now resource.id → HasSameNotes self.old.members self.new.members) }
+        ensures err_noted { OnErr result (IsUnnoted self.old.members come.now resource.id
+            → HasSameNotes self.old.members self.new.members) }
     {
         let id = resource.id();
         self.members.note_values(alloc, come, id)?;
@@ -247,8 +264,10 @@ impl Collection {
 
     /// Removes the resource with the id, if any, of either kind. On an error nothing is changed.
     fn remove(&mut self, alloc: Global, id: Id) -> Result<(), NoMemory>
-        ensures ok { OnOk result ((cs : List Content) → IsCollection cs self.old → IsCollection (without id cs) self.new) }
-        ensures err { OnErr result ((cs : List Content) → IsCollection cs self.old → IsCollection cs self.new) }
+        ensures ok { OnOk result ((cs : List Content) → IsCollection cs self.old
+            → IsCollection (without id cs) self.new) }
+        ensures err { OnErr result ((cs : List Content) → IsCollection cs self.old
+            → IsCollection cs self.new) }
     {
         let names = self.names_at(alloc, id)?;
         self.owners.forget(names.as_slice());
@@ -267,7 +286,8 @@ impl Collection {
         kind: Kind,
         visitor: &mut V,
     ) -> Result<(), NoMemory>
-        ensures { OnOk result ((cs : List Content) → IsCollection cs self.now → FoldsTo V.takes visitor.old (of_kind kind cs) visitor.new) }
+        ensures { OnOk result ((cs : List Content) → IsCollection cs self.now
+            → FoldsTo V.takes visitor.old (of_kind kind cs) visitor.new) }
     {
         for resource in self.by_id.values() {
             if resource.kind() == kind {
@@ -287,7 +307,8 @@ impl Collection {
         value: &str,
         visitor: &mut V,
     ) -> Result<(), NoMemory>
-        ensures { OnOk result ((cs : List Content) → IsCollection cs self.now → FoldsTo V.takes visitor.old (filter (is_group_with value.now) cs) visitor.new) }
+        ensures { OnOk result ((cs : List Content) → IsCollection cs self.now
+            → FoldsTo V.takes visitor.old (filter (is_group_with value.now) cs) visitor.new) }
     {
         match self.members.of(value) {
             Some(Holders::One(id)) => self.show_one(alloc, *id, visitor),
@@ -316,7 +337,8 @@ impl Collection {
         visitor: &mut V,
     ) -> Result<(), NoMemory>
         ensures { OnOk result ((cs : List Content) → IsCollection cs self.now
-            → FoldsTo V.takes visitor.old (filter (λ c. contains (slice_cmp nat_cmp) ids.now c.id) cs) visitor.new) }
+            → FoldsTo V.takes visitor.old
+            (filter (λ c. contains (slice_cmp nat_cmp) ids.now c.id) cs) visitor.new) }
     {
         for id in ids {
             self.show_one(alloc, *id, visitor)?;

@@ -40,7 +40,8 @@ pub fn all_of<S: Shelf>(
     shelf: &mut S,
     kind: Kind,
 ) -> Result<Vec<Resource>, Failed<ShelfFault>>
-    ensures answer { IfOk result (Answers S.stands S.is_honest shelf.old shelf.new (λ store all. all.items ≡ of_kind kind store.resources)) }
+    ensures answer { IfOk result (Answers S.stands S.is_honest shelf.old shelf.new (λ store all.
+        all.items ≡ of_kind kind store.resources)) }
     ensures read { OnlyReads S.stands S.is_honest S.failures shelf.old shelf.new result }
 {
     let mut copies = Copies {
@@ -75,7 +76,8 @@ pub fn collection_of<S: Shelf>(
     alloc: Global,
     shelf: &mut S,
 ) -> Result<Collection, Failed<ShelfFault>>
-    ensures answer { IfOk result (Answers S.stands S.is_honest shelf.old shelf.new (λ store collection. AreKeyed store.resources → IsCollection store.resources collection)) }
+    ensures answer { IfOk result (Answers S.stands S.is_honest shelf.old shelf.new
+        (λ store collection. AreKeyed store.resources → IsCollection store.resources collection)) }
     ensures read { OnlyReads S.stands S.is_honest S.failures shelf.old shelf.new result }
 {
     let mut collecting = Collecting {

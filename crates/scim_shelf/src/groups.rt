@@ -45,7 +45,8 @@ pub(crate) fn noted_members(resource: &Resource) -> &[Row]
 
 /// Whether two members have the same `value`.
 fn has_same_value(one: &Row, other: &Row) -> bool
-    ensures { result ≡ true → (v : List ℕ) → is_text v (value_in one.now) ≡ is_text v (value_in other.now) }
+    ensures { result ≡ true → (v : List ℕ)
+        → is_text v (value_in one.now) ≡ is_text v (value_in other.now) }
 {
     match value_of(one) {
         Some(value) => has_value(value, other),
@@ -56,7 +57,8 @@ fn has_same_value(one: &Row, other: &Row) -> bool
 /// Returns the length of the longest common prefix of two lists of members, compared by `value`.
 fn shared_members(some: &[Row], others: &[Row]) -> usize
     ensures inside { result ≤ length some.now × result ≤ length others.now }
-    ensures same { (v : List ℕ) → is_value_of v (take result some.now) ≡ is_value_of v (take result others.now) }
+    ensures same { (v : List ℕ) → is_value_of v (take result some.now)
+        ≡ is_value_of v (take result others.now) }
 {
     let mut shared = 0;
     while shared < some.len()
@@ -72,7 +74,8 @@ fn shared_members(some: &[Row], others: &[Row]) -> usize
 /// values that the other doesn't list. They are few if a large group grew or shrank at its end. A user counts
 /// as a group without members.
 pub(crate) fn members_beyond<'a>(other: &Resource, group: &'a Resource) -> &'a [Row]
-    ensures { (v : List ℕ) → (is_value_of v result.now || is_group_with v other.now) ≡ (is_group_with v group.now || is_group_with v other.now) }
+    ensures { (v : List ℕ) → (is_value_of v result.now || is_group_with v other.now)
+        ≡ (is_group_with v group.now || is_group_with v other.now) }
 {
     let members = noted_members(group);
     let shared = shared_members(noted_members(other), members);
@@ -85,7 +88,8 @@ pub(crate) fn values_beyond(
     old: &Resource,
     new: &Resource,
 ) -> Result<Vec<Text>, NoMemory>
-    ensures { IfOk result (λ gone. (v : List ℕ) → is_one_of v gone.items ≡ (is_group_with v old.now && not (is_group_with v new.now))) }
+    ensures { IfOk result (λ gone. (v : List ℕ)
+        → is_one_of v gone.items ≡ (is_group_with v old.now && not (is_group_with v new.now))) }
 {
     let members = members_beyond(new, old);
     if members.is_empty() {
@@ -96,7 +100,8 @@ pub(crate) fn values_beyond(
 
 /// Returns the values of these members that the group doesn't list.
 fn values_missing(alloc: Global, members: &[Row], group: &Resource) -> Result<Vec<Text>, NoMemory>
-    ensures { IfOk result (λ gone. (v : List ℕ) → is_one_of v gone.items ≡ (is_value_of v members.now && not (is_group_with v group.now))) }
+    ensures { IfOk result (λ gone. (v : List ℕ)
+        → is_one_of v gone.items ≡ (is_value_of v members.now && not (is_group_with v group.now))) }
 {
     let listed = member_values(alloc, noted_members(group))?;
     let mut gone = Vec::new(alloc);

@@ -26,7 +26,8 @@ pub(crate) enum Holders {
 
 /// Returns the set of these two ids.
 fn both(alloc: Global, one: Id, other: Id) -> Result<BTreeSet<Id>, NoMemory>
-    ensures { IfOk result (λ ids. (i : List ℕ) → contains (slice_cmp nat_cmp) ids i ≡ cond (is_same one i) true (is_same other i)) }
+    ensures { IfOk result (λ ids. (i : List ℕ)
+        → contains (slice_cmp nat_cmp) ids i ≡ cond (is_same one i) true (is_same other i)) }
 {
     let mut ids = BTreeSet::new(alloc);
     ids.insert(other)?;
@@ -47,7 +48,8 @@ impl Holders {
 
     /// Adds the id. On an error nothing is changed.
     fn add(&mut self, alloc: Global, id: Id) -> Result<(), NoMemory>
-        ensures ok { OnOk result ((i : List ℕ) → is_holder i self.new ≡ cond (is_same id i) true (is_holder i self.old)) }
+        ensures ok { OnOk result ((i : List ℕ)
+            → is_holder i self.new ≡ cond (is_same id i) true (is_holder i self.old)) }
         ensures err { OnErr result ((i : List ℕ) → is_holder i self.new ≡ is_holder i self.old) }
     {
         match self {
@@ -65,8 +67,10 @@ impl Holders {
 
     /// Removes the id unless it is the last one, and returns whether it is.
     fn drops_last(&mut self, id: Id) -> bool
-        ensures last { result ≡ true → (i : List ℕ) → cond (is_same id i) false (is_holder i self.old) ≡ false }
-        ensures left { result ≡ false → (i : List ℕ) → is_holder i self.new ≡ cond (is_same id i) false (is_holder i self.old) }
+        ensures last { result ≡ true → (i : List ℕ)
+            → cond (is_same id i) false (is_holder i self.old) ≡ false }
+        ensures left { result ≡ false → (i : List ℕ)
+            → is_holder i self.new ≡ cond (is_same id i) false (is_holder i self.old) }
     {
         match self {
             Holders::One(other) => *other == id,
@@ -107,8 +111,11 @@ impl Members {
 
     /// Adds the id under the value. On an error nothing is changed.
     fn note(&mut self, alloc: Global, value: &str, id: Id) -> Result<(), NoMemory>
-        ensures ok { OnOk result ((v i : List ℕ) → is_noted self.new v i ≡ cond (pointwise nat_eq v value.now && is_same id i) true (is_noted self.old v i)) }
-        ensures err { OnErr result ((v i : List ℕ) → is_noted self.new v i ≡ is_noted self.old v i) }
+        ensures ok { OnOk result ((v i : List ℕ)
+            → is_noted self.new v i ≡ cond (pointwise nat_eq v value.now && is_same id i) true
+            (is_noted self.old v i)) }
+        ensures err { OnErr result ((v i : List ℕ)
+            → is_noted self.new v i ≡ is_noted self.old v i) }
     {
         if let Some(holders) = self.by_value.get_mut(value) {
             return holders.add(alloc, id);
@@ -120,7 +127,8 @@ impl Members {
 
     /// Removes the id from under the value.
     fn forget(&mut self, value: &str, id: Id)
-        ensures { (v i : List ℕ) → is_noted self.new v i ≡ cond (pointwise nat_eq v value.now && is_same id i) false (is_noted self.old v i) }
+        ensures { (v i : List ℕ) → is_noted self.new v i
+            ≡ cond (pointwise nat_eq v value.now && is_same id i) false (is_noted self.old v i) }
     {
         let Some(holders) = self.by_value.get_mut(value) else {
             return;
@@ -132,7 +140,8 @@ impl Members {
 
     /// Removes the id from under the `value` of a member.
     fn forget_member(&mut self, member: &Row, id: Id)
-        ensures { (v i : List ℕ) → is_noted self.new v i ≡ cond (is_text v (value_in member.now) && is_same id i) false (is_noted self.old v i) }
+        ensures { (v i : List ℕ) → is_noted self.new v i
+            ≡ cond (is_text v (value_in member.now) && is_same id i) false (is_noted self.old v i) }
     {
         match value_of(member) {
             Some(value) => self.forget(value, id),
@@ -157,7 +166,9 @@ impl Members {
         members: &[Row],
         id: Id,
     ) -> Result<Vec<Text>, NoMemory>
-        ensures { IfOk result (λ come. (v : List ℕ) → is_one_of v come.items ≡ (is_value_of v members.now && not (is_noted self.now v id))) }
+        ensures { IfOk result (λ come. (v : List ℕ)
+            → is_one_of v come.items ≡ (is_value_of v members.now
+            && not (is_noted self.now v id))) }
     {
         let mut come = Vec::new(alloc);
         for member in members {
@@ -179,8 +190,11 @@ impl Members {
         values: &[Text],
         id: Id,
     ) -> Result<(), NoMemory>
-        ensures ok { OnOk result ((v i : List ℕ) → is_noted self.new v i ≡ cond (is_one_of v values.now && is_same id i) true (is_noted self.old v i)) }
-        ensures err { OnErr result (IsUnnoted self.old values.now id → HasSameNotes self.old self.new) }
+        ensures ok { OnOk result ((v i : List ℕ)
+            → is_noted self.new v i ≡ cond (is_one_of v values.now && is_same id i) true
+            (is_noted self.old v i)) }
+        ensures err { OnErr result (IsUnnoted self.old values.now id
+            → HasSameNotes self.old self.new) }
     {
         let noted = self.note_each(alloc, values, id);
         if noted.is_err() {
@@ -191,8 +205,11 @@ impl Members {
 
     /// Adds the id under each of these values. On an error it may be under some of them already.
     fn note_each(&mut self, alloc: Global, values: &[Text], id: Id) -> Result<(), NoMemory>
-        ensures ok { OnOk result ((v i : List ℕ) → is_noted self.new v i ≡ cond (is_one_of v values.now && is_same id i) true (is_noted self.old v i)) }
-        ensures others { (v i : List ℕ) → (is_one_of v values.now && is_same id i) ≡ false → is_noted self.new v i ≡ is_noted self.old v i }
+        ensures ok { OnOk result ((v i : List ℕ)
+            → is_noted self.new v i ≡ cond (is_one_of v values.now && is_same id i) true
+            (is_noted self.old v i)) }
+        ensures others { (v i : List ℕ) → (is_one_of v values.now && is_same id i) ≡ false
+            → is_noted self.new v i ≡ is_noted self.old v i }
     {
         for value in values {
             self.note(alloc, value.as_str(), id)?;
@@ -202,7 +219,8 @@ impl Members {
 
     /// Removes the id from under each value that the group lists.
     pub(crate) fn forget_group(&mut self, group: &Resource, id: Id)
-        ensures { (v i : List ℕ) → is_noted self.new v i ≡ cond (is_group_with v group.now && is_same id i) false (is_noted self.old v i) }
+        ensures { (v i : List ℕ) → is_noted self.new v i
+            ≡ cond (is_group_with v group.now && is_same id i) false (is_noted self.old v i) }
     {
         for member in noted_members(group) {
             self.forget_member(member, id);
@@ -211,7 +229,8 @@ impl Members {
 
     /// Removes the id from under each of these values.
     pub(crate) fn forget_values(&mut self, values: &[Text], id: Id)
-        ensures { (v i : List ℕ) → is_noted self.new v i ≡ cond (is_one_of v values.now && is_same id i) false (is_noted self.old v i) }
+        ensures { (v i : List ℕ) → is_noted self.new v i
+            ≡ cond (is_one_of v values.now && is_same id i) false (is_noted self.old v i) }
     {
         for value in values {
             self.forget(value.as_str(), id);

@@ -40,7 +40,8 @@ impl MemoryShelf {
     /// may have one id or share a unique name (RFC 7643 sections 2.2 and 3.1).
     pub fn new(alloc: Global, resources: Vec<Resource>) -> Result<MemoryShelf, NoMemory>
         requires { AllPairs AreApart resources.items }
-        ensures { IfOk result (λ shelf. (store : Store) × IsNewStore resources.items store × ⟦<MemoryShelf as Shelf>⟧.stands shelf store) }
+        ensures { IfOk result (λ shelf. (store : Store) × IsNewStore resources.items store
+            × ⟦<MemoryShelf as Shelf>⟧.stands shelf store) }
     {
         let collection = Collection::of(alloc, resources)?;
         Ok(MemoryShelf {
@@ -51,7 +52,8 @@ impl MemoryShelf {
 
     /// Returns the audit rows in order: the first has number 1.
     pub fn audit(&self) -> &[AuditRow]
-        ensures { (store : Store) → ⟦<MemoryShelf as Shelf>⟧.stands self.now store → result.now ≡ store.audit }
+        ensures { (store : Store) → ⟦<MemoryShelf as Shelf>⟧.stands self.now store
+            → result.now ≡ store.audit }
     {
         self.audit.as_slice()
     }

@@ -43,7 +43,8 @@ impl Owners {
 
     /// Removes these names.
     pub(crate) fn forget(&mut self, names: &[UniqueName])
-        ensures owners { (q : UniqueName) → owner self.new q ≡ cond (is_among q names.now) None (owner self.old q) }
+        ensures owners { (q : UniqueName) → owner self.new q
+            ≡ cond (is_among q names.now) None (owner self.old q) }
         ensures room { room self.old ≤ room self.new }
     {
         for name in names {
@@ -55,7 +56,8 @@ impl Owners {
     /// `reserve`.
     pub(crate) fn note(&mut self, names: Vec<UniqueName>, id: Id)
         requires { vec_len names ≤ room self.old }
-        ensures { (q : UniqueName) → owner self.new q ≡ cond (is_among q names.items) (Some id) (owner self.old q) }
+        ensures { (q : UniqueName) → owner self.new q
+            ≡ cond (is_among q names.items) (Some id) (owner self.old q) }
     {
         let mut left = names;
         'names: while let Some(name) = left.pop() {

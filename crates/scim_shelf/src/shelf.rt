@@ -51,7 +51,8 @@ pub trait Shelf {
         kind: Kind,
         id: Id,
     ) -> Result<Option<Resource>, Failed<ShelfFault>>
-        ensures answer { IfOk result (Answers stands is_honest self.old self.new (λ store found. found ≡ find (is_at kind id) store.resources)) }
+        ensures answer { IfOk result (Answers stands is_honest self.old self.new (λ store found.
+            found ≡ find (is_at kind id) store.resources)) }
         ensures read { OnlyReads stands is_honest failures self.old self.new result };
 
     /// Returns the resource that has the unique name; None if no resource has it (RFC 7643 section 2.2,
@@ -63,7 +64,8 @@ pub trait Shelf {
         alloc: Global,
         name: &UniqueName,
     ) -> Result<Option<Resource>, Failed<ShelfFault>>
-        ensures answer { IfOk result (Answers stands is_honest self.old self.new (λ store found. found ≡ find (has_name (name_of name.now)) store.resources)) }
+        ensures answer { IfOk result (Answers stands is_honest self.old self.new (λ store found.
+            found ≡ find (has_name (name_of name.now)) store.resources)) }
         ensures read { OnlyReads stands is_honest failures self.old self.new result };
 
     /// Passes the groups that list the value among their members to the visitor, in order of id (RFC 7643
@@ -77,7 +79,8 @@ pub trait Shelf {
         visitor: &mut V,
     ) -> Result<(), Failed<ShelfFault>>
         ensures answer { OnOk result ((store : Store) → stands self.old store → is_honest self.new
-            → FoldsTo V.takes visitor.old (filter (is_group_with value.now) store.resources) visitor.new) }
+            → FoldsTo V.takes visitor.old
+            (filter (is_group_with value.now) store.resources) visitor.new) }
         ensures read { OnlyReads stands is_honest failures self.old self.new result };
 
     /// Passes the resources of the kind to the visitor, in order of id.
@@ -106,7 +109,8 @@ pub trait Shelf {
         change: Change,
         row: AuditRow,
     ) -> Result<(), Failed<ShelfFault>>
-        ensures ok { OnOk result ((store : Store) → stands self.old store → AreKeyed store.resources → CanKeep store change
+        ensures ok { OnOk result ((store : Store) → stands self.old store → AreKeyed store.resources
+            → CanKeep store change
             → stands self.new (after change row store)) }
         ensures commits { Commits stands is_honest failures self.old self.new result };
 
@@ -119,8 +123,10 @@ pub trait Shelf {
         change: Change,
         row: AuditRow,
     ) -> Result<(), Failed<ShelfFault>>
-        ensures ok { OnOk result ((store : Store) → stands self.old store → AreKeyed store.resources → CanKeep store change
-            → (is_honest self.new → IsOld store.resources change (option_copied old.entry)) → stands self.new (after change row store)) }
+        ensures ok { OnOk result ((store : Store) → stands self.old store → AreKeyed store.resources
+            → CanKeep store change
+            → (is_honest self.new → IsOld store.resources change (option_copied old.entry))
+            → stands self.new (after change row store)) }
         ensures commits { Commits stands is_honest failures self.old self.new result }
     {
         let _old = old;

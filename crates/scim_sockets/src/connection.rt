@@ -24,7 +24,7 @@ enum Taking {
 /// The result of a connection's turn.
 #[derive(Clone, Copy)]
 pub(crate) enum Turn {
-    /// There is no incident to report.
+    /// There is no event to report.
     Nothing,
     /// This many bytes were read.
     Piece(usize),

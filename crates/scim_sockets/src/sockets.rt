@@ -8,8 +8,8 @@ use crate::stamps::stamp_now;
 use crate::turns::{LISTENER, Place, Turns};
 use mio::net::{TcpListener, TcpStream};
 use mio::{Events, Interest, Poll, Token};
-use scim_hub::{Happened, Recorded};
-use scim_serve::{Incident, Peers, PeersFault};
+use scim_hub::{OwnedEvent, OwnedEventKind};
+use scim_serve::{PeerEvent, Peers, PeersFault};
 use scim_text::Failed;
 use std::alloc::{AllocError, Global};
 use std::io;
@@ -181,18 +181,19 @@ impl<'r, R: Clock + RandomSource> Sockets<'r, R> {
 
     /// Whether the maximum number of connections was accepted and all have left.
     fn is_over(&self) -> bool
-        ensures { IsTrue result → IsOver self.now.most self.now.accepted (btree_map_len self.now.room.turns.connections) }
+        ensures { IsTrue result → IsOver self.now.most self.now.accepted
+            (btree_map_len self.now.room.turns.connections) }
     {
         self.has_accepted_all() && self.room.turns.is_empty()
     }
 
     /// Returns the event for an occurrence on a connection, stamped now.
-    fn tell(&self, connection: u64, happened: Happened) -> Result<Option<Incident>, PeersFault> {
+    fn tell(&self, connection: u64, kind: OwnedEventKind) -> Result<Option<PeerEvent>, PeersFault> {
         match stamp_now(self.rt) {
-            Ok(stamp) => Ok(Some(Incident::Event(Recorded {
+            Ok(stamp) => Ok(Some(PeerEvent::Event(OwnedEvent {
                 connection,
                 stamp,
-                happened,
+                kind,
             }))),
             Err(fault) => Err(fault),
         }
@@ -202,7 +203,7 @@ impl<'r, R: Clock + RandomSource> Sockets<'r, R> {
     ///
     /// If the system refuses for another reason, such as too many open files, accepting is tried again after
     /// the next poll and after a connection has left.
-    fn accept(&mut self) -> Result<Option<Incident>, PeersFault> {
+    fn accept(&mut self) -> Result<Option<PeerEvent>, PeersFault> {
         if self.has_accepted_all() || self.room.turns.is_full() {
             return Ok(None);
         }
@@ -222,7 +223,7 @@ impl<'r, R: Clock + RandomSource> Sockets<'r, R> {
 
     /// Adds an accepted connection. Drops it without a report if it can't be registered or if memory runs
     /// out.
-    fn join(&mut self, mut stream: TcpStream) -> Result<Option<Incident>, PeersFault>
+    fn join(&mut self, mut stream: TcpStream) -> Result<Option<PeerEvent>, PeersFault>
         requires room { btree_map_len self.old.room.turns.connections < 1024 }
     {
         let number = self.accepted;
@@ -234,21 +235,21 @@ impl<'r, R: Clock + RandomSource> Sockets<'r, R> {
             .is_ok();
         let connection = Connection::new(stream, self.time);
         if is_registered && self.room.turns.join(number, connection) {
-            self.tell(number, Happened::Joined)
+            self.tell(number, OwnedEventKind::Joined)
         } else {
             Ok(None)
         }
     }
 
-    /// Gives a connection its turn, and returns the incident. Ends the connection if its piece can't be
+    /// Gives a connection its turn, and returns its event. Ends the connection if its piece can't be
     /// allocated.
-    fn serve(&mut self, alloc: Global, number: u64) -> Result<Option<Incident>, PeersFault> {
+    fn serve(&mut self, alloc: Global, number: u64) -> Result<Option<PeerEvent>, PeersFault> {
         match self.room.turn(number, self.time) {
             Turn::Nothing => Ok(None),
-            Turn::Ready => Ok(Some(Incident::Ready(number))),
-            Turn::Left => self.tell(number, Happened::Left),
+            Turn::Ready => Ok(Some(PeerEvent::Ready(number))),
+            Turn::Left => self.tell(number, OwnedEventKind::Left),
             Turn::Piece(count) => match self.room.piece(alloc, count) {
-                Ok(bytes) => self.tell(number, Happened::Piece(bytes)),
+                Ok(bytes) => self.tell(number, OwnedEventKind::Piece(bytes)),
                 Err(_) => {
                     self.room.turns.end(number);
                     Ok(None)
@@ -270,7 +271,7 @@ impl<'r, R: Clock + RandomSource> Sockets<'r, R> {
     }
 
     /// Runs one turn, or polls if the round is over.
-    fn step(&mut self, alloc: Global) -> Result<Option<Incident>, PeersFault> {
+    fn step(&mut self, alloc: Global) -> Result<Option<PeerEvent>, PeersFault> {
         if self.round == 0 {
             return match self.wait() {
                 Ok(()) => Ok(None),
@@ -285,17 +286,19 @@ impl<'r, R: Clock + RandomSource> Sockets<'r, R> {
         }
     }
 
-    /// Returns the next incident; `None` if the maximum number of connections was accepted and all have left.
-    fn await_incident(&mut self, alloc: Global) -> Result<Option<Incident>, PeersFault>
-        ensures { IfOk result (λ told. IfNone told (IsOver self.new.most self.new.accepted (btree_map_len self.new.room.turns.connections))) }
+    /// Returns the next event; `None` if the maximum number of connections was accepted and all have left.
+    fn await_event(&mut self, alloc: Global) -> Result<Option<PeerEvent>, PeersFault>
+        ensures { IfOk result (λ told.
+            IfNone told (IsOver self.new.most self.new.accepted
+            (btree_map_len self.new.room.turns.connections))) }
     {
         self.look()?;
         for _ in 0..u64::MAX {
             if self.is_over() {
                 return Ok(None);
             }
-            if let Some(incident) = self.step(alloc)? {
-                return Ok(Some(incident));
+            if let Some(peer_event) = self.step(alloc)? {
+                return Ok(Some(peer_event));
             }
         }
         Err(PeersFault)
@@ -328,8 +331,8 @@ impl<'r, R: Clock + RandomSource> Peers for Sockets<'r, R> {
 
     ghost is_over = { λ _. false };
 
-    fn next(&mut self, alloc: Global) -> Result<Option<Incident>, PeersFault> {
-        self.await_incident(alloc)
+    fn next(&mut self, alloc: Global) -> Result<Option<PeerEvent>, PeersFault> {
+        self.await_event(alloc)
     }
 
     fn write(&mut self, connection: u64, bytes: &[u8]) -> usize {

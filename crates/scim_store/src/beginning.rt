@@ -17,11 +17,14 @@ use sqlite::{Alter, Connection, Error};
 pub fn begin_store<S: Alter>(conn: &mut Connection<S>) -> Result<(), Error>
     requires { conn.old.in_transaction ≡ false }
     ensures idle { conn.new.in_transaction ≡ false }
-    ensures made { HasCleanDisk (state S.Store conn.new) → OnOk result (Became (state S.Store conn.old) (state S.Store conn.new) Begins) }
-    ensures undone { HasCleanDisk (state S.Store conn.new) → OnErr result (Undoes (state S.Store conn.old) (state S.Store conn.new)) }
+    ensures made { HasCleanDisk (state S.Store conn.new)
+        → OnOk result (Became (state S.Store conn.old) (state S.Store conn.new) Begins) }
+    ensures undone { HasCleanDisk (state S.Store conn.new)
+        → OnErr result (Undoes (state S.Store conn.old) (state S.Store conn.new)) }
 
     // A crash leaves what it could leave before, or the new tables.
-    ensures crash { Survives (state S.Store conn.old) (state S.Store conn.new) (Leaves Begins (state S.Store conn.old).now) }
+    ensures crash { Survives (state S.Store conn.old) (state S.Store conn.new)
+        (Leaves Begins (state S.Store conn.old).now) }
 {
     create_tables(conn)
 }

@@ -23,7 +23,8 @@ use std::collections::BTreeSet;
 
 /// Returns the unique names of a resource, if any.
 fn names_in(alloc: Global, resource: Option<&Resource>) -> Result<Vec<UniqueName>, NoMemory>
-    ensures { IfOk result (λ names. map name_of names.items ≡ spec.names_in (option_copied resource.entry)) }
+    ensures { IfOk result (λ names. map name_of names.items
+        ≡ spec.names_in (option_copied resource.entry)) }
 {
     match resource {
         Some(resource) => unique_names(alloc, resource),
@@ -37,7 +38,9 @@ fn names_beyond(
     other: Option<&Resource>,
     resource: Option<&Resource>,
 ) -> Result<Vec<UniqueName>, NoMemory>
-    ensures { IfOk result (λ names. map name_of names.items ≡ spec.names_beyond (spec.names_in (option_copied other.entry)) (spec.names_in (option_copied resource.entry))) }
+    ensures { IfOk result (λ names. map name_of names.items
+        ≡ spec.names_beyond (spec.names_in (option_copied other.entry))
+        (spec.names_in (option_copied resource.entry))) }
 {
     let others = names_in(alloc, other)?;
     let mut names = names_in(alloc, resource)?;
@@ -57,7 +60,8 @@ pub(crate) fn values_of(alloc: Global, resource: &Resource) -> Result<BTreeSet<&
 
 /// Returns the set of the values that a resource, if any, lists among its members.
 fn values_in(alloc: Global, resource: Option<&Resource>) -> Result<BTreeSet<&str>, NoMemory>
-    ensures { IfOk result (λ values. (v : List ℕ) → is_in v values ≡ spec.lists_in v (option_copied resource.entry)) }
+    ensures { IfOk result (λ values. (v : List ℕ)
+        → is_in v values ≡ spec.lists_in v (option_copied resource.entry)) }
 {
     match resource {
         Some(resource) => values_of(alloc, resource),
@@ -71,7 +75,8 @@ fn values_beyond<'v>(
     others: &BTreeSet<&'v str>,
     values: &BTreeSet<&'v str>,
 ) -> Result<Vec<Text>, NoMemory>
-    ensures listed { IfOk result (λ beyond. (v : List ℕ) → is_among v beyond.items ≡ (is_in v values.now && not (is_in v others.now))) }
+    ensures listed { IfOk result (λ beyond. (v : List ℕ)
+        → is_among v beyond.items ≡ (is_in v values.now && not (is_in v others.now))) }
     ensures once { IfOk result (λ beyond. AllPairs (λ v w. v ≢ w) beyond.items) }
 {
     let mut beyond = Vec::new(alloc);
@@ -92,7 +97,9 @@ fn replacement<'r>(
 ) -> Result<Edits, NoMemory>
     ensures kind { IfOk result (λ edits. edits.kind ≡ kind) }
     ensures document { IfOk result (λ edits. edits.document ≡ document) }
-    ensures replaces { IfOk result (λ edits. (base : List ℕ) → spec.IsWritten base (option_copied new.entry) edits → spec.Replaces base id (option_copied old.entry) (option_copied new.entry) edits) }
+    ensures replaces { IfOk result (λ edits. (base : List ℕ)
+        → spec.IsWritten base (option_copied new.entry) edits
+        → spec.Replaces base id (option_copied old.entry) (option_copied new.entry) edits) }
 {
     let old_values = values_in(alloc, old)?;
     let new_values = values_in(alloc, new)?;
@@ -113,7 +120,8 @@ pub(crate) fn edits_to_keep(
     resource: &Resource,
     old: Option<&Resource>,
 ) -> Result<Edits, NoMemory>
-    ensures { IfOk result (λ edits. (base : List ℕ) → HasBase base resource.now → spec.Replaces base resource.now.id (option_copied old.entry) (Some resource.now) edits) }
+    ensures { IfOk result (λ edits. (base : List ℕ) → HasBase base resource.now
+        → spec.Replaces base resource.now.id (option_copied old.entry) (Some resource.now) edits) }
 {
     let document = Some(stored_text(alloc, resource)?);
     let part = resource.part();
@@ -127,7 +135,9 @@ pub fn edits_of(
     change: &Change,
     old: Option<&Resource>,
 ) -> Result<Option<Edits>, NoMemory>
-    ensures { IfOk result (λ edits. (base : List ℕ) (cs : List Content) → IsOld cs change.now (option_copied old.entry) → spec.KeepsBelow base change.now → spec.AreEdits base cs change.now edits) }
+    ensures { IfOk result (λ edits. (base : List ℕ) (cs : List Content)
+        → IsOld cs change.now (option_copied old.entry) → spec.KeepsBelow base change.now
+        → spec.AreEdits base cs change.now edits) }
 {
     match change {
         Change::Nothing => Ok(None),

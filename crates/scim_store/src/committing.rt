@@ -89,10 +89,16 @@ fn find_old_of<S: Alter>(
     change: &Change,
 ) -> Result<Option<Resource>, Error>
     ensures mode { conn.old.in_transaction ≡ false → conn.new.in_transaction ≡ false }
-    ensures survives { Survives (state S.Store conn.old) (state S.Store conn.new) (λ _. (state S.Store conn.old).now.schema ≢ store_schema) }
-    ensures found { HasCleanDisk (state S.Store conn.new) → IfOk result (λ found. (store : Store) → StandsIn base.now (state S.Store conn.old) store
-        → IsOld store.resources change.now found × Stays (state S.Store conn.old) (state S.Store conn.new) × ((state S.Store conn.new).now ≡ (state S.Store conn.old).now)) }
-    ensures undone { HasCleanDisk (state S.Store conn.new) → OnErr result ((store : Store) → HasStore base.now (state S.Store conn.old) store → HasStore base.now (state S.Store conn.new) store) }
+    ensures survives { Survives (state S.Store conn.old) (state S.Store conn.new)
+        (λ _. (state S.Store conn.old).now.schema ≢ store_schema) }
+    ensures found { HasCleanDisk (state S.Store conn.new)
+        → IfOk result (λ found. (store : Store) → StandsIn base.now (state S.Store conn.old) store
+        → IsOld store.resources change.now found
+        × Stays (state S.Store conn.old) (state S.Store conn.new)
+        × ((state S.Store conn.new).now ≡ (state S.Store conn.old).now)) }
+    ensures undone { HasCleanDisk (state S.Store conn.new)
+        → OnErr result ((store : Store) → HasStore base.now (state S.Store conn.old) store
+        → HasStore base.now (state S.Store conn.new) store) }
 {
     match change {
         Change::Nothing => Ok(None),
@@ -126,16 +132,25 @@ pub fn commit_over<S: Alter>(
     requires idle { conn.old.in_transaction ≡ false }
     requires number { number ≤ last_number }
     ensures idle { conn.new.in_transaction ≡ false }
-    ensures made { HasCleanDisk (state S.Store conn.new) → OnOk result ((store : Store) → HasStore base.now (state S.Store conn.old) store
-        → IsDueOver (option_copied old.entry) change.now number store → HasStore base.now (state S.Store conn.new) (after change.now row.now store)) }
-    ensures undone { HasCleanDisk (state S.Store conn.new) → OnErr result ((store : Store) → HasStore base.now (state S.Store conn.old) store → HasStore base.now (state S.Store conn.new) store) }
+    ensures made { HasCleanDisk (state S.Store conn.new)
+        → OnOk result ((store : Store) → HasStore base.now (state S.Store conn.old) store
+        → IsDueOver (option_copied old.entry) change.now number store
+        → HasStore base.now (state S.Store conn.new) (after change.now row.now store)) }
+    ensures undone { HasCleanDisk (state S.Store conn.new)
+        → OnErr result ((store : Store) → HasStore base.now (state S.Store conn.old) store
+        → HasStore base.now (state S.Store conn.new) store) }
 
     // A crash leaves what it could leave before, or the tables with the change and its audit row.
-    ensures crash { Survives (state S.Store conn.old) (state S.Store conn.new) (Leaves (Changes base.now change.now row.now (IsDueOver (option_copied old.entry) change.now number)) (state S.Store conn.old).now) }
+    ensures crash { Survives (state S.Store conn.old) (state S.Store conn.new)
+        (Leaves (Changes base.now change.now row.now
+        (IsDueOver (option_copied old.entry) change.now number)) (state S.Store conn.old).now) }
 
     // After Ok, a crash leaves these tables.
-    ensures durable { HasCleanDisk (state S.Store conn.new) → OnOk result ((store : Store) → HasStore base.now (state S.Store conn.old) store
-        → IsDueOver (option_copied old.entry) change.now number store → (trees : Trees) → (state S.Store conn.new).may_leave trees → AreOf base.now (after change.now row.now store) trees) }
+    ensures durable { HasCleanDisk (state S.Store conn.new)
+        → OnOk result ((store : Store) → HasStore base.now (state S.Store conn.old) store
+        → IsDueOver (option_copied old.entry) change.now number store → (trees : Trees)
+        → (state S.Store conn.new).may_leave trees
+        → AreOf base.now (after change.now row.now store) trees) }
 {
     if !keeps_below(alloc, base, change)? {
         return Err(CommitFault::OtherBase);
@@ -160,16 +175,24 @@ pub fn commit_change<S: Alter>(
     requires idle { conn.old.in_transaction ≡ false }
     requires number { number ≤ last_number }
     ensures idle { conn.new.in_transaction ≡ false }
-    ensures made { HasCleanDisk (state S.Store conn.new) → OnOk result ((store : Store) → HasStore base.now (state S.Store conn.old) store
-        → IsDue change.now number store → HasStore base.now (state S.Store conn.new) (after change.now row.now store)) }
-    ensures undone { HasCleanDisk (state S.Store conn.new) → OnErr result ((store : Store) → HasStore base.now (state S.Store conn.old) store → HasStore base.now (state S.Store conn.new) store) }
+    ensures made { HasCleanDisk (state S.Store conn.new)
+        → OnOk result ((store : Store) → HasStore base.now (state S.Store conn.old) store
+        → IsDue change.now number store
+        → HasStore base.now (state S.Store conn.new) (after change.now row.now store)) }
+    ensures undone { HasCleanDisk (state S.Store conn.new)
+        → OnErr result ((store : Store) → HasStore base.now (state S.Store conn.old) store
+        → HasStore base.now (state S.Store conn.new) store) }
 
     // A crash leaves what it could leave before, or the tables with the change and its audit row.
-    ensures crash { Survives (state S.Store conn.old) (state S.Store conn.new) (Leaves (Changes base.now change.now row.now (IsDue change.now number)) (state S.Store conn.old).now) }
+    ensures crash { Survives (state S.Store conn.old) (state S.Store conn.new)
+        (Leaves (Changes base.now change.now row.now (IsDue change.now number))
+        (state S.Store conn.old).now) }
 
     // After Ok, a crash leaves these tables.
-    ensures durable { HasCleanDisk (state S.Store conn.new) → OnOk result ((store : Store) → HasStore base.now (state S.Store conn.old) store
-        → IsDue change.now number store → (trees : Trees) → (state S.Store conn.new).may_leave trees → AreOf base.now (after change.now row.now store) trees) }
+    ensures durable { HasCleanDisk (state S.Store conn.new)
+        → OnOk result ((store : Store) → HasStore base.now (state S.Store conn.old) store
+        → IsDue change.now number store → (trees : Trees) → (state S.Store conn.new).may_leave trees
+        → AreOf base.now (after change.now row.now store) trees) }
 {
     let old = find_old_of(conn, alloc, base, change)?;
     commit_over(conn, alloc, base, old.as_ref(), change, row, number)

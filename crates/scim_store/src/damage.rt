@@ -122,7 +122,8 @@ fn are_members(rows: &[Row], id: &str, values: &[Text]) -> bool
 
 /// Returns the values that a resource lists among its members, each once, in order.
 fn listed_values(alloc: Global, resource: &Resource) -> Result<Vec<Text>, NoMemory>
-    ensures listed { IfOk result (λ values. (v : List ℕ) → is_among v values.items ≡ lists_value v resource.now) }
+    ensures listed { IfOk result (λ values. (v : List ℕ)
+        → is_among v values.items ≡ lists_value v resource.now) }
     ensures rising { IfOk result (λ values. IsStrictlySortedBy (slice_cmp nat_cmp) values.items) }
 {
     let values = values_of(alloc, resource)?;
@@ -148,7 +149,8 @@ fn has_number(row: &Row, place: usize, number: u32) -> bool
 
 /// Whether a row is that of the resource, with this document.
 fn is_row_of(row: &Row, resource: &Resource, document: &str) -> bool
-    ensures { result ≡ code.is_row (id_text resource.now.id) (spec_number resource.now.kind) document.now row.now }
+    ensures { result ≡ code.is_row (id_text resource.now.id)
+        (spec_number resource.now.kind) document.now row.now }
 {
     let mut buffer = [0; Id::TEXT_LENGTH];
     row.column_count() == 3
@@ -182,7 +184,8 @@ fn read_resource(
     row: &Row,
 ) -> Result<Option<Resource>, Failed<Unreadable>>
     ensures some { IfOk result (λ found. IfSome found (code.IsRowOf base.now row.now)) }
-    ensures none { IfOk result (λ found. found ≡ None → (c : Content) → code.IsRowOf base.now row.now c → ⊥) }
+    ensures none { IfOk result (λ found. found ≡ None → (c : Content)
+        → code.IsRowOf base.now row.now c → ⊥) }
 {
     let Some(document) = document_of(row)? else {
         return Ok(None);
@@ -206,8 +209,10 @@ fn has_rows(
     names: &[Row],
     members: &[Row],
 ) -> Result<bool, NoMemory>
-    ensures yes { IfOk result (λ has. has ≡ true → code.HasRows resource.now names.now members.now) }
-    ensures no { IfOk result (λ has. has ≡ false → code.HasRows resource.now names.now members.now → ⊥) }
+    ensures yes { IfOk result (λ has. has ≡ true
+        → code.HasRows resource.now names.now members.now) }
+    ensures no { IfOk result (λ has. has ≡ false → code.HasRows resource.now names.now members.now
+        → ⊥) }
 {
     let mut buffer = [0; Id::TEXT_LENGTH];
     let id = resource.id().write(&mut buffer);
@@ -225,8 +230,10 @@ fn are_of_one(
     names: &[Row],
     members: &[Row],
 ) -> Result<bool, Failed<Unreadable>>
-    ensures yes { IfOk result (λ holds. holds ≡ true → code.AreOfOne base.now resources.now names.now members.now) }
-    ensures no { IfOk result (λ holds. holds ≡ false → code.AreOfOne base.now resources.now names.now members.now → ⊥) }
+    ensures yes { IfOk result (λ holds. holds ≡ true
+        → code.AreOfOne base.now resources.now names.now members.now) }
+    ensures no { IfOk result (λ holds. holds ≡ false
+        → code.AreOfOne base.now resources.now names.now members.now → ⊥) }
 {
     match resources {
         [] => Ok(names.is_empty() && members.is_empty()),
@@ -256,8 +263,10 @@ fn holds_at(
     places: &mut Places,
 ) -> Result<bool, Failed<Unreadable>>
     ensures id { IsId id }
-    ensures yes { spec.AreOrdered tables.now → IfOk result (λ holds. holds ≡ true → spec.HoldsAt base.now tables.now id) }
-    ensures no { spec.AreOrdered tables.now → IfOk result (λ holds. holds ≡ false → spec.HoldsAt base.now tables.now id → ⊥) }
+    ensures yes { spec.AreOrdered tables.now
+        → IfOk result (λ holds. holds ≡ true → spec.HoldsAt base.now tables.now id) }
+    ensures no { spec.AreOrdered tables.now
+        → IfOk result (λ holds. holds ≡ false → spec.HoldsAt base.now tables.now id → ⊥) }
 {
     let mut buffer = [0; Id::TEXT_LENGTH];
     let text = id.write(&mut buffer);
@@ -275,9 +284,13 @@ fn first_damage(
     tables: &ResourceRows,
     ids: &BTreeSet<Id>,
 ) -> Result<Option<Id>, Failed<Unreadable>>
-    requires others { (id : List ℕ) → IsId id → contains (slice_cmp nat_cmp) ids.now id ≡ false → spec.HoldsAt base.now tables.now id }
-    ensures some { spec.AreOrdered tables.now → IfOk result (λ found. IfSome found (spec.IsLeastDamage base.now tables.now)) }
-    ensures none { spec.AreOrdered tables.now → IfOk result (λ found. found ≡ None → (id : List ℕ) → IsId id → spec.HoldsAt base.now tables.now id) }
+    requires others { (id : List ℕ) → IsId id → contains (slice_cmp nat_cmp) ids.now id ≡ false
+        → spec.HoldsAt base.now tables.now id }
+    ensures some { spec.AreOrdered tables.now
+        → IfOk result (λ found. IfSome found (spec.IsLeastDamage base.now tables.now)) }
+    ensures none { spec.AreOrdered tables.now
+        → IfOk result (λ found. found ≡ None → (id : List ℕ) → IsId id
+        → spec.HoldsAt base.now tables.now id) }
     ensures ids { IfOk result (λ found. found ≡ None → All IsId ids.now.keys) }
     ensures rising { IsStrictlySortedBy (slice_cmp nat_cmp) ids.now.keys }
 {
@@ -297,7 +310,8 @@ fn first_damage(
 /// Returns the ids that the rows of the tables belong to.
 fn owners(alloc: Global, tables: &ResourceRows) -> Result<BTreeSet<Id>, NoMemory>
     ensures { IfOk result (λ ids. (id : List ℕ) → IsId id → contains (slice_cmp nat_cmp) ids id
-        ≡ ((is_owner tables.now.resources id || is_owner tables.now.names id) || is_owner tables.now.members id)) }
+        ≡ ((is_owner tables.now.resources id || is_owner tables.now.names id)
+        || is_owner tables.now.members id)) }
 {
     let mut ids = BTreeSet::new(alloc);
     note_owners(tables.resources.as_slice(), &mut ids)?;
@@ -323,7 +337,8 @@ fn text_of_name(name: &Row) -> Option<&[u8]>
 /// attribute has unique names, and a resource has at most one such name.
 fn are_apart(alloc: Global, names: &[Row]) -> Result<bool, NoMemory>
     ensures yes { IfOk result (λ apart. apart ≡ true → IsDistinct spec.is_shared names.now) }
-    ensures no { IfOk result (λ apart. apart ≡ false → All code.HasName names.now → IsDistinct spec.is_shared names.now → ⊥) }
+    ensures no { IfOk result (λ apart. apart ≡ false → All code.HasName names.now
+        → IsDistinct spec.is_shared names.now → ⊥) }
 {
     let mut texts = HashSet::with_capacity(alloc, names.len())?;
     for name in names {
@@ -342,7 +357,8 @@ fn are_owned(resources: &[Row], names: &[Row], members: &[Row]) -> bool
     ensures resources { result ≡ true → All HasOwner resources.now }
     ensures names { result ≡ true → All HasOwner names.now }
     ensures members { result ≡ true → All HasOwner members.now }
-    ensures no { result ≡ false → All HasOwner resources.now → All HasOwner names.now → All HasOwner members.now → ⊥ }
+    ensures no { result ≡ false → All HasOwner resources.now → All HasOwner names.now
+        → All HasOwner members.now → ⊥ }
 {
     if !have_owners(resources) {
         return false;
@@ -356,8 +372,10 @@ fn are_owned(resources: &[Row], names: &[Row], members: &[Row]) -> bool
 /// Whether rows are those of resources, given that the rows of each id are valid.
 fn are_sound(alloc: Global, tables: &ResourceRows) -> Result<bool, NoMemory>
     ensures owned { IfOk result (λ sound. sound ≡ true → code.AreAllOwned tables.now) }
-    ensures apart { IfOk result (λ sound. sound ≡ true → IsDistinct spec.is_shared tables.now.names) }
-    ensures no { IfOk result (λ sound. sound ≡ false → (base : List ℕ) → spec.AreSound base tables.now → ⊥) }
+    ensures apart { IfOk result (λ sound. sound ≡ true
+        → IsDistinct spec.is_shared tables.now.names) }
+    ensures no { IfOk result (λ sound. sound ≡ false → (base : List ℕ)
+        → spec.AreSound base tables.now → ⊥) }
 {
     let names = tables.names.as_slice();
     if !are_owned(

@@ -80,10 +80,13 @@ fn insert_rows<S: Alter>(
     resource: &Resource,
 ) -> Result<(), ImportFault>
     ensures same_reference { tx.new.conn.ghost_name ≡ tx.old.conn.ghost_name }
-    ensures went { Goes (state S.Store tx.old.conn.now) (state S.Store tx.new.conn.now) result (λ old new.
-        (base : List ℕ) (cs : List Content) → HasBase base resource.now → HoldRowsOf base cs old → HoldRowsOf base (resource.now ∷ cs) new) }
+    ensures went { Goes (state S.Store tx.old.conn.now) (state S.Store tx.new.conn.now) result
+        (λ old new.
+        (base : List ℕ) (cs : List Content) → HasBase base resource.now → HoldRowsOf base cs old
+        → HoldRowsOf base (resource.now ∷ cs) new) }
     ensures kept { Keeps (state S.Store tx.old.conn.now) (state S.Store tx.new.conn.now) }
-    ensures survives { Survives (state S.Store tx.old.conn.now) (state S.Store tx.new.conn.now) (λ _. ⊥) }
+    ensures survives { Survives (state S.Store tx.old.conn.now) (state S.Store tx.new.conn.now)
+        (λ _. ⊥) }
     ensures not_empty { result ≢ Err ImportFault.NotEmpty }
     ensures other_base { result ≢ Err ImportFault.OtherBase }
 {
@@ -99,10 +102,13 @@ fn insert_all<S: Alter>(
     resources: &[Resource],
 ) -> Result<(), ImportFault>
     ensures same_reference { tx.new.conn.ghost_name ≡ tx.old.conn.ghost_name }
-    ensures went { Goes (state S.Store tx.old.conn.now) (state S.Store tx.new.conn.now) result (λ old new.
-        (base : List ℕ) → All (HasBase base) resources.now → Are old no_rows → HoldRowsOf base resources.now new) }
+    ensures went { Goes (state S.Store tx.old.conn.now) (state S.Store tx.new.conn.now) result
+        (λ old new.
+        (base : List ℕ) → All (HasBase base) resources.now → Are old no_rows
+        → HoldRowsOf base resources.now new) }
     ensures kept { Keeps (state S.Store tx.old.conn.now) (state S.Store tx.new.conn.now) }
-    ensures survives { Survives (state S.Store tx.old.conn.now) (state S.Store tx.new.conn.now) (λ _. ⊥) }
+    ensures survives { Survives (state S.Store tx.old.conn.now) (state S.Store tx.new.conn.now)
+        (λ _. ⊥) }
     ensures not_empty { result ≢ Err ImportFault.NotEmpty }
     ensures other_base { result ≢ Err ImportFault.OtherBase }
 {
@@ -119,9 +125,11 @@ fn make_store<S: Alter>(
     resources: &[Resource],
 ) -> Result<(), ImportFault>
     ensures same_reference { tx.new.conn.ghost_name ≡ tx.old.conn.ghost_name }
-    ensures went { Goes (state S.Store tx.old.conn.now) (state S.Store tx.new.conn.now) result (Fills resources.now) }
+    ensures went { Goes (state S.Store tx.old.conn.now) (state S.Store tx.new.conn.now) result
+        (Fills resources.now) }
     ensures kept { Keeps (state S.Store tx.old.conn.now) (state S.Store tx.new.conn.now) }
-    ensures survives { Survives (state S.Store tx.old.conn.now) (state S.Store tx.new.conn.now) (λ _. ⊥) }
+    ensures survives { Survives (state S.Store tx.old.conn.now) (state S.Store tx.new.conn.now)
+        (λ _. ⊥) }
     ensures not_empty { result ≢ Err ImportFault.NotEmpty }
     ensures other_base { result ≢ Err ImportFault.OtherBase }
 {
@@ -137,9 +145,13 @@ fn fill<S: Alter>(
 ) -> Result<(), ImportFault>
     requires { conn.old.in_transaction ≡ false }
     ensures idle { conn.new.in_transaction ≡ false }
-    ensures made { HasCleanDisk (state S.Store conn.new) → OnOk result (Became (state S.Store conn.old) (state S.Store conn.new) (Fills resources.now)) }
-    ensures undone { HasCleanDisk (state S.Store conn.new) → OnErr result (Undoes (state S.Store conn.old) (state S.Store conn.new)) }
-    ensures crash { Survives (state S.Store conn.old) (state S.Store conn.new) (Leaves (Fills resources.now) (state S.Store conn.old).now) }
+    ensures made { HasCleanDisk (state S.Store conn.new)
+        → OnOk result (Became (state S.Store conn.old) (state S.Store conn.new)
+        (Fills resources.now)) }
+    ensures undone { HasCleanDisk (state S.Store conn.new)
+        → OnErr result (Undoes (state S.Store conn.old) (state S.Store conn.new)) }
+    ensures crash { Survives (state S.Store conn.old) (state S.Store conn.new)
+        (Leaves (Fills resources.now) (state S.Store conn.old).now) }
     ensures not_empty { result ≢ Err ImportFault.NotEmpty }
     ensures other_base { result ≢ Err ImportFault.OtherBase }
 {
@@ -167,18 +179,25 @@ pub fn import<S: Alter>(
 ) -> Result<(), ImportFault>
     requires { conn.old.in_transaction ≡ false }
     ensures idle { conn.new.in_transaction ≡ false }
-    ensures made { HasCleanDisk (state S.Store conn.new) → OnOk result (((state S.Store conn.old).now.schema ≡ no_schema)
-        × ((store : Store) → IsNewStore resources.now store → HasStore base.now (state S.Store conn.new) store)) }
-    ensures undone { HasCleanDisk (state S.Store conn.new) → OnErr result (Rests (state S.Store conn.old) (state S.Store conn.new)) }
-    ensures not_empty { HasCleanDisk (state S.Store conn.new) → result ≡ Err ImportFault.NotEmpty → (state S.Store conn.old).now.schema ≢ no_schema }
-    ensures other_base { result ≡ Err ImportFault.OtherBase → ¬ All (HasBase base.now) resources.now }
+    ensures made { HasCleanDisk (state S.Store conn.new)
+        → OnOk result (((state S.Store conn.old).now.schema ≡ no_schema)
+        × ((store : Store) → IsNewStore resources.now store
+        → HasStore base.now (state S.Store conn.new) store)) }
+    ensures undone { HasCleanDisk (state S.Store conn.new)
+        → OnErr result (Rests (state S.Store conn.old) (state S.Store conn.new)) }
+    ensures not_empty { HasCleanDisk (state S.Store conn.new) → result ≡ Err ImportFault.NotEmpty
+        → (state S.Store conn.old).now.schema ≢ no_schema }
+    ensures other_base { result ≡ Err ImportFault.OtherBase
+        → ¬ All (HasBase base.now) resources.now }
 
     // A crash leaves what it could leave before, or, if the database was empty, the tables with all these
     // resources.
-    ensures crash { Survives (state S.Store conn.old) (state S.Store conn.new) (LeavesImported base.now resources.now (state S.Store conn.old)) }
+    ensures crash { Survives (state S.Store conn.old) (state S.Store conn.new)
+        (LeavesImported base.now resources.now (state S.Store conn.old)) }
 
     // After Ok, a crash leaves these tables.
-    ensures durable { HasCleanDisk (state S.Store conn.new) → OnOk result ((store : Store) → IsNewStore resources.now store
+    ensures durable { HasCleanDisk (state S.Store conn.new)
+        → OnOk result ((store : Store) → IsNewStore resources.now store
         → (trees : Trees) → (state S.Store conn.new).may_leave trees → AreOf base.now store trees) }
 {
     if !are_below(alloc, base, resources)? {

@@ -72,7 +72,8 @@ fn judge_resources(alloc: Global, base: &str, tables: &ResourceRows) -> Result<J
 /// Examines all rows of the tables. Fails with out of memory, or with a corrupt database if a document isn't
 /// UTF-8.
 fn examine_rows(alloc: Global, base: &str, rows: TableRows) -> Result<Examined, Error>
-    ensures { IfOk result (λ it. (db : Database) → Are db (shown db) → AreRowsOf (shown db) rows → spec.IsFor base.now db it) }
+    ensures { IfOk result (λ it. (db : Database) → Are db (shown db) → AreRowsOf (shown db) rows
+        → spec.IsFor base.now db it) }
 {
     let TableRows {
         resources,
@@ -104,10 +105,13 @@ pub fn examine<S: Alter>(
     base: &str,
 ) -> Result<Examined, Error>
     ensures mode { conn.old.in_transaction ≡ false → conn.new.in_transaction ≡ false }
-    ensures clean { doubt (state S.Store conn.old).is_clean ≤ doubt (state S.Store conn.new).is_clean }
+    ensures clean { doubt (state S.Store conn.old).is_clean
+        ≤ doubt (state S.Store conn.new).is_clean }
     ensures survives { Survives (state S.Store conn.old) (state S.Store conn.new) (λ _. ⊥) }
-    ensures examined { HasCleanDisk (state S.Store conn.new) → IfOk result (spec.Examines base.now (state S.Store conn.old) (state S.Store conn.new)) }
-    ensures rests { HasCleanDisk (state S.Store conn.new) → OnErr result (Rests (state S.Store conn.old) (state S.Store conn.new)) }
+    ensures examined { HasCleanDisk (state S.Store conn.new)
+        → IfOk result (spec.Examines base.now (state S.Store conn.old) (state S.Store conn.new)) }
+    ensures rests { HasCleanDisk (state S.Store conn.new)
+        → OnErr result (Rests (state S.Store conn.old) (state S.Store conn.new)) }
 {
     match read_tables(conn)? {
         Reading::Empty => Ok(Examined::Empty),

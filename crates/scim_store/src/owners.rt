@@ -58,7 +58,8 @@ fn compare_owner(row: &Row, text: &str) -> Ordering
 /// Whether the rows before `place` begin with less than the text and the others don't, judged by the two rows
 /// beside it. The rows must be sorted by their first column.
 fn is_start(rows: &[Row], text: &str, place: usize) -> bool
-    ensures { result ≡ true → IsPartedAt (λ r. is_lt (value_cmp (column r 0) (Text text.now))) rows.now place }
+    ensures { result ≡ true → IsPartedAt (λ r.
+        is_lt (value_cmp (column r 0) (Text text.now))) rows.now place }
 {
     place <= rows.len()
         && (place == 0 || compare_owner(&rows[place - 1], text).is_lt())
@@ -69,7 +70,8 @@ fn is_start(rows: &[Row], text: &str, place: usize) -> bool
 /// `near` before it searches.
 fn start_of(rows: &[Row], text: &str, near: usize) -> usize
     ensures within { result ≤ length rows.now }
-    ensures start { DoNotFall (0 ∷ []) rows.now → IsPartitionPoint (λ r. is_lt (value_cmp (column r 0) (Text text.now)) ≡ true)
+    ensures start { DoNotFall (0 ∷ []) rows.now
+        → IsPartitionPoint (λ r. is_lt (value_cmp (column r 0) (Text text.now)) ≡ true)
         (λ r. is_lt (value_cmp (column r 0) (Text text.now)) ≡ false) rows.now result }
 {
     if is_start(rows, text, near) {
@@ -82,7 +84,8 @@ fn start_of(rows: &[Row], text: &str, near: usize) -> usize
 /// first column.
 fn count_of(rows: &[Row], text: &str) -> usize
     ensures within { result ≤ length rows.now }
-    ensures count { DoNotFall (0 ∷ []) rows.now → IsPartitionPoint (λ r. is_le (value_cmp (column r 0) (Text text.now)) ≡ true)
+    ensures count { DoNotFall (0 ∷ []) rows.now
+        → IsPartitionPoint (λ r. is_le (value_cmp (column r 0) (Text text.now)) ≡ true)
         (λ r. is_le (value_cmp (column r 0) (Text text.now)) ≡ false) rows.now result }
 {
     for (place, row) in rows.iter().enumerate() {
@@ -96,7 +99,8 @@ fn count_of(rows: &[Row], text: &str) -> usize
 /// Returns the rows whose first column is the text. The rows must be sorted by that column. Starts at `near`
 /// and leaves it behind the rows returned, so look-ups in ascending order need no search.
 pub(crate) fn rows_of<'r>(rows: &'r [Row], text: &str, near: &mut usize) -> &'r [Row]
-    ensures { DoNotFall (0 ∷ []) rows.now → result.now ≡ filter (tables.has_text 0 text.now) rows.now }
+    ensures { DoNotFall (0 ∷ []) rows.now
+        → result.now ≡ filter (tables.has_text 0 text.now) rows.now }
 {
     let start = start_of(rows, text, *near);
     let rest = &rows[start..];
@@ -147,7 +151,9 @@ pub(crate) fn have_owners(rows: &[Row]) -> bool
 
 /// Adds the ids in the first columns of the rows to the set. After an error some of them may be in it.
 pub(crate) fn note_owners(rows: &[Row], ids: &mut BTreeSet<Id>) -> Result<(), NoMemory>
-    ensures { OnOk result ((id : List ℕ) → IsId id → contains (slice_cmp nat_cmp) ids.new id ≡ (contains (slice_cmp nat_cmp) ids.old id || is_owner rows.now id)) }
+    ensures { OnOk result ((id : List ℕ) → IsId id
+        → contains (slice_cmp nat_cmp) ids.new id
+        ≡ (contains (slice_cmp nat_cmp) ids.old id || is_owner rows.now id)) }
 {
     for row in rows {
         if let Some(id) = owner_of(row) {

@@ -84,9 +84,13 @@ impl<S: Alter> SqlShelf<S> {
         requires { connection.in_transaction ≡ false }
         ensures base { IfOk result (λ shelf. shelf.base ≡ base.now) }
         ensures same { IfOk result (λ shelf. shelf.connection ≡ connection) }
-        ensures kept { IfOk result (λ shelf. HasCleanDisk (state S.Store shelf.connection) → HasCleanDisk (state S.Store connection)
-            × ((store : Store) → StandsIn base.now (state S.Store connection) store → length store.audit ≡ rows → IsKeptIn base.now (state S.Store shelf.connection) shelf.rows store)) }
-        ensures refused { IfErr result (λ e. (base : List ℕ) (db : Database) → Refuses base db e.0) }
+        ensures kept { IfOk result (λ shelf. HasCleanDisk (state S.Store shelf.connection)
+            → HasCleanDisk (state S.Store connection)
+            × ((store : Store) → StandsIn base.now (state S.Store connection) store
+            → length store.audit ≡ rows
+            → IsKeptIn base.now (state S.Store shelf.connection) shelf.rows store)) }
+        ensures refused { IfErr result (λ e. (base : List ℕ) (db : Database)
+            → Refuses base db e.0) }
         ensures given_back { IfErr result (λ e. e.1 ≡ connection) }
     {
         if rows > LAST_NUMBER || !connection.is_autocommit() {
@@ -111,13 +115,20 @@ impl<S: Alter> SqlShelf<S> {
         base: &str,
     ) -> Result<SqlShelf<S>, (OpenFault, Connection<S>)>
         requires { connection.in_transaction ≡ false }
-        ensures kept { IfOk result (λ shelf. HasCleanDisk (state S.Store shelf.connection) → HasCleanDisk (state S.Store connection) × IsTrue (state S.Store connection).is_open
-            × ((state S.Store connection).now.schema ≡ no_schema → IsKeptIn base.now (state S.Store shelf.connection) shelf.rows no_store)) }
+        ensures kept { IfOk result (λ shelf. HasCleanDisk (state S.Store shelf.connection)
+            → HasCleanDisk (state S.Store connection) × IsTrue (state S.Store connection).is_open
+            × ((state S.Store connection).now.schema ≡ no_schema
+            → IsKeptIn base.now (state S.Store shelf.connection) shelf.rows no_store)) }
         ensures base { IfOk result (λ shelf. shelf.base ≡ base.now) }
-        ensures refused { IfErr result (λ e. (base : List ℕ) (db : Database) → Refuses base db e.0) }
-        ensures clean { IfErr result (λ e. HasCleanDisk (state S.Store e.1) → HasCleanDisk (state S.Store connection)) }
-        ensures crash { IfOk result (λ shelf. Survives (state S.Store connection) (state S.Store shelf.connection) (Leaves Begins (state S.Store connection).now)) }
-        ensures crash_at_err { IfErr result (λ e. Survives (state S.Store connection) (state S.Store e.1) (Leaves Begins (state S.Store connection).now)) }
+        ensures refused { IfErr result (λ e. (base : List ℕ) (db : Database)
+            → Refuses base db e.0) }
+        ensures clean { IfErr result (λ e. HasCleanDisk (state S.Store e.1)
+            → HasCleanDisk (state S.Store connection)) }
+        ensures crash { IfOk result (λ shelf.
+            Survives (state S.Store connection) (state S.Store shelf.connection)
+            (Leaves Begins (state S.Store connection).now)) }
+        ensures crash_at_err { IfErr result (λ e. Survives (state S.Store connection)
+            (state S.Store e.1) (Leaves Begins (state S.Store connection).now)) }
     {
         let mut connection = connection;
         match begin_store(&mut connection) {
@@ -141,14 +152,22 @@ impl<S: Alter> SqlShelf<S> {
     ) -> Result<SqlShelf<S>, (OpenFault, Connection<S>)>
         requires { connection.in_transaction ≡ false }
         ensures base { IfOk result (λ shelf. shelf.base ≡ base.now) }
-        ensures opened { IfOk result (λ shelf. HasCleanDisk (state S.Store shelf.connection) → (store : Store) × HasOpened base.now (state S.Store connection).now (state S.Store shelf.connection) shelf.rows store) }
-        ensures refused { IfErr result (λ e. HasCleanDisk (state S.Store e.1) → Refuses base.now (state S.Store connection).now e.0) }
-        ensures rests { IfErr result (λ e. HasCleanDisk (state S.Store e.1) → (state S.Store connection).now.schema ≢ no_schema → Rests (state S.Store connection) (state S.Store e.1)) }
+        ensures opened { IfOk result (λ shelf. HasCleanDisk (state S.Store shelf.connection)
+            → (store : Store) × HasOpened base.now (state S.Store connection).now
+            (state S.Store shelf.connection) shelf.rows store) }
+        ensures refused { IfErr result (λ e. HasCleanDisk (state S.Store e.1)
+            → Refuses base.now (state S.Store connection).now e.0) }
+        ensures rests { IfErr result (λ e. HasCleanDisk (state S.Store e.1)
+            → (state S.Store connection).now.schema ≢ no_schema
+            → Rests (state S.Store connection) (state S.Store e.1)) }
 
         // A crash leaves what it could leave before, or, if the database was empty, the tables of an empty
         // store.
-        ensures crash { IfOk result (λ shelf. Survives (state S.Store connection) (state S.Store shelf.connection) (LeavesBegun base.now (state S.Store connection))) }
-        ensures crash_at_err { IfErr result (λ e. Survives (state S.Store connection) (state S.Store e.1) (LeavesBegun base.now (state S.Store connection))) }
+        ensures crash { IfOk result (λ shelf.
+            Survives (state S.Store connection) (state S.Store shelf.connection)
+            (LeavesBegun base.now (state S.Store connection))) }
+        ensures crash_at_err { IfErr result (λ e. Survives (state S.Store connection)
+            (state S.Store e.1) (LeavesBegun base.now (state S.Store connection))) }
     {
         let mut connection = connection;
         let examined = match examine(&mut connection, alloc, base) {
@@ -175,7 +194,8 @@ impl<S: Alter> SqlShelf<S> {
         from: u64,
         count: u64,
     ) -> Result<Vec<AuditRow>, Failed<ShelfFault>>
-        ensures answer { IfOk result (Answers ⟦<SqlShelf<S> as Shelf>⟧.stands ⟦<SqlShelf<S> as Shelf>⟧.is_honest self.old self.new (λ store rows. AreRowsFrom from count store rows.items)) }
+        ensures answer { IfOk result (Answers ⟦<SqlShelf<S> as Shelf>⟧.stands ⟦<SqlShelf<S> as Shelf>⟧.is_honest self.old self.new (λ store rows.
+            AreRowsFrom from count store rows.items)) }
         ensures read { OnlyReads ⟦<SqlShelf<S> as Shelf>⟧.stands ⟦<SqlShelf<S> as Shelf>⟧.is_honest ⟦<SqlShelf<S> as Shelf>⟧.failures self.old self.new result }
     {
         let read = read_audit_rows(&mut self.connection, alloc, from, count);
@@ -185,7 +205,9 @@ impl<S: Alter> SqlShelf<S> {
     /// Returns the connection, with the tables as they are.
     pub fn into_connection(self) -> Connection<S>
         ensures idle { result.in_transaction ≡ false }
-        ensures stands { (store : Store) → ⟦<SqlShelf<S> as Shelf>⟧.stands self store → HasCleanDisk (state S.Store result) → HasStore self.base (state S.Store result) store }
+        ensures stands { (store : Store) → ⟦<SqlShelf<S> as Shelf>⟧.stands self store
+            → HasCleanDisk (state S.Store result)
+            → HasStore self.base (state S.Store result) store }
     {
         let SqlShelf {
             connection,
@@ -201,7 +223,8 @@ impl<S: Alter> SqlShelf<S> {
 /// `failures`.
 fn fault_of(failures: &mut u64, fault: &CommitFault) -> Failed<ShelfFault>
     ensures grown { failures.old ≤ failures.new }
-    ensures device { result ≡ Failed.Because ShelfFault.Device → (failures.old < failures.new) ⊎ (failures.old ≡ 18446744073709551615) }
+    ensures device { result ≡ Failed.Because ShelfFault.Device → (failures.old < failures.new)
+        ⊎ (failures.old ≡ 18446744073709551615) }
     ensures not_full { result ≢ Failed.Because ShelfFault.Full }
 {
     match fault {

@@ -21,10 +21,13 @@ use sqlite::{Alter, Connection, Error, ErrorCode, Transaction};
 /// Deletes unique names.
 fn delete_names<S: Alter>(tx: &mut Transaction<'_, S>, names: &[UniqueName]) -> Result<(), Error>
     ensures same_reference { tx.new.conn.ghost_name ≡ tx.old.conn.ghost_name }
-    ensures went { Goes (state S.Store tx.old.conn.now) (state S.Store tx.new.conn.now) result (λ old new.
-        (lists : Lists) → Are old lists → Are new (record lists { taken = without (is_name names.now) lists.taken })) }
+    ensures went { Goes (state S.Store tx.old.conn.now) (state S.Store tx.new.conn.now) result
+        (λ old new.
+        (lists : Lists) → Are old lists
+        → Are new (record lists { taken = without (is_name names.now) lists.taken })) }
     ensures kept { Keeps (state S.Store tx.old.conn.now) (state S.Store tx.new.conn.now) }
-    ensures survives { Survives (state S.Store tx.old.conn.now) (state S.Store tx.new.conn.now) (λ _. ⊥) }
+    ensures survives { Survives (state S.Store tx.old.conn.now) (state S.Store tx.new.conn.now)
+        (λ _. ⊥) }
 {
     for name in names {
         delete_name(tx, name.leaf.attribute.name(), name.text.as_str())?;
@@ -39,10 +42,13 @@ fn insert_names<S: Alter>(
     names: &[UniqueName],
 ) -> Result<(), Error>
     ensures same_reference { tx.new.conn.ghost_name ≡ tx.old.conn.ghost_name }
-    ensures went { Goes (state S.Store tx.old.conn.now) (state S.Store tx.new.conn.now) result (λ old new.
-        (lists : Lists) → Are old lists → Are new (record lists { taken = rows_of_names id.now names.now ++ lists.taken })) }
+    ensures went { Goes (state S.Store tx.old.conn.now) (state S.Store tx.new.conn.now) result
+        (λ old new.
+        (lists : Lists) → Are old lists
+        → Are new (record lists { taken = rows_of_names id.now names.now ++ lists.taken })) }
     ensures kept { Keeps (state S.Store tx.old.conn.now) (state S.Store tx.new.conn.now) }
-    ensures survives { Survives (state S.Store tx.old.conn.now) (state S.Store tx.new.conn.now) (λ _. ⊥) }
+    ensures survives { Survives (state S.Store tx.old.conn.now) (state S.Store tx.new.conn.now)
+        (λ _. ⊥) }
 {
     for name in names {
         insert_name(tx, name.leaf.attribute.name(), name.text.as_str(), id)?;
@@ -57,10 +63,16 @@ fn delete_members<S: Alter>(
     values: &[Text],
 ) -> Result<(), Error>
     ensures same_reference { tx.new.conn.ghost_name ≡ tx.old.conn.ghost_name }
-    ensures went { Goes (state S.Store tx.old.conn.now) (state S.Store tx.new.conn.now) result (λ old new.
-        (lists : Lists) → Are old lists → Are new (record lists { member = without (is_member group_id.now values.now) lists.member })) }
+    ensures went { Goes (state S.Store tx.old.conn.now) (state S.Store tx.new.conn.now) result
+        (λ old new.
+        (lists : Lists) → Are old lists
+        → Are new (record lists {
+          member = without
+              (is_member group_id.now values.now) lists.member;
+        })) }
     ensures kept { Keeps (state S.Store tx.old.conn.now) (state S.Store tx.new.conn.now) }
-    ensures survives { Survives (state S.Store tx.old.conn.now) (state S.Store tx.new.conn.now) (λ _. ⊥) }
+    ensures survives { Survives (state S.Store tx.old.conn.now) (state S.Store tx.new.conn.now)
+        (λ _. ⊥) }
 {
     for value in values {
         delete_member(tx, value.as_str(), group_id)?;
@@ -75,10 +87,16 @@ fn insert_members<S: Alter>(
     values: &[Text],
 ) -> Result<(), Error>
     ensures same_reference { tx.new.conn.ghost_name ≡ tx.old.conn.ghost_name }
-    ensures went { Goes (state S.Store tx.old.conn.now) (state S.Store tx.new.conn.now) result (λ old new.
-        (lists : Lists) → Are old lists → Are new (record lists { member = rows_of_members group_id.now values.now ++ lists.member })) }
+    ensures went { Goes (state S.Store tx.old.conn.now) (state S.Store tx.new.conn.now) result
+        (λ old new.
+        (lists : Lists) → Are old lists
+        → Are new (record lists {
+          member = rows_of_members group_id.now values.now
+              ++ lists.member;
+        })) }
     ensures kept { Keeps (state S.Store tx.old.conn.now) (state S.Store tx.new.conn.now) }
-    ensures survives { Survives (state S.Store tx.old.conn.now) (state S.Store tx.new.conn.now) (λ _. ⊥) }
+    ensures survives { Survives (state S.Store tx.old.conn.now) (state S.Store tx.new.conn.now)
+        (λ _. ⊥) }
 {
     for value in values {
         insert_member(tx, value.as_str(), group_id)?;
@@ -89,10 +107,13 @@ fn insert_members<S: Alter>(
 /// Inserts the row of the resource, if there is a document.
 fn put_resource<S: Alter>(tx: &mut Transaction<'_, S>, edits: &Edits) -> Result<(), Error>
     ensures same_reference { tx.new.conn.ghost_name ≡ tx.old.conn.ghost_name }
-    ensures went { Goes (state S.Store tx.old.conn.now) (state S.Store tx.new.conn.now) result (λ old new.
-        (lists : Lists) → Are old lists → Are new (record lists { resources = rows_of_document edits.now ++ lists.resources })) }
+    ensures went { Goes (state S.Store tx.old.conn.now) (state S.Store tx.new.conn.now) result
+        (λ old new.
+        (lists : Lists) → Are old lists
+        → Are new (record lists { resources = rows_of_document edits.now ++ lists.resources })) }
     ensures kept { Keeps (state S.Store tx.old.conn.now) (state S.Store tx.new.conn.now) }
-    ensures survives { Survives (state S.Store tx.old.conn.now) (state S.Store tx.new.conn.now) (λ _. ⊥) }
+    ensures survives { Survives (state S.Store tx.old.conn.now) (state S.Store tx.new.conn.now)
+        (λ _. ⊥) }
 {
     match &edits.document {
         Some(document) => {
@@ -117,10 +138,16 @@ fn replace_resource<S: Alter>(
     document: &str,
 ) -> Result<(), Error>
     ensures same_reference { tx.new.conn.ghost_name ≡ tx.old.conn.ghost_name }
-    ensures went { Goes (state S.Store tx.old.conn.now) (state S.Store tx.new.conn.now) result (λ old new.
-        (lists : Lists) → Are old lists → Are new (record lists { resources = resource_values id.now kind document.now ∷ without (has_text 0 id.now) lists.resources })) }
+    ensures went { Goes (state S.Store tx.old.conn.now) (state S.Store tx.new.conn.now) result
+        (λ old new.
+        (lists : Lists) → Are old lists
+        → Are new (record lists {
+          resources = resource_values id.now kind document.now
+              ∷ without (has_text 0 id.now) lists.resources;
+        })) }
     ensures kept { Keeps (state S.Store tx.old.conn.now) (state S.Store tx.new.conn.now) }
-    ensures survives { Survives (state S.Store tx.old.conn.now) (state S.Store tx.new.conn.now) (λ _. ⊥) }
+    ensures survives { Survives (state S.Store tx.old.conn.now) (state S.Store tx.new.conn.now)
+        (λ _. ⊥) }
 {
     // An update dirties fewer pages than a deletion and an insertion.
     match update_resource(tx, id, kind, document)? {
@@ -136,10 +163,16 @@ fn replace_resource<S: Alter>(
 /// Writes the row of the resource if there is a document, and deletes it otherwise.
 fn edit_resource<S: Alter>(tx: &mut Transaction<'_, S>, edits: &Edits) -> Result<(), Error>
     ensures same_reference { tx.new.conn.ghost_name ≡ tx.old.conn.ghost_name }
-    ensures went { Goes (state S.Store tx.old.conn.now) (state S.Store tx.new.conn.now) result (λ old new.
-        (lists : Lists) → Are old lists → Are new (record lists { resources = rows_of_document edits.now ++ without (has_text 0 edits.now.id) lists.resources })) }
+    ensures went { Goes (state S.Store tx.old.conn.now) (state S.Store tx.new.conn.now) result
+        (λ old new.
+        (lists : Lists) → Are old lists
+        → Are new (record lists {
+          resources = rows_of_document edits.now
+              ++ without (has_text 0 edits.now.id) lists.resources;
+        })) }
     ensures kept { Keeps (state S.Store tx.old.conn.now) (state S.Store tx.new.conn.now) }
-    ensures survives { Survives (state S.Store tx.old.conn.now) (state S.Store tx.new.conn.now) (λ _. ⊥) }
+    ensures survives { Survives (state S.Store tx.old.conn.now) (state S.Store tx.new.conn.now)
+        (λ _. ⊥) }
 {
     match &edits.document {
         Some(document) => replace_resource(
@@ -158,13 +191,15 @@ fn edit_resource<S: Alter>(tx: &mut Transaction<'_, S>, edits: &Edits) -> Result
 /// Deletes the names and members that the edits remove.
 fn take_names_and_members<S: Alter>(tx: &mut Transaction<'_, S>, edits: &Edits) -> Result<(), Error>
     ensures same_reference { tx.new.conn.ghost_name ≡ tx.old.conn.ghost_name }
-    ensures went { Goes (state S.Store tx.old.conn.now) (state S.Store tx.new.conn.now) result (λ old new.
+    ensures went { Goes (state S.Store tx.old.conn.now) (state S.Store tx.new.conn.now) result
+        (λ old new.
         (lists : Lists) → Are old lists → Are new (record lists {
           taken = without (is_name edits.now.names_gone.items) lists.taken;
           member = without (is_member edits.now.id edits.now.members_gone.items) lists.member;
         })) }
     ensures kept { Keeps (state S.Store tx.old.conn.now) (state S.Store tx.new.conn.now) }
-    ensures survives { Survives (state S.Store tx.old.conn.now) (state S.Store tx.new.conn.now) (λ _. ⊥) }
+    ensures survives { Survives (state S.Store tx.old.conn.now) (state S.Store tx.new.conn.now)
+        (λ _. ⊥) }
 {
     delete_names(tx, edits.names_gone.as_slice())?;
     delete_members(tx, edits.id.as_str(), edits.members_gone.as_slice())
@@ -173,13 +208,15 @@ fn take_names_and_members<S: Alter>(tx: &mut Transaction<'_, S>, edits: &Edits) 
 /// Inserts the names and members that the edits add.
 fn put_names_and_members<S: Alter>(tx: &mut Transaction<'_, S>, edits: &Edits) -> Result<(), Error>
     ensures same_reference { tx.new.conn.ghost_name ≡ tx.old.conn.ghost_name }
-    ensures went { Goes (state S.Store tx.old.conn.now) (state S.Store tx.new.conn.now) result (λ old new.
+    ensures went { Goes (state S.Store tx.old.conn.now) (state S.Store tx.new.conn.now) result
+        (λ old new.
         (lists : Lists) → Are old lists → Are new (record lists {
           taken = rows_of_names edits.now.id edits.now.names_come.items ++ lists.taken;
           member = rows_of_members edits.now.id edits.now.members_come.items ++ lists.member;
         })) }
     ensures kept { Keeps (state S.Store tx.old.conn.now) (state S.Store tx.new.conn.now) }
-    ensures survives { Survives (state S.Store tx.old.conn.now) (state S.Store tx.new.conn.now) (λ _. ⊥) }
+    ensures survives { Survives (state S.Store tx.old.conn.now) (state S.Store tx.new.conn.now)
+        (λ _. ⊥) }
 {
     insert_names(tx, edits.id.as_str(), edits.names_come.as_slice())?;
     insert_members(tx, edits.id.as_str(), edits.members_come.as_slice())
@@ -188,14 +225,16 @@ fn put_names_and_members<S: Alter>(tx: &mut Transaction<'_, S>, edits: &Edits) -
 /// Inserts all rows that the edits add. The resource must not be stored.
 pub(crate) fn put_rows<S: Alter>(tx: &mut Transaction<'_, S>, edits: &Edits) -> Result<(), Error>
     ensures same_reference { tx.new.conn.ghost_name ≡ tx.old.conn.ghost_name }
-    ensures went { Goes (state S.Store tx.old.conn.now) (state S.Store tx.new.conn.now) result (λ old new.
+    ensures went { Goes (state S.Store tx.old.conn.now) (state S.Store tx.new.conn.now) result
+        (λ old new.
         (lists : Lists) → Are old lists → Are new (record lists {
           resources = rows_of_document edits.now ++ lists.resources;
           taken = rows_of_names edits.now.id edits.now.names_come.items ++ lists.taken;
           member = rows_of_members edits.now.id edits.now.members_come.items ++ lists.member;
         })) }
     ensures kept { Keeps (state S.Store tx.old.conn.now) (state S.Store tx.new.conn.now) }
-    ensures survives { Survives (state S.Store tx.old.conn.now) (state S.Store tx.new.conn.now) (λ _. ⊥) }
+    ensures survives { Survives (state S.Store tx.old.conn.now) (state S.Store tx.new.conn.now)
+        (λ _. ⊥) }
 {
     put_resource(tx, edits)?;
     put_names_and_members(tx, edits)
@@ -204,10 +243,12 @@ pub(crate) fn put_rows<S: Alter>(tx: &mut Transaction<'_, S>, edits: &Edits) -> 
 /// Deletes the rows that the edits remove, and writes those that they add.
 fn edit_rows<S: Alter>(tx: &mut Transaction<'_, S>, edits: &Edits) -> Result<(), Error>
     ensures same_reference { tx.new.conn.ghost_name ≡ tx.old.conn.ghost_name }
-    ensures went { Goes (state S.Store tx.old.conn.now) (state S.Store tx.new.conn.now) result (λ old new.
+    ensures went { Goes (state S.Store tx.old.conn.now) (state S.Store tx.new.conn.now) result
+        (λ old new.
         (lists : Lists) → Are old lists → Are new (edited edits.now lists)) }
     ensures kept { Keeps (state S.Store tx.old.conn.now) (state S.Store tx.new.conn.now) }
-    ensures survives { Survives (state S.Store tx.old.conn.now) (state S.Store tx.new.conn.now) (λ _. ⊥) }
+    ensures survives { Survives (state S.Store tx.old.conn.now) (state S.Store tx.new.conn.now)
+        (λ _. ⊥) }
 {
     take_names_and_members(tx, edits)?;
     edit_resource(tx, edits)?;
@@ -217,10 +258,12 @@ fn edit_rows<S: Alter>(tx: &mut Transaction<'_, S>, edits: &Edits) -> Result<(),
 /// Makes the edits, if any.
 fn edit_if_any<S: Alter>(tx: &mut Transaction<'_, S>, edits: &Option<Edits>) -> Result<(), Error>
     ensures same_reference { tx.new.conn.ghost_name ≡ tx.old.conn.ghost_name }
-    ensures went { Goes (state S.Store tx.old.conn.now) (state S.Store tx.new.conn.now) result (λ old new.
+    ensures went { Goes (state S.Store tx.old.conn.now) (state S.Store tx.new.conn.now) result
+        (λ old new.
         (lists : Lists) → Are old lists → Are new (edited_by edits.now lists)) }
     ensures kept { Keeps (state S.Store tx.old.conn.now) (state S.Store tx.new.conn.now) }
-    ensures survives { Survives (state S.Store tx.old.conn.now) (state S.Store tx.new.conn.now) (λ _. ⊥) }
+    ensures survives { Survives (state S.Store tx.old.conn.now) (state S.Store tx.new.conn.now)
+        (λ _. ⊥) }
 {
     match edits {
         Some(edits) => edit_rows(tx, edits),
@@ -237,9 +280,11 @@ fn write_rows<S: Alter>(
     requires number { columns.now.number ≤ last_number }
     requires moment { columns.now.moment ≤ last_number }
     ensures same_reference { tx.new.conn.ghost_name ≡ tx.old.conn.ghost_name }
-    ensures went { Goes (state S.Store tx.old.conn.now) (state S.Store tx.new.conn.now) result (λ old new. Writes edits.now columns.now old new) }
+    ensures went { Goes (state S.Store tx.old.conn.now) (state S.Store tx.new.conn.now) result
+        (λ old new. Writes edits.now columns.now old new) }
     ensures kept { Keeps (state S.Store tx.old.conn.now) (state S.Store tx.new.conn.now) }
-    ensures survives { Survives (state S.Store tx.old.conn.now) (state S.Store tx.new.conn.now) (λ _. ⊥) }
+    ensures survives { Survives (state S.Store tx.old.conn.now) (state S.Store tx.new.conn.now)
+        (λ _. ⊥) }
 {
     edit_if_any(tx, edits)?;
     insert_audit(tx, columns)?;
@@ -261,11 +306,15 @@ pub fn write_change<S: Alter>(
     requires number { columns.now.number ≤ last_number }
     requires moment { columns.now.moment ≤ last_number }
     ensures idle { conn.new.in_transaction ≡ false }
-    ensures made { HasCleanDisk (state S.Store conn.new) → OnOk result (Became (state S.Store conn.old) (state S.Store conn.new) (Writes edits.now columns.now)) }
-    ensures undone { HasCleanDisk (state S.Store conn.new) → OnErr result (Undoes (state S.Store conn.old) (state S.Store conn.new)) }
+    ensures made { HasCleanDisk (state S.Store conn.new)
+        → OnOk result (Became (state S.Store conn.old) (state S.Store conn.new)
+        (Writes edits.now columns.now)) }
+    ensures undone { HasCleanDisk (state S.Store conn.new)
+        → OnErr result (Undoes (state S.Store conn.old) (state S.Store conn.new)) }
 
     // A crash leaves what it could leave before, or the tables with the change and its audit row.
-    ensures crash { Survives (state S.Store conn.old) (state S.Store conn.new) (Leaves (Writes edits.now columns.now) (state S.Store conn.old).now) }
+    ensures crash { Survives (state S.Store conn.old) (state S.Store conn.new)
+        (Leaves (Writes edits.now columns.now) (state S.Store conn.old).now) }
 {
     let mut tx = conn.transaction();
     write_rows(&mut tx, edits, columns)?;

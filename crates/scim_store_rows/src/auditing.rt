@@ -70,10 +70,15 @@ pub fn read_audit_rows<S: Alter>(
     count: u64,
 ) -> Result<Vec<AuditRow>, Error>
     ensures mode { conn.old.in_transaction ≡ false → conn.new.in_transaction ≡ false }
-    ensures clean { doubt (state S.Store conn.old).is_clean ≤ doubt (state S.Store conn.new).is_clean }
-    ensures read { HasCleanDisk (state S.Store conn.new) → IfOk result (λ rows. (base : List ℕ) (store : Store) → StandsIn base (state S.Store conn.old) store
+    ensures clean { doubt (state S.Store conn.old).is_clean
+        ≤ doubt (state S.Store conn.new).is_clean }
+    ensures read { HasCleanDisk (state S.Store conn.new)
+        → IfOk result (λ rows. (base : List ℕ) (store : Store)
+        → StandsIn base (state S.Store conn.old) store
         → TellsRows from count store (state S.Store conn.old) (state S.Store conn.new) rows.items) }
-    ensures rests { HasCleanDisk (state S.Store conn.new) → (base : List ℕ) (store : Store) → StandsIn base (state S.Store conn.old) store → Rests (state S.Store conn.old) (state S.Store conn.new) }
+    ensures rests { HasCleanDisk (state S.Store conn.new) → (base : List ℕ) (store : Store)
+        → StandsIn base (state S.Store conn.old) store
+        → Rests (state S.Store conn.old) (state S.Store conn.new) }
 {
     let (first, end) = span(from, count);
     let rows = read_audit_between(conn, sql_number(first), sql_number(end))?;

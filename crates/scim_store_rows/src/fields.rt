@@ -62,7 +62,8 @@ pub(crate) fn moment_in(row: &Row, place: usize) -> Option<Moment>
 /// Returns the operation whose number is in a column; None if no operation has it.
 pub(crate) fn op_in(row: &Row, place: usize) -> Option<Op>
     requires { place < length row.now }
-    ensures { ReadsBack Any (λ op. columns.number (spec.op_number op)) (column row.now place) result }
+    ensures { ReadsBack Any (λ op. columns.number (spec.op_number op))
+        (column row.now place) result }
 {
     op_of(number_in(row, place)?)
 }
@@ -70,7 +71,8 @@ pub(crate) fn op_in(row: &Row, place: usize) -> Option<Op>
 /// Returns the kind whose number is in a column; None if no kind has it.
 pub(crate) fn kind_in(row: &Row, place: usize) -> Option<Kind>
     requires { place < length row.now }
-    ensures { ReadsBack Any (λ kind. columns.number (spec.kind_number kind)) (column row.now place) result }
+    ensures { ReadsBack Any (λ kind. columns.number (spec.kind_number kind))
+        (column row.now place) result }
 {
     kind_of(number_in(row, place)?)
 }
@@ -78,7 +80,8 @@ pub(crate) fn kind_in(row: &Row, place: usize) -> Option<Kind>
 /// Returns the decision whose number is in a column; None if no decision has it.
 pub(crate) fn decided_in(row: &Row, place: usize) -> Option<Decided>
     requires { place < length row.now }
-    ensures { ReadsBack Any (λ decided. columns.number (spec.decided_number decided)) (column row.now place) result }
+    ensures { ReadsBack Any (λ decided. columns.number (spec.decided_number decided))
+        (column row.now place) result }
 {
     decided_of(number_in(row, place)?)
 }
@@ -94,7 +97,8 @@ fn is_null(row: &Row, place: usize) -> bool
 /// Returns the id whose text is in a column, Some(None) for NULL; None for anything else.
 pub(crate) fn id_in(row: &Row, place: usize) -> Option<Option<Id>>
     requires { place < length row.now }
-    ensures { ReadsBack (λ id. IfSome id IsId) (λ id. or_null Text (option_map id_text id)) (column row.now place) result }
+    ensures { ReadsBack (λ id. IfSome id IsId) (λ id. or_null Text (option_map id_text id))
+        (column row.now place) result }
 {
     if is_null(row, place) {
         return Some(None);
@@ -106,7 +110,8 @@ pub(crate) fn id_in(row: &Row, place: usize) -> Option<Option<Id>>
 /// Returns the rule number in a column, Some(None) for NULL; None for anything but an integer of 32 bits.
 pub(crate) fn rule_in(row: &Row, place: usize) -> Option<Option<u32>>
     requires { place < length row.now }
-    ensures { ReadsBack (λ rule. IfSome rule (λ n. n < 2 ^ 32)) (λ rule. or_null columns.number rule) (column row.now place) result }
+    ensures { ReadsBack (λ rule. IfSome rule (λ n. n < 2 ^ 32)) (λ rule.
+        or_null columns.number rule) (column row.now place) result }
 {
     if is_null(row, place) {
         return Some(None);
@@ -118,7 +123,8 @@ pub(crate) fn rule_in(row: &Row, place: usize) -> Option<Option<u32>>
 /// Returns the leaf whose path is in a column, Some(None) for NULL; None for anything else.
 pub(crate) fn leaf_in(row: &Row, place: usize) -> Option<Option<Leaf>>
     requires { place < length row.now }
-    ensures { ReadsBack Any (λ leaf. or_null Text (option_map leaf_path leaf)) (column row.now place) result }
+    ensures { ReadsBack Any (λ leaf. or_null Text (option_map leaf_path leaf))
+        (column row.now place) result }
 {
     if is_null(row, place) {
         return Some(None);
@@ -130,7 +136,9 @@ pub(crate) fn leaf_in(row: &Row, place: usize) -> Option<Option<Leaf>>
 /// Returns the refusal whose number is in a column, Some(None) for NULL; None for anything else.
 pub(crate) fn refusal_in(row: &Row, place: usize) -> Option<Option<Refusal>>
     requires { place < length row.now }
-    ensures { ReadsBack Any (λ refusal. or_null columns.number (option_map spec.refusal_number refusal)) (column row.now place) result }
+    ensures { ReadsBack Any (λ refusal.
+        or_null columns.number (option_map spec.refusal_number refusal))
+        (column row.now place) result }
 {
     if is_null(row, place) {
         return Some(None);

@@ -57,10 +57,14 @@ pub fn find_by_id<S: Alter>(
     id: Id,
 ) -> Result<Option<Resource>, Error>
     ensures mode { conn.old.in_transaction ≡ false → conn.new.in_transaction ≡ false }
-    ensures clean { doubt (state S.Store conn.old).is_clean ≤ doubt (state S.Store conn.new).is_clean }
-    ensures found { HasCleanDisk (state S.Store conn.new) → IfOk result (λ found. (store : Store) → StandsIn base.now (state S.Store conn.old) store
+    ensures clean { doubt (state S.Store conn.old).is_clean
+        ≤ doubt (state S.Store conn.new).is_clean }
+    ensures found { HasCleanDisk (state S.Store conn.new)
+        → IfOk result (λ found. (store : Store) → StandsIn base.now (state S.Store conn.old) store
         → FindsById kind id store (state S.Store conn.old) (state S.Store conn.new) found) }
-    ensures rests { HasCleanDisk (state S.Store conn.new) → (store : Store) → StandsIn base.now (state S.Store conn.old) store → Rests (state S.Store conn.old) (state S.Store conn.new) }
+    ensures rests { HasCleanDisk (state S.Store conn.new) → (store : Store)
+        → StandsIn base.now (state S.Store conn.old) store
+        → Rests (state S.Store conn.old) (state S.Store conn.new) }
 {
     let mut buffer = [0; Id::TEXT_LENGTH];
     let document = find_resource(conn, id.write(&mut buffer), kind_number(kind))?;
@@ -88,8 +92,10 @@ fn is_unique(leaf: Leaf) -> bool
 /// Reads the id of the owner that was found for a name at the leaf. Returns None if the leaf isn't unique:
 /// then no resource has a unique name there.
 fn read_owner(leaf: Leaf, owner: Option<String>) -> Result<Option<Id>, Error>
-    ensures unique { list_any (λ l. is_same_leaf l leaf) (unique_leaves User) ≡ true → IfOk result (λ id. option_map id_text id ≡ option_map string_bytes owner) }
-    ensures other { list_any (λ l. is_same_leaf l leaf) (unique_leaves User) ≡ false → IfOk result (λ id. id ≡ None) }
+    ensures unique { list_any (λ l. is_same_leaf l leaf) (unique_leaves User) ≡ true
+        → IfOk result (λ id. option_map id_text id ≡ option_map string_bytes owner) }
+    ensures other { list_any (λ l. is_same_leaf l leaf) (unique_leaves User) ≡ false
+        → IfOk result (λ id. id ≡ None) }
     ensures id { IfOk result (λ id. IfSome id IsId) }
 {
     match owner {
@@ -101,11 +107,17 @@ fn read_owner(leaf: Leaf, owner: Option<String>) -> Result<Option<Id>, Error>
 /// Returns the id of the resource that has a unique name; None if no resource has it.
 fn find_owner_id<S: Alter>(conn: &mut Connection<S>, name: &UniqueName) -> Result<Option<Id>, Error>
     ensures mode { conn.old.in_transaction ≡ false → conn.new.in_transaction ≡ false }
-    ensures clean { doubt (state S.Store conn.old).is_clean ≤ doubt (state S.Store conn.new).is_clean }
+    ensures clean { doubt (state S.Store conn.old).is_clean
+        ≤ doubt (state S.Store conn.new).is_clean }
     ensures id { IfOk result (λ found. IfSome found IsId) }
-    ensures found { HasCleanDisk (state S.Store conn.new) → IfOk result (λ found. (base : List ℕ) (store : Store) → StandsIn base (state S.Store conn.old) store
-        → FindsOwnerId (name_of name.now) store (state S.Store conn.old) (state S.Store conn.new) found) }
-    ensures rests { HasCleanDisk (state S.Store conn.new) → (base : List ℕ) (store : Store) → StandsIn base (state S.Store conn.old) store → Rests (state S.Store conn.old) (state S.Store conn.new) }
+    ensures found { HasCleanDisk (state S.Store conn.new)
+        → IfOk result (λ found. (base : List ℕ) (store : Store)
+        → StandsIn base (state S.Store conn.old) store
+        → FindsOwnerId (name_of name.now) store (state S.Store conn.old)
+        (state S.Store conn.new) found) }
+    ensures rests { HasCleanDisk (state S.Store conn.new) → (base : List ℕ) (store : Store)
+        → StandsIn base (state S.Store conn.old) store
+        → Rests (state S.Store conn.old) (state S.Store conn.new) }
 {
     let owner = find_owner(conn, name.leaf.attribute.name(), name.text.as_str())?;
     read_owner(name.leaf, owner)
@@ -122,10 +134,15 @@ pub fn find_owner_of_name<S: Alter>(
     name: &UniqueName,
 ) -> Result<Option<Resource>, Error>
     ensures mode { conn.old.in_transaction ≡ false → conn.new.in_transaction ≡ false }
-    ensures clean { doubt (state S.Store conn.old).is_clean ≤ doubt (state S.Store conn.new).is_clean }
-    ensures found { HasCleanDisk (state S.Store conn.new) → IfOk result (λ found. (store : Store) → StandsIn base.now (state S.Store conn.old) store
-        → FindsOwner (name_of name.now) store (state S.Store conn.old) (state S.Store conn.new) found) }
-    ensures rests { HasCleanDisk (state S.Store conn.new) → (store : Store) → StandsIn base.now (state S.Store conn.old) store → Rests (state S.Store conn.old) (state S.Store conn.new) }
+    ensures clean { doubt (state S.Store conn.old).is_clean
+        ≤ doubt (state S.Store conn.new).is_clean }
+    ensures found { HasCleanDisk (state S.Store conn.new)
+        → IfOk result (λ found. (store : Store) → StandsIn base.now (state S.Store conn.old) store
+        → FindsOwner (name_of name.now) store (state S.Store conn.old)
+        (state S.Store conn.new) found) }
+    ensures rests { HasCleanDisk (state S.Store conn.new) → (store : Store)
+        → StandsIn base.now (state S.Store conn.old) store
+        → Rests (state S.Store conn.old) (state S.Store conn.new) }
 {
     match find_owner_id(conn, name)? {
         // Groups have no unique names, so the owner is a user.
@@ -143,10 +160,15 @@ fn find_group<S: Alter>(
     row: &Row,
 ) -> Result<Resource, Error>
     ensures mode { conn.old.in_transaction ≡ false → conn.new.in_transaction ≡ false }
-    ensures clean { doubt (state S.Store conn.old).is_clean ≤ doubt (state S.Store conn.new).is_clean }
-    ensures found { HasCleanDisk (state S.Store conn.new) → IfOk result (λ group. (store : Store) → StandsIn base.now (state S.Store conn.old) store
-        → AreGroups store (row.now ∷ []) (state S.Store conn.old) (state S.Store conn.new) (group ∷ [])) }
-    ensures rests { HasCleanDisk (state S.Store conn.new) → (store : Store) → StandsIn base.now (state S.Store conn.old) store → Rests (state S.Store conn.old) (state S.Store conn.new) }
+    ensures clean { doubt (state S.Store conn.old).is_clean
+        ≤ doubt (state S.Store conn.new).is_clean }
+    ensures found { HasCleanDisk (state S.Store conn.new)
+        → IfOk result (λ group. (store : Store) → StandsIn base.now (state S.Store conn.old) store
+        → AreGroups store (row.now ∷ []) (state S.Store conn.old) (state S.Store conn.new) (group
+        ∷ [])) }
+    ensures rests { HasCleanDisk (state S.Store conn.new) → (store : Store)
+        → StandsIn base.now (state S.Store conn.old) store
+        → Rests (state S.Store conn.old) (state S.Store conn.new) }
 {
     let text: String = row.get(0)?;
     let id = read_id(text.as_str())?;
@@ -164,10 +186,15 @@ fn find_groups<S: Alter>(
     rows: &[Row],
 ) -> Result<Vec<Resource>, Error>
     ensures mode { conn.old.in_transaction ≡ false → conn.new.in_transaction ≡ false }
-    ensures clean { doubt (state S.Store conn.old).is_clean ≤ doubt (state S.Store conn.new).is_clean }
-    ensures found { HasCleanDisk (state S.Store conn.new) → IfOk result (λ groups. (store : Store) → StandsIn base.now (state S.Store conn.old) store → IsTrue (state S.Store conn.old).is_open
+    ensures clean { doubt (state S.Store conn.old).is_clean
+        ≤ doubt (state S.Store conn.new).is_clean }
+    ensures found { HasCleanDisk (state S.Store conn.new)
+        → IfOk result (λ groups. (store : Store) → StandsIn base.now (state S.Store conn.old) store
+        → IsTrue (state S.Store conn.old).is_open
         → AreGroups store rows.now (state S.Store conn.old) (state S.Store conn.new) groups.items) }
-    ensures rests { HasCleanDisk (state S.Store conn.new) → (store : Store) → StandsIn base.now (state S.Store conn.old) store → IsTrue (state S.Store conn.old).is_open → Rests (state S.Store conn.old) (state S.Store conn.new) }
+    ensures rests { HasCleanDisk (state S.Store conn.new) → (store : Store)
+        → StandsIn base.now (state S.Store conn.old) store → IsTrue (state S.Store conn.old).is_open
+        → Rests (state S.Store conn.old) (state S.Store conn.new) }
 {
     let mut groups = Vec::new(alloc);
     for row in rows {
@@ -190,10 +217,15 @@ pub fn find_groups_with<S: Alter>(
     value: &str,
 ) -> Result<Vec<Resource>, Error>
     ensures mode { conn.old.in_transaction ≡ false → conn.new.in_transaction ≡ false }
-    ensures clean { doubt (state S.Store conn.old).is_clean ≤ doubt (state S.Store conn.new).is_clean }
-    ensures found { HasCleanDisk (state S.Store conn.new) → IfOk result (λ groups. (store : Store) → StandsIn base.now (state S.Store conn.old) store
-        → FindsGroups value.now store (state S.Store conn.old) (state S.Store conn.new) groups.items) }
-    ensures rests { HasCleanDisk (state S.Store conn.new) → (store : Store) → StandsIn base.now (state S.Store conn.old) store → Rests (state S.Store conn.old) (state S.Store conn.new) }
+    ensures clean { doubt (state S.Store conn.old).is_clean
+        ≤ doubt (state S.Store conn.new).is_clean }
+    ensures found { HasCleanDisk (state S.Store conn.new)
+        → IfOk result (λ groups. (store : Store) → StandsIn base.now (state S.Store conn.old) store
+        → FindsGroups value.now store (state S.Store conn.old)
+        (state S.Store conn.new) groups.items) }
+    ensures rests { HasCleanDisk (state S.Store conn.new) → (store : Store)
+        → StandsIn base.now (state S.Store conn.old) store
+        → Rests (state S.Store conn.old) (state S.Store conn.new) }
 {
     let rows = read_groups(conn, value)?;
     find_groups(conn, alloc, base, rows.as_slice())

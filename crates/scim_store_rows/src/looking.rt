@@ -20,10 +20,15 @@ use std::alloc::Global;
 /// Returns the document of the resource with an id, of either kind; None if there isn't one.
 fn find_document<S: Alter>(conn: &mut Connection<S>, id: &str) -> Result<Option<String>, Error>
     ensures mode { conn.old.in_transaction ≡ false → conn.new.in_transaction ≡ false }
-    ensures survives { Survives (state S.Store conn.old) (state S.Store conn.new) (λ _. (state S.Store conn.old).now.schema ≢ store_schema) }
-    ensures found { HasCleanDisk (state S.Store conn.new) → IfOk result (λ found. (lists : Lists) → Holds (state S.Store conn.old) lists
-        → Finds 2 (filter (has_text 0 id.now) lists.resources) (state S.Store conn.old) (state S.Store conn.new) (option_map string_bytes found)) }
-    ensures rests { HasCleanDisk (state S.Store conn.new) → (lists : Lists) → Holds (state S.Store conn.old) lists → Rests (state S.Store conn.old) (state S.Store conn.new) }
+    ensures survives { Survives (state S.Store conn.old) (state S.Store conn.new)
+        (λ _. (state S.Store conn.old).now.schema ≢ store_schema) }
+    ensures found { HasCleanDisk (state S.Store conn.new)
+        → IfOk result (λ found. (lists : Lists) → Holds (state S.Store conn.old) lists
+        → Finds 2 (filter (has_text 0 id.now) lists.resources) (state S.Store conn.old)
+        (state S.Store conn.new) (option_map string_bytes found)) }
+    ensures rests { HasCleanDisk (state S.Store conn.new) → (lists : Lists)
+        → Holds (state S.Store conn.old) lists
+        → Rests (state S.Store conn.old) (state S.Store conn.new) }
 {
     let rows = ask(
         conn,
@@ -45,10 +50,14 @@ pub fn find_old<S: Alter>(
     id: Id,
 ) -> Result<Option<Resource>, Error>
     ensures mode { conn.old.in_transaction ≡ false → conn.new.in_transaction ≡ false }
-    ensures survives { Survives (state S.Store conn.old) (state S.Store conn.new) (λ _. (state S.Store conn.old).now.schema ≢ store_schema) }
-    ensures found { HasCleanDisk (state S.Store conn.new) → IfOk result (λ found. (store : Store) → StandsIn base.now (state S.Store conn.old) store
+    ensures survives { Survives (state S.Store conn.old) (state S.Store conn.new)
+        (λ _. (state S.Store conn.old).now.schema ≢ store_schema) }
+    ensures found { HasCleanDisk (state S.Store conn.new)
+        → IfOk result (λ found. (store : Store) → StandsIn base.now (state S.Store conn.old) store
         → FindsOld id store (state S.Store conn.old) (state S.Store conn.new) found) }
-    ensures rests { HasCleanDisk (state S.Store conn.new) → (store : Store) → StandsIn base.now (state S.Store conn.old) store → Rests (state S.Store conn.old) (state S.Store conn.new) }
+    ensures rests { HasCleanDisk (state S.Store conn.new) → (store : Store)
+        → StandsIn base.now (state S.Store conn.old) store
+        → Rests (state S.Store conn.old) (state S.Store conn.new) }
 {
     let mut buffer = [0; Id::TEXT_LENGTH];
     let document = find_document(conn, id.write(&mut buffer))?;

@@ -24,7 +24,8 @@ fn read_fields(client: Text, row: &Row) -> Option<AuditRow>
     requires long { length row.now ≡ 10 }
     requires client { column row.now 2 ≡ SqlText client }
     requires utf8 { IsUtf8 client }
-    ensures { (n : ℕ) → column row.now 0 ≡ columns.number n → ReadsBack IsSound (spec.audit_row n) row.now result }
+    ensures { (n : ℕ) → column row.now 0 ≡ columns.number n
+        → ReadsBack IsSound (spec.audit_row n) row.now result }
 {
     Some(AuditRow {
         moment: moment_in(row, 1)?,
@@ -63,7 +64,9 @@ pub fn are_audit_rows(
     rows: &[Row],
 ) -> Result<Option<Vec<AuditRow>>, NoMemory>
     requires { first ≤ columns.last_number }
-    ensures { IfOk result (λ found. ReadsBack (All IsSound) (spec.audit_rows first) rows.now (option_map (λ v. v.items) found)) }
+    ensures { IfOk result (λ found.
+        ReadsBack (All IsSound) (spec.audit_rows first) rows.now
+        (option_map (λ v. v.items) found)) }
 {
     let mut number = first;
     let mut read = Vec::new(alloc);

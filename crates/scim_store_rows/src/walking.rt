@@ -23,7 +23,8 @@ use std::alloc::Global;
 /// Reads the resource of a row, if it is of the kind. Fails with a corrupt database if the document isn't
 /// valid, with the error of a column of another type, or with out of memory.
 fn read_row(alloc: Global, base: &str, kind: Kind, row: &Row) -> Result<Option<Resource>, Error>
-    ensures { IfOk result (λ found. (e : Entry) → IsEntry base.now e → row.now ≡ resource_row e → option_to_list found ≡ of_kind kind (e.content ∷ [])) }
+    ensures { IfOk result (λ found. (e : Entry) → IsEntry base.now e → row.now ≡ resource_row e
+        → option_to_list found ≡ of_kind kind (e.content ∷ [])) }
 {
     let number: u32 = row.get(1)?;
     if number != kind_number(kind) {
@@ -42,7 +43,8 @@ fn show_row<V: Visitor>(
     row: &Row,
     visitor: &mut V,
 ) -> Result<(), Error>
-    ensures { OnOk result ((e : Entry) → IsEntry base.now e → row.now ≡ resource_row e → FoldsTo V.Visitor.takes visitor.old (of_kind kind (e.content ∷ [])) visitor.new) }
+    ensures { OnOk result ((e : Entry) → IsEntry base.now e → row.now ≡ resource_row e
+        → FoldsTo V.Visitor.takes visitor.old (of_kind kind (e.content ∷ [])) visitor.new) }
 {
     let Some(resource) = read_row(alloc, base, kind, row)? else {
         return Ok(());
@@ -66,10 +68,15 @@ pub fn walk<S: Alter, V: Visitor>(
     visitor: &mut V,
 ) -> Result<(), Error>
     ensures mode { conn.old.in_transaction ≡ false → conn.new.in_transaction ≡ false }
-    ensures clean { doubt (state S.Store conn.old).is_clean ≤ doubt (state S.Store conn.new).is_clean }
-    ensures shown { OnOk result (HasCleanDisk (state S.Store conn.new) → (store : Store) → StandsIn base.now (state S.Store conn.old) store
-        → Shows V.Visitor.takes kind store (state S.Store conn.old) (state S.Store conn.new) visitor.old visitor.new) }
-    ensures rests { HasCleanDisk (state S.Store conn.new) → (store : Store) → StandsIn base.now (state S.Store conn.old) store → Rests (state S.Store conn.old) (state S.Store conn.new) }
+    ensures clean { doubt (state S.Store conn.old).is_clean
+        ≤ doubt (state S.Store conn.new).is_clean }
+    ensures shown { OnOk result (HasCleanDisk (state S.Store conn.new) → (store : Store)
+        → StandsIn base.now (state S.Store conn.old) store
+        → Shows V.Visitor.takes kind store (state S.Store conn.old)
+        (state S.Store conn.new) visitor.old visitor.new) }
+    ensures rests { HasCleanDisk (state S.Store conn.new) → (store : Store)
+        → StandsIn base.now (state S.Store conn.old) store
+        → Rests (state S.Store conn.old) (state S.Store conn.new) }
 {
     let mut rows = conn.query("SELECT id, kind, document FROM resource ORDER BY id", &[])?;
     'rows: for _ in 0..u64::MAX {

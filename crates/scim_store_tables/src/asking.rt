@@ -23,7 +23,8 @@ pub fn ask<S: Alter>(
     sql: &str,
     params: &[ValueRef<'_>],
 ) -> Result<Vec<Row>, Error>
-    ensures { IsAsked sql.now (bound params.now) (state S.Store conn.old) (state S.Store conn.new) result }
+    ensures { IsAsked sql.now (bound params.now) (state S.Store conn.old)
+        (state S.Store conn.new) result }
 {
     conn.query_all(sql, params)
 }
@@ -51,10 +52,15 @@ pub fn find_resource<S: Alter>(
     kind: u32,
 ) -> Result<Option<String>, Error>
     ensures mode { conn.old.in_transaction ≡ false → conn.new.in_transaction ≡ false }
-    ensures clean { doubt (state S.Store conn.old).is_clean ≤ doubt (state S.Store conn.new).is_clean }
-    ensures found { HasCleanDisk (state S.Store conn.new) → IfOk result (λ found. (lists : Lists) → Holds (state S.Store conn.old) lists
-        → Finds 2 (filter (is_resource id.now kind) lists.resources) (state S.Store conn.old) (state S.Store conn.new) (option_map string_bytes found)) }
-    ensures rests { HasCleanDisk (state S.Store conn.new) → (lists : Lists) → Holds (state S.Store conn.old) lists → Rests (state S.Store conn.old) (state S.Store conn.new) }
+    ensures clean { doubt (state S.Store conn.old).is_clean
+        ≤ doubt (state S.Store conn.new).is_clean }
+    ensures found { HasCleanDisk (state S.Store conn.new)
+        → IfOk result (λ found. (lists : Lists) → Holds (state S.Store conn.old) lists
+        → Finds 2 (filter (is_resource id.now kind) lists.resources) (state S.Store conn.old)
+        (state S.Store conn.new) (option_map string_bytes found)) }
+    ensures rests { HasCleanDisk (state S.Store conn.new) → (lists : Lists)
+        → Holds (state S.Store conn.old) lists
+        → Rests (state S.Store conn.old) (state S.Store conn.new) }
 {
     let rows = ask(
         conn,
@@ -73,10 +79,15 @@ pub fn find_owner<S: Alter>(
     folded: &str,
 ) -> Result<Option<String>, Error>
     ensures mode { conn.old.in_transaction ≡ false → conn.new.in_transaction ≡ false }
-    ensures clean { doubt (state S.Store conn.old).is_clean ≤ doubt (state S.Store conn.new).is_clean }
-    ensures found { HasCleanDisk (state S.Store conn.new) → IfOk result (λ found. (lists : Lists) → Holds (state S.Store conn.old) lists
-        → Finds 2 (filter (has_texts attribute.now folded.now) lists.taken) (state S.Store conn.old) (state S.Store conn.new) (option_map string_bytes found)) }
-    ensures rests { HasCleanDisk (state S.Store conn.new) → (lists : Lists) → Holds (state S.Store conn.old) lists → Rests (state S.Store conn.old) (state S.Store conn.new) }
+    ensures clean { doubt (state S.Store conn.old).is_clean
+        ≤ doubt (state S.Store conn.new).is_clean }
+    ensures found { HasCleanDisk (state S.Store conn.new)
+        → IfOk result (λ found. (lists : Lists) → Holds (state S.Store conn.old) lists
+        → Finds 2 (filter (has_texts attribute.now folded.now) lists.taken) (state S.Store conn.old)
+        (state S.Store conn.new) (option_map string_bytes found)) }
+    ensures rests { HasCleanDisk (state S.Store conn.new) → (lists : Lists)
+        → Holds (state S.Store conn.old) lists
+        → Rests (state S.Store conn.old) (state S.Store conn.new) }
 {
     let rows = ask(
         conn,
@@ -88,7 +99,8 @@ pub fn find_owner<S: Alter>(
 
 /// Reads all rows of a table, sorted. The columns aren't checked. Fails as [`ask`] does.
 pub(crate) fn read_rows<S: Alter>(conn: &mut Connection<S>, table: Table) -> Result<Vec<Row>, Error>
-    ensures { OnlyAsks (λ db rows. AreRows table db rows.items) (state S.Store conn.old) (state S.Store conn.new) result }
+    ensures { OnlyAsks (λ db rows. AreRows table db rows.items) (state S.Store conn.old)
+        (state S.Store conn.new) result }
 {
     ask(conn, rows_query(table), &[])
 }
@@ -96,7 +108,8 @@ pub(crate) fn read_rows<S: Alter>(conn: &mut Connection<S>, table: Table) -> Res
 /// Reads the keys of a table, sorted; they are strictly ascending if no key occurs twice. Fails as [`ask`]
 /// does.
 pub(crate) fn read_keys<S: Alter>(conn: &mut Connection<S>, table: Table) -> Result<Vec<Row>, Error>
-    ensures { OnlyAsks (λ db keys. AreKeys table db keys.items) (state S.Store conn.old) (state S.Store conn.new) result }
+    ensures { OnlyAsks (λ db keys. AreKeys table db keys.items) (state S.Store conn.old)
+        (state S.Store conn.new) result }
 {
     ask(conn, keys_query(table), &[])
 }
@@ -106,10 +119,14 @@ pub(crate) fn read_keys<S: Alter>(conn: &mut Connection<S>, table: Table) -> Res
 /// Fails as [`ask`] does.
 pub fn read_groups<S: Alter>(conn: &mut Connection<S>, value: &str) -> Result<Vec<Row>, Error>
     ensures mode { conn.old.in_transaction ≡ false → conn.new.in_transaction ≡ false }
-    ensures clean { doubt (state S.Store conn.old).is_clean ≤ doubt (state S.Store conn.new).is_clean }
-    ensures read { HasCleanDisk (state S.Store conn.new) → IfOk result (λ rows. (lists : Lists) → Holds (state S.Store conn.old) lists
-        → Tells (0 ∷ []) (map group_alone (filter (has_text 0 value.now) lists.member)) (state S.Store conn.old) (state S.Store conn.new) rows.items) }
-    ensures rests { HasCleanDisk (state S.Store conn.new) → OnErr result (Rests (state S.Store conn.old) (state S.Store conn.new)) }
+    ensures clean { doubt (state S.Store conn.old).is_clean
+        ≤ doubt (state S.Store conn.new).is_clean }
+    ensures read { HasCleanDisk (state S.Store conn.new)
+        → IfOk result (λ rows. (lists : Lists) → Holds (state S.Store conn.old) lists
+        → Tells (0 ∷ []) (map group_alone (filter (has_text 0 value.now) lists.member))
+        (state S.Store conn.old) (state S.Store conn.new) rows.items) }
+    ensures rests { HasCleanDisk (state S.Store conn.new)
+        → OnErr result (Rests (state S.Store conn.old) (state S.Store conn.new)) }
 {
     ask(
         conn,
@@ -128,10 +145,14 @@ pub fn read_audit_between<S: Alter>(
     end: i64,
 ) -> Result<Vec<Row>, Error>
     ensures mode { conn.old.in_transaction ≡ false → conn.new.in_transaction ≡ false }
-    ensures clean { doubt (state S.Store conn.old).is_clean ≤ doubt (state S.Store conn.new).is_clean }
-    ensures read { HasCleanDisk (state S.Store conn.new) → IfOk result (λ rows. HasTables (state S.Store conn.old)
-        → Tells (0 ∷ []) (filter (is_between first end) (shown (state S.Store conn.old).now).audit) (state S.Store conn.old) (state S.Store conn.new) rows.items) }
-    ensures rests { HasCleanDisk (state S.Store conn.new) → OnErr result (Rests (state S.Store conn.old) (state S.Store conn.new)) }
+    ensures clean { doubt (state S.Store conn.old).is_clean
+        ≤ doubt (state S.Store conn.new).is_clean }
+    ensures read { HasCleanDisk (state S.Store conn.new)
+        → IfOk result (λ rows. HasTables (state S.Store conn.old)
+        → Tells (0 ∷ []) (filter (is_between first end) (shown (state S.Store conn.old).now).audit)
+        (state S.Store conn.old) (state S.Store conn.new) rows.items) }
+    ensures rests { HasCleanDisk (state S.Store conn.new)
+        → OnErr result (Rests (state S.Store conn.old) (state S.Store conn.new)) }
 {
     ask(
         conn,

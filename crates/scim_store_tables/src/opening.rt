@@ -38,7 +38,8 @@ fn creation(table: Table) -> &'static str
 /// Creates a table, after those that come before it in the schema.
 fn create_table<S: Alter>(tx: &mut Transaction<'_, S>, table: Table) -> Result<usize, Error>
     ensures same_reference { tx.new.conn.ghost_name ≡ tx.old.conn.ghost_name }
-    ensures made { Makes (IsBefore table) (IsBehind table) (state S.Store tx.old.conn.now) (state S.Store tx.new.conn.now) result }
+    ensures made { Makes (IsBefore table) (IsBehind table) (state S.Store tx.old.conn.now)
+        (state S.Store tx.new.conn.now) result }
 {
     tx.execute(creation(table), &[])
 }
@@ -46,7 +47,8 @@ fn create_table<S: Alter>(tx: &mut Transaction<'_, S>, table: Table) -> Result<u
 /// Writes the version of the tables, 1, to `setting`.
 fn insert_version<S: Alter>(tx: &mut Transaction<'_, S>) -> Result<usize, Error>
     ensures same_reference { tx.new.conn.ghost_name ≡ tx.old.conn.ghost_name }
-    ensures made { Makes (IsBehind Audit) (λ db. Are db no_rows) (state S.Store tx.old.conn.now) (state S.Store tx.new.conn.now) result }
+    ensures made { Makes (IsBehind Audit) (λ db. Are db no_rows) (state S.Store tx.old.conn.now)
+        (state S.Store tx.new.conn.now) result }
 {
     tx.execute(
         "INSERT INTO setting (name, number) VALUES ('version', 1)",
@@ -57,7 +59,8 @@ fn insert_version<S: Alter>(tx: &mut Transaction<'_, S>) -> Result<usize, Error>
 /// Creates the first three tables: `setting`, `resource` and `taken`.
 fn create_first<S: Alter>(tx: &mut Transaction<'_, S>) -> Result<usize, Error>
     ensures same_reference { tx.new.conn.ghost_name ≡ tx.old.conn.ghost_name }
-    ensures made { Makes (IsBefore Setting) (IsBehind Taken) (state S.Store tx.old.conn.now) (state S.Store tx.new.conn.now) result }
+    ensures made { Makes (IsBefore Setting) (IsBehind Taken) (state S.Store tx.old.conn.now)
+        (state S.Store tx.new.conn.now) result }
 {
     create_table(tx, Table::Setting)?;
     create_table(tx, Table::Resource)?;
@@ -72,7 +75,8 @@ fn create_first<S: Alter>(tx: &mut Transaction<'_, S>) -> Result<usize, Error>
 /// the transaction may have been rolled back: the caller must drop it.
 pub fn make_tables<S: Alter>(tx: &mut Transaction<'_, S>) -> Result<usize, Error>
     ensures same_reference { tx.new.conn.ghost_name ≡ tx.old.conn.ghost_name }
-    ensures made { Makes (λ db. db.schema ≡ no_schema) (λ db. Are db no_rows) (state S.Store tx.old.conn.now) (state S.Store tx.new.conn.now) result }
+    ensures made { Makes (λ db. db.schema ≡ no_schema) (λ db. Are db no_rows)
+        (state S.Store tx.old.conn.now) (state S.Store tx.new.conn.now) result }
 {
     create_first(tx)?;
     create_table(tx, Table::Member)?;
@@ -88,11 +92,14 @@ pub fn make_tables<S: Alter>(tx: &mut Transaction<'_, S>) -> Result<usize, Error
 pub fn create_tables<S: Alter>(conn: &mut Connection<S>) -> Result<(), Error>
     requires { conn.old.in_transaction ≡ false }
     ensures idle { conn.new.in_transaction ≡ false }
-    ensures made { HasCleanDisk (state S.Store conn.new) → OnOk result (Became (state S.Store conn.old) (state S.Store conn.new) MakesTables) }
-    ensures undone { HasCleanDisk (state S.Store conn.new) → OnErr result (Undoes (state S.Store conn.old) (state S.Store conn.new)) }
+    ensures made { HasCleanDisk (state S.Store conn.new)
+        → OnOk result (Became (state S.Store conn.old) (state S.Store conn.new) MakesTables) }
+    ensures undone { HasCleanDisk (state S.Store conn.new)
+        → OnErr result (Undoes (state S.Store conn.old) (state S.Store conn.new)) }
 
     // A crash leaves what it could leave before, or the new tables.
-    ensures crash { Survives (state S.Store conn.old) (state S.Store conn.new) (Leaves MakesTables (state S.Store conn.old).now) }
+    ensures crash { Survives (state S.Store conn.old) (state S.Store conn.new)
+        (Leaves MakesTables (state S.Store conn.old).now) }
 {
     let mut tx = conn.transaction();
     make_tables(&mut tx)?;

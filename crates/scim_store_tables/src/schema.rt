@@ -63,8 +63,10 @@ fn is_plain(orders: &[Order]) -> bool
 
 /// Whether a table has this name, tree and primary key and no other rule. Its columns aren't compared.
 fn is_keyed(it: &Table, name: &str, tree: u32, primary: &[usize]) -> bool
-    ensures yes { IsTrue result → it.now ≡ record (table name.now it.now.columns primary.now) { tree = tree } }
-    ensures no { result ≡ false → it.now ≢ record (table name.now it.now.columns primary.now) { tree = tree } }
+    ensures yes { IsTrue result → it.now
+        ≡ record (table name.now it.now.columns primary.now) { tree = tree } }
+    ensures no { result ≡ false → it.now
+        ≢ record (table name.now it.now.columns primary.now) { tree = tree } }
 {
     it.name.as_slice() == name.as_bytes()
         && it.tree == tree
@@ -241,8 +243,10 @@ fn are_audit_columns(all: &[Column]) -> bool
 
 /// Whether a table is `audit`. Its columns aren't compared.
 fn is_numbered(it: &Table) -> bool
-    ensures yes { IsTrue result → it.now ≡ record audit_table { tree = 8; columns = it.now.columns } }
-    ensures no { result ≡ false → it.now ≢ record audit_table { tree = 8; columns = it.now.columns } }
+    ensures yes { IsTrue result → it.now
+        ≡ record audit_table { tree = 8; columns = it.now.columns } }
+    ensures no { result ≡ false → it.now
+        ≢ record audit_table { tree = 8; columns = it.now.columns } }
 {
     it.name.as_slice() == b"audit".as_slice()
         && it.tree == 8

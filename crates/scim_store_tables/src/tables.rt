@@ -93,7 +93,8 @@ fn is_version(rows: &[Row]) -> Result<bool, Error>
 
 /// Whether `setting` names version 1. The schema must be that of the five tables.
 fn has_version<S: Alter>(conn: &mut Connection<S>) -> Result<bool, Error>
-    ensures { OnlyAsks (λ db. Decides (HasVersion db)) (state S.Store conn.old) (state S.Store conn.new) result }
+    ensures { OnlyAsks (λ db. Decides (HasVersion db)) (state S.Store conn.old)
+        (state S.Store conn.new) result }
 {
     let rows = read_rows(conn, Table::Setting)?;
     is_version(rows.as_slice())
@@ -101,7 +102,8 @@ fn has_version<S: Alter>(conn: &mut Connection<S>) -> Result<bool, Error>
 
 /// Whether each row of a table has a key and no key occurs twice. The schema must be that of the five tables.
 fn are_keyed<S: Alter>(conn: &mut Connection<S>, table: Table) -> Result<bool, Error>
-    ensures { OnlyAsks (DecidesKeyed table) (state S.Store conn.old) (state S.Store conn.new) result }
+    ensures { OnlyAsks (DecidesKeyed table) (state S.Store conn.old)
+        (state S.Store conn.new) result }
 {
     let keys = read_keys(conn, table)?;
     do_keys_rise(keys.as_slice())
@@ -109,7 +111,8 @@ fn are_keyed<S: Alter>(conn: &mut Connection<S>, table: Table) -> Result<bool, E
 
 /// Whether `are_keyed` holds for each table but the audit. The schema must be that of the five tables.
 fn are_all_keyed<S: Alter>(conn: &mut Connection<S>) -> Result<bool, Error>
-    ensures { OnlyAsks (λ db. Decides (AreAllKeyed db)) (state S.Store conn.old) (state S.Store conn.new) result }
+    ensures { OnlyAsks (λ db. Decides (AreAllKeyed db)) (state S.Store conn.old)
+        (state S.Store conn.new) result }
 {
     if !are_keyed(conn, Table::Setting)? {
         return Ok(false);
@@ -125,7 +128,8 @@ fn are_all_keyed<S: Alter>(conn: &mut Connection<S>) -> Result<bool, Error>
 
 /// Reads the rows of the tables. The schema must be that of the five tables.
 fn read_all_rows<S: Alter>(conn: &mut Connection<S>) -> Result<TableRows, Error>
-    ensures { OnlyAsks (λ db. AreRowsOf (shown db)) (state S.Store conn.old) (state S.Store conn.new) result }
+    ensures { OnlyAsks (λ db. AreRowsOf (shown db)) (state S.Store conn.old)
+        (state S.Store conn.new) result }
 {
     let resources = read_rows(conn, Table::Resource)?;
     let names = read_rows(conn, Table::Taken)?;
@@ -167,10 +171,13 @@ fn reading_by_rows<S: Alter>(conn: &mut Connection<S>) -> Result<Reading, Error>
 /// or as the last commit left it. A crash can leave only what it could leave before the call.
 pub fn read_tables<S: Alter>(conn: &mut Connection<S>) -> Result<Reading, Error>
     ensures mode { conn.old.in_transaction ≡ false → conn.new.in_transaction ≡ false }
-    ensures clean { doubt (state S.Store conn.old).is_clean ≤ doubt (state S.Store conn.new).is_clean }
+    ensures clean { doubt (state S.Store conn.old).is_clean
+        ≤ doubt (state S.Store conn.new).is_clean }
     ensures survives { Survives (state S.Store conn.old) (state S.Store conn.new) (λ _. ⊥) }
-    ensures read { HasCleanDisk (state S.Store conn.new) → IfOk result (IsReading (state S.Store conn.old) (state S.Store conn.new)) }
-    ensures rests { HasCleanDisk (state S.Store conn.new) → OnErr result (Rests (state S.Store conn.old) (state S.Store conn.new)) }
+    ensures read { HasCleanDisk (state S.Store conn.new)
+        → IfOk result (IsReading (state S.Store conn.old) (state S.Store conn.new)) }
+    ensures rests { HasCleanDisk (state S.Store conn.new)
+        → OnErr result (Rests (state S.Store conn.old) (state S.Store conn.new)) }
 {
     if !is_store_schema(conn.schema()) {
         return Ok(reading_by_names(conn.schema()));

@@ -21,10 +21,16 @@ pub fn insert_resource<S: Alter>(
     document: &str,
 ) -> Result<usize, Error>
     ensures same_reference { tx.new.conn.ghost_name ≡ tx.old.conn.ghost_name }
-    ensures went { Goes (state S.Store tx.old.conn.now) (state S.Store tx.new.conn.now) result (λ old new.
-        (lists : Lists) → Are old lists → Are new (record lists { resources = resource_values id.now kind document.now ∷ lists.resources })) }
+    ensures went { Goes (state S.Store tx.old.conn.now) (state S.Store tx.new.conn.now) result
+        (λ old new.
+        (lists : Lists) → Are old lists
+        → Are new (record lists {
+          resources = resource_values id.now kind document.now
+              ∷ lists.resources;
+        })) }
     ensures kept { Keeps (state S.Store tx.old.conn.now) (state S.Store tx.new.conn.now) }
-    ensures survives { Survives (state S.Store tx.old.conn.now) (state S.Store tx.new.conn.now) (λ _. ⊥) }
+    ensures survives { Survives (state S.Store tx.old.conn.now) (state S.Store tx.new.conn.now)
+        (λ _. ⊥) }
 {
     tx.execute(
         "INSERT INTO resource (id, kind, document) VALUES (?1, ?2, ?3)",
@@ -41,11 +47,17 @@ pub fn update_resource<S: Alter>(
     document: &str,
 ) -> Result<usize, Error>
     ensures same_reference { tx.new.conn.ghost_name ≡ tx.old.conn.ghost_name }
-    ensures went { GoesBy (state S.Store tx.old.conn.now) (state S.Store tx.new.conn.now) result (λ count old new. (lists : Lists) → Are old lists
+    ensures went { GoesBy (state S.Store tx.old.conn.now) (state S.Store tx.new.conn.now) result
+        (λ count old new. (lists : Lists) → Are old lists
         → (count ≡ length (filter (has_text 0 id.now) lists.resources))
-        × Are new (record lists { resources = replicate count (resource_values id.now kind document.now) ++ without (has_text 0 id.now) lists.resources })) }
+        × Are new (record lists {
+          resources = replicate count
+              (resource_values id.now kind document.now)
+              ++ without (has_text 0 id.now) lists.resources;
+        })) }
     ensures kept { Keeps (state S.Store tx.old.conn.now) (state S.Store tx.new.conn.now) }
-    ensures survives { Survives (state S.Store tx.old.conn.now) (state S.Store tx.new.conn.now) (λ _. ⊥) }
+    ensures survives { Survives (state S.Store tx.old.conn.now) (state S.Store tx.new.conn.now)
+        (λ _. ⊥) }
 {
     tx.execute(
         "UPDATE resource SET kind = ?2, document = ?3 WHERE id = ?1",
@@ -56,10 +68,13 @@ pub fn update_resource<S: Alter>(
 /// Deletes the row of the resource with this id, if any. Fails with the database's error.
 pub fn delete_resource<S: Alter>(tx: &mut Transaction<'_, S>, id: &str) -> Result<usize, Error>
     ensures same_reference { tx.new.conn.ghost_name ≡ tx.old.conn.ghost_name }
-    ensures went { Goes (state S.Store tx.old.conn.now) (state S.Store tx.new.conn.now) result (λ old new.
-        (lists : Lists) → Are old lists → Are new (record lists { resources = without (has_text 0 id.now) lists.resources })) }
+    ensures went { Goes (state S.Store tx.old.conn.now) (state S.Store tx.new.conn.now) result
+        (λ old new.
+        (lists : Lists) → Are old lists
+        → Are new (record lists { resources = without (has_text 0 id.now) lists.resources })) }
     ensures kept { Keeps (state S.Store tx.old.conn.now) (state S.Store tx.new.conn.now) }
-    ensures survives { Survives (state S.Store tx.old.conn.now) (state S.Store tx.new.conn.now) (λ _. ⊥) }
+    ensures survives { Survives (state S.Store tx.old.conn.now) (state S.Store tx.new.conn.now)
+        (λ _. ⊥) }
 {
     tx.execute("DELETE FROM resource WHERE id = ?1", params![id])
 }
@@ -73,10 +88,16 @@ pub fn insert_name<S: Alter>(
     id: &str,
 ) -> Result<usize, Error>
     ensures same_reference { tx.new.conn.ghost_name ≡ tx.old.conn.ghost_name }
-    ensures went { Goes (state S.Store tx.old.conn.now) (state S.Store tx.new.conn.now) result (λ old new.
-        (lists : Lists) → Are old lists → Are new (record lists { taken = name_values attribute.now folded.now id.now ∷ lists.taken })) }
+    ensures went { Goes (state S.Store tx.old.conn.now) (state S.Store tx.new.conn.now) result
+        (λ old new.
+        (lists : Lists) → Are old lists
+        → Are new (record lists {
+          taken = name_values attribute.now folded.now id.now
+              ∷ lists.taken;
+        })) }
     ensures kept { Keeps (state S.Store tx.old.conn.now) (state S.Store tx.new.conn.now) }
-    ensures survives { Survives (state S.Store tx.old.conn.now) (state S.Store tx.new.conn.now) (λ _. ⊥) }
+    ensures survives { Survives (state S.Store tx.old.conn.now) (state S.Store tx.new.conn.now)
+        (λ _. ⊥) }
 {
     tx.execute(
         "INSERT INTO taken (attribute, folded, id) VALUES (?1, ?2, ?3)",
@@ -91,10 +112,16 @@ pub fn delete_name<S: Alter>(
     folded: &str,
 ) -> Result<usize, Error>
     ensures same_reference { tx.new.conn.ghost_name ≡ tx.old.conn.ghost_name }
-    ensures went { Goes (state S.Store tx.old.conn.now) (state S.Store tx.new.conn.now) result (λ old new.
-        (lists : Lists) → Are old lists → Are new (record lists { taken = without (has_texts attribute.now folded.now) lists.taken })) }
+    ensures went { Goes (state S.Store tx.old.conn.now) (state S.Store tx.new.conn.now) result
+        (λ old new.
+        (lists : Lists) → Are old lists
+        → Are new (record lists {
+          taken = without
+              (has_texts attribute.now folded.now) lists.taken;
+        })) }
     ensures kept { Keeps (state S.Store tx.old.conn.now) (state S.Store tx.new.conn.now) }
-    ensures survives { Survives (state S.Store tx.old.conn.now) (state S.Store tx.new.conn.now) (λ _. ⊥) }
+    ensures survives { Survives (state S.Store tx.old.conn.now) (state S.Store tx.new.conn.now)
+        (λ _. ⊥) }
 {
     tx.execute(
         "DELETE FROM taken WHERE attribute = ?1 AND folded = ?2",
@@ -110,10 +137,13 @@ pub fn insert_member<S: Alter>(
     group_id: &str,
 ) -> Result<usize, Error>
     ensures same_reference { tx.new.conn.ghost_name ≡ tx.old.conn.ghost_name }
-    ensures went { Goes (state S.Store tx.old.conn.now) (state S.Store tx.new.conn.now) result (λ old new.
-        (lists : Lists) → Are old lists → Are new (record lists { member = member_values value.now group_id.now ∷ lists.member })) }
+    ensures went { Goes (state S.Store tx.old.conn.now) (state S.Store tx.new.conn.now) result
+        (λ old new.
+        (lists : Lists) → Are old lists
+        → Are new (record lists { member = member_values value.now group_id.now ∷ lists.member })) }
     ensures kept { Keeps (state S.Store tx.old.conn.now) (state S.Store tx.new.conn.now) }
-    ensures survives { Survives (state S.Store tx.old.conn.now) (state S.Store tx.new.conn.now) (λ _. ⊥) }
+    ensures survives { Survives (state S.Store tx.old.conn.now) (state S.Store tx.new.conn.now)
+        (λ _. ⊥) }
 {
     tx.execute(
         "INSERT INTO member (value, group_id) VALUES (?1, ?2)",
@@ -128,10 +158,16 @@ pub fn delete_member<S: Alter>(
     group_id: &str,
 ) -> Result<usize, Error>
     ensures same_reference { tx.new.conn.ghost_name ≡ tx.old.conn.ghost_name }
-    ensures went { Goes (state S.Store tx.old.conn.now) (state S.Store tx.new.conn.now) result (λ old new.
-        (lists : Lists) → Are old lists → Are new (record lists { member = without (has_texts value.now group_id.now) lists.member })) }
+    ensures went { Goes (state S.Store tx.old.conn.now) (state S.Store tx.new.conn.now) result
+        (λ old new.
+        (lists : Lists) → Are old lists
+        → Are new (record lists {
+          member = without
+              (has_texts value.now group_id.now) lists.member;
+        })) }
     ensures kept { Keeps (state S.Store tx.old.conn.now) (state S.Store tx.new.conn.now) }
-    ensures survives { Survives (state S.Store tx.old.conn.now) (state S.Store tx.new.conn.now) (λ _. ⊥) }
+    ensures survives { Survives (state S.Store tx.old.conn.now) (state S.Store tx.new.conn.now)
+        (λ _. ⊥) }
 {
     tx.execute(
         "DELETE FROM member WHERE value = ?1 AND group_id = ?2",

@@ -29,7 +29,8 @@ impl<T: Drop> From<AllocFailed<T>> for NoMemory {
 /// `Vec::push` returns the value with its error instead. A caller without a use for it should call
 /// this function: dropping the value in each caller would cost more proof than the rest of a push.
 pub fn push<T: Drop>(values: &mut Vec<T>, value: T) -> Result<(), NoMemory>
-    ensures items { values.new.items ≡ (if is_ok result then values.old.items ++ value ∷ [] else values.old.items) }
+    ensures items { values.new.items ≡ (if is_ok result then values.old.items ++ value
+        ∷ [] else values.old.items) }
 {
     values.push(value)?;
     Ok(())

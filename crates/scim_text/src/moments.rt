@@ -103,8 +103,10 @@ pub fn print_moment(alloc: Global, moment: Moment) -> Result<String, NoMemory>
 /// The moment that the text denotes in any zone, or None if the text has a fraction other than
 /// zero, is out of range, or isn't a moment's.
 fn moment_meant(text: &str) -> Option<Moment>
-    ensures found { IfSome result (λ n. Spells text.now (record { second = pos n; later = false })) }
-    ensures complete { (n : ℕ) → n ≤ last_moment → Spells text.now (record { second = pos n; later = false })
+    ensures found { IfSome result (λ n.
+        Spells text.now (record { second = pos n; later = false })) }
+    ensures complete { (n : ℕ) → n ≤ last_moment
+        → Spells text.now (record { second = pos n; later = false })
         → result ≡ Some n }
 {
     let reading = read_moment(text).ok()?;

@@ -64,7 +64,8 @@ fn after(text: &[u8], mark: u8) -> Option<&[u8]>
 /// text.
 fn number_after(text: &[u8], mark: u8, last: u8) -> Option<(u8, &[u8])>
     requires { last < 100 }
-    ensures found { IfSome result (λ p. (p.0 ≤ last) × (text.now ≡ mark ∷ two_digits p.0 ++ p.1.now)) }
+    ensures found { IfSome result (λ p. (p.0 ≤ last)
+        × (text.now ≡ mark ∷ two_digits p.0 ++ p.1.now)) }
     ensures complete { (n : ℕ) (rest : List ℕ) → n ≤ last → text.now ≡ mark ∷ two_digits n ++ rest
         → IsSomeAnd result (λ p. (p.0 ≡ n) × (p.1.now ≡ rest)) }
 {
@@ -140,7 +141,8 @@ fn offset(text: &[u8]) -> Option<u32>
 
 /// Reads a zone, the whole of the text. Returns how many seconds its clock is ahead of UTC.
 fn zone(text: &[u8]) -> Option<i64>
-    ensures found { IfSome result (λ o. (z : Zone) × IsZone z × (o ≡ zone_seconds z) × (text.now ≡ zone_text z)) }
+    ensures found { IfSome result (λ o. (z : Zone) × IsZone z × (o ≡ zone_seconds z)
+        × (text.now ≡ zone_text z)) }
     ensures range { IfSome result (IsWithin 86399) }
     ensures complete { (z : Zone) → IsZone z → text.now ≡ zone_text z → IsSome result }
 {
@@ -179,7 +181,8 @@ fn digits(text: &[u8]) -> (&[u8], &[u8])
 fn fraction(text: &[u8]) -> Option<(bool, &[u8])>
     ensures found { IfSome result (λ p. (f : List ℕ) × IsFraction f × (p.0 ≡ is_above_zero f)
         × (text.now ≡ fraction_text f ++ p.1.now)) }
-    ensures complete { (f : List ℕ) (z : Zone) → IsFraction f → text.now ≡ fraction_text f ++ zone_text z
+    ensures complete { (f : List ℕ) (z : Zone) → IsFraction f
+        → text.now ≡ fraction_text f ++ zone_text z
         → IsSomeAnd result (λ p. p.1.now ≡ zone_text z) }
 {
     let Some(written) = after(text, b'.') else {

@@ -40,7 +40,8 @@ impl Tokens {
 
     /// Reads the lines of a token file.
     fn of_lines(alloc: Global, lines: &[&str]) -> Result<Tokens, Failed<TokenFault>>
-        ensures { UnlessMemory (Reads (spec.entries_from 1 [] (map (λ l. l.now) lines.now))) result }
+        ensures { UnlessMemory (Reads (spec.entries_from 1 [] (map (λ l. l.now) lines.now)))
+            result }
     {
         let mut tokens = Tokens {
             clients: HashMap::new(alloc),
@@ -60,7 +61,8 @@ impl Tokens {
 
     /// Returns the client with this token, or None. The token isn't stored.
     pub fn client_of(&self, token: &[u8]) -> Option<&str>
-        ensures { (entries : List Entry) → Knows entries self.now → option_copied result ≡ spec.client_with entries (sha256 token.now) }
+        ensures { (entries : List Entry) → Knows entries self.now
+            → option_copied result ≡ spec.client_with entries (sha256 token.now) }
     {
         let digest = Digest::of(token);
         self.clients.get(&digest).map(|client| client.as_str())
@@ -70,8 +72,10 @@ impl Tokens {
     ///
     /// The fault is that of the line, and the tokens are unchanged then.
     fn take_line(&mut self, alloc: Global, line: &str) -> Result<(), Failed<LineFault>>
-        ensures ok { OnOk result ((known : List Entry) → Knows known self.old → (next : List Entry) × (spec.after_line known line.now ≡ Ok next) × Knows next self.new) }
-        ensures fault { IfFault result (λ fault. (known : List Entry) → Knows known self.old → spec.after_line known line.now ≡ Err fault) }
+        ensures ok { OnOk result ((known : List Entry) → Knows known self.old → (next : List Entry)
+            × (spec.after_line known line.now ≡ Ok next) × Knows next self.new) }
+        ensures fault { IfFault result (λ fault. (known : List Entry) → Knows known self.old
+            → spec.after_line known line.now ≡ Err fault) }
     {
         if says_nothing(line) {
             return Ok(());
@@ -86,8 +90,10 @@ impl Tokens {
     ///
     /// The fault is `Twice` or `TooMany`, and the tokens are unchanged then.
     fn add(&mut self, alloc: Global, line: TokenLine<'_>) -> Result<(), Failed<LineFault>>
-        ensures ok { OnOk result ((known : List Entry) → Knows known self.old → (next : List Entry) × (spec.added known (entry_of line.entry) ≡ Ok next) × Knows next self.new) }
-        ensures fault { IfFault result (λ fault. (known : List Entry) → Knows known self.old → spec.added known (entry_of line.entry) ≡ Err fault) }
+        ensures ok { OnOk result ((known : List Entry) → Knows known self.old → (next : List Entry)
+            × (spec.added known (entry_of line.entry) ≡ Ok next) × Knows next self.new) }
+        ensures fault { IfFault result (λ fault. (known : List Entry) → Knows known self.old
+            → spec.added known (entry_of line.entry) ≡ Err fault) }
     {
         if self.clients.contains_key(&line.digest) {
             return Err(Failed::Because(LineFault::Twice));

@@ -90,7 +90,8 @@ fn append_fields(
     fields: &[Field],
     position: usize,
 ) -> Result<(), NoMemory>
-    ensures { OnOk result (entries_of cells.new.items ≡ entries_of cells.old.items ++ map (λ f. (place_at f.leaf position, f.atom)) fields.now) }
+    ensures { OnOk result (entries_of cells.new.items ≡ entries_of cells.old.items
+        ++ map (λ f. (place_at f.leaf position, f.atom)) fields.now) }
 {
     for field in fields {
         let atom = field.atom.try_copy(alloc)?;
@@ -129,7 +130,8 @@ fn place_in(cells: &[Cell], place: Place) -> Result<usize, usize>
 /// Puts a cell at its place, replacing one that is there.
 fn put_cell(cells: &mut Vec<Cell>, cell: Cell) -> Result<(), NoMemory>
     requires { is_sorted place_cmp (entries_of cells.old.items) ≡ true }
-    ensures { OnOk result (entries_of cells.new.items ≡ put place_cmp (place_of cell) cell.atom (entries_of cells.old.items)) }
+    ensures { OnOk result (entries_of cells.new.items
+        ≡ put place_cmp (place_of cell) cell.atom (entries_of cells.old.items)) }
 {
     match place_in(cells.as_slice(), cell.place()) {
         Ok(index) => cells[index] = cell,
@@ -140,7 +142,8 @@ fn put_cell(cells: &mut Vec<Cell>, cell: Cell) -> Result<(), NoMemory>
 
 /// Removes the cell at a place, if there is one.
 fn remove_cell(cells: &mut Vec<Cell>, place: Place)
-    ensures { cells.new.items ≡ filter (λ c. not (is_eq (place_cmp (place_of c) place))) cells.old.items }
+    ensures { cells.new.items ≡ filter (λ c.
+        not (is_eq (place_cmp (place_of c) place))) cells.old.items }
 {
     cells.retain(|cell| !cell.place().compare(place).is_eq());
 }

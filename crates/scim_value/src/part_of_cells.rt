@@ -29,7 +29,8 @@ impl Part {
     ) -> Result<Part, Failed<Invalid>>
         ensures kind { IfOk result (λ p. p.kind ≡ kind) }
         ensures id { IfOk result (λ p. p.id ≡ id) }
-        ensures cells { IfOk result (λ p. IsPermutation (entries_of cells.items) (entries p.cells)) }
+        ensures cells { IfOk result (λ p. IsPermutation (entries_of cells.items)
+            (entries p.cells)) }
         ensures valid { OnOk result (AreCellsOfAPart kind (entries_of cells.items)) }
         ensures invalid { OnFault result (¬ AreCellsOfAPart kind (entries_of cells.items)) }
     {

@@ -112,9 +112,11 @@ impl Part {
     /// Splits the rows into those of the units before this one, of this unit, and of the units
     /// after it.
     fn split(&self, unit: Unit) -> (&[Row], &[Row], &[Row])
-        ensures before { result.0.now ≡ filter (λ r. is_lt (unit_cmp r.unit unit)) (spec.rows self.now) }
+        ensures before { result.0.now ≡ filter (λ r. is_lt (unit_cmp r.unit unit))
+            (spec.rows self.now) }
         ensures own { result.1.now ≡ spec.values unit (spec.rows self.now) }
-        ensures after { result.2.now ≡ filter (λ r. is_gt (unit_cmp r.unit unit)) (spec.rows self.now) }
+        ensures after { result.2.now ≡ filter (λ r. is_gt (unit_cmp r.unit unit))
+            (spec.rows self.now) }
         ensures whole { spec.rows self.now ≡ result.0.now ++ (result.1.now ++ result.2.now) }
         ensures valid { IsPart self.now }
     {
@@ -157,7 +159,8 @@ impl Part {
         ensures valid { IfOk result IsPart }
         ensures kind { IfOk result (λ p. p.kind ≡ self.kind) }
         ensures id { IfOk result (λ p. p.id ≡ self.id) }
-        ensures rows { IfOk result (λ p. spec.rows p ≡ spec.put_values unit values.items (spec.rows self)) }
+        ensures rows { IfOk result (λ p. spec.rows p
+            ≡ spec.put_values unit values.items (spec.rows self)) }
     {
         let (before, own, _) = self.split(unit);
         let start = before.len();
@@ -208,7 +211,8 @@ impl Part {
         ensures valid { IfOk result IsPart }
         ensures kind { IfOk result (λ p. p.kind ≡ self.now.kind) }
         ensures id { IfOk result (λ p. p.id ≡ self.now.id) }
-        ensures rows { IfOk result (λ p. spec.rows p ≡ spec.restricted (T.keeps test.now) (spec.rows self.now)) }
+        ensures rows { IfOk result (λ p. spec.rows p
+            ≡ spec.restricted (T.keeps test.now) (spec.rows self.now)) }
     {
         let rows = kept_rows(alloc, self.rows(), test)?;
         Ok(Part::of_rows(self.kind(), self.id(), rows))
@@ -217,7 +221,8 @@ impl Part {
 
 /// Whether the first row exists and belongs to the attribute.
 fn begins_with(rows: &[Row], attribute: Attribute) -> bool
-    ensures { result ≡ list_any (λ r. sameb the_attribute r.unit.attribute attribute) (take 1 rows.now) }
+    ensures { result ≡ list_any (λ r. sameb the_attribute r.unit.attribute attribute)
+        (take 1 rows.now) }
 {
     match rows {
         [first, ..] => first.unit().attribute == attribute,

@@ -30,7 +30,8 @@ impl Resource {
         ensures ok { IfOk result (λ r. r ≡ with_cell leaf position atom self.now) }
         ensures valid { OnOk result (IsResource (with_cell leaf position atom self.now)) }
         ensures invalid { OnFault result (¬ IsResource (with_cell leaf position atom self.now)) }
-        ensures base { leaf ≢ leaf_at Meta Location → (base : List ℕ) → HasBase base self.now → IfOk result (HasBase base) }
+        ensures base { leaf ≢ leaf_at Meta Location → (base : List ℕ) → HasBase base self.now
+            → IfOk result (HasBase base) }
     {
         let part = self.part().with(alloc, leaf, position, atom)?;
         Ok(Resource::of_part(part)?)
@@ -50,7 +51,8 @@ impl Resource {
         ensures ok { IfOk result (λ r. r ≡ without_cell leaf position self.now) }
         ensures valid { OnOk result (IsResource (without_cell leaf position self.now)) }
         ensures invalid { OnFault result (¬ IsResource (without_cell leaf position self.now)) }
-        ensures base { leaf ≢ leaf_at Meta Location → (base : List ℕ) → HasBase base self.now → IfOk result (HasBase base) }
+        ensures base { leaf ≢ leaf_at Meta Location → (base : List ℕ) → HasBase base self.now
+            → IfOk result (HasBase base) }
     {
         let part = self.part().without(alloc, leaf, position)?;
         Ok(Resource::of_part(part)?)

@@ -52,7 +52,8 @@ fn has(part: &Part, leaf: Leaf) -> bool
 
 /// The text at the first position of a leaf, or None.
 fn first_text(part: &Part, leaf: Leaf) -> Option<&str>
-    ensures { (text : List ℕ) → (option_copied result ≡ Some text) ↔ (first_at leaf part.now ≡ Some (Text text)) }
+    ensures { (text : List ℕ) → (option_copied result ≡ Some text)
+        ↔ (first_at leaf part.now ≡ Some (Text text)) }
 {
     match part.get(leaf, 0) {
         Some(Atom::Text(text)) => Some(text.as_str()),
@@ -96,7 +97,8 @@ fn has_meta(part: &Part) -> bool
 
 /// The text without the suffix `end`, or None if it doesn't have it.
 fn before<'a>(text: &'a str, end: &str) -> Option<&'a str>
-    ensures { (front : List ℕ) → (option_copied result ≡ Some front) ↔ (text.now ≡ front ++ end.now) }
+    ensures { (front : List ℕ) → (option_copied result ≡ Some front)
+        ↔ (text.now ≡ front ++ end.now) }
 {
     text.strip_suffix(end)
 }
@@ -104,7 +106,8 @@ fn before<'a>(text: &'a str, end: &str) -> Option<&'a str>
 /// The base of a location of this kind and id, or None if the location isn't that of such a
 /// resource.
 fn base_of<'a>(location: &'a str, kind: Kind, id: &str) -> Option<&'a str>
-    ensures { (base : List ℕ) → (option_copied result ≡ Some base) ↔ (location.now ≡ base ++ (endpoint kind ++ (codes "/" ++ id.now))) }
+    ensures { (base : List ℕ) → (option_copied result ≡ Some base)
+        ↔ (location.now ≡ base ++ (endpoint kind ++ (codes "/" ++ id.now))) }
 {
     before(before(before(location, id)?, "/")?, kind.endpoint())
 }

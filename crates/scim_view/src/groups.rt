@@ -42,7 +42,8 @@ pub(crate) fn seen_group(
     group: &Resource,
 ) -> Result<SeenGroup, NoMemory>
     ensures id { IfOk result (λ g. g.id ≡ group.now.id) }
-    ensures display { IfOk result (λ g. g.display ≡ spec.display_of (visible_by (decision decisions.now) group.now)) }
+    ensures display { IfOk result (λ g. g.display
+        ≡ spec.display_of (visible_by (decision decisions.now) group.now)) }
 {
     let display = seen_name(alloc, decisions, group)?;
     Ok(SeenGroup {
@@ -57,7 +58,8 @@ fn seen_name(
     decisions: &Decisions,
     group: &Resource,
 ) -> Result<Option<Text>, NoMemory>
-    ensures { IfOk result (λ n. n ≡ spec.display_of (visible_by (decision decisions.now) group.now)) }
+    ensures { IfOk result (λ n. n
+        ≡ spec.display_of (visible_by (decision decisions.now) group.now)) }
 {
     let name = Leaf::simple(Attribute::DisplayName);
     let shown = MayBeSeen {
@@ -112,7 +114,9 @@ fn memberships(
     groups: &[&SeenGroup],
     base: &str,
 ) -> Result<Vec<Row>, NoMemory>
-    ensures { IfOk result (λ v. v.items ≡ restricted (seeing.may_be_seen (decision decisions.now) Kind.User) (map (spec.membership_at base.now) groups.now)) }
+    ensures { IfOk result (λ v. v.items
+        ≡ restricted (seeing.may_be_seen (decision decisions.now) Kind.User)
+        (map (spec.membership_at base.now) groups.now)) }
 {
     let shown = MayBeSeen {
         kind: Kind::User,
@@ -139,7 +143,8 @@ impl Viewer<'_> {
         groups: &[Resource],
         resource: &Resource,
     ) -> Result<Part, NoMemory>
-        ensures { IfOk result (λ p. p ≡ spec.with_groups (viewer_of self.now) groups.now resource.now) }
+        ensures { IfOk result (λ p. p
+            ≡ spec.with_groups (viewer_of self.now) groups.now resource.now) }
     {
         let decisions = self.decisions(alloc, resource)?;
         let listing = ListingGroups::of(alloc, self, groups, resource)?;
@@ -157,8 +162,10 @@ impl Viewer<'_> {
         resource: &Resource,
     ) -> Result<Part, NoMemory>
         ensures { IfOk result (λ p. (gs : List Content)
-            → ((l : Leaf) → decision decisions.now l ≡ seeing.read_decision (viewer_of self.now) resource.now l)
-            → AreListing (viewer_of self.now) resource.now.id gs groups.now → p ≡ spec.with_groups (viewer_of self.now) gs resource.now) }
+            → ((l : Leaf) → decision decisions.now l
+            ≡ seeing.read_decision (viewer_of self.now) resource.now l)
+            → AreListing (viewer_of self.now) resource.now.id gs groups.now
+            → p ≡ spec.with_groups (viewer_of self.now) gs resource.now) }
     {
         visible_among(alloc, decisions, resource, groups.as_slice(), self.base)
     }
@@ -171,7 +178,8 @@ impl Viewer<'_> {
         groups: &[Resource],
         resource: &Resource,
     ) -> Result<Option<Part>, NoMemory>
-        ensures { IfOk result (λ o. o ≡ spec.view_with_groups (viewer_of self.now) groups.now resource.now) }
+        ensures { IfOk result (λ o. o
+            ≡ spec.view_with_groups (viewer_of self.now) groups.now resource.now) }
     {
         let decisions = self.decisions(alloc, resource)?;
         if !decisions.of(Leaf::simple(Attribute::Id)).allow {
@@ -192,7 +200,8 @@ fn visible_among(
     base: &str,
 ) -> Result<Part, NoMemory>
     ensures { IfOk result (λ p. p ≡ spec.visible_with (decision decisions.now)
-        (map (λ g. spec.membership_of base.now g.id g.display) (sorted_by kept.kept_cmp groups.now)) resource.now) }
+        (map (λ g. spec.membership_of base.now g.id g.display) (sorted_by kept.kept_cmp groups.now))
+        resource.now) }
 {
     let mut lent = references(alloc, groups)?;
     put_in_order(&mut lent)?;
@@ -212,7 +221,8 @@ fn references(alloc: Global, groups: &[SeenGroup]) -> Result<Vec<&SeenGroup>, No
 
 /// Sorts groups by id, stably.
 pub(crate) fn put_in_order(groups: &mut Vec<&SeenGroup>) -> Result<(), NoMemory>
-    ensures { OnOk result (map (λ g. g.now) groups.new.items ≡ sorted_by kept.kept_cmp (map (λ g. g.now) groups.old.items)) }
+    ensures { OnOk result (map (λ g. g.now) groups.new.items
+        ≡ sorted_by kept.kept_cmp (map (λ g. g.now) groups.old.items)) }
 {
     groups.sort_by(|a, b| a.id.cmp(&b.id))?;
     Ok(())
@@ -233,7 +243,9 @@ pub(crate) fn shows_members(decisions: &Decisions, group: &Resource) -> bool
 
 /// Whether the group has a member whose `value` is `member`.
 pub(crate) fn lists(group: &Part, member: &str) -> bool
-    ensures { result ≡ list_any (λ m. members.is_text member.now (atom_in (leaf_at Attribute.Members SubAttribute.Value) m.fields))
+    ensures { result ≡ list_any (λ m.
+        members.is_text member.now (atom_in
+        (leaf_at Attribute.Members SubAttribute.Value) m.fields))
         (values (whole Attribute.Members) (rows group.now)) }
 {
     let value = Leaf::of(Attribute::Members, SubAttribute::Value);

@@ -111,7 +111,8 @@ impl GroupIndex {
         group: &Resource,
     ) -> Result<(), NoMemory>
         ensures { (gs : List Content) → IsMadeOf gs self.old
-            → OnOk result (IsMadeOf (gs ++ visible_by (decision decisions.now) group.now ∷ []) self.new) }
+            → OnOk result (IsMadeOf (gs ++ visible_by (decision decisions.now) group.now
+            ∷ []) self.new) }
     {
         let seen = seen_group(alloc, decisions, group)?;
         let members = group.part().values(Unit::whole(Attribute::Members));
@@ -130,7 +131,8 @@ impl GroupIndex {
         ensures groups { self.new.groups ≡ self.old.groups }
         ensures positions { OnOk result ((id : List ℕ) → IsId id → spec.positions_of self.new id
             ≡ (if list_any (spec.names_member id) members.now
-            then spec.noted (vec_len self.old.groups) (spec.positions_of self.old id) else spec.positions_of self.old id)) }
+            then spec.noted (vec_len self.old.groups)
+            (spec.positions_of self.old id) else spec.positions_of self.old id)) }
     {
         for member in members {
             if let Some(id) = member_id(member) {
@@ -144,7 +146,9 @@ impl GroupIndex {
     fn add_member(&mut self, alloc: Global, id: Id) -> Result<(), NoMemory>
         ensures groups { self.new.groups ≡ self.old.groups }
         ensures positions { OnOk result ((other : List ℕ) → spec.positions_of self.new other
-            ≡ cond (is_same_id id other) (spec.noted (vec_len self.old.groups) (spec.positions_of self.old other)) (spec.positions_of self.old other)) }
+            ≡ cond (is_same_id id other)
+            (spec.noted (vec_len self.old.groups) (spec.positions_of self.old other))
+            (spec.positions_of self.old other)) }
     {
         let position = self.groups.len();
         let positions = self.by_member.entry(id)?.or_insert(Vec::new(alloc));
@@ -154,7 +158,8 @@ impl GroupIndex {
 
 /// Returns the id that a value of `members` names; None if its `value` isn't the text of an id.
 fn member_id(member: &Row) -> Option<Id>
-    ensures id { (id : List ℕ) → IsId id → spec.names_member id member.now ≡ spec.is_found id result }
+    ensures id { (id : List ℕ) → IsId id
+        → spec.names_member id member.now ≡ spec.is_found id result }
 {
     match member.get(Leaf::of(Attribute::Members, SubAttribute::Value)) {
         Some(Atom::Text(text)) => Id::read(text.as_str()),

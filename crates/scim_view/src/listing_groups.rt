@@ -46,8 +46,10 @@ impl ListingGroups {
         group: &Resource,
     ) -> Result<(), NoMemory>
         ensures { OnOk result ((v : SpecViewer) (id : List ℕ) (groups : List Content)
-            → ((l : Leaf) → decision decisions.now l ≡ read_decision v group.now l) → lists id group.now ≡ true
-            → AreListing v id groups self.old → AreListing v id (groups ++ group.now ∷ []) self.new) }
+            → ((l : Leaf) → decision decisions.now l ≡ read_decision v group.now l)
+            → lists id group.now ≡ true
+            → AreListing v id groups self.old
+            → AreListing v id (groups ++ group.now ∷ []) self.new) }
     {
         if shows_members(decisions, group) {
             push(&mut self.groups, seen_group(alloc, decisions, group)?)?;
@@ -64,7 +66,9 @@ impl ListingGroups {
         groups: &[Resource],
         resource: &Resource,
     ) -> Result<ListingGroups, NoMemory>
-        ensures { IfOk result (λ listing. AreListing (viewer_of viewer.now) resource.now.id (telling resource.now groups.now) listing) }
+        ensures { IfOk result (λ listing.
+            AreListing (viewer_of viewer.now) resource.now.id
+            (telling resource.now groups.now) listing) }
     {
         match resource.kind() {
             Kind::User => ListingGroups::of_id(alloc, viewer, groups, resource.id()),

@@ -27,7 +27,8 @@ impl Viewer<'_> {
         groups: &[Resource],
         resources: &[Resource],
     ) -> Result<Vec<Part>, NoMemory>
-        ensures { IfOk result (λ v. v.items ≡ spec.views (viewer_of self.now) groups.now resources.now) }
+        ensures { IfOk result (λ v. v.items
+            ≡ spec.views (viewer_of self.now) groups.now resources.now) }
     {
         let index = GroupIndex::of(alloc, self, groups)?;
         let mut views = Vec::new(alloc);
@@ -53,8 +54,10 @@ impl Viewer<'_> {
         resource: &Resource,
     ) -> Result<Option<Part>, NoMemory>
         ensures { IfOk result (λ o. (groups : List Content)
-            → ((l : Leaf) → decision decisions.now l ≡ read_decision (viewer_of self.now) resource.now l)
-            → IsIndexOf (viewer_of self.now) groups index.now → o ≡ spec.view_with_groups (viewer_of self.now) groups resource.now) }
+            → ((l : Leaf) → decision decisions.now l
+            ≡ read_decision (viewer_of self.now) resource.now l)
+            → IsIndexOf (viewer_of self.now) groups index.now
+            → o ≡ spec.view_with_groups (viewer_of self.now) groups resource.now) }
     {
         if !decisions.of(Leaf::simple(Attribute::Id)).allow {
             return Ok(None);

@@ -25,7 +25,8 @@ pub(crate) fn membership(
     id: Id,
     display: Option<&Text>,
 ) -> Result<Row, NoMemory>
-    ensures { IfOk result (λ r. r ≡ restricted_row (may_be_seen (decision shown.now.decisions.now) shown.now.kind)
+    ensures { IfOk result (λ r. r
+        ≡ restricted_row (may_be_seen (decision shown.now.decisions.now) shown.now.kind)
         (spec.membership_of base.now id (option_copied display.entry))) }
 {
     let mut fields = Vec::new(alloc);
@@ -44,7 +45,8 @@ fn add_value(
     id: Id,
 ) -> Result<(), NoMemory>
     ensures { OnOk result (fields.new.items ≡ fields.old.items
-        ++ shown_fields (decision shown.now.decisions.now) shown.now.kind (spec.field SubAttribute.Value (id_text id) ∷ [])) }
+        ++ shown_fields (decision shown.now.decisions.now) shown.now.kind
+        (spec.field SubAttribute.Value (id_text id) ∷ [])) }
 {
     if shown.shows(Leaf::of(Attribute::Groups, SubAttribute::Value)) {
         add_field(fields, SubAttribute::Value, id.text(alloc)?)?;
@@ -61,7 +63,8 @@ fn add_reference(
     id: Id,
 ) -> Result<(), NoMemory>
     ensures { OnOk result (fields.new.items ≡ fields.old.items
-        ++ shown_fields (decision shown.now.decisions.now) shown.now.kind (spec.field SubAttribute.Reference (location base.now Kind.Group id) ∷ [])) }
+        ++ shown_fields (decision shown.now.decisions.now) shown.now.kind
+        (spec.field SubAttribute.Reference (location base.now Kind.Group id) ∷ [])) }
 {
     if shown.shows(Leaf::of(Attribute::Groups, SubAttribute::Reference)) {
         let place = location(alloc, base, Kind::Group, id)?;
@@ -78,7 +81,8 @@ fn add_display(
     display: Option<&Text>,
 ) -> Result<(), NoMemory>
     ensures { OnOk result (fields.new.items ≡ fields.old.items
-        ++ shown_fields (decision shown.now.decisions.now) shown.now.kind (spec.display_field (option_copied display.entry))) }
+        ++ shown_fields (decision shown.now.decisions.now) shown.now.kind
+        (spec.display_field (option_copied display.entry))) }
 {
     if let Some(name) = display {
         if shown.shows(Leaf::of(Attribute::Groups, SubAttribute::Display)) {
@@ -91,7 +95,8 @@ fn add_display(
 /// Appends `type`, which is always "direct", if the client may see it.
 fn add_type(alloc: Global, fields: &mut Vec<Field>, shown: &MayBeSeen) -> Result<(), NoMemory>
     ensures { OnOk result (fields.new.items ≡ fields.old.items
-        ++ shown_fields (decision shown.now.decisions.now) shown.now.kind (spec.field SubAttribute.TypeName (codes "direct") ∷ [])) }
+        ++ shown_fields (decision shown.now.decisions.now) shown.now.kind
+        (spec.field SubAttribute.TypeName (codes "direct") ∷ [])) }
 {
     if shown.shows(Leaf::of(Attribute::Groups, SubAttribute::TypeName)) {
         add_field(
@@ -109,7 +114,8 @@ fn add_field(
     sub_attribute: SubAttribute,
     text: Text,
 ) -> Result<(), NoMemory>
-    ensures { OnOk result (fields.new.items ≡ fields.old.items ++ spec.field sub_attribute text ∷ []) }
+    ensures { OnOk result (fields.new.items ≡ fields.old.items ++ spec.field sub_attribute text
+        ∷ []) }
 {
     let field = Field {
         leaf: Leaf::of(Attribute::Groups, sub_attribute),

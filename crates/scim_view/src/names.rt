@@ -73,7 +73,8 @@ impl Names {
     /// Adds the attributes that the text names.
     fn add(&mut self, kind: Kind, text: &str) -> Result<(), NoMemory>
         ensures { OnOk result ((l : Leaf)
-            → spec.includes self.new l ≡ (spec.includes self.old l || spec.names_leaf kind text.now l)) }
+            → spec.includes self.new l
+            ≡ (spec.includes self.old l || spec.names_leaf kind text.now l)) }
     {
         self.add_extension(extension_named(kind, text))?;
         self.add_meant(meant(kind, text))
@@ -108,7 +109,8 @@ impl Names {
     /// Adds a whole attribute.
     fn add_attribute(&mut self, attribute: Attribute) -> Result<(), NoMemory>
         ensures { OnOk result ((l : Leaf)
-            → spec.includes self.new l ≡ (spec.includes self.old l || is_same_attribute attribute l.attribute)) }
+            → spec.includes self.new l
+            ≡ (spec.includes self.old l || is_same_attribute attribute l.attribute)) }
     {
         self.attributes.insert(attribute)?;
         Ok(())

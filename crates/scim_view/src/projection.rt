@@ -106,14 +106,16 @@ pub fn project(alloc: Global, visible: Part, wanted: &Wanted) -> Result<Part, No
 
 /// Whether the test keeps every field of the rows.
 fn shows_all(rows: &[Row], shown: &Shown) -> bool
-    ensures { result ≡ list_all (λ r. list_all (λ f. spec.shows shown.now.wanted.now shown.now.kind f.leaf) r.fields) rows.now }
+    ensures { result ≡ list_all (λ r.
+        list_all (λ f. spec.shows shown.now.wanted.now shown.now.kind f.leaf) r.fields) rows.now }
 {
     rows.iter().all(|row| shows_row(row, shown))
 }
 
 /// Whether the test keeps every field of the row.
 fn shows_row(row: &Row, shown: &Shown) -> bool
-    ensures { result ≡ list_all (λ f. spec.shows shown.now.wanted.now shown.now.kind f.leaf) row.now.fields }
+    ensures { result ≡ list_all (λ f.
+        spec.shows shown.now.wanted.now shown.now.kind f.leaf) row.now.fields }
 {
     row.fields()
         .iter()

@@ -39,9 +39,12 @@ impl Viewer<'_> {
     /// They are those of [`Viewer::decisions`] for each of the resources. None if a rule that may decide has
     /// a target, so that the decisions depend on the resource.
     pub fn decisions_on_all(&self, alloc: Global, kind: Kind) -> Result<Option<Decisions>, NoMemory>
-        ensures same { IfOk result (λ o. IfSome o (λ decisions. (c : Content) → c.kind ≡ kind → (l : Leaf)
+        ensures same { IfOk result (λ o. IfSome o (λ decisions. (c : Content) → c.kind ≡ kind
+            → (l : Leaf)
             → decision decisions l ≡ spec.read_decision (spec.viewer_of self.now) c l)) }
-        ensures none { IfOk result (λ o. IfNone o (list_any (has_target_for self.now.client.now Op.Read kind) self.now.policy.now ≡ true)) }
+        ensures none { IfOk result (λ o. IfNone o
+            (list_any (has_target_for self.now.client.now Op.Read kind) self.now.policy.now
+            ≡ true)) }
     {
         self.policy
             .decisions_on_all(alloc, self.client, Op::Read, kind)

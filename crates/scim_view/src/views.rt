@@ -25,7 +25,8 @@ pub(crate) struct MayBeSeen<'d> {
 impl MayBeSeen<'_> {
     /// Whether the client may see the leaf.
     pub(crate) fn shows(&self, leaf: Leaf) -> bool
-        ensures { result ≡ (not (is_write_only self.now.kind leaf) && (decision self.now.decisions.now leaf).allow) }
+        ensures { result ≡ (not (is_write_only self.now.kind leaf)
+            && (decision self.now.decisions.now leaf).allow) }
     {
         !is_write_only(self.kind, leaf) && self.decisions.of(leaf).allow
     }
@@ -54,7 +55,11 @@ impl<'a> MayBeSeenOf<'a> {
     /// It keeps the same cells as [`Viewer::visible`], but only those of `attributes`; rows of other
     /// attributes are skipped unread.
     pub fn new(attributes: &'a [Attribute], kind: Kind, decisions: &'a Decisions) -> MayBeSeenOf<'a>
-        ensures { result ≡ record { attributes = attributes.entry; seen = record { kind = kind; decisions = decisions.entry } } }
+        ensures { result ≡ record {
+          attributes = attributes.entry;
+          seen =
+              record { kind = kind; decisions = decisions.entry };
+        } }
     {
         MayBeSeenOf {
             attributes,
@@ -112,7 +117,8 @@ impl Viewer<'_> {
         decisions: &Decisions,
         resource: &Resource,
     ) -> Result<Part, NoMemory>
-        requires { (l : Leaf) → decision decisions.now l ≡ spec.read_decision (spec.viewer_of self.now) resource.now l }
+        requires { (l : Leaf) → decision decisions.now l
+            ≡ spec.read_decision (spec.viewer_of self.now) resource.now l }
         ensures { IfOk result (λ p. p ≡ spec.visible (spec.viewer_of self.now) resource.now) }
     {
         visible_by(alloc, decisions, resource)

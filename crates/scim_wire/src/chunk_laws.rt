@@ -10,11 +10,16 @@ ghost use Rattle.scim_wire.specs.ChunkParts.{StandsFor};
 /// At most one prefix of the bytes is a whole body or a refused one, never both, with one content or one
 /// fault. The bytes that an unfinished [`ChunkedPart`] has read have no such prefix.
 pub fn chunked_bodies_are_read_in_one_way()
-    ensures part { (part : ChunkedPart) (bytes : List ℕ) → StandsFor part bytes → IsChunkedPart bytes }
-    ensures one { (a b x y p q : List ℕ) → IsChunked a p → IsChunked b q → a ++ x ≡ b ++ y → (a ≡ b) × (p ≡ q) }
-    ensures one_fault { (a b x y : List ℕ) (f g : BadChunks) → IsBadChunked a f → IsBadChunked b g → a ++ x ≡ b ++ y
+    ensures part { (part : ChunkedPart) (bytes : List ℕ) → StandsFor part bytes
+        → IsChunkedPart bytes }
+    ensures one { (a b x y p q : List ℕ) → IsChunked a p → IsChunked b q → a ++ x ≡ b ++ y → (a ≡ b)
+        × (p ≡ q) }
+    ensures one_fault { (a b x y : List ℕ) (f g : BadChunks) → IsBadChunked a f → IsBadChunked b g
+        → a ++ x ≡ b ++ y
         → (a ≡ b) × (f ≡ g) }
-    ensures not_bad { (a b x y p : List ℕ) (f : BadChunks) → IsChunked a p → IsBadChunked b f → ¬ (a ++ x ≡ b ++ y) }
+    ensures not_bad { (a b x y p : List ℕ) (f : BadChunks) → IsChunked a p → IsBadChunked b f
+        → ¬ (a ++ x ≡ b ++ y) }
     ensures not_part { (a x p : List ℕ) → IsChunked a p → ¬ (IsChunkedPart (a ++ x)) }
-    ensures bad_not_part { (a x : List ℕ) (f : BadChunks) → IsBadChunked a f → ¬ (IsChunkedPart (a ++ x)) }
+    ensures bad_not_part { (a x : List ℕ) (f : BadChunks) → IsBadChunked a f
+        → ¬ (IsChunkedPart (a ++ x)) }
 {}

@@ -27,7 +27,8 @@ fn has_room(line: &[u8]) -> bool
 ///
 /// [`BadLine`] if no chunk line of at most 1,024 bytes begins with these bytes.
 pub fn judge_line(line: &[u8]) -> Result<Option<u64>, BadLine>
-    ensures size { IfOk result (λ size. MatchOption size (IsFrontOf IsLine line.now) (λ n. IsLineOf n line.now)) }
+    ensures size { IfOk result (λ size.
+        MatchOption size (IsFrontOf IsLine line.now) (λ n. IsLineOf n line.now)) }
     ensures bad { OnErr result (CanNotBegin IsLine line.now) }
 {
     if line.len() > MAX_LINE {

@@ -63,7 +63,8 @@ impl ChunkedPart {
     /// or the trailers. [`BadChunks::TooLarge`] at the end of the chunk line by which the content would
     /// exceed 1,048,576 bytes.
     pub fn take(self, byte: u8) -> Result<Step, Failed<BadChunks>>
-        ensures { (bytes : List ℕ) → StandsFor self bytes → UnlessMemory (Leads (bytes ++ byte ∷ [])) result }
+        ensures { (bytes : List ℕ) → StandsFor self bytes
+            → UnlessMemory (Leads (bytes ++ byte ∷ [])) result }
     {
         match self.place {
             Place::Line => self.take_in_line(byte),
@@ -79,7 +80,8 @@ impl ChunkedPart {
     /// Returns 0 outside a chunk's data. After `NoMemory` the part must not be used.
     pub fn take_run(&mut self, piece: &[u8]) -> Result<usize, NoMemory>
         ensures within { IfOk result (λ n. n ≤ length piece.now) }
-        ensures stands { (bytes : List ℕ) → StandsFor self.old bytes → IfOk result (λ n. StandsFor self.new (bytes ++ take n piece.now)) }
+        ensures stands { (bytes : List ℕ) → StandsFor self.old bytes
+            → IfOk result (λ n. StandsFor self.new (bytes ++ take n piece.now)) }
     {
         let Place::Data(left) = self.place else {
             return Ok(0);
@@ -106,7 +108,8 @@ impl ChunkedPart {
 
     /// Returns the state after a whole chunk line of this size. Fails as [`ChunkedPart::take`].
     fn after_line(mut self, size: u64) -> Result<Step, Failed<BadChunks>>
-        ensures { (bytes : List ℕ) → HasChunks bytes self.body.items self.line.items → IsLineOf size self.line.items
+        ensures { (bytes : List ℕ) → HasChunks bytes self.body.items self.line.items
+            → IsLineOf size self.line.items
             → UnlessMemory (Leads bytes) result }
     {
         let content = self.body.len() as u64;
@@ -124,7 +127,8 @@ impl ChunkedPart {
     /// Reads a byte of a chunk's data, of which `left` bytes are missing.
     fn take_in_data(mut self, left: u64, byte: u8) -> Result<Step, Failed<BadChunks>>
         requires { 0 < left }
-        ensures { (bytes : List ℕ) → StandsAt (Place.Data left) self.body.items self.line.items bytes
+        ensures { (bytes : List ℕ) → StandsAt
+            (Place.Data left) self.body.items self.line.items bytes
             → UnlessMemory (Leads (bytes ++ byte ∷ [])) result }
     {
         self.body.push(byte)?;
@@ -159,7 +163,8 @@ impl ChunkedPart {
 
     /// Reads a byte of the trailers.
     fn take_in_trailers(mut self, part: TrailerPart, byte: u8) -> Result<Step, Failed<BadChunks>>
-        ensures { (bytes : List ℕ) → StandsAt (Place.Trailers part) self.body.items self.line.items bytes
+        ensures { (bytes : List ℕ) → StandsAt
+            (Place.Trailers part) self.body.items self.line.items bytes
             → UnlessMemory (Leads (bytes ++ byte ∷ [])) result }
     {
         match part.take(byte) {

@@ -41,7 +41,8 @@ impl HeadPart {
 
     /// Reads one byte of the head. An empty line before the head is dropped (RFC 9112 section 2.2).
     pub fn take(self, alloc: Global, byte: u8) -> Result<HeadStep, NoMemory>
-        ensures { (bytes : List ℕ) → HoldsHead self bytes → IfOk result (StepsTo (bytes ++ byte ∷ [])) }
+        ensures { (bytes : List ℕ) → HoldsHead self bytes
+            → IfOk result (StepsTo (bytes ++ byte ∷ [])) }
     {
         let HeadPart { mut bytes, feeds } = self;
         bytes.push(byte)?;

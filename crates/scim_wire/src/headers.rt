@@ -25,7 +25,8 @@ pub fn values_named<'b>(
     headers: &[Header<'b>],
     name: &[u8],
 ) -> Result<Vec<&'b [u8]>, NoMemory>
-    ensures { IfOk result (λ v. texts v.items ≡ values_named name.now (map header_parts headers.now)) }
+    ensures { IfOk result (λ v. texts v.items
+        ≡ values_named name.now (map header_parts headers.now)) }
 {
     let mut values = Vec::new(alloc);
     for header in headers {

@@ -26,7 +26,8 @@ pub struct Reply<'a> {
 
 /// Appends a header line.
 fn push_line(text: &mut String, name: &str, value: &str) -> Result<(), NoMemory>
-    ensures { OnOk result (string_bytes text.new ≡ string_bytes text.old ++ line name.now value.now) }
+    ensures { OnOk result (string_bytes text.new ≡ string_bytes text.old
+        ++ line name.now value.now) }
 {
     text.push_str(name)?;
     text.push_str(": ")?;
@@ -36,7 +37,8 @@ fn push_line(text: &mut String, name: &str, value: &str) -> Result<(), NoMemory>
 
 /// Appends a header line if there is a value.
 fn push_option(text: &mut String, name: &str, value: Option<&str>) -> Result<(), NoMemory>
-    ensures { OnOk result (string_bytes text.new ≡ string_bytes text.old ++ option_line name.now (option_copied value.entry)) }
+    ensures { OnOk result (string_bytes text.new ≡ string_bytes text.old
+        ++ option_line name.now (option_copied value.entry)) }
 {
     match value {
         Some(value) => push_line(text, name, value),
@@ -46,7 +48,8 @@ fn push_option(text: &mut String, name: &str, value: Option<&str>) -> Result<(),
 
 /// Appends a header line if `due`.
 fn push_if(text: &mut String, due: bool, name: &str, value: &str) -> Result<(), NoMemory>
-    ensures { OnOk result (string_bytes text.new ≡ string_bytes text.old ++ line_if due name.now value.now) }
+    ensures { OnOk result (string_bytes text.new ≡ string_bytes text.old
+        ++ line_if due name.now value.now) }
 {
     if due {
         push_line(text, name, value)

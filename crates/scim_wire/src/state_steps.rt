@@ -68,7 +68,8 @@ fn announced(head: &MessageHead) -> Option<Item>
 
 /// Returns the step after a whole head.
 fn begin_body(alloc: Global, head: MessageHead) -> StateStep
-    ensures { (bytes : List ℕ) → OpensSaying bytes (Ok head) [] → Steps result.state result.item bytes [] }
+    ensures { (bytes : List ℕ) → OpensSaying bytes (Ok head) []
+        → Steps result.state result.item bytes [] }
 {
     match head.framing {
         Framing::Chunked => {
@@ -140,8 +141,10 @@ impl BodyPart {
     /// After `NoMemory` the part must not be used.
     pub fn take_run(&mut self, piece: &[u8]) -> Result<usize, NoMemory>
         ensures within { IfOk result (λ n. n ≤ length piece.now) }
-        ensures stands { (bytes : List ℕ) (items : List Item) → StandsAt (State.InBody self.old) bytes items
-            → IfOk result (λ n. StandsAt (State.InBody self.new) (bytes ++ take n piece.now) items) }
+        ensures stands { (bytes : List ℕ) (items : List Item)
+            → StandsAt (State.InBody self.old) bytes items
+            → IfOk result (λ n.
+            StandsAt (State.InBody self.new) (bytes ++ take n piece.now) items) }
     {
         let count = piece.len().min(self.left.saturating_sub(1) as usize);
         self.body.extend_from_slice(&piece[..count])?;
@@ -182,8 +185,10 @@ impl ChunksPart {
     /// Returns 0 outside a chunk's data. After `NoMemory` the part must not be used.
     pub fn take_run(&mut self, piece: &[u8]) -> Result<usize, NoMemory>
         ensures within { IfOk result (λ n. n ≤ length piece.now) }
-        ensures stands { (bytes : List ℕ) (items : List Item) → StandsAt (State.InChunks self.old) bytes items
-            → IfOk result (λ n. StandsAt (State.InChunks self.new) (bytes ++ take n piece.now) items) }
+        ensures stands { (bytes : List ℕ) (items : List Item)
+            → StandsAt (State.InChunks self.old) bytes items
+            → IfOk result (λ n.
+            StandsAt (State.InChunks self.new) (bytes ++ take n piece.now) items) }
     {
         self.chunks.take_run(piece)
     }

@@ -68,7 +68,8 @@ impl State {
     pub fn take(self, alloc: Global, byte: u8) -> Result<StateStep, NoMemory>
         ensures steps { (bytes : List ℕ) (items : List Item) → StandsAt self bytes items
             → IfOk result (λ r. Steps r.state r.item (bytes ++ byte ∷ []) items) }
-        ensures shut { self ≡ State.Shut → IfOk result (λ r. (r.state ≡ State.Shut) × (r.item ≡ None)) }
+        ensures shut { self ≡ State.Shut → IfOk result (λ r. (r.state ≡ State.Shut)
+            × (r.item ≡ None)) }
     {
         match self {
             State::Opening(part) => take_in_head(part, alloc, byte),

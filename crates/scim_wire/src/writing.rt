@@ -13,7 +13,8 @@ use std::io::{ErrorKind, Write};
 /// written, perhaps empty or whole, and nothing else.
 pub fn write_text<W: Write>(text: &str, writer: &mut W) -> io::Result<()>
     ensures whole { OnOk result (Appends (W.contents writer.old) (W.contents writer.new) text.now) }
-    ensures front { OnErr result (AppendsFront (W.contents writer.old) (W.contents writer.new) text.now) }
+    ensures front { OnErr result (AppendsFront (W.contents writer.old)
+        (W.contents writer.new) text.now) }
 {
     let bytes = text.as_bytes();
     let mut written = 0;

@@ -8,7 +8,10 @@ mod servers;
 
 use clap::{ArgMatches, Error};
 use databases::{run_audit, run_explain, run_export, run_import};
-use scim_command::{CommandFault, CommandName, RunFault, check_over_files, command, once_over_files, replay_over_files};
+use scim_command::{
+    CommandFault, CommandName, RunFault, check_over_files, command, once_over_files,
+    replay_over_files,
+};
 use servers::run_serve;
 use std::io::ErrorKind;
 use std::process::ExitCode;

@@ -7,7 +7,7 @@ use Rattle.scim_token.specs.TokenFile.{Entry, entries_from}
 use Rattle.scim_token.specs.Tokens.{Knows}
 use Rattle.scim_hub.specs.declared.hubs.Hub.{Hub}
 use Rattle.scim_hub.specs.Events.{none_joined}
-use Rattle.scim_hub.specs.Halls.{IsHall}
+use Rattle.scim_hub.specs.HubStates.{IsHubState}
 use Rattle.scim_command.specs.Once.{IsStoreOf}
 use Rattle.scim_command.specs.declared.faults.RunFault.{RunFault}
 use Rattle.scim_command.specs.declared.faults.RunFault.TheVariants.{Policy, Users, Tokens, Events, NoMemory}
@@ -42,7 +42,7 @@ IsReplayFault fault = IsOfFiles fault
 pub record IsHubOver {H : Type 0} (Stands : H → Store → Type 0) (r : Recording) (hub : Hub H) : Type 0 where
   pub store : Store
   pub holds : IsStoreOf r.base.now r.users.now store
-  pub hall : IsHall Stands hub (none_joined store)
+  pub state : IsHubState Stands hub (none_joined store)
   pub entries : List Entry
   pub knows : entries_from 1 [] (lines r.tokens.now) ≡ Ok entries
   pub has : Knows entries hub.tokens

@@ -12,8 +12,8 @@ use Rattle.scim_hub.specs.declared.connections.Connections.{Connections}
 use Rattle.scim_hub.specs.declared.events.HubFault.{HubFault}
 use Rattle.scim_hub.specs.declared.events.HubFault.TheVariants.{AlreadyJoined, Unknown, Closed, NoMemory}
 use Rattle.scim_hub.specs.declared.events.Stamp.{Stamp}
-use Rattle.scim_hub.specs.Events.{Connection, absent, joined, shut, set, Hall, Deed, Takes}
-use Rattle.scim_hub.specs.Halls.{AreConnections, IsKept}
+use Rattle.scim_hub.specs.Events.{Connection, absent, joined, shut, set, HubState, HubOutput, Takes}
+use Rattle.scim_hub.specs.HubStates.{AreConnections, IsKept}
 
 -- an open connection has read the piece, or is shut after `NoMemory`
 abbrev pub IsReadOn : List ℕ → List Item → List ℕ → Result (Vec Item) HubFault → Option code.Connection → Type 0
@@ -56,5 +56,5 @@ IsPieceTaken shut n bytes connections (Err fault) kept = (fault ≡ Closed) × A
 IsPieceTaken _ n bytes connections (Ok new) kept = ⊥
 
 -- the result and the next state of the hub for the next piece of a connection's stream
-abbrev pub TakesPiece : List Rule → List ℕ → List Entry → Stamp → ℕ → List ℕ → Hall → Result (List Deed) HubFault → Hall → Type 0
-TakesPiece policy base entries stamp n bytes hall result next = Takes policy base entries (hall.connections n) stamp n bytes hall result next
+abbrev pub TakesPiece : List Rule → List ℕ → List Entry → Stamp → ℕ → List ℕ → HubState → Result (List HubOutput) HubFault → HubState → Type 0
+TakesPiece policy base entries stamp n bytes state result next = Takes policy base entries (state.connections n) stamp n bytes state result next

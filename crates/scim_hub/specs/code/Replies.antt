@@ -12,8 +12,8 @@ use Rattle.scim_hub.specs.declared.answering.Replies.{Replies}
 use Rattle.scim_hub.specs.declared.events.Stamp.{Stamp}
 use Rattle.scim_hub.specs.declared.events.Output.{Output}
 use Rattle.scim_hub.specs.Answering.{IsReplied, IsAnswered, AreAnswered}
-use Rattle.scim_hub.specs.Events.{deeds, writing}
-use Rattle.scim_hub.specs.Halls.{deed_of}
+use Rattle.scim_hub.specs.Events.{hub_outputs, writing}
+use Rattle.scim_hub.specs.HubStates.{output_of}
 
 -- the reply has this text and closes the connection or not, unless the result is `NoMemory`
 abbrev pub Says : Result Reply NoMemory → List ℕ → Bool → Type 0
@@ -32,7 +32,7 @@ IsReplyToItem policy base entries stamp k item store result next =
 -- all items were answered with these outputs
 abbrev pub AreAllAnswered : List Rule → List ℕ → List Entry → Stamp → ℕ → List Item → Store → List Output → Bool → Store → Type 0
 AreAllAnswered policy base entries stamp n items store outputs closed next =
-    (texts : List (List ℕ)) × AreAnswered policy base entries stamp 0 items store texts closed next × (map deed_of outputs ≡ deeds n texts closed)
+    (texts : List (List ℕ)) × AreAnswered policy base entries stamp 0 items store texts closed next × (map output_of outputs ≡ hub_outputs n texts closed)
 
 -- a prefix of the items was answered and left this store
 abbrev pub IsFrontAnswered : List Rule → List ℕ → List Entry → Stamp → List Item → Store → Store → Type 0
@@ -60,13 +60,13 @@ abbrev pub IsReached : {H : Type 0} → (H → Store → Type 0) → H → List 
 IsReached Stands shelf policy base entries stamp n front store k outputs =
     (mid : Store) × (texts : List (List ℕ)) × Stands shelf mid × IsStore base mid
     × GoesBefore policy base entries stamp front store texts k mid
-    × (map deed_of outputs ≡ map (writing n) texts)
+    × (map output_of outputs ≡ map (writing n) texts)
 
 -- the items so far and the next one were answered, and the shelf has the store that it left
 abbrev pub IsNextAnswered : {H : Type 0} → (H → Store → Type 0) → H → List Rule → List ℕ → List Entry → Stamp → ℕ → List Item → Store → ℕ → List Output → Item → Result Reply NoMemory → Type 0
 IsNextAnswered Stands shelf policy base entries stamp n front store k outputs item result =
     (next : Store) × (mid : Store) × (texts : List (List ℕ)) × (text : List ℕ) × (closing : Bool) × Stands shelf next × IsStore base next
     × GoesBefore policy base entries stamp front store texts k mid
-    × (map deed_of outputs ≡ map (writing n) texts)
+    × (map output_of outputs ≡ map (writing n) texts)
     × IsAnswered policy base entries stamp k item mid text closing next
     × Says result text closing

@@ -5,12 +5,12 @@ use Rattle.scim_token.specs.TokenFile.{Entry}
 use Rattle.scim_hub.specs.declared.events.Stamp.{Stamp}
 use Rattle.scim_hub.specs.declared.io_faults.IoFault.{IoFault}
 use Rattle.scim_hub.specs.declared.streams.Written.{Written}
-use Rattle.scim_hub.specs.Events.{Hall}
-use Rattle.scim_hub.specs.Streams.{Turn, AreServed, is_shut, replies_of}
+use Rattle.scim_hub.specs.Events.{HubState}
+use Rattle.scim_hub.specs.Streams.{AnsweredEvent, AreServed, is_shut, replies_of}
 
 -- the piece was served in one turn, or in none without a stamp, and the result counts its replies
-pub record IsPieceServed (policy : List Rule) (base : List ℕ) (entries : List Entry) (n : ℕ) (hall next : Hall) (piece : List ℕ)
+pub record IsPieceServed (policy : List Rule) (base : List ℕ) (entries : List Entry) (n : ℕ) (state next : HubState) (piece : List ℕ)
     (given given_then : Option (List Stamp)) (contents contents_then : Option (List ℕ)) (result : Result Written IoFault) : Type 0 where
-  pub turns : List Turn
-  pub served : AreServed policy base entries n hall next turns piece given given_then contents contents_then result
+  pub turns : List AnsweredEvent
+  pub served : AreServed policy base entries n state next turns piece given given_then contents contents_then result
   pub told : IfOk result (λ w. (w.replies ≡ replies_of turns) × (w.shut ≡ is_shut turns))

@@ -1,7 +1,7 @@
 -- The bytes written to and pending for connections, compared with those due.
 use Rattle.std.specs.Prelude.{◌≡◌, ◌≤◌, ℕ, List, [], ◌++◌, Option, None, Some, Result}
 use Rattle.scim_hub.specs.declared.events.HubFault.{HubFault}
-use Rattle.scim_hub.specs.Events.{Deed}
+use Rattle.scim_hub.specs.Events.{HubOutput}
 use Rattle.scim_serve.specs.declared.waiting.Waiting.{Waiting}
 use Rattle.scim_serve.specs.Serving.{IsFront, due_for}
 use Rattle.scim_serve.specs.code.Waiting.{waiting_for}
@@ -28,5 +28,5 @@ Grows more written waiting written_then waiting_then =
     (m : ℕ) (due : List ℕ) → Fits (waiting_for waiting m) (written m) due → Fits (waiting_for waiting_then m) (written_then m) (due ++ more m)
 
 -- the result of an event of connection n writes to no other connection
-abbrev pub IsOnlyTo : ℕ → Result (List Deed) HubFault → Type 0
+abbrev pub IsOnlyTo : ℕ → Result (List HubOutput) HubFault → Type 0
 IsOnlyTo n result = (m : ℕ) → (n ≡ m → ⊥) → due_for m result ≡ []

@@ -1,6 +1,6 @@
 -- The invariant by which connections that take all offered bytes get all that is due.
 use Rattle.std.specs.Prelude.{◌≡◌, ◌⊎◌, ℕ, Bool, true, false, List, [], Option, None, Some, IsSome}
-use Rattle.scim_hub.specs.Events.{absent, Seen, Hall}
+use Rattle.scim_hub.specs.Events.{absent, HubEvent, HubState}
 use Rattle.scim_serve.specs.declared.waiting.Waiting.{Waiting}
 use Rattle.scim_serve.specs.Serving.{has_left}
 use Rattle.scim_serve.specs.code.Waiting.{waiting_for}
@@ -17,7 +17,7 @@ StaysOpen rest is_closed rest_then is_closed_then = is_closed_then ≡ false →
 
 -- connections that take all offered bytes have no pending ones; each one that was absent at first, hasn't
 -- left and isn't closed can be written to, or is absent with no bytes due
-pub record IsWhole (first hall : Hall) (seen : List Seen) (takes_all is_closed : ℕ → Bool) (waiting : Waiting) (due : ℕ → List ℕ) : Type 0 where
+pub record IsWhole (first state : HubState) (seen : List HubEvent) (takes_all is_closed : ℕ → Bool) (waiting : Waiting) (due : ℕ → List ℕ) : Type 0 where
   pub taken : (m : ℕ) → AllTaken (waiting_for waiting m) (takes_all m)
   pub open_to : (m : ℕ) → first.connections m ≡ absent → has_left m seen ≡ false → is_closed m ≡ false
-      → IsSome (waiting_for waiting m) ⊎ ((hall.connections m ≡ absent) × (due m ≡ []))
+      → IsSome (waiting_for waiting m) ⊎ ((state.connections m ≡ absent) × (due m ≡ []))

@@ -3,7 +3,7 @@ use Rattle.std.specs.Str.Lines.{lines}
 use Rattle.std.proofs.lemmas.Iterator.{items_from_drains}
 use Rattle.std.proofs.lemmas.Iterator.Splits.{YieldsList-from_lines}
 use Rattle.scim_text.specs.Failures.{IfFault}
-use Rattle.scim_hub.specs.Halls.{recorded_of}
+use Rattle.scim_hub.specs.HubStates.{owned_event_of}
 use Rattle.scim_command.specs.EventFiles.{AreEventLines, IsFaultyAt}
 use Rattle.scim_command.proofs.event_files.read_events.Goals as goal
 
@@ -12,7 +12,7 @@ returns-clause-events c =
     let ran = c.in_ok-lines.ensures.ran in
     let all : map (λ x. x.now) c.as_slice.result.now ≡ lines c.args.text.now =
     ap (map (λ x. x.now)) (c.as_slice.ensures.value ∙ ran.2.0) ∙ items_from_drains ran.0 ran.1 (YieldsList-from_lines c.args.text.now c.lines.ensures.rest) in
-    subst (λ (ls : List (List ℕ)). IfOk c.events_of_lines.result (λ events. AreEventLines ls (map recorded_of events.items))) all c.events_of_lines.ensures.events
+    subst (λ (ls : List (List ℕ)). IfOk c.events_of_lines.result (λ events. AreEventLines ls (map owned_event_of events.items))) all c.events_of_lines.ensures.events
 
 pub returns-clause-faulty : goal.returns-clause-faulty
 returns-clause-faulty c =

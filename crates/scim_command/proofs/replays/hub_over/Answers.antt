@@ -13,7 +13,7 @@ returns-clause-hub c =
     record {
       store = store;
       holds = service.1;
-      hall = c.new-2.ensures.hall store service.2 below;
+      state = c.new-2.ensures.state store service.2 below;
       entries = tokens.0;
       knows = tokens.1;
       has = rw c.new-2.ensures.tokens tokens.2;

@@ -2,14 +2,14 @@ use Rattle.std.proofs.Common.{◌∙◌, sym, subst, inr, ℕ, List, map}
 use Rattle.scim_policy.specs.Rules.{Rule}
 use Rattle.scim_token.specs.Tokens.{Knows}
 use Rattle.scim_token.specs.declared.tokens.Tokens.{Tokens}
-use Rattle.scim_hub.specs.Halls.{deed_of, done}
+use Rattle.scim_hub.specs.HubStates.{output_of, done}
 use Rattle.scim_hub.specs.Streams.{IsStreamServed}
 use Rattle.scim_hub.proofs.streams.serve_stream.Goals as goal
 
 pub returns-clause-visit : goal.returns-clause-visit
-returns-clause-visit g c entries hall knows is honest =
+returns-clause-visit g c entries state knows is honest =
     let still = c.event-left.ensures.honest honest in
-    let join = c.in_ok-event.ensures.heard entries hall knows is (c.serve_pieces-served.ensures.honest still) in
+    let join = c.in_ok-event.ensures.heard entries state knows is (c.serve_pieces-served.ensures.honest still) in
     let tokens = c.in_ok-event.ensures.tokens in
     let serve = c.serve_pieces-served.ensures.served entries join.0 (subst (λ (t : Tokens). Knows entries t) (sym tokens) knows) join.1 still in
     let leave = c.event-left.ensures.heard entries serve.0 (subst (λ (t : Tokens). Knows entries t) (sym (c.serve_pieces-served.ensures.tokens ∙ tokens)) knows) serve.1 honest in
@@ -26,7 +26,7 @@ returns-clause-visit g c entries hall knows is honest =
       leave.1,
       inr (record {
         joined_at = join.0;
-        deeds = map deed_of c.in_ok-event.field-0.items;
+        hub_outputs = map output_of c.in_ok-event.field-0.items;
         joins = join.2;
         served_at = serve.0;
         served = served;

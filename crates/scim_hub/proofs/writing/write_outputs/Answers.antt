@@ -4,7 +4,7 @@ use Rattle.std.proofs.lemmas.List.{take_more}
 use Rattle.std.proofs.lemmas.Result.{err_from_is_err_and}
 use Rattle.scim_wire.specs.Streams.{AppendsFront}
 use Rattle.scim_hub.specs.declared.events.Output.{Output}
-use Rattle.scim_hub.specs.Halls.{deed_of}
+use Rattle.scim_hub.specs.HubStates.{output_of}
 use Rattle.scim_hub.specs.Streams.{text_in}
 use Rattle.scim_hub.proofs.StreamLemmas.{front_after, front_longer, texts_around}
 use Rattle.scim_hub.proofs.writing.write_outputs.Goals as goal
@@ -20,5 +20,5 @@ returns-in_err-write_output g c =
     let new = g.W.Write.contents c.write_output.new.writer in
     rw p.1
     (subst (AppendsFront old new) (sym (texts_around outputs i output more))
-    (front_longer old new _ (flat_map text_in (map deed_of (drop (i + 1) outputs)))
-    (front_after old (g.W.Write.contents c.loop-output.writer) new (flat_map text_in (map deed_of (take i outputs))) (text_in (deed_of output)) c.loop-output.invariant c.in_err-write_output.ensures)))
+    (front_longer old new _ (flat_map text_in (map output_of (drop (i + 1) outputs)))
+    (front_after old (g.W.Write.contents c.loop-output.writer) new (flat_map text_in (map output_of (take i outputs))) (text_in (output_of output)) c.loop-output.invariant c.in_err-write_output.ensures)))

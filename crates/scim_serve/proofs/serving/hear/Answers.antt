@@ -1,29 +1,29 @@
 use Rattle.std.proofs.Common.{subst}
-use Rattle.scim_hub.specs.Events.{Seen, Hears}
-use Rattle.scim_hub.specs.Halls.{done, recorded_of}
+use Rattle.scim_hub.specs.Events.{HubEvent, Hears}
+use Rattle.scim_hub.specs.HubStates.{done, owned_event_of}
 use Rattle.scim_serve.proofs.EventLemmas.{hears_only}
 use Rattle.scim_serve.proofs.LevelLemmas.{level_on}
 use Rattle.scim_serve.proofs.WholeLemmas.{whole_on}
 use Rattle.scim_serve.proofs.serving.hear.Goals as goal
 
 pub returns-clause-heard : goal.returns-clause-heard
-returns-clause-heard g c = λ known entries hall knows is honest.
+returns-clause-heard g c = λ known entries state knows is honest.
     let policy = c.args.hub.now.service.policy in
     let base = c.args.hub.now.service.base in
     let result = done c.event-answer.result in
     let written = g.P.Peers.written in
     let takes = g.P.Peers.takes_all in
     let closed = g.P.Peers.is_closed in
-    let step = c.event-answer.ensures.heard entries hall knows is honest in
-    let hears = subst (λ (s : Seen). Hears policy base entries s hall result step.0) c.event.ensures step.2 in (
+    let step = c.event-answer.ensures.heard entries state knows is honest in
+    let hears = subst (λ (s : HubEvent). Hears policy base entries s state result step.0) c.event.ensures step.2 in (
       result,
       step.0,
       step.1,
       hears,
       λ due level. level_on (written c.prepare.new.peers) (written c.settle.new.peers) c.prepare.new.waiting c.settle.new.waiting due c.args.event.now.connection result
-          (c.settle.ensures.settled known) c.settle.ensures.next c.prepare.ensures.noted (hears_only policy base entries _ hall result step.0 hears)
+          (c.settle.ensures.settled known) c.settle.ensures.next c.prepare.ensures.noted (hears_only policy base entries _ state result step.0 hears)
           (c.prepare.ensures.level known due level),
-      λ first seen due whole. whole_on policy base entries first hall step.0 seen (recorded_of c.args.event.now) result
+      λ first seen due whole. whole_on policy base entries first state step.0 seen (owned_event_of c.args.event.now) result
           (takes c.args.peers.now) (takes c.prepare.new.peers) (takes c.settle.new.peers) (closed c.args.peers.now) (closed c.prepare.new.peers) (closed c.settle.new.peers)
           c.args.waiting.now c.prepare.new.waiting c.settle.new.waiting due
           (c.prepare.ensures.taken known) (c.prepare.ensures.stays known) (c.prepare.ensures.entered known) (c.settle.ensures.taken known) (c.settle.ensures.stays known) hears whole,

@@ -2,7 +2,7 @@ use Rattle.std.proofs.Common.{rules, ◌≡◌, ◌∙◌, sym, ap, subst, ◌+�
 use Rattle.std.specs.List.{flat_map}
 use Rattle.std.proofs.lemmas.List.{take_more}
 use Rattle.scim_hub.specs.declared.events.Output.{Output}
-use Rattle.scim_hub.specs.Halls.{deed_of}
+use Rattle.scim_hub.specs.HubStates.{output_of}
 use Rattle.scim_serve.specs.Serving.{text_to}
 use Rattle.scim_serve.specs.code.Waiting.{waiting_for}
 use Rattle.scim_serve.specs.code.Levels.{Fits}
@@ -19,13 +19,13 @@ loop-output-preserved g c =
     record {
       seen = search rules;
       queued = λ known m due fits.
-          let before = flat_map (text_to m) (map deed_of (take i outputs)) in
-          let now = text_to m (deed_of output) in
+          let before = flat_map (text_to m) (map output_of (take i outputs)) in
+          let now = text_to m (output_of output) in
           subst (λ (t : List ℕ). Fits (waiting_for c.queue_one.new.waiting m) (g.P.Peers.written c.queue_one.new.peers m) t)
           (append_assoc due before now ∙ ap (λ (t : List ℕ). due ++ t) (sym (texts_more m i outputs output more)))
           (c.queue_one.ensures.queued known m (due ++ before) (inv.queued known m due fits));
       taken = λ known m none all.
-          let both = none_of_both (flat_map (text_to m) (map deed_of (take i outputs))) (text_to m (deed_of output)) (sym (texts_more m i outputs output more) ∙ none) in
+          let both = none_of_both (flat_map (text_to m) (map output_of (take i outputs))) (text_to m (output_of output)) (sym (texts_more m i outputs output more) ∙ none) in
           c.queue_one.ensures.taken known m both.1 (inv.taken known m both.0 all);
       stays = λ known m unclosed.
           let later = c.queue_one.ensures.stays known m unclosed in

@@ -4,9 +4,9 @@ use Rattle.scim_policy.specs.Rules.{Rule}
 use Rattle.scim_token.specs.Tokens.{Knows}
 use Rattle.scim_token.specs.declared.tokens.Tokens.{Tokens}
 use Rattle.scim_hub.specs.declared.hubs.Hub.{Hub}
-use Rattle.scim_hub.specs.Events.{Seen, Hears, Runs}
-use Rattle.scim_hub.specs.Halls.{recorded_of}
-use Rattle.scim_serve.specs.declared.peers.Incident.{Incident}
+use Rattle.scim_hub.specs.Events.{HubEvent, Hears, Runs}
+use Rattle.scim_hub.specs.HubStates.{owned_event_of}
+use Rattle.scim_serve.specs.declared.peers.PeerEvent.{PeerEvent}
 use Rattle.scim_serve.specs.Peers.{told_by}
 use Rattle.scim_hub.proofs.Facts.{runs_more}
 use Rattle.scim_serve.proofs.EventLemmas.{nothing_told}
@@ -22,14 +22,14 @@ loop-init g c = record {
   policy = refl;
   base = refl;
   tokens = refl;
-  served = λ known entries hall unseen unwritten knows is honest. (
+  served = λ known entries state unseen unwritten knows is honest. (
     [],
-    hall,
+    state,
     is,
-    subst (λ (s : List Seen). Runs c.args.hub.now.service.policy c.args.hub.now.service.base entries hall s [] hall) (sym unseen) (refl, refl),
+    subst (λ (s : List HubEvent). Runs c.args.hub.now.service.policy c.args.hub.now.service.base entries state s [] state) (sym unseen) (refl, refl),
     level_first (g.P.Peers.written c.args.peers.now) c.new-waiting.result unwritten c.new-waiting.ensures.none,
-    subst (λ (s : List Seen). IsWhole hall hall s (g.P.Peers.takes_all c.args.peers.now) (g.P.Peers.is_closed c.args.peers.now) c.new-waiting.result (λ m. due m [])) (sym unseen)
-        (whole_first hall (g.P.Peers.takes_all c.args.peers.now) (g.P.Peers.is_closed c.args.peers.now) c.new-waiting.result c.new-waiting.ensures.none),
+    subst (λ (s : List HubEvent). IsWhole state state s (g.P.Peers.takes_all c.args.peers.now) (g.P.Peers.is_closed c.args.peers.now) c.new-waiting.result (λ m. due m [])) (sym unseen)
+        (whole_first state (g.P.Peers.takes_all c.args.peers.now) (g.P.Peers.is_closed c.args.peers.now) c.new-waiting.result c.new-waiting.ensures.none),
   );
   honest = λ h. h;
 }
@@ -39,7 +39,7 @@ loop-preserved g c = record {
   policy = search rules;
   base = search rules;
   tokens = search rules;
-  served = λ known entries hall unseen unwritten knows is honest.
+  served = λ known entries state unseen unwritten knows is honest.
       let policy = c.args.hub.now.service.policy in
       let base = c.args.hub.now.service.base in
       let inv = c.loop.invariant in
@@ -47,92 +47,92 @@ loop-preserved g c = record {
       let written = g.P.Peers.written in
       let takes = g.P.Peers.takes_all in
       let closed = g.P.Peers.is_closed in
-      let told : g.P.Peers.seen c.next.new.self ≡ before ++ told_by (Ok (Some c.in-Some.incident)) =
-      c.in_ok-incident.ensures.seen known ∙ ap (λ (o : Option Incident). before ++ told_by (Ok o)) c.in-Some.is in
-      elim c.match-incident.branch [
+      let told : g.P.Peers.seen c.next.new.self ≡ before ++ told_by (Ok (Some c.in-Some.peer_event)) =
+      c.in_ok-peer_event.ensures.seen known ∙ ap (λ (o : Option PeerEvent). before ++ told_by (Ok o)) c.in-Some.is in
+      elim c.match-peer_event.branch [
         | in-Event w ↦
-            let event = recorded_of w.in-Event.event in
+            let event = owned_event_of w.in-Event.event in
             let is_honest : g.S.Shelf.is_honest w.hear.new.hub.service.shelf = subst (λ (h : Hub g.row.S.Denot). g.S.Shelf.is_honest h.service.shelf) w.hub-is honest in
-            let s = inv.served known entries hall unseen unwritten knows is (w.hear.ensures.honest is_honest) in
+            let s = inv.served known entries state unseen unwritten knows is (w.hear.ensures.honest is_honest) in
             let step = w.hear.ensures.heard known entries s.1 (subst (λ (t : Tokens). Knows entries t) (sym inv.tokens) knows) s.2 is_honest in
             let hears = subst (λ (p : List Rule). Hears p base entries event s.1 step.0 step.1) inv.policy
             (subst (λ (b : List ℕ). Hears c.loop.hub.service.policy b entries event s.1 step.0 step.1) inv.base step.3) in
             let seen : g.P.Peers.seen w.hear.new.peers ≡ before ++ event ∷ [] =
-            w.hear.ensures.seen known ∙ told ∙ ap (λ (i : Incident). before ++ told_by (Ok (Some i))) w.in-Event.is in
+            w.hear.ensures.seen known ∙ told ∙ ap (λ (i : PeerEvent). before ++ told_by (Ok (Some i))) w.in-Event.is in
             let level = level_more (written w.hear.new.peers) w.hear.new.waiting s.0 step.0
-            (step.4 (λ m. due m s.0) (level_same (written c.loop.peers) (written c.next.new.self) c.loop.waiting (λ m. due m s.0) (c.in_ok-incident.ensures.written known) s.4)) in
-            let whole = subst (λ (e : List Seen). IsWhole hall step.1 e (takes w.hear.new.peers) (closed w.hear.new.peers) w.hear.new.waiting (λ m. due m (s.0 ++ step.0 ∷ []))) (sym seen)
-            (whole_more hall step.1 (before ++ event ∷ []) (takes w.hear.new.peers) (closed w.hear.new.peers) w.hear.new.waiting s.0 step.0
-            (step.5 hall before (λ m. due m s.0)
-            (whole_same hall s.1 before (takes c.loop.peers) (takes c.next.new.self) (closed c.loop.peers) (closed c.next.new.self) c.loop.waiting (λ m. due m s.0)
-            (c.in_ok-incident.ensures.takes known) (c.in_ok-incident.ensures.closed known) s.5))) in
-            let runs = runs_more policy base entries event step.0 step.1 hall s.1 before s.0 s.3 hears in
+            (step.4 (λ m. due m s.0) (level_same (written c.loop.peers) (written c.next.new.self) c.loop.waiting (λ m. due m s.0) (c.in_ok-peer_event.ensures.written known) s.4)) in
+            let whole = subst (λ (e : List HubEvent). IsWhole state step.1 e (takes w.hear.new.peers) (closed w.hear.new.peers) w.hear.new.waiting (λ m. due m (s.0 ++ step.0 ∷ []))) (sym seen)
+            (whole_more state step.1 (before ++ event ∷ []) (takes w.hear.new.peers) (closed w.hear.new.peers) w.hear.new.waiting s.0 step.0
+            (step.5 state before (λ m. due m s.0)
+            (whole_same state s.1 before (takes c.loop.peers) (takes c.next.new.self) (closed c.loop.peers) (closed c.next.new.self) c.loop.waiting (λ m. due m s.0)
+            (c.in_ok-peer_event.ensures.takes known) (c.in_ok-peer_event.ensures.closed known) s.5))) in
+            let runs = runs_more policy base entries event step.0 step.1 state s.1 before s.0 s.3 hears in
             rw (w.peers-is, w.hub-is, w.waiting-is)
-            (s.0 ++ step.0 ∷ [], step.1, step.2, subst (λ (e : List Seen). Runs policy base entries hall e (s.0 ++ step.0 ∷ []) step.1) (sym seen) runs, level, whole)
+            (s.0 ++ step.0 ∷ [], step.1, step.2, subst (λ (e : List HubEvent). Runs policy base entries state e (s.0 ++ step.0 ∷ []) step.1) (sym seen) runs, level, whole)
         | in-Ready w ↦
             let is_honest : g.S.Shelf.is_honest c.loop.hub.service.shelf = subst (λ (h : Hub g.row.S.Denot). g.S.Shelf.is_honest h.service.shelf) w.hub-is honest in
-            let s = inv.served known entries hall unseen unwritten knows is is_honest in
+            let s = inv.served known entries state unseen unwritten knows is is_honest in
             let seen : g.P.Peers.seen w.flush.new.peers ≡ before =
-            w.flush.ensures.seen known ∙ nothing_told before (told_by (Ok (Some c.in-Some.incident))) (g.P.Peers.seen c.next.new.self) told (ap (λ (i : Incident). told_by (Ok (Some i))) w.in-Ready.is) in
+            w.flush.ensures.seen known ∙ nothing_told before (told_by (Ok (Some c.in-Some.peer_event))) (g.P.Peers.seen c.next.new.self) told (ap (λ (i : PeerEvent). told_by (Ok (Some i))) w.in-Ready.is) in
             let level = level_kept (written c.next.new.self) (written w.flush.new.peers) c.loop.waiting w.flush.new.waiting (λ m. due m s.0) (w.flush.ensures.kept known) w.flush.ensures.next
-            (level_same (written c.loop.peers) (written c.next.new.self) c.loop.waiting (λ m. due m s.0) (c.in_ok-incident.ensures.written known) s.4) in
-            let whole = subst (λ (e : List Seen). IsWhole hall s.1 e (takes w.flush.new.peers) (closed w.flush.new.peers) w.flush.new.waiting (λ m. due m s.0)) (sym seen)
-            (whole_kept hall s.1 before (takes c.next.new.self) (takes w.flush.new.peers) (closed c.next.new.self) (closed w.flush.new.peers) c.loop.waiting w.flush.new.waiting (λ m. due m s.0)
+            (level_same (written c.loop.peers) (written c.next.new.self) c.loop.waiting (λ m. due m s.0) (c.in_ok-peer_event.ensures.written known) s.4) in
+            let whole = subst (λ (e : List HubEvent). IsWhole state s.1 e (takes w.flush.new.peers) (closed w.flush.new.peers) w.flush.new.waiting (λ m. due m s.0)) (sym seen)
+            (whole_kept state s.1 before (takes c.next.new.self) (takes w.flush.new.peers) (closed c.next.new.self) (closed w.flush.new.peers) c.loop.waiting w.flush.new.waiting (λ m. due m s.0)
             (λ m taken. w.flush.ensures.taken known m (λ apart. taken)) (w.flush.ensures.stays known)
-            (whole_same hall s.1 before (takes c.loop.peers) (takes c.next.new.self) (closed c.loop.peers) (closed c.next.new.self) c.loop.waiting (λ m. due m s.0)
-            (c.in_ok-incident.ensures.takes known) (c.in_ok-incident.ensures.closed known) s.5)) in
+            (whole_same state s.1 before (takes c.loop.peers) (takes c.next.new.self) (closed c.loop.peers) (closed c.next.new.self) c.loop.waiting (λ m. due m s.0)
+            (c.in_ok-peer_event.ensures.takes known) (c.in_ok-peer_event.ensures.closed known) s.5)) in
             rw (w.peers-is, w.hub-is, w.waiting-is)
-            (s.0, s.1, s.2, subst (λ (e : List Seen). Runs policy base entries hall e s.0 s.1) (sym seen) s.3, level, whole)
+            (s.0, s.1, s.2, subst (λ (e : List HubEvent). Runs policy base entries state e s.0 s.1) (sym seen) s.3, level, whole)
       ];
   honest = search rules;
 }
 
-pub returns-in_err-incident-clause-fronts : goal.returns-in_err-incident-clause-fronts
-returns-in_err-incident-clause-fronts g c = λ known entries hall unseen unwritten knows is honest.
-    let s = c.loop.invariant.served known entries hall unseen unwritten knows is honest in
-    let same : g.P.Peers.seen c.next.new.self ≡ g.P.Peers.seen c.loop.peers = nothing_told (g.P.Peers.seen c.loop.peers) [] (g.P.Peers.seen c.next.new.self) (c.in_err-incident.ensures.seen known) refl in (
+pub returns-in_err-peer_event-clause-fronts : goal.returns-in_err-peer_event-clause-fronts
+returns-in_err-peer_event-clause-fronts g c = λ known entries state unseen unwritten knows is honest.
+    let s = c.loop.invariant.served known entries state unseen unwritten knows is honest in
+    let same : g.P.Peers.seen c.next.new.self ≡ g.P.Peers.seen c.loop.peers = nothing_told (g.P.Peers.seen c.loop.peers) [] (g.P.Peers.seen c.next.new.self) (c.in_err-peer_event.ensures.seen known) refl in (
       s.0,
       s.1,
       s.2,
-      subst (λ (e : List Seen). Runs c.args.hub.now.service.policy c.args.hub.now.service.base entries hall e s.0 s.1) (sym same) s.3,
+      subst (λ (e : List HubEvent). Runs c.args.hub.now.service.policy c.args.hub.now.service.base entries state e s.0 s.1) (sym same) s.3,
       level_fronts (g.P.Peers.written c.next.new.self) c.loop.waiting (λ m. due m s.0)
-          (level_same (g.P.Peers.written c.loop.peers) (g.P.Peers.written c.next.new.self) c.loop.waiting (λ m. due m s.0) (c.in_err-incident.ensures.written known) s.4),
-      whole_written hall s.1 (g.P.Peers.seen c.next.new.self) (g.P.Peers.written c.next.new.self) (g.P.Peers.takes_all c.next.new.self) (g.P.Peers.is_closed c.next.new.self) c.loop.waiting
+          (level_same (g.P.Peers.written c.loop.peers) (g.P.Peers.written c.next.new.self) c.loop.waiting (λ m. due m s.0) (c.in_err-peer_event.ensures.written known) s.4),
+      whole_written state s.1 (g.P.Peers.seen c.next.new.self) (g.P.Peers.written c.next.new.self) (g.P.Peers.takes_all c.next.new.self) (g.P.Peers.is_closed c.next.new.self) c.loop.waiting
           (λ m. due m s.0)
-          (level_same (g.P.Peers.written c.loop.peers) (g.P.Peers.written c.next.new.self) c.loop.waiting (λ m. due m s.0) (c.in_err-incident.ensures.written known) s.4)
-          (subst (λ (e : List Seen). IsWhole hall s.1 e (g.P.Peers.takes_all c.next.new.self) (g.P.Peers.is_closed c.next.new.self) c.loop.waiting (λ m. due m s.0)) (sym same)
-          (whole_same hall s.1 (g.P.Peers.seen c.loop.peers) (g.P.Peers.takes_all c.loop.peers) (g.P.Peers.takes_all c.next.new.self) (g.P.Peers.is_closed c.loop.peers)
-          (g.P.Peers.is_closed c.next.new.self) c.loop.waiting (λ m. due m s.0) (c.in_err-incident.ensures.takes known) (c.in_err-incident.ensures.closed known) s.5)),
+          (level_same (g.P.Peers.written c.loop.peers) (g.P.Peers.written c.next.new.self) c.loop.waiting (λ m. due m s.0) (c.in_err-peer_event.ensures.written known) s.4)
+          (subst (λ (e : List HubEvent). IsWhole state s.1 e (g.P.Peers.takes_all c.next.new.self) (g.P.Peers.is_closed c.next.new.self) c.loop.waiting (λ m. due m s.0)) (sym same)
+          (whole_same state s.1 (g.P.Peers.seen c.loop.peers) (g.P.Peers.takes_all c.loop.peers) (g.P.Peers.takes_all c.next.new.self) (g.P.Peers.is_closed c.loop.peers)
+          (g.P.Peers.is_closed c.next.new.self) c.loop.waiting (λ m. due m s.0) (c.in_err-peer_event.ensures.takes known) (c.in_err-peer_event.ensures.closed known) s.5)),
     )
 
 pub returns-in_default-clause-fronts : goal.returns-in_default-clause-fronts
-returns-in_default-clause-fronts g c = λ known entries hall unseen unwritten knows is honest.
-    let s = c.loop.invariant.served known entries hall unseen unwritten knows is honest in
+returns-in_default-clause-fronts g c = λ known entries state unseen unwritten knows is honest.
+    let s = c.loop.invariant.served known entries state unseen unwritten knows is honest in
     let same : g.P.Peers.seen c.next.new.self ≡ g.P.Peers.seen c.loop.peers =
-    nothing_told (g.P.Peers.seen c.loop.peers) (told_by (Ok c.in_ok-incident.field-0)) (g.P.Peers.seen c.next.new.self) (c.in_ok-incident.ensures.seen known)
-    (ap (λ (o : Option Incident). told_by (Ok o)) c.in_default.is) in (
+    nothing_told (g.P.Peers.seen c.loop.peers) (told_by (Ok c.in_ok-peer_event.field-0)) (g.P.Peers.seen c.next.new.self) (c.in_ok-peer_event.ensures.seen known)
+    (ap (λ (o : Option PeerEvent). told_by (Ok o)) c.in_default.is) in (
       s.0,
       s.1,
       s.2,
-      subst (λ (e : List Seen). Runs c.args.hub.now.service.policy c.args.hub.now.service.base entries hall e s.0 s.1) (sym same) s.3,
+      subst (λ (e : List HubEvent). Runs c.args.hub.now.service.policy c.args.hub.now.service.base entries state e s.0 s.1) (sym same) s.3,
       level_fronts (g.P.Peers.written c.next.new.self) c.loop.waiting (λ m. due m s.0)
-          (level_same (g.P.Peers.written c.loop.peers) (g.P.Peers.written c.next.new.self) c.loop.waiting (λ m. due m s.0) (c.in_ok-incident.ensures.written known) s.4),
-      whole_written hall s.1 (g.P.Peers.seen c.next.new.self) (g.P.Peers.written c.next.new.self) (g.P.Peers.takes_all c.next.new.self) (g.P.Peers.is_closed c.next.new.self) c.loop.waiting
+          (level_same (g.P.Peers.written c.loop.peers) (g.P.Peers.written c.next.new.self) c.loop.waiting (λ m. due m s.0) (c.in_ok-peer_event.ensures.written known) s.4),
+      whole_written state s.1 (g.P.Peers.seen c.next.new.self) (g.P.Peers.written c.next.new.self) (g.P.Peers.takes_all c.next.new.self) (g.P.Peers.is_closed c.next.new.self) c.loop.waiting
           (λ m. due m s.0)
-          (level_same (g.P.Peers.written c.loop.peers) (g.P.Peers.written c.next.new.self) c.loop.waiting (λ m. due m s.0) (c.in_ok-incident.ensures.written known) s.4)
-          (subst (λ (e : List Seen). IsWhole hall s.1 e (g.P.Peers.takes_all c.next.new.self) (g.P.Peers.is_closed c.next.new.self) c.loop.waiting (λ m. due m s.0)) (sym same)
-          (whole_same hall s.1 (g.P.Peers.seen c.loop.peers) (g.P.Peers.takes_all c.loop.peers) (g.P.Peers.takes_all c.next.new.self) (g.P.Peers.is_closed c.loop.peers)
-          (g.P.Peers.is_closed c.next.new.self) c.loop.waiting (λ m. due m s.0) (c.in_ok-incident.ensures.takes known) (c.in_ok-incident.ensures.closed known) s.5)),
+          (level_same (g.P.Peers.written c.loop.peers) (g.P.Peers.written c.next.new.self) c.loop.waiting (λ m. due m s.0) (c.in_ok-peer_event.ensures.written known) s.4)
+          (subst (λ (e : List HubEvent). IsWhole state s.1 e (g.P.Peers.takes_all c.next.new.self) (g.P.Peers.is_closed c.next.new.self) c.loop.waiting (λ m. due m s.0)) (sym same)
+          (whole_same state s.1 (g.P.Peers.seen c.loop.peers) (g.P.Peers.takes_all c.loop.peers) (g.P.Peers.takes_all c.next.new.self) (g.P.Peers.is_closed c.loop.peers)
+          (g.P.Peers.is_closed c.next.new.self) c.loop.waiting (λ m. due m s.0) (c.in_ok-peer_event.ensures.takes known) (c.in_ok-peer_event.ensures.closed known) s.5)),
     )
 
 pub returns-clause-fronts : goal.returns-clause-fronts
-returns-clause-fronts g c = λ known entries hall unseen unwritten knows is honest.
-    let s = c.loop.invariant.served known entries hall unseen unwritten knows is honest in (
+returns-clause-fronts g c = λ known entries state unseen unwritten knows is honest.
+    let s = c.loop.invariant.served known entries state unseen unwritten knows is honest in (
       s.0,
       s.1,
       s.2,
       s.3,
       level_fronts (g.P.Peers.written c.loop.peers) c.loop.waiting (λ m. due m s.0) s.4,
-      whole_written hall s.1 (g.P.Peers.seen c.loop.peers) (g.P.Peers.written c.loop.peers) (g.P.Peers.takes_all c.loop.peers) (g.P.Peers.is_closed c.loop.peers) c.loop.waiting
+      whole_written state s.1 (g.P.Peers.seen c.loop.peers) (g.P.Peers.written c.loop.peers) (g.P.Peers.takes_all c.loop.peers) (g.P.Peers.is_closed c.loop.peers) c.loop.waiting
           (λ m. due m s.0) s.4 s.5,
     )

@@ -3,8 +3,8 @@ use Rattle.std.specs.Prelude.{Result}
 use Rattle.scim_token.specs.TokenFile.{Entry}
 use Rattle.scim_token.specs.Tokens.{Knows}
 use Rattle.scim_hub.specs.declared.events.HubFault.{HubFault}
-use Rattle.scim_hub.specs.Events.{Deed, Hall, Runs}
-use Rattle.scim_hub.specs.Halls.{IsHall}
+use Rattle.scim_hub.specs.Events.{HubOutput, HubState, Runs}
+use Rattle.scim_hub.specs.HubStates.{IsHubState}
 use Rattle.scim_serve.specs.Serving.{due}
 use Rattle.scim_serve.specs.code.Levels.{IsLevel}
 use Rattle.scim_serve.specs.code.Wholes.{IsWhole}
@@ -16,11 +16,11 @@ invariant-loop g l = record {
   policy : l.hub.service.policy ≡ l.fn.hub.service.policy;
   base : l.hub.service.base ≡ l.fn.hub.service.base;
   tokens : l.hub.tokens ≡ l.fn.hub.tokens;
-  served : IsTrue g.P.Peers.is_known → (entries : List Entry) (hall : Hall) → g.P.Peers.seen l.fn.peers ≡ [] → ((m : ℕ) → g.P.Peers.written l.fn.peers m ≡ [])
-      → Knows entries l.fn.hub.tokens → IsHall g.S.Shelf.stands l.fn.hub hall → g.S.Shelf.is_honest l.hub.service.shelf
-      → (results : List (Result (List Deed) HubFault)) × (next : Hall) × IsHall g.S.Shelf.stands l.hub next
-      × Runs l.fn.hub.service.policy l.fn.hub.service.base entries hall (g.P.Peers.seen l.peers) results next
+  served : IsTrue g.P.Peers.is_known → (entries : List Entry) (state : HubState) → g.P.Peers.seen l.fn.peers ≡ [] → ((m : ℕ) → g.P.Peers.written l.fn.peers m ≡ [])
+      → Knows entries l.fn.hub.tokens → IsHubState g.S.Shelf.stands l.fn.hub state → g.S.Shelf.is_honest l.hub.service.shelf
+      → (results : List (Result (List HubOutput) HubFault)) × (next : HubState) × IsHubState g.S.Shelf.stands l.hub next
+      × Runs l.fn.hub.service.policy l.fn.hub.service.base entries state (g.P.Peers.seen l.peers) results next
       × IsLevel (g.P.Peers.written l.peers) l.waiting (λ m. due m results)
-      × IsWhole hall next (g.P.Peers.seen l.peers) (g.P.Peers.takes_all l.peers) (g.P.Peers.is_closed l.peers) l.waiting (λ m. due m results);
+      × IsWhole state next (g.P.Peers.seen l.peers) (g.P.Peers.takes_all l.peers) (g.P.Peers.is_closed l.peers) l.waiting (λ m. due m results);
   honest : g.S.Shelf.is_honest l.hub.service.shelf → g.S.Shelf.is_honest l.fn.hub.service.shelf;
 }

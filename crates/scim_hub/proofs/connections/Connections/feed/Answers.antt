@@ -1,7 +1,7 @@
 use Rattle.std.proofs.Common.{sym, subst, refl}
 use Rattle.std.specs.Prelude.{Option}
 use Rattle.scim_hub.specs.declared.connections.Connection.{Connection}
-use Rattle.scim_hub.specs.Halls.{IsKept}
+use Rattle.scim_hub.specs.HubStates.{IsKept}
 use Rattle.scim_hub.proofs.ConnectionLemmas.{is_there, piece_taken}
 use Rattle.scim_hub.proofs.connections.Connections.feed.Goals as goal
 

@@ -6,8 +6,8 @@ use Rattle.scim_token.specs.Tokens.{Knows}
 use Rattle.scim_token.specs.declared.tokens.Tokens.{Tokens}
 use Rattle.scim_hub.specs.declared.events.Event.{Event}
 use Rattle.scim_hub.specs.declared.events.HubFault.{HubFault}
-use Rattle.scim_hub.specs.Events.{Seen, Deed, Hears, Runs}
-use Rattle.scim_hub.specs.Halls.{seen_of, done}
+use Rattle.scim_hub.specs.Events.{HubEvent, HubOutput, Hears, Runs}
+use Rattle.scim_hub.specs.HubStates.{event_of, done}
 use Rattle.scim_hub.proofs.RunLemmas.{runs_more}
 use Rattle.scim_hub.proofs.hubs.Hub.run.Goals as goal
 
@@ -22,7 +22,7 @@ loop-event-preserved g c =
     let policy = c.args.self.now.service.policy in
     let base = c.args.self.now.service.base in
     let more = take_more events i event c.loop-event-test.true ∙ ap (λ (x : Event). take i events ++ x ∷ []) (sym c.event-item.is) in
-    let seen : map seen_of (take (i + 1) events) ≡ map seen_of (take i events) ++ seen_of event ∷ [] = ap (map seen_of) more ∙ map-append seen_of (take i events) (event ∷ []) in
+    let seen : map event_of (take (i + 1) events) ≡ map event_of (take i events) ++ event_of event ∷ [] = ap (map event_of) more ∙ map-append event_of (take i events) (event ∷ []) in
     let items = rw c.unwrap.ensures at c.push.ensures.items in
     let told : map done c.push.new.self.items ≡ map done results ++ done result ∷ [] = ap (map done) items ∙ map-append done results (result ∷ []) in
     let longer = rw c.unwrap.ensures at c.push.ensures.len in
@@ -32,16 +32,16 @@ loop-event-preserved g c =
       policy = c.event-result.ensures.policy ∙ inv.policy;
       base = c.event-result.ensures.base ∙ inv.base;
       tokens = c.event-result.ensures.tokens ∙ inv.tokens;
-      ran = λ entries hall knows is honest.
-          let before = inv.ran entries hall knows is (c.event-result.ensures.honest honest) in
+      ran = λ entries state knows is honest.
+          let before = inv.ran entries state knows is (c.event-result.ensures.honest honest) in
           let step = c.event-result.ensures.heard entries before.0 (subst (λ (t : Tokens). Knows entries t) (sym inv.tokens) knows) before.1 honest in
-          let heard = subst (λ (p : List Rule). Hears p base entries (seen_of event) before.0 (done result) step.0) inv.policy
-          (subst (λ (b : List ℕ). Hears c.loop-event.self.service.policy b entries (seen_of event) before.0 (done result) step.0) inv.base step.2) in
-          let runs = runs_more policy base entries (seen_of event) (done result) step.0 hall before.0 (map seen_of (take i events)) (map done results) before.2 heard in (
+          let heard = subst (λ (p : List Rule). Hears p base entries (event_of event) before.0 (done result) step.0) inv.policy
+          (subst (λ (b : List ℕ). Hears c.loop-event.self.service.policy b entries (event_of event) before.0 (done result) step.0) inv.base step.2) in
+          let runs = runs_more policy base entries (event_of event) (done result) step.0 state before.0 (map event_of (take i events)) (map done results) before.2 heard in (
             step.0,
             step.1,
-            subst (λ (xs : List Seen). Runs policy base entries hall xs (map done c.push.new.self.items) step.0) (sym seen)
-                (subst (λ (ys : List (Result (List Deed) HubFault)). Runs policy base entries hall (map seen_of (take i events) ++ seen_of event ∷ []) ys step.0) (sym told) runs),
+            subst (λ (xs : List HubEvent). Runs policy base entries state xs (map done c.push.new.self.items) step.0) (sym seen)
+                (subst (λ (ys : List (Result (List HubOutput) HubFault)). Runs policy base entries state (map event_of (take i events) ++ event_of event ∷ []) ys step.0) (sym told) runs),
           );
       honest = λ h. inv.honest (c.event-result.ensures.honest h);
     }

@@ -2,8 +2,8 @@ use Rattle.std.proofs.Common.{◌≡◌, ◌≤◌, List, map, take, length, vec
 use Rattle.std.specs.Vec.{vec_capacity}
 use Rattle.scim_token.specs.TokenFile.{Entry}
 use Rattle.scim_token.specs.Tokens.{Knows}
-use Rattle.scim_hub.specs.Events.{Hall, Runs}
-use Rattle.scim_hub.specs.Halls.{IsHall, seen_of, done}
+use Rattle.scim_hub.specs.Events.{HubState, Runs}
+use Rattle.scim_hub.specs.HubStates.{IsHubState, event_of, done}
 use Rattle.scim_hub.proofs.hubs.Hub.run.Given as goal
 
 -- the events so far were answered, and there is room for the other answers
@@ -14,8 +14,8 @@ invariant-loop-event g l = record {
   policy : l.self.service.policy ≡ l.fn.self.service.policy;
   base : l.self.service.base ≡ l.fn.self.service.base;
   tokens : l.self.tokens ≡ l.fn.self.tokens;
-  ran : (entries : List Entry) (hall : Hall) → Knows entries l.fn.self.tokens → IsHall g.S.Shelf.stands l.fn.self hall → g.S.Shelf.is_honest l.self.service.shelf
-      → (next : Hall) × IsHall g.S.Shelf.stands l.self next
-      × Runs l.fn.self.service.policy l.fn.self.service.base entries hall (map seen_of (take l.event-index l.events)) (map done l.results.items) next;
+  ran : (entries : List Entry) (state : HubState) → Knows entries l.fn.self.tokens → IsHubState g.S.Shelf.stands l.fn.self state → g.S.Shelf.is_honest l.self.service.shelf
+      → (next : HubState) × IsHubState g.S.Shelf.stands l.self next
+      × Runs l.fn.self.service.policy l.fn.self.service.base entries state (map event_of (take l.event-index l.events)) (map done l.results.items) next;
   honest : g.S.Shelf.is_honest l.self.service.shelf → g.S.Shelf.is_honest l.fn.self.service.shelf;
 }

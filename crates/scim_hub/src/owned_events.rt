@@ -1,11 +1,11 @@
 //! Events that own their pieces.
 ghost use Rattle.std.specs.Prelude.{◌≡◌};
-ghost use Rattle.scim_hub.specs.Halls.{seen_of, recorded_of};
+ghost use Rattle.scim_hub.specs.HubStates.{event_of, owned_event_of};
 
-use crate::events::{Event, Happening, Stamp};
+use crate::events::{Event, EventKind, Stamp};
 
 /// What occurred on a connection, with an owned piece.
-pub enum Happened {
+pub enum OwnedEventKind {
     /// The connection was opened.
     Joined,
     /// The next piece of its stream arrived.
@@ -14,38 +14,38 @@ pub enum Happened {
     Left,
 }
 
-impl Drop for Happened {
+impl Drop for OwnedEventKind {
     fn drop(self) {
         match self {
-            Happened::Joined | Happened::Left => (),
-            Happened::Piece(_bytes) => (),
+            OwnedEventKind::Joined | OwnedEventKind::Left => (),
+            OwnedEventKind::Piece(_bytes) => (),
         }
     }
 }
 
 /// An event that owns its piece.
 #[derive(Drop)]
-pub struct Recorded {
+pub struct OwnedEvent {
     /// The number of the connection.
     pub connection: u64,
     pub stamp: Stamp,
-    pub happened: Happened,
+    pub kind: OwnedEventKind,
 }
 
-impl Recorded {
+impl OwnedEvent {
     /// Returns the event for a hub, which borrows the piece.
     pub fn event(&self) -> Event<'_>
-        ensures { seen_of result ≡ recorded_of self.now }
+        ensures { event_of result ≡ owned_event_of self.now }
     {
-        let happening = match &self.happened {
-            Happened::Joined => Happening::Joined,
-            Happened::Piece(bytes) => Happening::Piece(bytes.as_slice()),
-            Happened::Left => Happening::Left,
+        let kind = match &self.kind {
+            OwnedEventKind::Joined => EventKind::Joined,
+            OwnedEventKind::Piece(bytes) => EventKind::Piece(bytes.as_slice()),
+            OwnedEventKind::Left => EventKind::Left,
         };
         Event {
             connection: self.connection,
             stamp: self.stamp,
-            happening,
+            kind,
         }
     }
 }

@@ -1,0 +1,69 @@
+-- The state of a hub and its outputs, as values of the definitions.
+use Rattle.std.specs.Prelude.{ℕ, List, map, Option, None, Some, Result, Ok, Err, string_bytes}
+use Rattle.std.specs.Ordering.{nat_cmp}
+use Rattle.std.specs.BTreeMap.{get}
+use Rattle.std.specs.Global.{Vec}
+use Rattle.scim_shelf.specs.Stores.{Store, IsStore}
+use Rattle.scim_wire.specs.Wires.{StandsFor}
+use Rattle.scim_hub.specs.declared.connections.Connection as code
+use Rattle.scim_hub.specs.declared.connections.Connection.TheVariants.{Open, Shut}
+use Rattle.scim_hub.specs.declared.connections.Connections.{Connections}
+use Rattle.scim_hub.specs.declared.events.Event.{Event}
+use Rattle.scim_hub.specs.declared.events.EventKind.{EventKind}
+use Rattle.scim_hub.specs.declared.events.EventKind.TheVariants.{Joined, Piece, Left}
+use Rattle.scim_hub.specs.declared.events.HubFault.{HubFault}
+use Rattle.scim_hub.specs.declared.events.Output.{Output}
+use Rattle.scim_hub.specs.declared.events.Output.TheVariants as output
+use Rattle.scim_hub.specs.declared.hubs.Hub.{Hub}
+use Rattle.scim_hub.specs.declared.owned_events.OwnedEventKind as kept
+use Rattle.scim_hub.specs.declared.owned_events.OwnedEventKind.TheVariants as kept_variant
+use Rattle.scim_hub.specs.declared.owned_events.OwnedEvent.{OwnedEvent}
+use Rattle.scim_hub.specs.Events.{HubEventKind, joining, sending, leaving, HubEvent, Connection, absent, joined, shut, HubState, HubOutput, writing, shutting}
+
+-- the program's value for a connection is in this state
+abbrev pub IsKept : Option code.Connection → Connection → Type 0
+IsKept None absent = Unit {0}
+IsKept (Some (Open wire)) (joined stream items) = StandsFor wire stream items
+IsKept (Some Shut) shut = Unit {0}
+IsKept _ _ = ⊥
+
+-- the program's connections are in these states, by number
+abbrev pub AreConnections : Connections → (ℕ → Connection) → Type 0
+AreConnections kept connections = (n : ℕ) → IsKept (get nat_cmp kept.by_number n) (connections n)
+
+-- the hub is in this state: its shelf has the store, whose resources are below its base, and its connections
+-- are these
+pub record IsHubState {H : Type 0} (Stands : H → Store → Type 0) (hub : Hub H) (state : HubState) : Type 0 where
+  pub store : Stands hub.service.shelf state.store
+  pub is_store : IsStore hub.service.base state.store
+  pub connections : AreConnections hub.connections state.connections
+
+-- what occurs on a connection, with the bytes of a piece
+abbrev pub event_kind_of : EventKind → HubEventKind
+event_kind_of Joined = joining
+event_kind_of (Piece bytes) = sending bytes.now
+event_kind_of Left = leaving
+
+-- the event, with the bytes of a piece
+abbrev pub event_of : Event → HubEvent
+event_of event = record { connection = event.connection; stamp = event.stamp; kind = event_kind_of event.kind }
+
+-- what occurs on a connection in an event that owns its piece
+abbrev pub owned_event_kind_of : kept.OwnedEventKind → HubEventKind
+owned_event_kind_of kept_variant.Joined = joining
+owned_event_kind_of (kept_variant.Piece bytes) = sending bytes.items
+owned_event_kind_of kept_variant.Left = leaving
+
+-- the event that owns its piece
+abbrev pub owned_event_of : OwnedEvent → HubEvent
+owned_event_of r = record { connection = r.connection; stamp = r.stamp; kind = owned_event_kind_of r.kind }
+
+-- the output
+abbrev pub output_of : Output → HubOutput
+output_of (output.Write n text) = writing n (string_bytes text)
+output_of (output.Shut n) = shutting n
+
+-- the outputs for an event, or its fault
+abbrev pub done : Result (Vec Output) HubFault → Result (List HubOutput) HubFault
+done (Ok outputs) = Ok (map output_of outputs.items)
+done (Err fault) = Err fault
