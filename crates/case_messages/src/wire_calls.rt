@@ -1,6 +1,6 @@
 //! The calls of `scim_wire`.
 use case_values::{Case, CaseFault, between, debugged, push_all};
-use scim_wire::{Item, Message, Octets, Reply, Wire, print_reply};
+use scim_wire::{HttpReply, Item, Message, Octets, Wire, print_reply};
 use std::alloc::Global;
 
 /// What a call of `scim_wire` gives; None where it isn't one.
@@ -136,7 +136,7 @@ fn print_reply_call(case: &Case<'_>) -> Result<String, CaseFault> {
     let Ok(status) = u16::try_from(case.number("status")?) else {
         return Err(CaseFault::Missing("status"));
     };
-    let reply = Reply {
+    let reply = HttpReply {
         status,
         body: case.text("body").ok(),
         location: case.text("location").ok(),

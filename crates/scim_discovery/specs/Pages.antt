@@ -7,8 +7,8 @@ use Rattle.scim_schema.specs.Names.{kinds}
 use Rattle.scim_schema.specs.Schemas.{schemas}
 use Rattle.scim_audit.specs.declared.refusals.Refusal.{Refusal}
 use Rattle.scim_audit.specs.declared.refusals.Refusal.TheVariants.{Denied}
-use Rattle.scim_route.specs.declared.endpoints.Page.{Page}
-use Rattle.scim_route.specs.declared.endpoints.Page.TheVariants.{ServiceProviderConfig, ResourceTypes, ResourceType, Schemas, Schema}
+use Rattle.scim_route.specs.declared.endpoints.DiscoveryPage.{DiscoveryPage}
+use Rattle.scim_route.specs.declared.endpoints.DiscoveryPage.TheVariants.{ServiceProviderConfig, ResourceTypes, ResourceType, Schemas, Schema}
 use Rattle.scim_route.specs.Parameters.{parameters_of}
 use Rattle.scim_discovery.specs.ServiceProviderConfig.{service_provider_config}
 use Rattle.scim_discovery.specs.ResourceTypes.{resource_type_data}
@@ -16,7 +16,7 @@ use Rattle.scim_discovery.specs.Schemas.{schema_data}
 use Rattle.scim_discovery.specs.Lists.{list_data}
 
 -- the JSON of a page
-abbrev pub page_data : Page → Data
+abbrev pub page_data : DiscoveryPage → Data
 page_data ServiceProviderConfig = service_provider_config
 page_data ResourceTypes = list_data (map resource_type_data kinds)
 page_data (ResourceType kind) = resource_type_data kind
@@ -37,9 +37,9 @@ abbrev pub has_filter : Option (List ℕ) → Bool
 has_filter query = is_given_in (parameters_of query).filter
 
 -- the body of the reply to a request for a page; a filter is refused
-abbrev pub reply_of : Page → Option (List ℕ) → Result (List ℕ) Refusal
+abbrev pub reply_of : DiscoveryPage → Option (List ℕ) → Result (List ℕ) Refusal
 reply_of page query = if has_filter query then Err Denied else Ok (compact_text (page_data page))
 
 -- the result is the specified reply
-abbrev pub Replies : Page → Option (List ℕ) → Result (List ℕ) Refusal → Type 0
+abbrev pub Replies : DiscoveryPage → Option (List ℕ) → Result (List ℕ) Refusal → Type 0
 Replies page query told = told ≡ reply_of page query

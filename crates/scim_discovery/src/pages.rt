@@ -13,7 +13,7 @@ use crate::schemas::{schema_value, schema_values};
 use crate::service_provider_config::service_provider_config_value;
 use scim_audit::Refusal;
 use scim_cell::Text;
-use scim_route::{Page, Parameters};
+use scim_route::{DiscoveryPage, Parameters};
 use scim_text::{Failed, NoMemory};
 use serde_json::Value;
 use std::alloc::Global;
@@ -37,21 +37,21 @@ fn has_filter(alloc: Global, query: Option<&[u8]>) -> Result<bool, NoMemory>
 }
 
 /// The JSON of a page.
-fn page_value(alloc: Global, page: Page) -> Result<Value, NoMemory>
+fn page_value(alloc: Global, page: DiscoveryPage) -> Result<Value, NoMemory>
     ensures { IfOk result (λ v. view v ≡ spec.page_data page) }
 {
     match page {
-        Page::ServiceProviderConfig => service_provider_config_value(alloc),
-        Page::ResourceTypes => list_value(alloc, resource_type_values(alloc)?),
-        Page::ResourceType(kind) => resource_type_value(alloc, kind),
-        Page::Schemas => list_value(alloc, schema_values(alloc)?),
-        Page::Schema(schema) => schema_value(alloc, schema),
+        DiscoveryPage::ServiceProviderConfig => service_provider_config_value(alloc),
+        DiscoveryPage::ResourceTypes => list_value(alloc, resource_type_values(alloc)?),
+        DiscoveryPage::ResourceType(kind) => resource_type_value(alloc, kind),
+        DiscoveryPage::Schemas => list_value(alloc, schema_values(alloc)?),
+        DiscoveryPage::Schema(schema) => schema_value(alloc, schema),
     }
 }
 
 /// The text of a page.
 #[tactic(auto, using(crate::proofs::FloatLemmas::page_has_no_float))]
-fn page_text(alloc: Global, page: Page) -> Result<Text, NoMemory>
+fn page_text(alloc: Global, page: DiscoveryPage) -> Result<Text, NoMemory>
     ensures { IfOk result (λ text. text ≡ compact_text (spec.page_data page)) }
 {
     let value = page_value(alloc, page)?;
@@ -65,7 +65,11 @@ fn page_text(alloc: Global, page: Page) -> Result<Text, NoMemory>
 ///
 /// Denied if the query string has a filter. The first parameter with that name, in any ASCII case, counts;
 /// one that is empty or only spaces counts as no filter.
-pub fn page_reply(alloc: Global, page: Page, query: Option<&[u8]>) -> Result<Text, Failed<Refusal>>
+pub fn page_reply(
+    alloc: Global,
+    page: DiscoveryPage,
+    query: Option<&[u8]>,
+) -> Result<Text, Failed<Refusal>>
     ensures { UnlessMemory (Replies page (option_copied query.entry)) result }
 {
     if has_filter(alloc, query)? {

@@ -8,7 +8,7 @@ use Rattle.scim_policy.specs.Rules.{Rule}
 use Rattle.scim_shelf.specs.declared.faults.ShelfFault.{ShelfFault}
 use Rattle.scim_shelf.specs.Stores.{Store}
 use Rattle.scim_wire.specs.declared.messages.Message.{Message}
-use Rattle.scim_route.specs.declared.endpoints.Page.{Page}
+use Rattle.scim_route.specs.declared.endpoints.DiscoveryPage.{DiscoveryPage}
 use Rattle.scim_route.specs.declared.routes.Route.{Route}
 use Rattle.scim_route.specs.declared.routes.Found.{Found}
 use Rattle.scim_route.specs.declared.routes.Found.TheVariants.{Discovery, Resource}
@@ -43,7 +43,7 @@ page_or (Ok text) = APage text
 page_or (Err refusal) = Refused refusal
 
 -- the answer is the discovery page or its refusal, for this query string
-abbrev pub IsPageOr : Page → Option (List ℕ) → Answer → Type 0
+abbrev pub IsPageOr : DiscoveryPage → Option (List ℕ) → Answer → Type 0
 IsPageOr page query answer = (told : Result (List ℕ) Refusal) × Replies page query told × (answer ≡ page_or told)
 
 -- the answer is the service's reply to the turn of the client's message

@@ -17,7 +17,7 @@ use crate::asks::ask;
 use scim_audit::Refusal;
 use scim_cell::{Id, Text};
 use scim_discovery::page_reply;
-use scim_route::{Found, Page, Route, Routes};
+use scim_route::{DiscoveryPage, Found, Route, Routes};
 use scim_service::{Ask, Request, Service, Turn};
 use scim_shelf::Shelf;
 use scim_text::{Failed, Moment, NoMemory};
@@ -96,7 +96,7 @@ fn found_in<'m>(
 }
 
 /// Answers a request for a discovery page: the page, its refusal, or `Refusal::Store` if memory runs out.
-fn page_answer(alloc: Global, page: Page, query: Option<&[u8]>) -> Answer
+fn page_answer(alloc: Global, page: DiscoveryPage, query: Option<&[u8]>) -> Answer
     ensures { IsPageOr page (option_copied query.entry) result
         ⊎ (result ≡ Answer.Refused Refusal.Store) }
 {

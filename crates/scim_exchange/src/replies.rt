@@ -6,7 +6,7 @@ use crate::statuses::status_of;
 use scim_audit::Refusal;
 use scim_service::Reply;
 use scim_text::NoMemory;
-use scim_wire::{Reply as WireReply, print_reply};
+use scim_wire::{HttpReply, print_reply};
 use std::alloc::Global;
 
 /// Returns the text of a refusal.
@@ -16,7 +16,7 @@ use std::alloc::Global;
 pub(crate) fn refusal_text(alloc: Global, refusal: Refusal, close: bool) -> Result<String, NoMemory>
     ensures { IfOk result (λ t. string_bytes t ≡ spec.refusal_text refusal close) }
 {
-    let reply = WireReply {
+    let reply = HttpReply {
         status: refusal.status(),
         body: Some(refusal.body()),
         location: None,
@@ -41,7 +41,7 @@ pub(crate) fn reply_text(alloc: Global, reply: &Reply, close: bool) -> Result<St
 fn success_text(alloc: Global, reply: &Reply, close: bool) -> Result<String, NoMemory>
     ensures { IfOk result (λ t. string_bytes t ≡ spec.success_text reply.now close) }
 {
-    let reply = WireReply {
+    let reply = HttpReply {
         status: status_of(reply),
         body: reply.body(),
         location: reply.location(),
@@ -56,7 +56,7 @@ fn success_text(alloc: Global, reply: &Reply, close: bool) -> Result<String, NoM
 pub(crate) fn page_text(alloc: Global, page: &str, close: bool) -> Result<String, NoMemory>
     ensures { IfOk result (λ t. string_bytes t ≡ spec.page_text page.now close) }
 {
-    let reply = WireReply {
+    let reply = HttpReply {
         status: 200,
         body: Some(page),
         location: None,

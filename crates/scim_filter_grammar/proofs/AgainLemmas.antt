@@ -10,7 +10,7 @@ use Rattle.scim_filter_grammar.specs.Reading.{Syntax, TooDeep}
 use Rattle.scim_filter_grammar.specs.declared.tree.Operator.{Operator}
 use Rattle.scim_filter_grammar.specs.declared.tree.Operator.TheVariants.{Eq, Ne, Co, Sw, Ew, Gt, Ge, Lt, Le}
 use Rattle.scim_filter_grammar.specs.declared.tree.Literal.{Literal}
-use Rattle.scim_filter_grammar.specs.declared.tree.Path.{Path}
+use Rattle.scim_filter_grammar.specs.declared.tree.AttributePath.{AttributePath}
 use Rattle.scim_schema.specs.declared.Kind.{Kind}
 use Rattle.scim_filter_grammar.specs.declared.tree.Meant.{Meant}
 use Rattle.scim_filter_grammar.specs.declared.tree.Scope.{Scope}
@@ -83,7 +83,7 @@ path_full None names h e = h e
 path_full (Some []) names h e = absurd cc
 path_full (Some (b ∷ bs)) names h e = absurd cc
 
-pub path_run : (i : Scope) (text : List ℕ) (path : Path) → IsPath i text path → IsRun text
+pub path_run : (i : Scope) (text : List ℕ) (path : AttributePath) → IsPath i text path → IsRun text
 path_run i text path h =
     subst IsRun (sym h.whole) (run_of (path_text path.urn (names_text path.name path.sub_name))
     (path_word path.urn (names_text path.name path.sub_name) h.urn_is (names_word path.name path.sub_name h.name_is h.sub_is))
@@ -113,10 +113,10 @@ unfolding sub_of
 sub_reads name None h k = rw (all_of_behind is_no_dot name (name_no_dot name h)) refl
 sub_reads name (Some sub) h k = rw (behind_again is_no_dot name (46 ∷ sub) (name_no_dot name h) refl, name_reads sub k) refl
 
-abbrev read_path : Path → Result Path Fault
+abbrev read_path : AttributePath → Result AttributePath Fault
 read_path path = Ok path
 
-pub path_again : (i : Scope) (text : List ℕ) (path : Path) → IsPath i text path → path_of i text ≡ Ok path
+pub path_again : (i : Scope) (text : List ℕ) (path : AttributePath) → IsPath i text path → path_of i text ≡ Ok path
 unfolding path_of
 path_again i text path h =
     let names = names_text path.name path.sub_name in
@@ -165,14 +165,14 @@ operator_not_pr Le w h = other_word (codes "le") (codes "pr") w h refl
 
 -- ---- what stands behind a path
 
-pr_again : (path : Path) (w rest : List ℕ) → IsWord (codes "pr") w → StopsAt is_word_byte rest → relation_at path (w ++ rest) ≡ Ok (Present path, rest)
+pr_again : (path : AttributePath) (w rest : List ℕ) → IsWord (codes "pr") w → StopsAt is_word_byte rest → relation_at path (w ++ rest) ≡ Ok (Present path, rest)
 unfolding relation_at
 pr_again path w rest h stops =
     let each = word_bytes (codes "pr") w h refl in
     let is : is_word (codes "pr") w ≡ true = h in
     rw (front_again is_word_byte w rest each stops, behind_again is_word_byte w rest each stops, is) refl
 
-compared_again : (path : Path) (op : Operator) (x : Literal) (w h l rest : List ℕ) → IsWord (spelled op) w → IsGap h → IsLiteral l x → StopsAt is_word_byte rest → relation_at path (w ++ (h ++ (l ++ rest))) ≡ Ok (Compare path op x, rest)
+compared_again : (path : AttributePath) (op : Operator) (x : Literal) (w h l rest : List ℕ) → IsWord (spelled op) w → IsGap h → IsLiteral l x → StopsAt is_word_byte rest → relation_at path (w ++ (h ++ (l ++ rest))) ≡ Ok (Compare path op x, rest)
 unfolding relation_at
 compared_again path op x w h l rest is_op is_gap is_literal stops =
     let run = operator_run op w is_op in
@@ -181,12 +181,12 @@ compared_again path op x w h l rest is_op is_gap is_literal stops =
     rw (front_again is_word_byte w tail run.each parts, behind_again is_word_byte w tail run.each parts, operator_not_pr op w is_op, operator_again op w is_op, gap_again h (l ++ rest) is_gap (opens_stops l rest (literal_opens l x is_literal)), literal_again l rest x is_literal stops) refl
 
 -- behind a path and a gap
-behind_gap_again : (filter : Scope → Reader) (i : Scope) (path : Path) (g tail : List ℕ) (y : Tree × List ℕ) → IsGap g → StopsAt is_space tail → relation_at path tail ≡ Ok y → behind_path_at filter i path (g ++ tail) ≡ Ok y
+behind_gap_again : (filter : Scope → Reader) (i : Scope) (path : AttributePath) (g tail : List ℕ) (y : Tree × List ℕ) → IsGap g → StopsAt is_space tail → relation_at path tail ≡ Ok y → behind_path_at filter i path (g ++ tail) ≡ Ok y
 unfolding behind_path_at
 behind_gap_again filter i path g tail y is_gap stops e = rw (gap_first g tail is_gap, gap_again g tail is_gap stops) e
 
 -- a path, and what stands behind it, which begins with no bracket "("
-worded_again : (filter : Scope → Reader) (i : Scope) (path : Path) (p tail : List ℕ) → IsPath i p path → StopsAt is_word_byte tail → eqb (slice_index (behind is_space tail) 0) 40 ≡ false
+worded_again : (filter : Scope → Reader) (i : Scope) (path : AttributePath) (p tail : List ℕ) → IsPath i p path → StopsAt is_word_byte tail → eqb (slice_index (behind is_space tail) 0) 40 ≡ false
     → term_at filter i (p ++ tail) ≡ behind_path_at filter i path tail
 unfolding term_at worded_at
 worded_again filter i path p tail is_path stops no_bracket =
@@ -278,11 +278,11 @@ negation_reads i n d a w s text rest t is_not is_blank enc h =
     subst (λ bytes. Reads (suc n) d (term_at (filter_at d) i bytes) (Not t, rest)) (sym regroup)
     (subst (λ r. Reads (suc n) d r (Not t, rest)) (sym reads) (reads_mapped (suc n) d Not (enclosed_at 41 (filter_at d i) inner) (t, rest) h))
 
-listed_is : (filter : Scope → Reader) (kind : Kind) (path : Path) (inner : List ℕ) → behind_path_at filter (Attributes kind) path (91 ∷ inner) ≡ mapped (Values path) (enclosed_at 93 (filter (SubAttributes (attribute_meant path.meant))) inner)
+listed_is : (filter : Scope → Reader) (kind : Kind) (path : AttributePath) (inner : List ℕ) → behind_path_at filter (Attributes kind) path (91 ∷ inner) ≡ mapped (Values path) (enclosed_at 93 (filter (SubAttributes (attribute_meant path.meant))) inner)
 unfolding behind_path_at listed_at
 listed_is filter kind path inner = refl
 
-values_reads : (kind : Kind) (n d : ℕ) (p a text rest : List ℕ) (path : Path) (t : Tree) → IsPath (Attributes kind) p path → Encloses 91 93 a text → Reads (suc n) d (enclosed_at 93 (filter_at d (SubAttributes (attribute_meant path.meant))) (drop 1 (text ++ rest))) (t, rest) → Reads (suc n) d (term_at (filter_at d) (Attributes kind) ((p ++ text) ++ rest)) (Values path t, rest)
+values_reads : (kind : Kind) (n d : ℕ) (p a text rest : List ℕ) (path : AttributePath) (t : Tree) → IsPath (Attributes kind) p path → Encloses 91 93 a text → Reads (suc n) d (enclosed_at 93 (filter_at d (SubAttributes (attribute_meant path.meant))) (drop 1 (text ++ rest))) (t, rest) → Reads (suc n) d (term_at (filter_at d) (Attributes kind) ((p ++ text) ++ rest)) (Values path t, rest)
 values_reads kind n d p a text rest path t is_path enc h =
     let inner = drop 1 (text ++ rest) in
     let within = SubAttributes (attribute_meant path.meant) in
@@ -345,7 +345,7 @@ again (values {kind = kind} {n = n} {a = a} {text = text} {path = path} {t = t} 
     values_reads kind n d p a text rest path t is_path enc (enclosed_again within n d 91 93 a text rest t inner enc refl refl refl)
 
 -- the brackets of a value path, behind its name
-pub values_again : (kind : Kind) (n d : ℕ) (a text rest : List ℕ) (path : Path) (t : Tree) → Spells (SubAttributes (attribute_meant path.meant)) Disjunction n a t → Encloses 91 93 a text
+pub values_again : (kind : Kind) (n d : ℕ) (a text rest : List ℕ) (path : AttributePath) (t : Tree) → Spells (SubAttributes (attribute_meant path.meant)) Disjunction n a t → Encloses 91 93 a text
     → Reads (suc n) d (listed_at (filter_at d) (Attributes kind) path (drop 1 (text ++ rest))) (Values path t, rest)
 unfolding listed_at
 values_again kind n d a text rest path t o enc =

@@ -4,7 +4,7 @@ use Rattle.std.specs.Prelude.{nat_le, option_and_then}
 use Rattle.std.specs.Result.{result_ok}
 use Rattle.std.proofs.lemmas.Bool.{leb-true, le-leb}
 use Rattle.scim_schema.specs.declared.Kind.{Kind}
-use Rattle.scim_filter_grammar.specs.declared.tree.Path.{Path}
+use Rattle.scim_filter_grammar.specs.declared.tree.AttributePath.{AttributePath}
 use Rattle.scim_filter_grammar.specs.declared.tree.Scope.TheVariants.{Attributes}
 use Rattle.scim_filter_grammar.specs.Bytes.{lone_word}
 use Rattle.scim_filter_grammar.specs.Grammar.{IsFilter}
@@ -60,19 +60,19 @@ none_spelled kind text none =
 
 -- ---- paths
 
-path_takes_alone : (kind : Kind) (text : List ℕ) (path : Path) (o : Option (List ℕ)) → lone_word text ≡ o → option_and_then (λ word. result_ok (path_of (Attributes kind) word)) o ≡ Some path → IsWritten kind 0 text (Plain path)
+path_takes_alone : (kind : Kind) (text : List ℕ) (path : AttributePath) (o : Option (List ℕ)) → lone_word text ≡ o → option_and_then (λ word. result_ok (path_of (Attributes kind) word)) o ≡ Some path → IsWritten kind 0 text (Plain path)
 path_takes_alone kind text path None h e = absurd cc
 path_takes_alone kind text path (Some w) h e =
     let parts = lone_parts text w h in
     plain_takes kind text path parts.0 (ap (path_of (Attributes kind)) parts.1 ∙ ok_some (path_of (Attributes kind) w) path e)
 
-pub path_in-spelled : (kind : Kind) (text : List ℕ) (path : Path) → path_in kind text ≡ Some path → (length text ≤ LONGEST_FILTER) × IsWritten kind 0 text (Plain path)
+pub path_in-spelled : (kind : Kind) (text : List ℕ) (path : AttributePath) → path_in kind text ≡ Some path → (length text ≤ LONGEST_FILTER) × IsWritten kind 0 text (Plain path)
 unfolding path_in
 path_in-spelled kind text path e =
     let a = within (nat_le (length text) LONGEST_FILTER) (option_and_then (λ word. result_ok (path_of (Attributes kind) word)) (lone_word text)) path e in
     (leb-true (length text) LONGEST_FILTER a.0, path_takes_alone kind text path (lone_word text) refl a.1)
 
-pub spelled-path_in : (kind : Kind) (text : List ℕ) (path : Path) → length text ≤ LONGEST_FILTER → IsWritten kind 0 text (Plain path) → path_in kind text ≡ Some path
+pub spelled-path_in : (kind : Kind) (text : List ℕ) (path : AttributePath) → length text ≤ LONGEST_FILTER → IsWritten kind 0 text (Plain path) → path_in kind text ≡ Some path
 unfolding path_in
 spelled-path_in kind text path short h =
     let cut = plain_again kind 0 text path h in
@@ -93,7 +93,7 @@ path_in-none kind text short e = rw (le-leb (length text) LONGEST_FILTER short, 
 
 pub path_in-long : (kind : Kind) (text : List ℕ) → LONGEST_FILTER < length text → path_in kind text ≡ None
 path_in-long kind text long =
-    let at : (o : Option Path) → path_in kind text ≡ o → o ≡ None = λ o. elim o as (λ p. path_in kind text ≡ p → p ≡ None) [
+    let at : (o : Option AttributePath) → path_in kind text ≡ o → o ≡ None = λ o. elim o as (λ p. path_in kind text ≡ p → p ≡ None) [
       | None ↦ λ e. refl
       | Some path ↦ λ e. absurd (let short = (path_in-spelled kind text path e).0 in omega (arith, long, short))
     ] in

@@ -1,7 +1,7 @@
 -- What is too deep to be read has so many brackets open at some place.
 use Rattle.std.proofs.Common.{◌≡◌, ◌≤◌, ℕ, zero, suc, ◌+◌, Bool, true, false, cond, eqb, List, [], ◌∷◌, ◌++◌, drop, length, Option, Some, None, Result, Ok, Err, refl, sym, ap, subst, ◌∙◌, append_assoc, arith}
 use Rattle.std.specs.Prelude.{slice_index, ◌&&◌, codes, ok_or}
-use Rattle.scim_filter_grammar.specs.declared.tree.Path.{Path}
+use Rattle.scim_filter_grammar.specs.declared.tree.AttributePath.{AttributePath}
 use Rattle.scim_filter_grammar.specs.declared.tree.Scope.{Scope}
 use Rattle.scim_filter_grammar.specs.declared.tree.Scope.TheVariants.{Attributes, SubAttributes}
 use Rattle.scim_filter_grammar.specs.Brackets.{open_behind, IsDeeper}
@@ -103,7 +103,7 @@ literal_shallow : (bytes : List ℕ) → IsShallow (literal_at bytes)
 unfolding literal_at string_at string_of word_literal number_of
 literal_shallow bytes = search shallow depth 12
 
-relation_shallow : (path : Path) (bytes : List ℕ) → IsShallow (relation_at path bytes)
+relation_shallow : (path : AttributePath) (bytes : List ℕ) → IsShallow (relation_at path bytes)
 unfolding relation_at
 relation_shallow path bytes = search (shallow, operator_shallow, literal_shallow) depth 8
 
@@ -162,14 +162,14 @@ enclosed_deep filter n i o close bytes opening inner e =
     (λ f. nested_within opening (nested_past is_space n bytes space_plain (inner i (behind is_space bytes) f)))
     (λ x _ f. absurd ((closing_shallow close x.0 (behind is_space x.1)).never f))
 
-listed_deep : (filter : Scope → Reader) (n : ℕ) (i : Scope) (path : Path) (bytes : List ℕ) → DeepInner filter n → listed_at filter i path bytes ≡ too_deep → IsNested (suc n) (91 ∷ bytes)
+listed_deep : (filter : Scope → Reader) (n : ℕ) (i : Scope) (path : AttributePath) (bytes : List ℕ) → DeepInner filter n → listed_at filter i path bytes ≡ too_deep → IsNested (suc n) (91 ∷ bytes)
 unfolding listed_at
 listed_deep filter n (SubAttributes a) path bytes inner e = absurd cc
 listed_deep filter n (Attributes kind) path bytes inner e =
     let within = SubAttributes (attribute_meant path.meant) in
     enclosed_deep filter n within 91 93 bytes square_opens inner (mapped_deep (Values path) (enclosed_at 93 (filter within) bytes) e)
 
-behind_path_deep : (filter : Scope → Reader) (n : ℕ) (i : Scope) (path : Path) (bytes : List ℕ) → DeepInner filter n → behind_path_at filter i path bytes ≡ too_deep → IsNested (suc n) bytes
+behind_path_deep : (filter : Scope → Reader) (n : ℕ) (i : Scope) (path : AttributePath) (bytes : List ℕ) → DeepInner filter n → behind_path_at filter i path bytes ≡ too_deep → IsNested (suc n) bytes
 unfolding behind_path_at
 behind_path_deep filter n i path bytes inner e =
     let relates = ok_or (past_gap bytes) Syntax >>= relation_at path in

@@ -9,7 +9,7 @@ use Rattle.scim_filter_grammar.specs.declared.tree.Operator.{Operator}
 use Rattle.scim_filter_grammar.specs.declared.tree.Operator.TheVariants.{Eq, Ne, Co, Sw, Ew, Gt, Ge, Lt, Le}
 use Rattle.scim_filter_grammar.specs.declared.tree.Literal.{Literal}
 use Rattle.scim_filter_grammar.specs.declared.tree.Literal.TheVariants as literal
-use Rattle.scim_filter_grammar.specs.declared.tree.Path.{Path}
+use Rattle.scim_filter_grammar.specs.declared.tree.AttributePath.{AttributePath}
 use Rattle.scim_filter_grammar.specs.declared.tree.Scope.{Scope}
 use Rattle.scim_filter_grammar.specs.declared.tree.Scope.TheVariants.{Attributes, SubAttributes}
 use Rattle.scim_filter_grammar.specs.Literals.{IsWord, is_integer, IsLiteral}
@@ -90,7 +90,7 @@ sub_takes (d ∷ ds) sub e dots =
     subst (TakesSub (d ∷ ds)) (ok_is (Some b.0) sub b.2)
     (record { passed = is.1; joins = λ name. ap (λ (x : ℕ). name ++ x ∷ ds) (dots d ds refl) ∙ ap (λ (t : List ℕ). name ++ 46 ∷ t) is.0 })
 
-pub path_takes : (scope : Scope) (word : List ℕ) (path : Path) → path_of scope word ≡ Ok path → IsPath scope word path
+pub path_takes : (scope : Scope) (word : List ℕ) (path : AttributePath) → path_of scope word ≡ Ok path → IsPath scope word path
 unfolding path_of
 path_takes scope word path e =
     let n = front is_no_dot (names_in word) in
@@ -104,7 +104,7 @@ path_takes scope word path e =
     let sub = sub_takes r c.0 c.1 (λ d ds h. eqb-true _ _ (not_false (eqb d 46) (behind_first is_no_dot (names_in word) d ds h))) in
     let names : names_in word ≡ names_text b.0 c.0 = front-behind is_no_dot (names_in word) ∙ sub.joins n ∙ ap (λ (t : List ℕ). names_text t c.0) name.0 in
     let whole : word ≡ path_text a.0 (names_text b.0 c.0) = urn_split word ∙ ap (λ (o : Option (List ℕ)). path_text o (names_in word)) urn.0 ∙ ap (λ (t : List ℕ). path_text a.0 t) names in
-    subst (λ (p : Path). IsPath scope word p) s.1 (record { urn_is = urn.1; name_is = name.1; sub_is = sub.passed; fits = s.0; whole = whole; leads = refl })
+    subst (λ (p : AttributePath). IsPath scope word p) s.1 (record { urn_is = urn.1; name_is = name.1; sub_is = sub.passed; fits = s.0; whole = whole; leads = refl })
 
 operator_takes : (w : List ℕ) (op : Operator) → operator_of w ≡ Ok op → IsWord (spelled op) w
 unfolding operator_of
@@ -165,10 +165,10 @@ pub record Completes (term_from : List ℕ → Type 0) (bytes rest : List ℕ) :
   pub completes : term_from text
   pub whole : bytes ≡ text ++ rest
 
-abbrev BehindGap : Scope → ℕ → Path → Tree → List ℕ → Type 0
+abbrev BehindGap : Scope → ℕ → AttributePath → Tree → List ℕ → Type 0
 BehindGap i n path t text = (p g : List ℕ) → IsPath i p path → IsGap g → Spells i Term n (p ++ (g ++ text)) t
 
-relation_takes : (i : Scope) (n : ℕ) (path : Path) (bytes : List ℕ) (x : Tree × List ℕ) → relation_at path bytes ≡ Ok x → Completes (BehindGap i n path x.0) bytes x.1
+relation_takes : (i : Scope) (n : ℕ) (path : AttributePath) (bytes : List ℕ) (x : Tree × List ℕ) → relation_at path bytes ≡ Ok x → Completes (BehindGap i n path x.0) bytes x.1
 unfolding relation_at
 relation_takes i n path bytes x e =
     let w = front is_word_byte bytes in
@@ -231,10 +231,10 @@ enclosed_takes filter i n open_byte close bytes x inner e =
       whole = ap (λ (t : List ℕ). open_byte ∷ t) (parts ∙ sym regroup);
     }
 
-abbrev BehindPath : Scope → ℕ → Path → Tree → List ℕ → Type 0
+abbrev BehindPath : Scope → ℕ → AttributePath → Tree → List ℕ → Type 0
 BehindPath i n path t text = (p : List ℕ) → IsPath i p path → Spells i Term n (p ++ text) t
 
-listed_takes : (filter : Scope → Reader) (i : Scope) (n : ℕ) (path : Path) (bytes : List ℕ) (x : Tree × List ℕ) → TakesInner filter n → bytes ≡ 91 ∷ drop 1 bytes → listed_at filter i path (drop 1 bytes) ≡ Ok x → Completes (BehindPath i n path x.0) bytes x.1
+listed_takes : (filter : Scope → Reader) (i : Scope) (n : ℕ) (path : AttributePath) (bytes : List ℕ) (x : Tree × List ℕ) → TakesInner filter n → bytes ≡ 91 ∷ drop 1 bytes → listed_at filter i path (drop 1 bytes) ≡ Ok x → Completes (BehindPath i n path x.0) bytes x.1
 unfolding listed_at
 listed_takes filter (SubAttributes a) n path bytes x inner first e = absurd cc
 listed_takes filter (Attributes kind) n path bytes x inner first e =
@@ -244,7 +244,7 @@ listed_takes filter (Attributes kind) n path bytes x inner first e =
     let made : BehindPath (Attributes kind) n path (Values path m.0.0) t.text = λ p is_path. subst (λ k. Spells (Attributes kind) Term k (p ++ t.text) (Values path m.0.0)) (sym t.is_depth) (values p is_path t.spells t.encloses) in
     subst (λ (z : Tree × List ℕ). Completes (BehindPath (Attributes kind) n path z.0) bytes z.1) m.2 (record { text = t.text; completes = made; whole = first ∙ t.whole })
 
-behind_path_takes : (filter : Scope → Reader) (i : Scope) (n : ℕ) (path : Path) (bytes : List ℕ) (x : Tree × List ℕ) → TakesInner filter n → behind_path_at filter i path bytes ≡ Ok x → Completes (BehindPath i n path x.0) bytes x.1
+behind_path_takes : (filter : Scope → Reader) (i : Scope) (n : ℕ) (path : AttributePath) (bytes : List ℕ) (x : Tree × List ℕ) → TakesInner filter n → behind_path_at filter i path bytes ≡ Ok x → Completes (BehindPath i n path x.0) bytes x.1
 unfolding behind_path_at
 behind_path_takes filter i n path bytes x inner e =
     let relates = ok_or (past_gap bytes) Syntax >>= relation_at path in

@@ -5,7 +5,7 @@ use Rattle.std.specs.Result.{result_ok}
 use Rattle.scim_schema.specs.declared.Kind.{Kind}
 use Rattle.scim_schema.specs.declared.limits.TheConstants.{LONGEST_FILTER}
 use Rattle.scim_filter_grammar.specs.declared.tree.Meant.{Meant}
-use Rattle.scim_filter_grammar.specs.declared.tree.Path.{Path}
+use Rattle.scim_filter_grammar.specs.declared.tree.AttributePath.{AttributePath}
 use Rattle.scim_filter_grammar.specs.declared.tree.Scope.TheVariants.{Attributes, SubAttributes}
 use Rattle.scim_filter_grammar.specs.Bytes.{is_empty, lone_word, is_space, is_word_byte, front, behind}
 use Rattle.scim_filter_grammar.specs.Names.{IsPath, IsPassed, is_name, names_text, attribute_meant}
@@ -64,7 +64,7 @@ sub_name_takes tree bytes w e =
     let done = ended_takes (Filtered tree None) w bytes f in
     record { sub = None; after = bytes; passed = tt; is = done.0; after_blank = done.1; joins = λ a. refl })
 
-filtered_takes : (kind : Kind) (path : Path) (bytes : List ℕ) (w : Written) → bytes ≡ 91 ∷ drop 1 bytes → filtered_at 32 kind path (drop 1 bytes) ≡ Ok w → (p : List ℕ) → IsPath (Attributes kind) p path → TakesPath kind (p ++ bytes) w
+filtered_takes : (kind : Kind) (path : AttributePath) (bytes : List ℕ) (w : Written) → bytes ≡ 91 ∷ drop 1 bytes → filtered_at 32 kind path (drop 1 bytes) ≡ Ok w → (p : List ℕ) → IsPath (Attributes kind) p path → TakesPath kind (p ++ bytes) w
 unfolding filtered_at listed_at
 filtered_takes kind path bytes w first e p is_path =
     let within = SubAttributes (attribute_meant path.meant) in
@@ -135,7 +135,7 @@ sub_name_again tree (Some name) after passed h =
     let stops = blank_stops after h in
     rw (front_again is_word_byte name after each stops, behind_again is_word_byte name after each stops, name_reads name passed, ended_again (Filtered tree (Some name)) after h) refl
 
-names_again_at : (d : ℕ) (kind : Kind) (path : Path) (p rest : List ℕ) → IsPath (Attributes kind) p path → StopsAt is_word_byte rest → written_at d kind (p ++ rest) ≡ behind_names_at d kind path rest
+names_again_at : (d : ℕ) (kind : Kind) (path : AttributePath) (p rest : List ℕ) → IsPath (Attributes kind) p path → StopsAt is_word_byte rest → written_at d kind (p ++ rest) ≡ behind_names_at d kind path rest
 unfolding written_at
 names_again_at d kind path p rest is_path stops =
     let run = path_run (Attributes kind) p path is_path in
@@ -211,7 +211,7 @@ behind_word_in bytes = behind is_space (behind is_word_byte (behind is_space byt
 blank_of : (s : List ℕ) → behind is_space s ≡ [] → IsBlank s
 blank_of s e = subst IsBlank (sym (front-behind is_space s ∙ ap (λ (r : List ℕ). front is_space s ++ r) e ∙ append-nil (front is_space s))) (blank_front s)
 
-pub plain_takes : (kind : Kind) (bytes : List ℕ) (path : Path) → behind_word_in bytes ≡ [] → path_of (Attributes kind) (word_in bytes) ≡ Ok path → IsWritten kind 0 bytes (Plain path)
+pub plain_takes : (kind : Kind) (bytes : List ℕ) (path : AttributePath) → behind_word_in bytes ≡ [] → path_of (Attributes kind) (word_in bytes) ≡ Ok path → IsWritten kind 0 bytes (Plain path)
 plain_takes kind bytes path none e = record {
   before = front is_space bytes;
   inner = word_in bytes;
@@ -222,15 +222,15 @@ plain_takes kind bytes path none e = record {
   whole = front-behind is_space bytes ∙ ap (λ (r : List ℕ). front is_space bytes ++ r) (front-behind is_word_byte (behind is_space bytes));
 }
 
-spelled_path : {kind : Kind} {n : ℕ} {text : List ℕ} {path : Path} → SpellsPath kind n text (Plain path) → IsPath (Attributes kind) text path
+spelled_path : {kind : Kind} {n : ℕ} {text : List ℕ} {path : AttributePath} → SpellsPath kind n text (Plain path) → IsPath (Attributes kind) text path
 spelled_path (plain is_path) = is_path
 
 -- the text of a path is cut into its word and spaces
-pub record IsCut (kind : Kind) (bytes : List ℕ) (path : Path) : Type 0 where
+pub record IsCut (kind : Kind) (bytes : List ℕ) (path : AttributePath) : Type 0 where
   pub none_left : behind_word_in bytes ≡ []
   pub reads : path_of (Attributes kind) (word_in bytes) ≡ Ok path
 
-pub plain_again : (kind : Kind) (n : ℕ) (bytes : List ℕ) (path : Path) → IsWritten kind n bytes (Plain path) → IsCut kind bytes path
+pub plain_again : (kind : Kind) (n : ℕ) (bytes : List ℕ) (path : AttributePath) → IsWritten kind n bytes (Plain path) → IsCut kind bytes path
 plain_again kind n bytes path h =
     let is_path = spelled_path h.spells in
     let run = path_run (Attributes kind) h.inner path is_path in
@@ -246,8 +246,8 @@ plain_again kind n bytes path h =
 -- what the one path names that a text spells within the limit, if it spells one
 abbrev pub NamesAlone : Kind → List ℕ → Option Meant → Type 0
 NamesAlone kind bytes m =
-    MatchOption m ((path : Path) → length bytes ≤ LONGEST_FILTER → ¬ (IsWritten kind 0 bytes (Plain path)))
-    (λ n. (path : Path) × (length bytes ≤ LONGEST_FILTER) × IsWritten kind 0 bytes (Plain path) × (path.meant ≡ n))
+    MatchOption m ((path : AttributePath) → length bytes ≤ LONGEST_FILTER → ¬ (IsWritten kind 0 bytes (Plain path)))
+    (λ n. (path : AttributePath) × (length bytes ≤ LONGEST_FILTER) × IsWritten kind 0 bytes (Plain path) × (path.meant ≡ n))
 
 -- where a text has one word alone, that word is the path
 pub lone_parts : (bytes w : List ℕ) → lone_word bytes ≡ Some w → (behind_word_in bytes ≡ []) × (word_in bytes ≡ w)
@@ -257,20 +257,20 @@ lone_parts bytes w e = at (behind_word_in bytes) refl e
     at [] h f = (h, cc)
     at (b ∷ bs) h f = absurd cc
 
-pub named_alone : (kind : Kind) (bytes w : List ℕ) → length bytes ≤ LONGEST_FILTER → lone_word bytes ≡ Some w → NamesAlone kind bytes (option_map (λ (path : Path). path.meant) (result_ok (path_of (Attributes kind) w)))
+pub named_alone : (kind : Kind) (bytes w : List ℕ) → length bytes ≤ LONGEST_FILTER → lone_word bytes ≡ Some w → NamesAlone kind bytes (option_map (λ (path : AttributePath). path.meant) (result_ok (path_of (Attributes kind) w)))
 named_alone kind bytes w short is =
     let parts = lone_parts bytes w is in
-    let at : (r : Result Path Fault) → path_of (Attributes kind) (word_in bytes) ≡ r → NamesAlone kind bytes (option_map (λ (path : Path). path.meant) (result_ok r)) =
-    λ r. elim r as (λ s. path_of (Attributes kind) (word_in bytes) ≡ s → NamesAlone kind bytes (option_map (λ (path : Path). path.meant) (result_ok s))) [
+    let at : (r : Result AttributePath Fault) → path_of (Attributes kind) (word_in bytes) ≡ r → NamesAlone kind bytes (option_map (λ (path : AttributePath). path.meant) (result_ok r)) =
+    λ r. elim r as (λ s. path_of (Attributes kind) (word_in bytes) ≡ s → NamesAlone kind bytes (option_map (λ (path : AttributePath). path.meant) (result_ok s))) [
       | Ok p ↦ λ e. (p, short, plain_takes kind bytes p parts.0 e, refl)
       | Err f ↦ λ e path _ h. absurd (let no : fault_of f ≡ Ok path = sym e ∙ (plain_again kind 0 bytes path h).reads in cc)
     ]
-    in subst (λ (v : List ℕ). NamesAlone kind bytes (option_map (λ (path : Path). path.meant) (result_ok (path_of (Attributes kind) v)))) parts.1 (at (path_of (Attributes kind) (word_in bytes)) refl)
+    in subst (λ (v : List ℕ). NamesAlone kind bytes (option_map (λ (path : AttributePath). path.meant) (result_ok (path_of (Attributes kind) v)))) parts.1 (at (path_of (Attributes kind) (word_in bytes)) refl)
   where
-    fault_of : Fault → Result Path Fault
+    fault_of : Fault → Result AttributePath Fault
     fault_of f = Err f
 
-pub not_alone : (kind : Kind) (bytes : List ℕ) (path : Path) → lone_word bytes ≡ None → IsWritten kind 0 bytes (Plain path) → ⊥
+pub not_alone : (kind : Kind) (bytes : List ℕ) (path : AttributePath) → lone_word bytes ≡ None → IsWritten kind 0 bytes (Plain path) → ⊥
 not_alone kind bytes path e h =
     let cut = plain_again kind 0 bytes path h in
     let one : lone_word bytes ≡ Some (word_in bytes) = rw (cut.none_left) refl in

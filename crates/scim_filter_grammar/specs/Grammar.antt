@@ -4,7 +4,7 @@ use Rattle.scim_schema.specs.declared.Kind.{Kind}
 use Rattle.scim_filter_grammar.specs.declared.tree.Operator.{Operator}
 use Rattle.scim_filter_grammar.specs.declared.tree.Operator.TheVariants.{Eq, Ne, Co, Sw, Ew, Gt, Ge, Lt, Le}
 use Rattle.scim_filter_grammar.specs.declared.tree.Literal.{Literal}
-use Rattle.scim_filter_grammar.specs.declared.tree.Path.{Path}
+use Rattle.scim_filter_grammar.specs.declared.tree.AttributePath.{AttributePath}
 use Rattle.scim_filter_grammar.specs.declared.tree.Scope.{Scope}
 use Rattle.scim_filter_grammar.specs.declared.tree.Scope.TheVariants.{Attributes, SubAttributes}
 use Rattle.scim_filter_grammar.specs.Names.{IsPath, attribute_meant}
@@ -69,11 +69,11 @@ pub data Spells : Scope → Level → ℕ → List ℕ → Tree → Type 0 where
   group : {i : Scope} {n : ℕ} {a text : List ℕ} {t : Tree} → Spells i Disjunction n a t → Encloses 40 41 a text → Spells i Term (suc n) text t
   negation : {i : Scope} {n : ℕ} {a text : List ℕ} {t : Tree} (w s : List ℕ) → IsWord (codes "not") w → IsBlank s → Spells i Disjunction n a t → Encloses 40 41 a text
       → Spells i Term (suc n) (w ++ (s ++ text)) (Not t)
-  presence : {i : Scope} {n : ℕ} {path : Path} (p g w : List ℕ) → IsPath i p path → IsGap g → IsWord (codes "pr") w
+  presence : {i : Scope} {n : ℕ} {path : AttributePath} (p g w : List ℕ) → IsPath i p path → IsGap g → IsWord (codes "pr") w
       → Spells i Term n (p ++ (g ++ w)) (Present path)
-  comparison : {i : Scope} {n : ℕ} {path : Path} {op : Operator} {x : Literal} (p g w h l : List ℕ) → IsPath i p path → IsGap g → IsWord (spelled op) w → IsGap h → IsLiteral l x
+  comparison : {i : Scope} {n : ℕ} {path : AttributePath} {op : Operator} {x : Literal} (p g w h l : List ℕ) → IsPath i p path → IsGap g → IsWord (spelled op) w → IsGap h → IsLiteral l x
       → Spells i Term n (p ++ (g ++ (w ++ (h ++ l)))) (Compare path op x)
-  values : {kind : Kind} {n : ℕ} {a text : List ℕ} {path : Path} {t : Tree} (p : List ℕ) → IsPath (Attributes kind) p path → Spells (SubAttributes (attribute_meant path.meant)) Disjunction n a t → Encloses 91 93 a text
+  values : {kind : Kind} {n : ℕ} {a text : List ℕ} {path : AttributePath} {t : Tree} (p : List ℕ) → IsPath (Attributes kind) p path → Spells (SubAttributes (attribute_meant path.meant)) Disjunction n a t → Encloses 91 93 a text
       → Spells (Attributes kind) Term (suc n) (p ++ text) (Values path t)
 
 -- the text spells the tree of a filter on a kind, with spaces around it and brackets nested at most n deep

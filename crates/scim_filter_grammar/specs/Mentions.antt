@@ -3,7 +3,7 @@ use Rattle.std.specs.Prelude.{Bool, List, [], ◌∷◌, ◌++◌, Option, Some,
 use Rattle.scim_schema.specs.declared.Attribute.{Attribute}
 use Rattle.scim_filter_grammar.specs.declared.tree.Meant.{Meant}
 use Rattle.scim_filter_grammar.specs.declared.tree.Meant.TheVariants as meant
-use Rattle.scim_filter_grammar.specs.declared.tree.Path.{Path}
+use Rattle.scim_filter_grammar.specs.declared.tree.AttributePath.{AttributePath}
 use Rattle.scim_filter_grammar.specs.declared.mentions.Named.{Named}
 use Rattle.scim_filter_grammar.specs.Types.{is_some}
 use Rattle.scim_filter_grammar.specs.Names.{names_text, path_text}
@@ -16,7 +16,7 @@ mentioned_attribute (meant.Attribute a) = Some a
 mentioned_attribute (meant.SubAttribute a b) = Some a
 
 -- a path as written, with the attribute that it refers to, if the kind has it
-abbrev pub named : Path → Named
+abbrev pub named : AttributePath → Named
 named path = record { text = path_text path.urn (names_text path.name path.sub_name); attribute = mentioned_attribute path.meant }
 
 -- the names in a tree, in the order of its text

@@ -9,7 +9,7 @@ use Rattle.scim_filter_grammar.specs.declared.tree.Meant.{Meant}
 use Rattle.scim_filter_grammar.specs.declared.tree.Meant.TheVariants as meant
 use Rattle.scim_filter_grammar.specs.declared.tree.Scope.{Scope}
 use Rattle.scim_filter_grammar.specs.declared.tree.Scope.TheVariants.{Attributes, SubAttributes}
-use Rattle.scim_filter_grammar.specs.declared.tree.Path.{Path}
+use Rattle.scim_filter_grammar.specs.declared.tree.AttributePath.{AttributePath}
 use Rattle.scim_filter_grammar.specs.Bytes.{front, is_word, is_no_colon}
 
 -- whether the byte is an ASCII letter
@@ -88,7 +88,7 @@ attribute_meant (meant.Attribute a) = Some a
 attribute_meant (meant.SubAttribute a b) = None
 
 -- the text spells the path: [ urn ":" ] name [ "." name ]
-pub record IsPath (scope : Scope) (text : List ℕ) (path : Path) : Type 0 where
+pub record IsPath (scope : Scope) (text : List ℕ) (path : AttributePath) : Type 0 where
   pub urn_is : IsPassed is_urn path.urn
   pub name_is : is_name path.name ≡ true
   pub sub_is : IsPassed is_name path.sub_name

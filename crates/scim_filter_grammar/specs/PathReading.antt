@@ -1,7 +1,7 @@
 -- Reading the path of a PATCH operation from left to right.
 use Rattle.std.specs.Prelude.{ℕ, ◌==◌, List, [], ◌∷◌, drop, Some, None, Result, Ok, Err, slice_index, if◌then◌else◌}
 use Rattle.scim_schema.specs.declared.Kind.{Kind}
-use Rattle.scim_filter_grammar.specs.declared.tree.Path.{Path}
+use Rattle.scim_filter_grammar.specs.declared.tree.AttributePath.{AttributePath}
 use Rattle.scim_filter_grammar.specs.declared.tree.Scope.TheVariants.{Attributes}
 use Rattle.scim_filter_grammar.specs.Bytes.{is_space, is_word_byte, front, behind}
 use Rattle.scim_filter_grammar.specs.Tree.{Tree}
@@ -22,11 +22,11 @@ unfoldable pub sub_at : Tree → List ℕ → Result Written Fault
 sub_at tree bytes = if slice_index bytes 0 == 46 then (name_of (front is_word_byte (drop 1 bytes)) >>= λ name. ended_at (Filtered tree (Some name)) (behind is_word_byte (drop 1 bytes))) else ended_at (Filtered tree None) bytes
 
 -- the value path that continues after an attribute path and an opening bracket
-unfoldable pub filtered_at : ℕ → Kind → Path → List ℕ → Result Written Fault
+unfoldable pub filtered_at : ℕ → Kind → AttributePath → List ℕ → Result Written Fault
 filtered_at depth kind path bytes = listed_at (filter_at depth) (Attributes kind) path bytes >>= λ x. sub_at x.0 x.1
 
 -- the path that continues after an attribute path: a filter in brackets, or nothing
-unfoldable pub behind_names_at : ℕ → Kind → Path → List ℕ → Result Written Fault
+unfoldable pub behind_names_at : ℕ → Kind → AttributePath → List ℕ → Result Written Fault
 behind_names_at depth kind path bytes = if slice_index bytes 0 == 91 then filtered_at depth kind path (drop 1 bytes) else ended_at (Plain path) bytes
 
 -- the path that the bytes spell, with at most `depth` brackets open at one place

@@ -13,7 +13,7 @@ use Rattle.scim_filter_grammar.specs.declared.tree.Operator.{Operator}
 use Rattle.scim_filter_grammar.specs.declared.tree.Operator.TheVariants.{Eq, Ne, Co, Sw, Ew, Gt, Ge, Lt, Le}
 use Rattle.scim_filter_grammar.specs.declared.tree.Literal.{Literal}
 use Rattle.scim_filter_grammar.specs.declared.tree.Literal.TheVariants as literal
-use Rattle.scim_filter_grammar.specs.declared.tree.Path.{Path}
+use Rattle.scim_filter_grammar.specs.declared.tree.AttributePath.{AttributePath}
 use Rattle.scim_filter_grammar.specs.declared.tree.Scope.{Scope}
 use Rattle.scim_filter_grammar.specs.declared.tree.Scope.TheVariants.{Attributes, SubAttributes}
 use Rattle.scim_filter_grammar.specs.Bytes.{is_space, is_word_byte, front, behind, is_word, past_quote}
@@ -66,15 +66,15 @@ sub_of [] = Ok None
 sub_of (dot ∷ sub) = name_of sub >>= λ name. Ok (Some name)
 
 -- the path with these names
-abbrev pub path_for : Scope → Option (List ℕ) → List ℕ → Option (List ℕ) → Path
+abbrev pub path_for : Scope → Option (List ℕ) → List ℕ → Option (List ℕ) → AttributePath
 path_for scope urn name sub = record { urn = urn; name = name; sub_name = sub; meant = meant_by scope urn name sub }
 
 -- the path with these names, if they may be combined so in the scope
-abbrev pub path_with : Scope → Option (List ℕ) → List ℕ → Option (List ℕ) → Result Path Fault
+abbrev pub path_with : Scope → Option (List ℕ) → List ℕ → Option (List ℕ) → Result AttributePath Fault
 path_with scope urn name sub = if fits_scope scope urn sub then Ok (path_for scope urn name sub) else Err Syntax
 
 -- the path that a whole word spells
-unfoldable pub path_of : Scope → List ℕ → Result Path Fault
+unfoldable pub path_of : Scope → List ℕ → Result AttributePath Fault
 path_of scope word = do
   urn ← urn_of (urn_in word)
   name ← name_of (front is_no_dot (names_in word))
@@ -138,7 +138,7 @@ enclosed_at close filter bytes = do
   closing_at close x.0 (behind is_space x.1)
 
 -- the test after a path and a space: `pr`, or an operator and a literal
-unfoldable pub relation_at : Path → Reader
+unfoldable pub relation_at : AttributePath → Reader
 relation_at path bytes =
     if is_word (codes "pr") (front is_word_byte bytes) then Ok (Present path, behind is_word_byte bytes) else do
       op ← operator_of (front is_word_byte bytes)
@@ -151,12 +151,12 @@ abbrev pub mapped : (Tree → Tree) → Read Tree → Read Tree
 mapped f read = read >>= λ x. Ok (f x.0, x.1)
 
 -- the value path on a path, after its opening bracket
-unfoldable pub listed_at : (Scope → Reader) → Scope → Path → Reader
+unfoldable pub listed_at : (Scope → Reader) → Scope → AttributePath → Reader
 listed_at filter (Attributes kind) path bytes = mapped (Values path) (enclosed_at 93 (filter (SubAttributes (attribute_meant path.meant))) bytes)
 listed_at filter (SubAttributes a) path bytes = Err Syntax
 
 -- the tree that continues after a path: a filter in brackets, or a space and a test
-unfoldable pub behind_path_at : (Scope → Reader) → Scope → Path → Reader
+unfoldable pub behind_path_at : (Scope → Reader) → Scope → AttributePath → Reader
 behind_path_at filter scope path bytes =
     if slice_index bytes 0 == 91 then listed_at filter scope path (drop 1 bytes) else do
       rest ← ok_or (past_gap bytes) Syntax

@@ -3,7 +3,7 @@ use Rattle.std.specs.Prelude.{◌≡◌, ◌≤◌, ◌↔◌, ℕ, true, nat_le
 use Rattle.std.specs.Result.{result_ok}
 use Rattle.scim_schema.specs.declared.Kind.{Kind}
 use Rattle.scim_schema.specs.declared.limits.TheConstants.{LONGEST_FILTER}
-use Rattle.scim_filter_grammar.specs.declared.tree.Path.{Path}
+use Rattle.scim_filter_grammar.specs.declared.tree.AttributePath.{AttributePath}
 use Rattle.scim_filter_grammar.specs.declared.tree.Scope.TheVariants.{Attributes}
 use Rattle.scim_filter_grammar.specs.Bytes.{lone_word}
 use Rattle.scim_filter_grammar.specs.Grammar.{IsFilter}
@@ -22,7 +22,7 @@ unfoldable pub filter_in : Kind → List ℕ → Option Tree
 filter_in kind text = if nat_le (length text) LONGEST_FILTER then fitting (result_ok (all_of (Attributes kind) text)) else None
 
 -- the attribute path that a text spells within the limit, if it spells one (RFC 7644 section 3.10)
-unfoldable pub path_in : Kind → List ℕ → Option Path
+unfoldable pub path_in : Kind → List ℕ → Option AttributePath
 path_in kind text = if nat_le (length text) LONGEST_FILTER then option_and_then (λ word. result_ok (path_of (Attributes kind) word)) (lone_word text) else None
 
 -- `filter_in` agrees with the grammar
@@ -31,7 +31,7 @@ FiltersAreSpelled = (kind : Kind) (text : List ℕ) (tree : Tree) → (filter_in
 
 -- `path_in` agrees with the grammar
 abbrev pub PathsAreSpelled : Type 0
-PathsAreSpelled = (kind : Kind) (text : List ℕ) (path : Path) → (path_in kind text ≡ Some path) ↔ ((length text ≤ LONGEST_FILTER) × IsWritten kind 0 text (Plain path))
+PathsAreSpelled = (kind : Kind) (text : List ℕ) (path : AttributePath) → (path_in kind text ≡ Some path) ↔ ((length text ≤ LONGEST_FILTER) × IsWritten kind 0 text (Plain path))
 
 -- a text spells at most one path of a PATCH operation, however many brackets are open in it
 abbrev pub OnePathIsSpelled : Type 0

@@ -1,7 +1,7 @@
 -- The tree of a filter, without pointers.
 use Rattle.scim_filter_grammar.specs.declared.tree.Operator.{Operator}
 use Rattle.scim_filter_grammar.specs.declared.tree.Literal.{Literal}
-use Rattle.scim_filter_grammar.specs.declared.tree.Path.{Path}
+use Rattle.scim_filter_grammar.specs.declared.tree.AttributePath.{AttributePath}
 use Rattle.scim_filter_grammar.specs.declared.tree.Node.{Node}
 use Rattle.scim_filter_grammar.specs.declared.tree.Filter.{Filter}
 use Rattle.scim_filter_grammar.specs.declared.tree.Node.TheVariants as node
@@ -11,9 +11,9 @@ pub data Tree : Type 0 where
   Or : Tree → Tree → Tree
   And : Tree → Tree → Tree
   Not : Tree → Tree
-  Present : Path → Tree
-  Compare : Path → Operator → Literal → Tree
-  Values : Path → Tree → Tree
+  Present : AttributePath → Tree
+  Compare : AttributePath → Operator → Literal → Tree
+  Values : AttributePath → Tree → Tree
 
 -- the tree that a node stands for
 abbrev pub view : Node → Tree

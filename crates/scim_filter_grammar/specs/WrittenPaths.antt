@@ -1,7 +1,7 @@
 -- Which texts spell which path of a PATCH operation (RFC 7644 section 3.5.2, figure 7).
 use Rattle.std.specs.Prelude.{◌≡◌, ℕ, suc, List, ◌++◌, Option}
 use Rattle.scim_schema.specs.declared.Kind.{Kind}
-use Rattle.scim_filter_grammar.specs.declared.tree.Path.{Path}
+use Rattle.scim_filter_grammar.specs.declared.tree.AttributePath.{AttributePath}
 use Rattle.scim_filter_grammar.specs.declared.tree.Scope.TheVariants.{Attributes, SubAttributes}
 use Rattle.scim_filter_grammar.specs.declared.written_paths.WrittenPath.{WrittenPath}
 use Rattle.scim_filter_grammar.specs.declared.written_paths.WrittenPath.TheVariants as written
@@ -11,7 +11,7 @@ use Rattle.scim_filter_grammar.specs.Tree.{Tree, Values, tree_of}
 
 -- a path: that of an attribute or sub-attribute, or a value path with an optional sub-attribute after it
 pub data Written : Type 0 where
-  Plain : Path → Written
+  Plain : AttributePath → Written
   Filtered : Tree → Option (List ℕ) → Written
 
 -- the path as specified, without pointers
@@ -21,8 +21,8 @@ written_of (written.Filtered filter sub) = Filtered (tree_of filter) sub
 
 -- the text spells the path, path [ "[" filter "]" [ "." name ] ], with brackets nested at most n deep
 pub data SpellsPath (kind : Kind) : ℕ → List ℕ → Written → Type 0 where
-  plain : {n : ℕ} {text : List ℕ} {path : Path} → IsPath (Attributes kind) text path → SpellsPath kind n text (Plain path)
-  filtered : {n : ℕ} {a enclosed : List ℕ} {path : Path} {t : Tree} {sub : Option (List ℕ)} (p : List ℕ) → IsPath (Attributes kind) p path
+  plain : {n : ℕ} {text : List ℕ} {path : AttributePath} → IsPath (Attributes kind) text path → SpellsPath kind n text (Plain path)
+  filtered : {n : ℕ} {a enclosed : List ℕ} {path : AttributePath} {t : Tree} {sub : Option (List ℕ)} (p : List ℕ) → IsPath (Attributes kind) p path
       → Spells (SubAttributes (attribute_meant path.meant)) Disjunction n a t → Encloses 91 93 a enclosed → IsPassed is_name sub
       → SpellsPath kind (suc n) (p ++ names_text enclosed sub) (Filtered (Values path t) sub)
 

@@ -1,7 +1,7 @@
 //! Reads the paths of attributes (RFC 7644 section 3.10).
 ghost use Rattle.std.specs.Prelude.{◌≡◌, ◌≤◌, length, MatchOption, option_map};
 ghost use Rattle.scim_filter_grammar.specs.Bytes as spec;
-ghost use Rattle.scim_filter_grammar.specs.declared.tree.Path.{Path};
+ghost use Rattle.scim_filter_grammar.specs.declared.tree.AttributePath.{AttributePath};
 ghost use Rattle.scim_filter_grammar.specs.Spelled.{path_in};
 ghost use Rattle.scim_filter_grammar.specs.WrittenPaths.{IsWritten, Plain};
 
@@ -25,12 +25,13 @@ pub fn lone_word(text: &str) -> Option<&[u8]>
 ///
 /// `None` if the text isn't a path, or has more than 4,096 bytes.
 pub fn attribute_path(kind: Kind, text: &str) -> Option<Meant>
-    ensures spelled { MatchOption result ((path : Path) → length text.now ≤ LONGEST_FILTER
+    ensures spelled { MatchOption result ((path : AttributePath) → length text.now ≤ LONGEST_FILTER
         → ¬ (IsWritten kind 0 text.now (Plain path)))
-        (λ m. (path : Path) × (length text.now ≤ LONGEST_FILTER)
+        (λ m. (path : AttributePath) × (length text.now ≤ LONGEST_FILTER)
         × IsWritten kind 0 text.now (Plain path) × (path.meant ≡ m)) }
     // `path_in` returns the path that a text spells.
-    ensures same { result ≡ option_map (λ (path : Path). path.meant) (path_in kind text.now) }
+    ensures same { result ≡ option_map (λ (path : AttributePath). path.meant)
+        (path_in kind text.now) }
 {
     if text.len() > LONGEST_FILTER {
         return None;

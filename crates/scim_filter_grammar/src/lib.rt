@@ -25,6 +25,6 @@ pub use mentions::{Named, knows_names, mentioned_names};
 pub use reading::read_filter;
 pub use string_literals::StringLiteral;
 pub use tokens::{Token, read_tokens};
-pub use tree::{Filter, Literal, Meant, Node, Operator, Path};
+pub use tree::{AttributePath, Filter, Literal, Meant, Node, Operator};
 pub use types::truth_of;
 pub use written_paths::{WrittenPath, written_path};

@@ -5,7 +5,7 @@ ghost use Rattle.scim_filter_grammar.specs.Mentions as spec;
 ghost use Rattle.scim_filter_grammar.specs.Names.{names_text, path_text};
 ghost use Rattle.scim_filter_grammar.specs.Tree.{tree_of, view};
 
-use crate::tree::{Filter, Meant, Node, Path};
+use crate::tree::{AttributePath, Filter, Meant, Node};
 use scim_cell::Text;
 use scim_schema::Attribute;
 use scim_text::{NoMemory, push};
@@ -33,7 +33,7 @@ impl Meant {
 }
 
 /// The path as written.
-fn text_of(alloc: Global, path: &Path) -> Result<Text, NoMemory>
+fn text_of(alloc: Global, path: &AttributePath) -> Result<Text, NoMemory>
     ensures { IfOk result (λ t. t
         ≡ path_text path.now.urn (names_text path.now.name path.now.sub_name)) }
 {
@@ -51,7 +51,7 @@ fn text_of(alloc: Global, path: &Path) -> Result<Text, NoMemory>
 }
 
 /// Appends the name of a path to `names`.
-fn add_name(alloc: Global, path: &Path, names: &mut Vec<Named>) -> Result<(), NoMemory>
+fn add_name(alloc: Global, path: &AttributePath, names: &mut Vec<Named>) -> Result<(), NoMemory>
     ensures { OnOk result (names.new.items ≡ names.old.items ++ (spec.named path.now ∷ [])) }
 {
     let named = Named {

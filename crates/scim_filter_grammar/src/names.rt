@@ -3,13 +3,13 @@ ghost use Rattle.std.specs.Prelude.{◌≡◌, option_map, ok_or, IfOk};
 ghost use Rattle.std.specs.Result.{result_ok};
 ghost use Rattle.std.specs.List.{list_all};
 ghost use Rattle.scim_filter_grammar.specs.Names.{is_letter, is_name_byte, is_plain_name, is_name, is_urn_byte, is_urn, fits_scope, attribute_by, sub_meant, meant_in, meant_by};
-ghost use Rattle.scim_filter_grammar.specs.declared.tree.Path.{Path};
+ghost use Rattle.scim_filter_grammar.specs.declared.tree.AttributePath.{AttributePath};
 ghost use Rattle.scim_schema.specs.Lookup.{sub_attribute_named};
 ghost use Rattle.scim_filter_grammar.specs.Reading.{Gives, Syntax, urn_of, name_of, sub_of, path_for, path_of};
 
 use crate::bytes::{before_colon, is_keyword, skip_urn, split_name, urn_before};
 use crate::faults::ReadError;
-use crate::tree::{Meant, Path, Scope};
+use crate::tree::{AttributePath, Meant, Scope};
 use scim_cell::Text;
 use scim_schema::{
     Attribute, Kind, Schema, attribute_named, attribute_named_in, sub_attribute_named,
@@ -201,7 +201,7 @@ fn parts(scope: Scope, word: &[u8]) -> Option<(Option<&str>, &str, Option<&str>)
 
 /// Returns what a path refers to. `None` if the word isn't a path.
 pub(crate) fn meant(scope: Scope, word: &[u8]) -> Option<Meant>
-    ensures { result ≡ option_map (λ (path : Path). path.meant)
+    ensures { result ≡ option_map (λ (path : AttributePath). path.meant)
         (result_ok (path_of scope word.now)) }
 {
     let (urn, name, sub) = parts(scope, word)?;
@@ -216,14 +216,14 @@ pub(crate) fn path(
     scope: Scope,
     word: &[u8],
     left: usize,
-) -> Result<Path, Failed<ReadError>>
+) -> Result<AttributePath, Failed<ReadError>>
     ensures { Gives (λ x. x) result (path_of scope word.now) }
 {
     let Some((urn, name, sub)) = parts(scope, word) else {
         return Err(Failed::Because(ReadError::Syntax(left)));
     };
     let meant = named(scope, urn, name, sub);
-    Ok(Path {
+    Ok(AttributePath {
         urn: copy_of(alloc, urn)?,
         name: Text::copy_of(alloc, name)?,
         sub_name: copy_of(alloc, sub)?,

@@ -18,7 +18,7 @@ use crate::bytes::{is_keyword, skip_gap, skip_join, skip_spaces, split_word};
 use crate::faults::{FilterFault, ReadError};
 use crate::literals::literal;
 use crate::names::path;
-use crate::tree::{Filter, Node, Operator, Path, Scope};
+use crate::tree::{AttributePath, Filter, Node, Operator, Scope};
 use crate::types::fits;
 use scim_schema::{Kind, LONGEST_FILTER};
 use scim_text::Failed;
@@ -56,7 +56,11 @@ fn operator(word: &[u8], left: usize) -> Result<Operator, Failed<ReadError>>
 
 /// Reads what follows a path and a space: `pr`, or an operator and a literal.
 #[tactic(auto, unfolding(crate::specs::Reading::relation_at))]
-fn relation(alloc: Global, path: Path, bytes: &[u8]) -> Result<(Node, &[u8]), Failed<ReadError>>
+fn relation(
+    alloc: Global,
+    path: AttributePath,
+    bytes: &[u8],
+) -> Result<(Node, &[u8]), Failed<ReadError>>
     ensures gives { Gives (λ x. (view x.0, x.1.now)) result (relation_at path bytes.now) }
     ensures shorter { IfOk result (λ x. length x.1.now ≤ length bytes.now) }
 {
@@ -102,7 +106,7 @@ pub(crate) fn listed(
     alloc: Global,
     depth: u32,
     scope: Scope,
-    path: Path,
+    path: AttributePath,
     bytes: &[u8],
 ) -> Result<(Node, &[u8]), Failed<ReadError>>
     ensures gives { Gives (λ x. (view x.0, x.1.now)) result
@@ -126,7 +130,7 @@ fn behind_path(
     alloc: Global,
     depth: u32,
     scope: Scope,
-    path: Path,
+    path: AttributePath,
     bytes: &[u8],
 ) -> Result<(Node, &[u8]), Failed<ReadError>>
     ensures gives { Gives (λ x. (view x.0, x.1.now)) result

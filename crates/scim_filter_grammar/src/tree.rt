@@ -67,7 +67,7 @@ impl Meant {
 }
 
 /// An attribute path, with its names as written.
-pub struct Path {
+pub struct AttributePath {
     /// The URN, before the last colon.
     pub urn: Option<Text>,
     /// The name of an attribute, or of a sub-attribute in the brackets of a value path.
@@ -77,9 +77,9 @@ pub struct Path {
     pub meant: Meant,
 }
 
-impl Drop for Path {
+impl Drop for AttributePath {
     fn drop(self) {
-        let Path {
+        let AttributePath {
             urn: _urn,
             name: _name,
             sub_name: _sub_name,
@@ -104,10 +104,10 @@ pub enum Node {
     And(Box<Node>, Box<Node>),
     Not(Box<Node>),
     /// `pr`: the attribute has a value.
-    Present(Path),
-    Compare(Path, Operator, Literal),
+    Present(AttributePath),
+    Compare(AttributePath, Operator, Literal),
     /// A value path, with the filter in its brackets.
-    Values(Path, Box<Node>),
+    Values(AttributePath, Box<Node>),
 }
 
 impl Drop for Node {

@@ -10,7 +10,7 @@ use crate::bytes::{skip_spaces, split_word};
 use crate::faults::ReadError;
 use crate::names::{name, path};
 use crate::reading::listed;
-use crate::tree::{Filter, Path, Scope};
+use crate::tree::{AttributePath, Filter, Scope};
 use scim_cell::Text;
 use scim_schema::{Kind, LONGEST_FILTER};
 use scim_text::{Failed, NoMemory};
@@ -20,7 +20,7 @@ use std::alloc::Global;
 #[derive(Drop)]
 pub enum WrittenPath {
     /// The path of an attribute or of a sub-attribute.
-    Plain(Path),
+    Plain(AttributePath),
     /// A value path, with the name of a sub-attribute after its brackets.
     Filtered(Filter, Option<Text>),
 }
@@ -63,7 +63,7 @@ fn with_sub_attribute(
 fn filtered(
     alloc: Global,
     kind: Kind,
-    path: Path,
+    path: AttributePath,
     bytes: &[u8],
 ) -> Result<WrittenPath, Failed<ReadError>>
     ensures { Gives written_of result (filtered_at 32 kind path bytes.now) }
@@ -77,7 +77,7 @@ fn filtered(
 fn behind_names(
     alloc: Global,
     kind: Kind,
-    path: Path,
+    path: AttributePath,
     bytes: &[u8],
 ) -> Result<WrittenPath, Failed<ReadError>>
     ensures { Gives written_of result (behind_names_at 32 kind path bytes.now) }

@@ -10,7 +10,7 @@ use Rattle.scim_schema.specs.Lookup.{attribute_named, attribute_named_in, sub_at
 use Rattle.scim_schema.specs.Table.{attributes, sub_attributes}
 use Rattle.scim_filter_grammar.specs.declared.tree.Meant.{Meant}
 use Rattle.scim_filter_grammar.specs.declared.tree.Meant.TheVariants as meant
-use Rattle.scim_filter_grammar.specs.declared.tree.Path.{Path}
+use Rattle.scim_filter_grammar.specs.declared.tree.AttributePath.{AttributePath}
 use Rattle.scim_filter_grammar.specs.Names.{attribute_by, sub_meant, meant_in}
 use Rattle.scim_filter_grammar.specs.Tree.{Tree, Values}
 use Rattle.scim_filter_grammar.specs.Types.{fits}
@@ -55,7 +55,7 @@ meant_known kind None sub h = tt
 meant_known kind (Some a) None h = h a refl
 meant_known kind (Some a) (Some name) h = sub_known kind a (sub_attribute_named a name) (h a refl) (λ b e. found_in _ (sub_attributes a) b e)
 
-path_known : (kind : Kind) (path : Path) → path.meant ≡ meant_in (attribute_by kind path.urn path.name) path.sub_name → IsMeant kind path.meant
+path_known : (kind : Kind) (path : AttributePath) → path.meant ≡ meant_in (attribute_by kind path.urn path.name) path.sub_name → IsMeant kind path.meant
 path_known kind path leads =
     subst (IsMeant kind) (sym leads) (meant_known kind (attribute_by kind path.urn path.name) path.sub_name (λ a e. attribute_in kind path.urn path.name a e))
 

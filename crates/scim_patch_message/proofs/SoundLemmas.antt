@@ -28,7 +28,7 @@ use Rattle.scim_filter_grammar.specs.Tree.{Tree}
 use Rattle.scim_body.specs.Bodies.{field_given}
 use Rattle.scim_body.specs.Drafts.{MayBeGiven}
 use Rattle.scim_body.proofs.Facts.{contains_joined, many_unit, one_pair, single_row, sub_attribute_leaf, AreFields, IsOf, IsSingle, IsValueOf, Rises, row_with}
-use Rattle.scim_patch_steps.specs.Changes.{Change, Keep, Clear, KeepSubAttribute, ClearEverywhere, Replace as ReplaceAll}
+use Rattle.scim_patch_steps.specs.Changes.{StepChange, Keep, Clear, KeepSubAttribute, ClearEverywhere, Replace as ReplaceAll}
 use Rattle.scim_patch_steps.specs.Steps.{is_required}
 use Rattle.scim_patch_steps.specs.Patch.{Step, Of, AreGivenFields, AreGivenValues, MayBeMade, IsStep}
 use Rattle.scim_patch_message.specs.declared.operations.Operation.{Operation}
@@ -64,7 +64,7 @@ value_sound kind true o each = tt
 value_sound kind false None each = tt
 value_sound kind false (Some steps) each = each steps refl
 
-pub one_sound : (kind : Kind) (u : AttributeUnit) (change : Change) → Contains (units kind) u → MayBeMade kind u change → All (IsStep kind) (one u change)
+pub one_sound : (kind : Kind) (u : AttributeUnit) (change : StepChange) → Contains (units kind) u → MayBeMade kind u change → All (IsStep kind) (one u change)
 one_sound kind u change there may = All-cons (IsStep kind) (Of u change) [] (there, may) (All-nil (IsStep kind))
 
 -- ---- units of the kind

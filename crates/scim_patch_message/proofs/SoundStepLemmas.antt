@@ -35,7 +35,7 @@ use Rattle.scim_body.specs.Drafts.{is_empty}
 use Rattle.scim_body.proofs.Facts.{atom_given, chained, filled, fields_given, fits_complex, fits_simple, has_simple, mapped, not_refused, simple_no_moment, table_fits, values_listed, with_one, IsOf, IsSingle}
 use Rattle.scim_path.specs.declared.faults.PathFault.{PathFault}
 use Rattle.scim_path.specs.Paths.{PathTarget, OfExtension, OfAttribute, OfSubAttribute, OfValues}
-use Rattle.scim_patch_steps.specs.Changes.{Change, Keep, Clear, KeepMatches, RemoveMatches, KeepSubAttribute, ClearAtMatches, ClearEverywhere, SetEverywhere}
+use Rattle.scim_patch_steps.specs.Changes.{StepChange, Keep, Clear, KeepMatches, RemoveMatches, KeepSubAttribute, ClearAtMatches, ClearEverywhere, SetEverywhere}
 use Rattle.scim_patch_steps.specs.Patch.{Step, Pathless, Of, AreGivenFields, AreGivenValues, MayBeMade, IsStep}
 use Rattle.scim_patch_message.specs.declared.operations.Operation.{Operation}
 use Rattle.scim_patch_message.specs.declared.operations.Operation.TheVariants.{Add, Replace, Remove}
@@ -206,7 +206,7 @@ module _ (kind : Kind) (a : Attribute) (b : SubAttribute) (c : Contains (attribu
     at_matches_may true f o = (whole_there kind a c many, field_sound kind a b f many o)
     at_matches_may false f o = (whole_there kind a c many, field_sound kind a b f many o)
 
-    one_many : (change : Change) → MayBeMade kind (whole a) change → All (IsStep kind) (one (whole a) change)
+    one_many : (change : StepChange) → MayBeMade kind (whole a) change → All (IsStep kind) (one (whole a) change)
     one_many change may = one_sound kind (whole a) change (whole_there kind a c many) may
 
     at_matches_empty : (op : Operation) → All (IsStep kind) (one (whole a) (at_matches_emptied op t b))
@@ -231,7 +231,7 @@ module _ (kind : Kind) (a : Attribute) (b : SubAttribute) (c : Contains (attribu
 -- ---- the matches themselves
 
 module _ (kind : Kind) (a : Attribute) (c : Contains (attributes kind) a) (many : is_multi_valued a ≡ true) (t : Tree) where
-  of_whole_many : (change : Change) → MayBeMade kind (whole a) change → All (IsStep kind) (one (whole a) change)
+  of_whole_many : (change : StepChange) → MayBeMade kind (whole a) change → All (IsStep kind) (one (whole a) change)
   of_whole_many change may = one_sound kind (whole a) change (whole_there kind a c many) may
 
   matches_may : (replaces : Bool) (fs : List Field) → AreGivenFields kind (whole a) fs → MayBeMade kind (whole a) (matches_change replaces t fs)

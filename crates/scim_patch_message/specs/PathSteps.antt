@@ -27,7 +27,7 @@ use Rattle.scim_body.specs.BodyNames.{value_clashes, values_clash}
 use Rattle.scim_body.specs.BodyValues.{present, field_with, fields_of, listed_values}
 use Rattle.scim_body.specs.Bodies.{Given, field_given, shaped_given}
 use Rattle.scim_path.specs.Paths.{PathTarget, OfExtension, OfAttribute, OfSubAttribute, OfValues}
-use Rattle.scim_patch_steps.specs.Changes.{Change, Keep, KeepMatches, KeepSubAttribute, Append, Replace as ReplaceAll, Clear, RemoveListed, AddToMatches, ReplaceMatches, RemoveMatches, AddAtMatches, SetAtMatches, ClearAtMatches, SetEverywhere, ClearEverywhere}
+use Rattle.scim_patch_steps.specs.Changes.{StepChange, Keep, KeepMatches, KeepSubAttribute, Append, Replace as ReplaceAll, Clear, RemoveListed, AddToMatches, ReplaceMatches, RemoveMatches, AddAtMatches, SetAtMatches, ClearAtMatches, SetEverywhere, ClearEverywhere}
 use Rattle.scim_patch_steps.specs.Patch.{Step, Of}
 use Rattle.scim_patch_message.specs.declared.operations.Operation.{Operation}
 use Rattle.scim_patch_message.specs.declared.operations.Operation.TheVariants.{Add, Replace, Remove}
@@ -38,13 +38,13 @@ use Rattle.scim_patch_message.specs.Readings.{Read, joined, each_member, value_r
 -- A replace without a value is a remove, and an add without a value changes nothing.
 
 -- the list of one step
-abbrev pub one : AttributeUnit → Change → List Step
+abbrev pub one : AttributeUnit → StepChange → List Step
 one u change = Of u change ∷ []
 
 -- ---- a whole attribute
 
 -- the change of an operation without a value at a unit: an add keeps it, others clear it
-abbrev pub nothing_given : Operation → Change
+abbrev pub nothing_given : Operation → StepChange
 nothing_given Add = Keep
 nothing_given Replace = Clear
 nothing_given Remove = Clear
@@ -87,7 +87,7 @@ value_text a r = text_in (atom_in (leaf_at a sub_attribute.Value) r.fields)
 
 -- the change of an operation with values at a multi-valued attribute: an add appends them, a replace sets
 -- them, and a remove lists by their `value` those to remove
-abbrev pub listed_change : Operation → Attribute → List Row → Change
+abbrev pub listed_change : Operation → Attribute → List Row → StepChange
 listed_change Remove a vs = RemoveListed (flat_map (value_text a) vs)
 listed_change Add a vs = Append vs
 listed_change Replace a vs = ReplaceAll vs
@@ -122,11 +122,11 @@ attribute_steps kind op a v = if is_read_only kind (simple a) then Ok (fixed_ste
 -- ---- a sub-attribute, of one value or of each
 
 -- the change that adds nothing to a sub-attribute
-abbrev pub sub_attribute_kept : Attribute → SubAttribute → Change
+abbrev pub sub_attribute_kept : Attribute → SubAttribute → StepChange
 sub_attribute_kept a b = if is_multi_valued a then KeepSubAttribute b else Keep
 
 -- the change that removes a sub-attribute, from each value if the attribute is multi-valued
-abbrev pub sub_attribute_cleared : Attribute → SubAttribute → Change
+abbrev pub sub_attribute_cleared : Attribute → SubAttribute → StepChange
 sub_attribute_cleared a b = if is_multi_valued a then ClearEverywhere b else Clear
 
 -- the step that sets a sub-attribute, in each value if the attribute is multi-valued
@@ -134,7 +134,7 @@ abbrev pub sub_attribute_set : Kind → Attribute → Field → Step
 sub_attribute_set kind a f = if is_multi_valued a then Of (whole a) (SetEverywhere f) else set_to (field_given kind f)
 
 -- the change of an operation without a value at a sub-attribute
-abbrev pub sub_attribute_emptied : Operation → Attribute → SubAttribute → Change
+abbrev pub sub_attribute_emptied : Operation → Attribute → SubAttribute → StepChange
 sub_attribute_emptied Add a b = sub_attribute_kept a b
 sub_attribute_emptied Replace a b = sub_attribute_cleared a b
 sub_attribute_emptied Remove a b = sub_attribute_cleared a b
@@ -158,13 +158,13 @@ sub_attribute_steps kind op a b v =
 -- ---- the values that match a filter
 
 -- the change of an operation without a value at the matches
-abbrev pub matches_emptied : Operation → Tree → Change
+abbrev pub matches_emptied : Operation → Tree → StepChange
 matches_emptied Add t = KeepMatches t
 matches_emptied Replace t = RemoveMatches t
 matches_emptied Remove t = RemoveMatches t
 
 -- the change that sets fields of the matches, or replaces all their fields
-abbrev pub matches_change : Bool → Tree → List Field → Change
+abbrev pub matches_change : Bool → Tree → List Field → StepChange
 matches_change false t fs = AddToMatches t fs
 matches_change true t fs = ReplaceMatches t fs
 
@@ -190,13 +190,13 @@ matches_steps kind op a t v = if is_read_only kind (simple a) then Ok (one (whol
 -- ---- a sub-attribute of the values that match a filter
 
 -- the change of an operation without a value at a sub-attribute of the matches
-abbrev pub at_matches_emptied : Operation → Tree → SubAttribute → Change
+abbrev pub at_matches_emptied : Operation → Tree → SubAttribute → StepChange
 at_matches_emptied Add t b = KeepSubAttribute b
 at_matches_emptied Replace t b = ClearAtMatches t b
 at_matches_emptied Remove t b = ClearAtMatches t b
 
 -- the change that adds or replaces a sub-attribute of the matches
-abbrev pub at_matches_change : Bool → Tree → Field → Change
+abbrev pub at_matches_change : Bool → Tree → Field → StepChange
 at_matches_change false t f = AddAtMatches t f
 at_matches_change true t f = SetAtMatches t f
 

@@ -38,8 +38,8 @@ fn push_unit_emptied(
         return Ok(());
     }
     match operation {
-        Operation::Add => reading.push(unit, Change::Keep),
-        Operation::Replace | Operation::Remove => reading.push(unit, Change::Clear),
+        Operation::Add => reading.push(unit, StepChange::Keep),
+        Operation::Replace | Operation::Remove => reading.push(unit, StepChange::Clear),
     }
 }
 
@@ -95,7 +95,7 @@ fn push_fixed(attribute: Attribute, reading: &mut Reading) -> Result<(), NoMemor
     match shape_of(attribute) {
         JsonShape::Complex => Ok(()),
         JsonShape::Simple | JsonShape::MultiValued => {
-            reading.push(Unit::whole(attribute), Change::Keep)
+            reading.push(Unit::whole(attribute), StepChange::Keep)
         }
     }
 }
@@ -146,14 +146,14 @@ fn listed_change(
     operation: Operation,
     attribute: Attribute,
     values: Vec<Row>,
-) -> Result<Change, NoMemory>
+) -> Result<StepChange, NoMemory>
     ensures { IfOk result (λ c. change_of c ≡ spec.listed_change operation attribute values.items) }
 {
     Ok(match operation {
-        Operation::Add => Change::Append(values),
-        Operation::Replace => Change::Replace(values),
+        Operation::Add => StepChange::Append(values),
+        Operation::Replace => StepChange::Replace(values),
         Operation::Remove => {
-            Change::RemoveListed(value_texts(alloc, attribute, values.as_slice())?)
+            StepChange::RemoveListed(value_texts(alloc, attribute, values.as_slice())?)
         }
     })
 }

@@ -9,7 +9,7 @@ ghost use Rattle.scim_patch_message.specs.code.Inside.{read_of};
 
 use crate::faults::PatchFault;
 use scim_body::UnitGiven;
-use scim_patch_steps::{Change, Step};
+use scim_patch_steps::{Step, StepChange};
 use scim_schema::Unit;
 use scim_text::{NoMemory, push};
 use std::alloc::Global;
@@ -56,7 +56,7 @@ impl Reading {
     }
 
     /// Appends a step that changes a unit.
-    pub(crate) fn push(&mut self, unit: Unit, change: Change) -> Result<(), NoMemory>
+    pub(crate) fn push(&mut self, unit: Unit, change: StepChange) -> Result<(), NoMemory>
         ensures { OnOk result (read_of self.new
             ≡ both (read_of self.old) (Ok (step_of (Step.Of unit change) ∷ []))) }
     {
@@ -80,7 +80,7 @@ impl Reading {
     {
         for one in given {
             let UnitGiven { unit, values } = one;
-            self.push(unit, Change::Replace(values))?;
+            self.push(unit, StepChange::Replace(values))?;
         }
         Ok(())
     }

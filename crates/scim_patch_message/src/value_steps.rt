@@ -22,24 +22,24 @@ use scim_text::{Failed, NoMemory};
 use std::alloc::Global;
 
 /// Returns the change that adds nothing to a sub-attribute.
-fn sub_attribute_kept(attribute: Attribute, sub_attribute: SubAttribute) -> Change
+fn sub_attribute_kept(attribute: Attribute, sub_attribute: SubAttribute) -> StepChange
     ensures { change_of result ≡ spec.sub_attribute_kept attribute sub_attribute }
 {
     if is_multi_valued(attribute) {
-        Change::KeepSubAttribute(sub_attribute)
+        StepChange::KeepSubAttribute(sub_attribute)
     } else {
-        Change::Keep
+        StepChange::Keep
     }
 }
 
 /// Returns the change that removes a sub-attribute, from each value if the attribute is multi-valued.
-fn sub_attribute_cleared(attribute: Attribute, sub_attribute: SubAttribute) -> Change
+fn sub_attribute_cleared(attribute: Attribute, sub_attribute: SubAttribute) -> StepChange
     ensures { change_of result ≡ spec.sub_attribute_cleared attribute sub_attribute }
 {
     if is_multi_valued(attribute) {
-        Change::ClearEverywhere(sub_attribute)
+        StepChange::ClearEverywhere(sub_attribute)
     } else {
-        Change::Clear
+        StepChange::Clear
     }
 }
 
@@ -64,10 +64,10 @@ fn push_sub_attribute_set(
         Err(Failed::NoMemory) => return Err(NoMemory),
     };
     if is_multi_valued(attribute) {
-        return reading.push(Unit::whole(attribute), Change::SetEverywhere(field));
+        return reading.push(Unit::whole(attribute), StepChange::SetEverywhere(field));
     }
     let given = field_given(alloc, kind, field)?;
-    reading.push(given.unit, Change::Replace(given.values))
+    reading.push(given.unit, StepChange::Replace(given.values))
 }
 
 /// Appends the step of an operation at a sub-attribute.
@@ -123,10 +123,13 @@ fn push_matches_given(
         Ok(fields) if replaces => {
             reading.push(
                 Unit::whole(attribute),
-                Change::ReplaceMatches(filter, fields),
+                StepChange::ReplaceMatches(filter, fields),
             )
         }
-        Ok(fields) => reading.push(Unit::whole(attribute), Change::AddToMatches(filter, fields)),
+        Ok(fields) => reading.push(
+            Unit::whole(attribute),
+            StepChange::AddToMatches(filter, fields),
+        ),
         Err(Failed::Because(WrongValue)) => {
             reading.refuse(PatchFault::Value);
             Ok(())
@@ -152,7 +155,7 @@ pub(crate) fn push_matches(
 {
     let unit = Unit::whole(attribute);
     if is_read_only(kind, Leaf::simple(attribute)) {
-        return reading.push(unit, Change::Keep);
+        return reading.push(unit, StepChange::Keep);
     }
     match (operation, value) {
         (Operation::Add, Some(value)) => {
@@ -161,9 +164,9 @@ pub(crate) fn push_matches(
         (Operation::Replace, Some(value)) => {
             push_matches_given(alloc, kind, true, attribute, filter, value, reading)
         }
-        (Operation::Add, None) => reading.push(unit, Change::KeepMatches(filter)),
+        (Operation::Add, None) => reading.push(unit, StepChange::KeepMatches(filter)),
         (Operation::Remove, _) | (Operation::Replace, None) => {
-            reading.push(unit, Change::RemoveMatches(filter))
+            reading.push(unit, StepChange::RemoveMatches(filter))
         }
     }
 }
@@ -186,9 +189,15 @@ fn push_at_matches_given(
 {
     match read_field(alloc, value, kind, attribute, sub_attribute) {
         Ok(field) if replaces => {
-            reading.push(Unit::whole(attribute), Change::SetAtMatches(filter, field))
+            reading.push(
+                Unit::whole(attribute),
+                StepChange::SetAtMatches(filter, field),
+            )
         }
-        Ok(field) => reading.push(Unit::whole(attribute), Change::AddAtMatches(filter, field)),
+        Ok(field) => reading.push(
+            Unit::whole(attribute),
+            StepChange::AddAtMatches(filter, field),
+        ),
         Err(Failed::Because(WrongValue)) => {
             reading.refuse(PatchFault::Value);
             Ok(())
@@ -215,7 +224,7 @@ pub(crate) fn push_at_matches(
 {
     let unit = Unit::whole(attribute);
     if is_read_only(kind, Leaf::of(attribute, sub_attribute)) {
-        return reading.push(unit, Change::KeepSubAttribute(sub_attribute));
+        return reading.push(unit, StepChange::KeepSubAttribute(sub_attribute));
     }
     match (operation, value) {
         (Operation::Add, Some(value)) => push_at_matches_given(
@@ -238,9 +247,9 @@ pub(crate) fn push_at_matches(
             value,
             reading,
         ),
-        (Operation::Add, None) => reading.push(unit, Change::KeepSubAttribute(sub_attribute)),
+        (Operation::Add, None) => reading.push(unit, StepChange::KeepSubAttribute(sub_attribute)),
         (Operation::Remove, _) | (Operation::Replace, None) => {
-            reading.push(unit, Change::ClearAtMatches(filter, sub_attribute))
+            reading.push(unit, StepChange::ClearAtMatches(filter, sub_attribute))
         }
     }
 }

@@ -19,7 +19,7 @@ use Rattle.scim_change.specs.Laws.{AgreeAt, IsLeft, Stays}
 use Rattle.scim_change.proofs.Facts.{rows_modified, stamp, stamps, stamp_apart, stamp_own, values_put, values_stay}
 use Rattle.scim_patch_steps.specs.declared.steps.StepFault.{StepFault}
 use Rattle.scim_patch_steps.specs.declared.steps.StepFault.TheVariants as fault
-use Rattle.scim_patch_steps.specs.Changes.{Change}
+use Rattle.scim_patch_steps.specs.Changes.{StepChange}
 use Rattle.scim_patch_steps.specs.Steps.{after}
 use Rattle.scim_patch_steps.specs.Patch.{Step, Pathless, Of, Patch, IsStep, IsPatch, units_in, touched, with_outcome, all_stepped, is_unseen_writing, changes, applied}
 use Rattle.scim_patch_steps.specs.Laws.{AreAlike, PatchingRestsOnItsUnits}
@@ -91,7 +91,7 @@ put_same us u ws xs ys own same v t = elim (cases_Bool (is_same_unit u v)) [
 ]
 
 -- one step leaves rows of a resource, which have the values that it makes
-module _ (c : Content) (own : IsResource c) (u : AttributeUnit) (change : Change) (may : IsStep c.kind (Of u change)) (ws : List Row)
+module _ (c : Content) (own : IsResource c) (u : AttributeUnit) (change : StepChange) (may : IsStep c.kind (Of u change)) (ws : List Row)
     (h : after c.kind u change (values u (rows c)) ≡ Ok ws) where
   abbrev next : Content
   next = content c.kind c.id (put_values u ws (rows c))

@@ -24,7 +24,7 @@ use Rattle.scim_change.proofs.Facts.{values_put}
 use Rattle.scim_cell.specs.SameValues.{is_same_value, with_value, with_values}
 use Rattle.scim_filter.specs.Truth.{truth_in_value}
 use Rattle.scim_patch_values.specs.Matches.{kept, marked, given_primary, is_listed}
-use Rattle.scim_patch_steps.specs.Changes.{Change, Keep, KeepMatches, KeepSubAttribute, Append, Replace, Clear, RemoveListed, AddToMatches, ReplaceMatches, RemoveMatches, AddAtMatches, SetAtMatches, ClearAtMatches, SetEverywhere, ClearEverywhere}
+use Rattle.scim_patch_steps.specs.Changes.{StepChange, Keep, KeepMatches, KeepSubAttribute, Append, Replace, Clear, RemoveListed, AddToMatches, ReplaceMatches, RemoveMatches, AddAtMatches, SetAtMatches, ClearAtMatches, SetEverywhere, ClearEverywhere}
 use Rattle.scim_patch_steps.specs.Table.{row}
 use Rattle.scim_patch_steps.specs.Steps.{is_forbidden, gives_two_primary, settled, judged, after}
 use Rattle.scim_patch_steps.specs.Patch.{Step, Pathless, Of, Patch, AreGivenValues, MayBeMade, IsStep, IsPatch, units_in, stepped, all_stepped, is_unseen_writing, changes}
@@ -103,14 +103,14 @@ appended_left kind u given vs ws told own full h same =
     sym left ∙ none_more u.attribute vs given (ap (λ (rs : List Row). length rs) left ∙ same)
 
 -- after a change that the number of values tells about, as many values as before are the same ones
-pub same_by_length : (kind : Kind) (u : AttributeUnit) (change : Change) (vs ws : List Row) → is_told_by_length change ≡ true → MayBeMade kind u change → All (λ r. has_fields r ≡ true) vs
+pub same_by_length : (kind : Kind) (u : AttributeUnit) (change : StepChange) (vs ws : List Row) → is_told_by_length change ≡ true → MayBeMade kind u change → All (λ r. has_fields r ≡ true) vs
     → after kind u change vs ≡ Ok ws → length ws ≡ length vs → ws ≡ vs
 same_by_length kind u change vs ws told may full h same =
     let allowed = not_refused (is_forbidden kind u change vs) _ (judged u.attribute change (row u change vs)) ws h in
     let single = not_refused (gives_two_primary u.attribute change) _ (settled u.attribute (row u change vs)) ws allowed.1 in
     go change told may single.1
   where
-    go : (c : Change) → is_told_by_length c ≡ true → MayBeMade kind u c → settled u.attribute (row u c vs) ≡ Ok ws → ws ≡ vs
+    go : (c : StepChange) → is_told_by_length c ≡ true → MayBeMade kind u c → settled u.attribute (row u c vs) ≡ Ok ws → ws ≡ vs
     go Keep t m e = sym (kept_left u.attribute vs ws full e)
     go (KeepMatches p) t m e = sym (kept_left u.attribute vs ws full e)
     go (KeepSubAttribute b) t m e = sym (kept_left u.attribute vs ws full e)
@@ -146,7 +146,7 @@ numbers_tell vs ws told = elim (cases_Bool (length ws == length vs)) [
 ]
 
 module _ (c : Content) (own : IsResource c) (left : List Row) where
-  one_step : (v : AttributeUnit) (change : Change) → is_told_by_length change ≡ true → Contains (units c.kind) v → MayBeMade c.kind v change
+  one_step : (v : AttributeUnit) (change : StepChange) → is_told_by_length change ≡ true → Contains (units c.kind) v → MayBeMade c.kind v change
       → Ok left ≡ stepped c.kind (Of v change) (rows c) → is_other (rows c) left v ≡ not (length (values v left) == length (values v (rows c)))
   one_step v change told there may h =
       let out = found c own v there change may left h in

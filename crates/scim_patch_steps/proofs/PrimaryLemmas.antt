@@ -19,7 +19,7 @@ use Rattle.scim_patch_values.specs.Described.{described}
 use Rattle.scim_patch_values.specs.Fields.{row_without, demoted}
 use Rattle.scim_patch_values.specs.Matches.{kept, made, value_of, is_listed, is_any_match, set_over, set_at_match, cleared_at_match, with_made, added_at_matches, set_everywhere}
 use Rattle.scim_patch_steps.specs.declared.steps.StepFault.{StepFault}
-use Rattle.scim_patch_steps.specs.Changes.{Change, Keep, KeepMatches, KeepSubAttribute, Append, Replace, Clear, RemoveListed, AddToMatches, ReplaceMatches, RemoveMatches, AddAtMatches, SetAtMatches, ClearAtMatches, SetEverywhere, ClearEverywhere}
+use Rattle.scim_patch_steps.specs.Changes.{StepChange, Keep, KeepMatches, KeepSubAttribute, Append, Replace, Clear, RemoveListed, AddToMatches, ReplaceMatches, RemoveMatches, AddAtMatches, SetAtMatches, ClearAtMatches, SetEverywhere, ClearEverywhere}
 use Rattle.scim_patch_steps.specs.Table.{row}
 use Rattle.scim_patch_steps.specs.Steps.{is_forbidden, gives_two_primary, are_refused, beside_chosen, primary_settled, checked, settled, judged, after}
 use Rattle.scim_patch_steps.specs.Patch.{MayBeMade}
@@ -61,7 +61,7 @@ everywhere_few u given [] order = count_none is_loose (made (value_of u given) �
 everywhere_few u given (v ∷ vs) order = count_map is_loose is_primary (set_over given) (λ r. loose_over given r order) (v ∷ vs)
 
 -- whatever the change is, no more positions are loose than values were primary
-row_few : (kind : Kind) (u : AttributeUnit) (change : Change) (vs : List Row) → MayBeMade kind u change → NoMoreLoose vs (row u change vs)
+row_few : (kind : Kind) (u : AttributeUnit) (change : StepChange) (vs : List Row) → MayBeMade kind u change → NoMoreLoose vs (row u change vs)
 row_few kind u Keep vs m = kept_few vs vs (omega arith)
 row_few kind u (KeepMatches t) vs m = kept_few vs vs (omega arith)
 row_few kind u (KeepSubAttribute b) vs m = kept_few vs vs (omega arith)
@@ -147,7 +147,7 @@ found_one a vs (Some ps) one h =
     checked_one a (filter full ps) (omega (arith, count_filter full is_loose ps))
 
 -- so after a step one value at most is primary
-pub one_primary : (kind : Kind) (u : AttributeUnit) (change : Change) (vs ws : List Row) → MayBeMade kind u change → count_by is_primary vs ≤ 1
+pub one_primary : (kind : Kind) (u : AttributeUnit) (change : StepChange) (vs ws : List Row) → MayBeMade kind u change → count_by is_primary vs ≤ 1
     → after kind u change vs ≡ Ok ws → count_by is_primary ws ≤ 1
 one_primary kind u change vs ws made one e =
     subst HasOne e

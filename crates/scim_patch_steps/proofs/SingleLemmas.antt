@@ -24,7 +24,7 @@ use Rattle.scim_body.specs.Drafts.{MayBeGiven}
 use Rattle.scim_change.proofs.Facts.{filled, kept_field}
 use Rattle.scim_patch_values.specs.declared.positions.Position.{Position}
 use Rattle.scim_patch_values.specs.Matches.{kept}
-use Rattle.scim_patch_steps.specs.Changes.{Change, Keep, KeepMatches, KeepSubAttribute, Append, Replace, Clear, RemoveListed, AddToMatches, ReplaceMatches, RemoveMatches, AddAtMatches, SetAtMatches, ClearAtMatches, SetEverywhere, ClearEverywhere}
+use Rattle.scim_patch_steps.specs.Changes.{StepChange, Keep, KeepMatches, KeepSubAttribute, Append, Replace, Clear, RemoveListed, AddToMatches, ReplaceMatches, RemoveMatches, AddAtMatches, SetAtMatches, ClearAtMatches, SetEverywhere, ClearEverywhere}
 use Rattle.scim_patch_steps.specs.Table.{row}
 use Rattle.scim_patch_steps.proofs.Outcomes.{not_refused}
 use Rattle.scim_patch_steps.specs.declared.steps.StepFault.TheVariants as fault
@@ -192,17 +192,17 @@ replaced_left kind u (r ∷ s ∷ given) ws single own h = absurd (go own.few)
     go (inr few) = omega (arith, few)
 
 -- what a step leaves of a unit that isn't multi-valued may stand
-pub single_left : (kind : Kind) (u : AttributeUnit) (change : Change) (vs ws : List Row) → is_multi_valued u.attribute ≡ false
+pub single_left : (kind : Kind) (u : AttributeUnit) (change : StepChange) (vs ws : List Row) → is_multi_valued u.attribute ≡ false
     → MayBeMade kind u change → MayStand kind u vs → after kind u change vs ≡ Ok ws → MayStand kind u ws
 single_left kind u change vs ws single may stands h = go change may (not_refused (is_forbidden kind u change vs) fault.Mutability (judged u.attribute change (row u change vs)) ws h)
   where
-    settled_so : (c : Change) → judged u.attribute c (row u c vs) ≡ Ok ws → settled u.attribute (row u c vs) ≡ Ok ws
+    settled_so : (c : StepChange) → judged u.attribute c (row u c vs) ≡ Ok ws → settled u.attribute (row u c vs) ≡ Ok ws
     settled_so c e = (not_refused (gives_two_primary u.attribute c) fault.Value (settled u.attribute (row u c vs)) ws e).1
 
     no_many : is_multi_valued u.attribute ≡ true → ⊥
     no_many many = (let m = many in let n = single in cc)
 
-    go : (c : Change) → MayBeMade kind u c → (is_forbidden kind u c vs ≡ false) × (judged u.attribute c (row u c vs) ≡ Ok ws) → MayStand kind u ws
+    go : (c : StepChange) → MayBeMade kind u c → (is_forbidden kind u c vs ≡ false) × (judged u.attribute c (row u c vs) ≡ Ok ws) → MayStand kind u ws
     go Keep m a = subst (MayStand kind u) (kept_left u.attribute vs ws (All-weaker (IsValue kind u) (λ r. has_fields r ≡ true) (λ r o. o.1) vs stands.own.own) (settled_so Keep a.1)) stands
     go Clear m a = subst (MayStand kind u) (nothing_left u.attribute ws (settled_so Clear a.1)) (none_stands kind u (or_parts (is_fixed kind u) (is_required kind u) a.0).1)
     go (Replace given) m a = subst (MayStand kind u) (replaced_left kind u given ws single m.0.own (settled_so (Replace given) a.1)) (given_stand kind u given single m.0 m.1)

@@ -31,7 +31,7 @@ use Rattle.scim_patch_values.specs.declared.positions.Position.{Position}
 use Rattle.scim_patch_values.specs.Described.{described}
 use Rattle.scim_patch_values.specs.Fields.{over, row_without, demoted}
 use Rattle.scim_patch_values.specs.Matches.{kept, given_primary, marked, made, value_of, is_listed, is_any_match, set_over, set_at_match, replaced_at_match, cleared_at_match, with_made, set_everywhere}
-use Rattle.scim_patch_steps.specs.Changes.{Change, Keep, KeepMatches, KeepSubAttribute, Append, Replace, Clear, RemoveListed, AddToMatches, ReplaceMatches, RemoveMatches, AddAtMatches, SetAtMatches, ClearAtMatches, SetEverywhere, ClearEverywhere}
+use Rattle.scim_patch_steps.specs.Changes.{StepChange, Keep, KeepMatches, KeepSubAttribute, Append, Replace, Clear, RemoveListed, AddToMatches, ReplaceMatches, RemoveMatches, AddAtMatches, SetAtMatches, ClearAtMatches, SetEverywhere, ClearEverywhere}
 use Rattle.scim_patch_steps.specs.Table.{row}
 use Rattle.scim_patch_steps.specs.Steps.{is_forbidden, gives_two_primary, are_refused, beside_chosen, primary_settled, checked, settled, judged, after}
 use Rattle.scim_patch_steps.specs.Patch.{AreGivenFields, AreGivenValues, MayBeMade}
@@ -148,7 +148,7 @@ module _ (kind : Kind) (u : AttributeUnit) where
           (All-cons (HoldsValue kind u) (made (value_of u (make fs))) [] (record { unit = refl; fields = fits fs refl }) (All-nil (HoldsValue kind u))))
 
 -- each value that a step makes is one of the unit, that a resource may keep
-pub rows_sound : (kind : Kind) (u : AttributeUnit) (change : Change) (vs : List Row) (ps : List Position) → Contains (units kind) u → is_fixed kind u ≡ false → is_multi_valued u.attribute ≡ true
+pub rows_sound : (kind : Kind) (u : AttributeUnit) (change : StepChange) (vs : List Row) (ps : List Position) → Contains (units kind) u → is_fixed kind u ≡ false → is_multi_valued u.attribute ≡ true
     → MayBeMade kind u change → All (IsValueOf kind u) vs → row u change vs ≡ Some ps → All (λ p. IsValueOf kind u p.value) ps
 rows_sound kind u Keep vs ps of_kind free many may own h = same_all (HoldsValue kind u) (map kept vs) ps h (left kind u vs own)
 rows_sound kind u (KeepMatches t) vs ps of_kind free many may own h = same_all (HoldsValue kind u) (map kept vs) ps h (left kind u vs own)
@@ -296,7 +296,7 @@ settled_left kind u (Some ps) ws many own h =
     checked_left kind u (filter full ps) ws many (All-filter full (HoldsValue kind u) ps (own ps refl)) (filter_passes full ps) h
 
 -- the values that a step leaves of a unit with several values
-pub after_left : (kind : Kind) (u : AttributeUnit) (change : Change) (vs ws : List Row) → Contains (units kind) u → is_multi_valued u.attribute ≡ true
+pub after_left : (kind : Kind) (u : AttributeUnit) (change : StepChange) (vs ws : List Row) → Contains (units kind) u → is_multi_valued u.attribute ≡ true
     → MayBeMade kind u change → All (IsValueOf kind u) vs → after kind u change vs ≡ Ok ws → AreLeft kind u ws
 after_left kind u change vs ws of_kind many may own h =
     let allowed = not_refused (is_forbidden kind u change vs) _ (judged u.attribute change (row u change vs)) ws h in

@@ -14,7 +14,7 @@ use Rattle.scim_value.specs.Resource.{IsResource, HasBase}
 use Rattle.scim_value.proofs.Facts.{put_sound, sound_part}
 use Rattle.scim_patch_steps.specs.declared.steps.StepFault.{StepFault}
 use Rattle.scim_patch_steps.specs.declared.steps.StepFault.TheVariants as fault
-use Rattle.scim_patch_steps.specs.Changes.{Change}
+use Rattle.scim_patch_steps.specs.Changes.{StepChange}
 use Rattle.scim_patch_steps.specs.Table.{row}
 use Rattle.scim_patch_steps.specs.Steps.{is_forbidden, is_barred, judged, after}
 use Rattle.scim_patch_steps.specs.Patch.{MayBeMade, with_outcome}
@@ -31,7 +31,7 @@ many_names User u vs many = λ e. absurd (let single : is_multi_valued u.attribu
 many_names Group u vs many = λ e. absurd (let single : is_multi_valued u.attribute ≡ false = ap (λ (v : AttributeUnit). is_multi_valued v.attribute) e in let m = many in cc)
 
 -- what a step leaves of values that may stand may stand
-pub after_stands : (kind : Kind) (u : AttributeUnit) (change : Change) (vs ws : List Row) → Contains (units kind) u
+pub after_stands : (kind : Kind) (u : AttributeUnit) (change : StepChange) (vs ws : List Row) → Contains (units kind) u
     → MayBeMade kind u change → MayStand kind u vs → after kind u change vs ≡ Ok ws → MayStand kind u ws
 after_stands kind u change vs ws there may stands h = elim (cases_Bool (is_multi_valued u.attribute)) [
   | inl many ↦
@@ -48,7 +48,7 @@ after_stands kind u change vs ws there may stands h = elim (cases_Bool (is_multi
 ]
 
 -- a unit that a step changed isn't readOnly
-pub not_fixed : (kind : Kind) (u : AttributeUnit) (change : Change) (vs ws : List Row) → after kind u change vs ≡ Ok ws → is_fixed kind u ≡ false
+pub not_fixed : (kind : Kind) (u : AttributeUnit) (change : StepChange) (vs ws : List Row) → after kind u change vs ≡ Ok ws → is_fixed kind u ≡ false
 not_fixed kind u change vs ws h =
     (or_parts (is_fixed kind u) (is_barred kind u change vs) (not_refused (is_forbidden kind u change vs) fault.Mutability (judged u.attribute change (row u change vs)) ws h).0).0
 
@@ -58,7 +58,7 @@ pub left_by : (u : AttributeUnit) (rs left : List Row) (found : Result (List Row
 left_by u rs left (Ok ws) h = (ws, refl, cc)
 left_by u rs left (Err e) h = absurd (cc h)
 
-module _ (c : Content) (own : IsResource c) (u : AttributeUnit) (there : Contains (units c.kind) u) (change : Change) (may : MayBeMade c.kind u change)
+module _ (c : Content) (own : IsResource c) (u : AttributeUnit) (there : Contains (units c.kind) u) (change : StepChange) (may : MayBeMade c.kind u change)
     (left : List Row) (h : Ok left ≡ with_outcome u (rows c) (after c.kind u change (values u (rows c)))) where
   abbrev pub found : (ws : List Row) × (after c.kind u change (values u (rows c)) ≡ Ok ws) × (left ≡ put_values u ws (rows c))
   found = left_by u (rows c) left (after c.kind u change (values u (rows c))) h
@@ -81,7 +81,7 @@ module _ (c : Content) (own : IsResource c) (u : AttributeUnit) (there : Contain
 
 -- the same of a resource that was taken apart
 pub left_of : (c : Content) → IsResource c → (k : Kind) (id : List ℕ) (rs : List Row) → k ≡ c.kind → id ≡ c.id → rs ≡ rows c
-    → (u : AttributeUnit) → Contains (units c.kind) u → (change : Change) → MayBeMade c.kind u change
+    → (u : AttributeUnit) → Contains (units c.kind) u → (change : StepChange) → MayBeMade c.kind u change
     → (left : List Row) → Ok left ≡ with_outcome u rs (after k u change (values u rs))
     → AreSound k left × IsResource (content k id left) × ((base : List ℕ) → HasBase base c → HasBase base (content k id left))
 left_of c own k id rs kinds ids same u there change may left h =

@@ -4,30 +4,30 @@ use Rattle.scim_schema.specs.declared.SubAttribute.{SubAttribute}
 use Rattle.scim_cell.specs.declared.rows.Field.{Field}
 use Rattle.scim_cell.specs.Rows.{Row}
 use Rattle.scim_filter_grammar.specs.Tree.{Tree, tree_of}
-use Rattle.scim_patch_steps.specs.declared.changes.Change.{Change as KeptChange}
-use Rattle.scim_patch_steps.specs.declared.changes.Change.TheVariants as kept
+use Rattle.scim_patch_steps.specs.declared.changes.StepChange.{StepChange as KeptChange}
+use Rattle.scim_patch_steps.specs.declared.changes.StepChange.TheVariants as kept
 
 -- a change of the values of a unit: an operation with a form of path (RFC 7644 section 3.5.2); the trees are
 -- those of value paths
-pub data Change : Type 0 where
-  Keep : Change
-  KeepMatches : Tree → Change
-  KeepSubAttribute : SubAttribute → Change
-  Append : List Row → Change
-  Replace : List Row → Change
-  Clear : Change
-  RemoveListed : List (List ℕ) → Change
-  AddToMatches : Tree → List Field → Change
-  ReplaceMatches : Tree → List Field → Change
-  RemoveMatches : Tree → Change
-  AddAtMatches : Tree → Field → Change
-  SetAtMatches : Tree → Field → Change
-  ClearAtMatches : Tree → SubAttribute → Change
-  SetEverywhere : Field → Change
-  ClearEverywhere : SubAttribute → Change
+pub data StepChange : Type 0 where
+  Keep : StepChange
+  KeepMatches : Tree → StepChange
+  KeepSubAttribute : SubAttribute → StepChange
+  Append : List Row → StepChange
+  Replace : List Row → StepChange
+  Clear : StepChange
+  RemoveListed : List (List ℕ) → StepChange
+  AddToMatches : Tree → List Field → StepChange
+  ReplaceMatches : Tree → List Field → StepChange
+  RemoveMatches : Tree → StepChange
+  AddAtMatches : Tree → Field → StepChange
+  SetAtMatches : Tree → Field → StepChange
+  ClearAtMatches : Tree → SubAttribute → StepChange
+  SetEverywhere : Field → StepChange
+  ClearEverywhere : SubAttribute → StepChange
 
 -- the change that a value in code stands for
-abbrev pub change_of : KeptChange → Change
+abbrev pub change_of : KeptChange → StepChange
 change_of kept.Keep = Keep
 change_of (kept.KeepMatches filter) = KeepMatches (tree_of filter)
 change_of (kept.KeepSubAttribute b) = KeepSubAttribute b

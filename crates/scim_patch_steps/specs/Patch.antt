@@ -13,7 +13,7 @@ use Rattle.scim_cell.specs.Rows.{Row, rows, content, values, put_values, IsSound
 use Rattle.scim_body.specs.Drafts.{MayBeGiven}
 use Rattle.scim_patch_steps.specs.declared.steps.StepFault.{StepFault}
 use Rattle.scim_patch_steps.specs.declared.steps.StepFault.TheVariants as fault
-use Rattle.scim_patch_steps.specs.Changes.{Change, Keep, Append, Replace, Clear, AddToMatches, ReplaceMatches, AddAtMatches, SetAtMatches, SetEverywhere}
+use Rattle.scim_patch_steps.specs.Changes.{StepChange, Keep, Append, Replace, Clear, AddToMatches, ReplaceMatches, AddAtMatches, SetAtMatches, SetEverywhere}
 use Rattle.scim_patch_steps.specs.Steps.{is_required, after}
 use Rattle.scim_change.specs.Agreement.{are_same_values}
 use Rattle.scim_change.specs.Replace.{modified_at}
@@ -21,7 +21,7 @@ use Rattle.scim_change.specs.Replace.{modified_at}
 -- one step of a patch: a change of a unit, or a remove without a path, which has no target
 pub data Step : Type 0 where
   Pathless : Step
-  Of : AttributeUnit → Change → Step
+  Of : AttributeUnit → StepChange → Step
 
 -- a patch: a kind and the steps in their order
 pub record Patch : Type 0 where
@@ -44,7 +44,7 @@ pub record AreGivenValues (kind : Kind) (u : AttributeUnit) (vs : List Row) : Ty
 
 -- a change of a unit may be applied to a resource of the kind: its values may be given, only a multi-valued
 -- attribute is changed value by value, and a required unit is replaced by exactly one value
-abbrev pub MayBeMade : Kind → AttributeUnit → Change → Type 0
+abbrev pub MayBeMade : Kind → AttributeUnit → StepChange → Type 0
 MayBeMade kind u Keep = Unit {0}
 MayBeMade kind u Clear = Unit {0}
 MayBeMade kind u (Replace vs) = AreGivenValues kind u vs × (is_required kind u ≡ true → length vs ≡ 1)
@@ -97,7 +97,7 @@ all_stepped kind (s ∷ ss) (Ok rs) = all_stepped kind ss (stepped kind s rs)
 -- ---- whether the patch changes the resource
 
 -- whether a change writes to its unit, as every change does except the add of nothing to a whole unit
-abbrev pub writes : Change → Bool
+abbrev pub writes : StepChange → Bool
 writes Keep = false
 writes _ = true
 

@@ -22,7 +22,7 @@ use Rattle.scim_patch_values.specs.Fields.{demoted}
 use Rattle.scim_patch_values.specs.Matches.{given_primary, is_any_match}
 use Rattle.scim_patch_steps.specs.declared.steps.StepFault.{StepFault}
 use Rattle.scim_patch_steps.specs.declared.steps.StepFault.TheVariants as fault
-use Rattle.scim_patch_steps.specs.Changes.{Change, KeepMatches, KeepSubAttribute, Append, Replace, Clear, AddToMatches, AddAtMatches, SetAtMatches, ClearAtMatches, SetEverywhere, ClearEverywhere}
+use Rattle.scim_patch_steps.specs.Changes.{StepChange, KeepMatches, KeepSubAttribute, Append, Replace, Clear, AddToMatches, AddAtMatches, SetAtMatches, ClearAtMatches, SetEverywhere, ClearEverywhere}
 use Rattle.scim_patch_steps.specs.Table.{row}
 
 -- ---- the changes that no client may make
@@ -41,7 +41,7 @@ is_required kind u = (characteristics_at kind u.attribute u.sub_attribute).requi
 
 -- whether a change is barred: it would clear a required unit, or change an immutable or readOnly
 -- sub-attribute or an existing member
-abbrev pub is_barred : Kind → AttributeUnit → Change → List Row → Bool
+abbrev pub is_barred : Kind → AttributeUnit → StepChange → List Row → Bool
 is_barred kind u Clear values = is_required kind u
 is_barred kind u (KeepMatches t) values = is_members u.attribute && is_any_match t values
 is_barred kind u (KeepSubAttribute b) values = is_unchangeable kind (leaf_at u.attribute b)
@@ -54,7 +54,7 @@ is_barred kind u (ClearEverywhere b) values = is_unchangeable kind (leaf_at u.at
 is_barred kind u _ values = false
 
 -- whether no client may make a change: its unit is readOnly, or it is barred
-abbrev pub is_forbidden : Kind → AttributeUnit → Change → List Row → Bool
+abbrev pub is_forbidden : Kind → AttributeUnit → StepChange → List Row → Bool
 is_forbidden kind u change values = is_fixed kind u || is_barred kind u change values
 
 -- ---- the results that are refused
@@ -64,7 +64,7 @@ abbrev pub are_two_primary : Attribute → List Row → Bool
 are_two_primary a given = nat_lt 1 (length (given_primary a given))
 
 -- whether a change gives two different values as primary
-abbrev pub gives_two_primary : Attribute → Change → Bool
+abbrev pub gives_two_primary : Attribute → StepChange → Bool
 gives_two_primary a (Append given) = are_two_primary a given
 gives_two_primary a (Replace given) = are_two_primary a given
 gives_two_primary a _ = false
@@ -97,11 +97,11 @@ settled a None = Err fault.NoTarget
 settled a (Some ps) = checked a (filter (λ (p : Position). has_fields p.value) ps)
 
 -- the values after a permitted change, or its fault
-abbrev pub judged : Attribute → Change → Option (List Position) → Result (List Row) StepFault
+abbrev pub judged : Attribute → StepChange → Option (List Position) → Result (List Row) StepFault
 judged a change found = if gives_two_primary a change then Err fault.Value else settled a found
 
 -- the values of the unit after the step, or its fault
-abbrev pub after : Kind → AttributeUnit → Change → List Row → Result (List Row) StepFault
+abbrev pub after : Kind → AttributeUnit → StepChange → List Row → Result (List Row) StepFault
 after kind u change values = if is_forbidden kind u change values then Err fault.Mutability else judged u.attribute change (row u change values)
 
 -- the values or the fault that a result in code stands for

@@ -63,7 +63,7 @@ fn changed_rows(
     alloc: Global,
     kind: Kind,
     unit: Unit,
-    change: &Change,
+    change: &StepChange,
     rows: Vec<Row>,
 ) -> Result<Vec<Row>, Failed<StepFault>>
     ensures { UnlessMemory (λ r. rows_answered r

@@ -6,13 +6,13 @@ use scim_schema::SubAttribute;
 /// A change of the values of a unit: an operation with a form of path (RFC 7644 section 3.5.2).
 /// A match is a value for which the filter of the path holds.
 #[derive(Drop)]
-pub enum Change {
+pub enum StepChange {
     /// add of null or of an empty list: nothing changes.
     /// The step is still refused if its path forbids an add.
     Keep,
-    /// As [`Change::Keep`], with a path to the matches.
+    /// As [`StepChange::Keep`], with a path to the matches.
     KeepMatches(Filter),
-    /// As [`Change::Keep`], with a path to a sub-attribute of a multi-valued attribute.
+    /// As [`StepChange::Keep`], with a path to a sub-attribute of a multi-valued attribute.
     KeepSubAttribute(SubAttribute),
     /// add to a multi-valued attribute: appends each value that isn't there already.
     Append(Vec<Row>),
@@ -32,7 +32,7 @@ pub enum Change {
     /// remove of the matches.
     RemoveMatches(Filter),
     /// add to a sub-attribute of the matches: sets it in each match.
-    /// If there is no match, as [`Change::AddToMatches`].
+    /// If there is no match, as [`StepChange::AddToMatches`].
     AddAtMatches(Filter, Field),
     /// replace of a sub-attribute of the matches: sets it in each match. NoTarget if there is no match.
     SetAtMatches(Filter, Field),

@@ -13,7 +13,7 @@ pub enum Step {
     /// A remove without a path, which is refused with NoTarget.
     Pathless,
     /// A change of the values of a unit.
-    Of(Unit, Change),
+    Of(Unit, StepChange),
 }
 
 /// The steps of a patch in their order, for resources of one kind.

@@ -58,31 +58,31 @@ fn is_barred(
     alloc: Global,
     kind: Kind,
     unit: Unit,
-    change: &Change,
+    change: &StepChange,
     values: &[Row],
 ) -> Result<bool, NoMemory>
     ensures { IfOk result (λ b. b ≡ spec.is_barred kind unit (change_of change.now) values.now) }
 {
     match change {
-        Change::Clear => Ok(is_required(kind, unit)),
-        Change::KeepMatches(filter) | Change::AddToMatches(filter, _) => {
+        StepChange::Clear => Ok(is_required(kind, unit)),
+        StepChange::KeepMatches(filter) | StepChange::AddToMatches(filter, _) => {
             changes_member(alloc, unit, filter, values)
         }
-        Change::AddAtMatches(_, field)
-        | Change::SetAtMatches(_, field)
-        | Change::SetEverywhere(field) => Ok(is_unchangeable(kind, field.leaf)),
-        Change::KeepSubAttribute(sub_attribute)
-        | Change::ClearAtMatches(_, sub_attribute)
-        | Change::ClearEverywhere(sub_attribute) => Ok(is_unchangeable(
+        StepChange::AddAtMatches(_, field)
+        | StepChange::SetAtMatches(_, field)
+        | StepChange::SetEverywhere(field) => Ok(is_unchangeable(kind, field.leaf)),
+        StepChange::KeepSubAttribute(sub_attribute)
+        | StepChange::ClearAtMatches(_, sub_attribute)
+        | StepChange::ClearEverywhere(sub_attribute) => Ok(is_unchangeable(
             kind,
             Leaf::of(unit.attribute, *sub_attribute),
         )),
-        Change::Keep
-        | Change::Append(_)
-        | Change::Replace(_)
-        | Change::RemoveListed(_)
-        | Change::ReplaceMatches(_, _)
-        | Change::RemoveMatches(_) => Ok(false),
+        StepChange::Keep
+        | StepChange::Append(_)
+        | StepChange::Replace(_)
+        | StepChange::RemoveListed(_)
+        | StepChange::ReplaceMatches(_, _)
+        | StepChange::RemoveMatches(_) => Ok(false),
     }
 }
 
@@ -91,7 +91,7 @@ pub(crate) fn is_forbidden(
     alloc: Global,
     kind: Kind,
     unit: Unit,
-    change: &Change,
+    change: &StepChange,
     values: &[Row],
 ) -> Result<bool, NoMemory>
     ensures { IfOk result (λ b. b ≡ spec.is_forbidden kind unit (change_of change.now) values.now) }

@@ -31,11 +31,15 @@ pub enum StepFault {
 }
 
 /// Whether the change gives two different values that are marked as primary.
-fn gives_two_primary(alloc: Global, attribute: Attribute, change: &Change) -> Result<bool, NoMemory>
+fn gives_two_primary(
+    alloc: Global,
+    attribute: Attribute,
+    change: &StepChange,
+) -> Result<bool, NoMemory>
     ensures { IfOk result (λ b. b ≡ spec.gives_two_primary attribute (change_of change.now)) }
 {
     match change {
-        Change::Append(given) | Change::Replace(given) => {
+        StepChange::Append(given) | StepChange::Replace(given) => {
             Ok(given_primary(alloc, attribute, given.as_slice())?.len() > 1)
         }
         _ => Ok(false),
@@ -55,7 +59,7 @@ pub fn values_after(
     alloc: Global,
     kind: Kind,
     unit: Unit,
-    change: &Change,
+    change: &StepChange,
     values: Vec<Row>,
 ) -> Result<Vec<Row>, Failed<StepFault>>
     ensures { UnlessMemory (λ r. rows_answered r

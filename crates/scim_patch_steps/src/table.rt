@@ -25,49 +25,49 @@ use std::slice;
 pub(crate) fn row(
     alloc: Global,
     unit: Unit,
-    change: &Change,
+    change: &StepChange,
     values: Vec<Row>,
 ) -> Result<Option<Vec<Position>>, NoMemory>
     ensures { IfOk result (λ o. Is o (spec.row unit (change_of change.now) values.items)) }
 {
     match change {
-        Change::Keep | Change::KeepMatches(_) | Change::KeepSubAttribute(_) => {
+        StepChange::Keep | StepChange::KeepMatches(_) | StepChange::KeepSubAttribute(_) => {
             Ok(Some(keep(alloc, values)?))
         }
-        Change::Append(given) => append(alloc, unit, given.as_slice(), values),
-        Change::Replace(given) => append(alloc, unit, given.as_slice(), Vec::new(alloc)),
-        Change::Clear => Ok(Some(Vec::new(alloc))),
-        Change::RemoveListed(texts) => {
+        StepChange::Append(given) => append(alloc, unit, given.as_slice(), values),
+        StepChange::Replace(given) => append(alloc, unit, given.as_slice(), Vec::new(alloc)),
+        StepChange::Clear => Ok(Some(Vec::new(alloc))),
+        StepChange::RemoveListed(texts) => {
             let left = remove_listed(alloc, texts.as_slice(), values)?;
             Ok(Some(keep(alloc, left)?))
         }
-        Change::AddToMatches(filter, given) => {
+        StepChange::AddToMatches(filter, given) => {
             add_at_matches(alloc, unit, filter, given.as_slice(), values)
         }
-        Change::ReplaceMatches(filter, given) => {
+        StepChange::ReplaceMatches(filter, given) => {
             replace_at_matches(alloc, unit, filter, given.as_slice(), values)
         }
-        Change::RemoveMatches(filter) => {
+        StepChange::RemoveMatches(filter) => {
             let left = remove_matches(alloc, filter, values)?;
             Ok(Some(keep(alloc, left)?))
         }
-        Change::AddAtMatches(filter, field) => {
+        StepChange::AddAtMatches(filter, field) => {
             add_at_matches(alloc, unit, filter, slice::from_ref(field), values)
         }
-        Change::SetAtMatches(filter, field) => {
+        StepChange::SetAtMatches(filter, field) => {
             replace_field_at_matches(alloc, filter, slice::from_ref(field), values)
         }
-        Change::ClearAtMatches(filter, sub_attribute) => {
+        StepChange::ClearAtMatches(filter, sub_attribute) => {
             let left = clear_at_matches(alloc, filter, *sub_attribute, values)?;
             Ok(Some(keep(alloc, left)?))
         }
-        Change::SetEverywhere(field) => Ok(Some(set_everywhere(
+        StepChange::SetEverywhere(field) => Ok(Some(set_everywhere(
             alloc,
             unit,
             slice::from_ref(field),
             values,
         )?)),
-        Change::ClearEverywhere(sub_attribute) => {
+        StepChange::ClearEverywhere(sub_attribute) => {
             let leaf = Leaf::of(unit.attribute, *sub_attribute);
             let left = clear_everywhere(alloc, leaf, values)?;
             Ok(Some(keep(alloc, left)?))

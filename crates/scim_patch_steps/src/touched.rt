@@ -91,11 +91,11 @@ pub(crate) fn before_of(alloc: Global, patch: &Patch, part: &Part) -> Result<Bef
 }
 
 /// Whether the change writes to its unit: every change does, except the add of nothing to a whole unit.
-fn writes(change: &Change) -> bool
+fn writes(change: &StepChange) -> bool
     ensures { result ≡ spec.writes (change_of change.now) }
 {
     match change {
-        Change::Keep => false,
+        StepChange::Keep => false,
         _ => true,
     }
 }
@@ -149,17 +149,17 @@ fn has_primary(values: &[Row]) -> bool
 
 /// Whether the number of values afterwards suffices to tell whether the change changed them.
 /// It does if the change only removes values, or only appends values without a primary one.
-fn is_told_by_length(change: &Change) -> bool
+fn is_told_by_length(change: &StepChange) -> bool
     ensures { result ≡ lengths.is_told_by_length (change_of change.now) }
 {
     match change {
-        Change::Keep
-        | Change::KeepMatches(_)
-        | Change::KeepSubAttribute(_)
-        | Change::Clear
-        | Change::RemoveListed(_)
-        | Change::RemoveMatches(_) => true,
-        Change::Append(given) => !has_primary(given.as_slice()),
+        StepChange::Keep
+        | StepChange::KeepMatches(_)
+        | StepChange::KeepSubAttribute(_)
+        | StepChange::Clear
+        | StepChange::RemoveListed(_)
+        | StepChange::RemoveMatches(_) => true,
+        StepChange::Append(given) => !has_primary(given.as_slice()),
         _ => false,
     }
 }

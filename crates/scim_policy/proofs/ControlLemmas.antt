@@ -26,7 +26,7 @@ use Rattle.scim_filter_grammar.specs.declared.tree.Literal.{Literal}
 use Rattle.scim_filter_grammar.specs.declared.tree.Literal.TheVariants as literal
 use Rattle.scim_filter_grammar.specs.declared.tree.Meant.{Meant}
 use Rattle.scim_filter_grammar.specs.declared.tree.Meant.TheVariants as meant
-use Rattle.scim_filter_grammar.specs.declared.tree.Path.{Path}
+use Rattle.scim_filter_grammar.specs.declared.tree.AttributePath.{AttributePath}
 use Rattle.scim_filter_grammar.specs.Mentions.{mentioned_attribute, mentioned_names, named}
 use Rattle.scim_filter_grammar.specs.Tree.{Tree, Or, And, Not, Present, Compare, Values}
 use Rattle.scim_filter.specs.Truth.{is_present, leaf_compares, compares, some_position, truth}
@@ -52,7 +52,7 @@ filter_implied p q implied [] = refl
 filter_implied p q implied (x ∷ xs) = grind (arith, filter_implied p q implied xs, implied x)
 
 -- the name of a path is of the attribute that the path means
-own_name : (path : Path) (ns : List Named) (a : Attribute) → mentioned_attribute path.meant ≡ Some a → has_name a (named path ∷ ns) ≡ true
+own_name : (path : AttributePath) (ns : List Named) (a : Attribute) → mentioned_attribute path.meant ≡ Some a → has_name a (named path ∷ ns) ≡ true
 own_name path ns a e =
     let same : option_eq is_same_attribute (mentioned_attribute path.meant) (Some a) ≡ true = rw e (true_same the_attribute a a refl) in
     or_left _ _ same

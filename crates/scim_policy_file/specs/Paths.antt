@@ -5,7 +5,7 @@ use Rattle.scim_schema.specs.declared.Kind.{Kind}
 use Rattle.scim_schema.specs.Lookup.{is_same_text}
 use Rattle.scim_filter_grammar.specs.declared.tree.Meant.{Meant}
 use Rattle.scim_filter_grammar.specs.declared.tree.Meant.TheVariants as meant
-use Rattle.scim_filter_grammar.specs.declared.tree.Path.{Path}
+use Rattle.scim_filter_grammar.specs.declared.tree.AttributePath.{AttributePath}
 use Rattle.scim_filter_grammar.specs.Spelled.{path_in}
 use Rattle.scim_policy.specs.declared.rules.ClientName.{ClientName}
 use Rattle.scim_policy.specs.declared.rules.ClientName.TheVariants.{Everyone, Named}
@@ -34,7 +34,7 @@ covered_by (meant.SubAttribute a b) = Some (SubAttribute a b)
 
 -- the path that a text names on resources of a kind (RFC 7644 section 3.10)
 abbrev pub path_on : List ℕ → Kind → Option PolicyPath
-path_on t kind = option_and_then (λ (path : Path). covered_by path.meant) (path_in kind t)
+path_on t kind = option_and_then (λ (path : AttributePath). covered_by path.meant) (path_in kind t)
 
 -- the path that an entry of `paths` names on resources of a kind: everything for `*`, else an attribute or
 -- sub-attribute of the kind

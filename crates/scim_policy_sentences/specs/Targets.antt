@@ -10,7 +10,7 @@ use Rattle.scim_filter_grammar.specs.declared.tree.Operator.{Operator}
 use Rattle.scim_filter_grammar.specs.declared.tree.Operator.TheVariants.{Eq, Ne, Co, Sw, Ew, Gt, Ge, Lt, Le}
 use Rattle.scim_filter_grammar.specs.declared.tree.Literal.{Literal}
 use Rattle.scim_filter_grammar.specs.declared.tree.Literal.TheVariants as literal
-use Rattle.scim_filter_grammar.specs.declared.tree.Path.{Path}
+use Rattle.scim_filter_grammar.specs.declared.tree.AttributePath.{AttributePath}
 use Rattle.scim_filter_grammar.specs.Names.{names_text, path_text}
 use Rattle.scim_filter_grammar.specs.Tree.{Tree, Or, And, Not, Present, Compare, Values}
 use Rattle.scim_policy.specs.Rules.{Target}
@@ -35,7 +35,7 @@ literal_data (literal.Truth b) = boolean b
 literal_data literal.Null = null
 
 -- a path as it was written
-abbrev pub path_words : Path → List ℕ
+abbrev pub path_words : AttributePath → List ℕ
 path_words p = path_text p.urn (names_text p.name p.sub_name)
 
 -- a text, in brackets if they are needed

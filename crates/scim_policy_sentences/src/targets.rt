@@ -4,7 +4,7 @@ ghost use Rattle.serde_json.specs.Written.{compact_text};
 ghost use Rattle.scim_filter_grammar.specs.Tree.{tree_of, view};
 ghost use Rattle.scim_policy_sentences.specs.Targets as spec;
 
-use scim_filter_grammar::{Filter, Literal, Node, Operator, Path};
+use scim_filter_grammar::{AttributePath, Filter, Literal, Node, Operator};
 use scim_text::NoMemory;
 use serde_json::{Number, Value};
 use std::alloc::Global;
@@ -41,7 +41,7 @@ fn literal_text(alloc: Global, literal: &Literal) -> Result<String, NoMemory>
 }
 
 /// Appends a path as it was written. On an error `text` has a part of it.
-fn push_path(path: &Path, text: &mut String) -> Result<(), NoMemory>
+fn push_path(path: &AttributePath, text: &mut String) -> Result<(), NoMemory>
     ensures { OnOk result (string_bytes text.new ≡ string_bytes text.old
         ++ spec.path_words path.now) }
 {
@@ -60,7 +60,7 @@ fn push_path(path: &Path, text: &mut String) -> Result<(), NoMemory>
 /// Appends a comparison. On an error `text` may have a part of it.
 fn push_comparison(
     alloc: Global,
-    path: &Path,
+    path: &AttributePath,
     operator: Operator,
     literal: &Literal,
     text: &mut String,

@@ -20,7 +20,7 @@ use Rattle.scim_filter_grammar.specs.declared.tree.Meant.{Meant}
 use Rattle.scim_filter_grammar.specs.declared.tree.Meant.TheVariants as meant
 use Rattle.scim_filter_grammar.specs.declared.tree.Operator.{Operator}
 use Rattle.scim_filter_grammar.specs.declared.tree.Operator.TheVariants.{Eq, Ne}
-use Rattle.scim_filter_grammar.specs.declared.tree.Path.{Path}
+use Rattle.scim_filter_grammar.specs.declared.tree.AttributePath.{AttributePath}
 use Rattle.scim_filter_grammar.specs.Mentions.{mentioned_attribute, mentioned_names, named}
 use Rattle.scim_filter_grammar.specs.Tree.{Tree, Present, Compare}
 use Rattle.scim_filter.specs.Truth.{is_present, is_unlike, leaf_compares, compares, some_position, truth}
@@ -62,16 +62,16 @@ compares_none m Ne literal.Null e = present_none m
 compares_none m op x e = leaf_none (compared_leaf m) op x e
 
 -- a term with one name that fails of no rows fails where none are of its attribute
-term_fails : (path : Path) (term : Tree) (rs : List Row) → mentioned_names term ≡ named path ∷ [] → rows_meant path.meant rs ≡ [] → truth term [] ≡ false → truth term rs ≡ false
+term_fails : (path : AttributePath) (term : Tree) (rs : List Row) → mentioned_names term ≡ named path ∷ [] → rows_meant path.meant rs ≡ [] → truth term [] ≡ false → truth term rs ≡ false
 term_fails path term rs names none fails =
     let keep : Attribute → Bool = λ a. option_eq is_same_attribute (mentioned_attribute path.meant) (Some a) in
     let passes : PassesNames keep (mentioned_names term) = rw names (λ a e. sym (or_false (keep a)) ∙ e) in
     sym (truth_kept keep term rs passes) ∙ ap (truth term) none ∙ fails
 
-pub present_fails : (path : Path) (rs : List Row) → rows_meant path.meant rs ≡ [] → truth (Present path) rs ≡ false
+pub present_fails : (path : AttributePath) (rs : List Row) → rows_meant path.meant rs ≡ [] → truth (Present path) rs ≡ false
 present_fails path rs none = term_fails path (Present path) rs refl none (present_none path.meant)
 
-pub compare_fails : (path : Path) (op : Operator) (x : Literal) (rs : List Row) → compares meant.Nothing op x [] ≡ false → rows_meant path.meant rs ≡ [] → truth (Compare path op x) rs ≡ false
+pub compare_fails : (path : AttributePath) (op : Operator) (x : Literal) (rs : List Row) → compares meant.Nothing op x [] ≡ false → rows_meant path.meant rs ≡ [] → truth (Compare path op x) rs ≡ false
 compare_fails path op x rs e none = term_fails path (Compare path op x) rs refl none (compares_none path.meant op x e)
 
 pub position_fails : (inner : Tree) (m : Meant) (rs : List Row) → is_asked_of_none m ≡ false → rows_meant m rs ≡ [] → some_position (truth inner) m rs ≡ false

@@ -2,10 +2,10 @@
 use Rattle.std.specs.Prelude.{ℕ, List, Option, option_and_then}
 use Rattle.scim_schema.specs.declared.Kind.{Kind}
 use Rattle.scim_schema.specs.declared.Leaf.{Leaf}
-use Rattle.scim_filter_grammar.specs.declared.tree.Path.{Path}
+use Rattle.scim_filter_grammar.specs.declared.tree.AttributePath.{AttributePath}
 use Rattle.scim_filter_grammar.specs.Spelled.{path_in}
 use Rattle.scim_filter_grammar.specs.Types.{compared_leaf}
 
 -- the leaf that a text names to sort by: that of its path, where a complex attribute stands for its `value`
 abbrev pub sort_leaf : Kind → List ℕ → Option Leaf
-sort_leaf kind text = option_and_then (λ (path : Path). compared_leaf path.meant) (path_in kind text)
+sort_leaf kind text = option_and_then (λ (path : AttributePath). compared_leaf path.meant) (path_in kind text)

@@ -5,15 +5,15 @@ use Rattle.std.specs.Cmp.Lexicographic.{pointwise}
 use Rattle.scim_schema.specs.declared.Kind.{Kind}
 use Rattle.scim_schema.specs.declared.Kind.TheVariants.{User, Group}
 use Rattle.scim_schema.specs.Lookup.{kind_named, schema_named}
-use Rattle.scim_route.specs.declared.endpoints.Page.{Page}
-use Rattle.scim_route.specs.declared.endpoints.Page.TheVariants.{ServiceProviderConfig, ResourceTypes, ResourceType, Schemas, Schema}
+use Rattle.scim_route.specs.declared.endpoints.DiscoveryPage.{DiscoveryPage}
+use Rattle.scim_route.specs.declared.endpoints.DiscoveryPage.TheVariants.{ServiceProviderConfig, ResourceTypes, ResourceType, Schemas, Schema}
 use Rattle.scim_route.specs.Targets.{is_slash}
 
 -- an endpoint: one that this server doesn't support, a page of discovery, the resources of a kind, their
 -- search, or one resource by a text
 pub data Place : Type 0 where
   unsupported : Place
-  page : Page → Place
+  page : DiscoveryPage → Place
   collection : Kind → Place
   search : Kind → Place
   resource : Kind → List ℕ → Place

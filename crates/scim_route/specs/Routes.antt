@@ -9,7 +9,7 @@ use Rattle.scim_audit.specs.declared.methods.Methods.{Methods}
 use Rattle.scim_audit.specs.declared.methods.Methods.TheVariants.{Collection, Search, Resource, Discovery}
 use Rattle.scim_audit.specs.declared.refusals.Refusal.{Refusal}
 use Rattle.scim_audit.specs.declared.refusals.Refusal.TheVariants.{NoRoute, NotSupported, BadMethod}
-use Rattle.scim_route.specs.declared.endpoints.Page.{Page}
+use Rattle.scim_route.specs.declared.endpoints.DiscoveryPage.{DiscoveryPage}
 use Rattle.scim_route.specs.declared.routes.Form.{Form}
 use Rattle.scim_route.specs.declared.routes.Form.TheVariants.{Get, ListGet, SearchPost, Create, Replace, Patch, Remove}
 use Rattle.scim_route.specs.declared.routes.Route.{Route}
@@ -21,7 +21,7 @@ use Rattle.scim_route.specs.Endpoints.{Place, unsupported, page, collection, sea
 -- a request: a page of discovery, or a form of request to the resources of a kind, with the text in the place
 -- of an id
 pub data Named : Type 0 where
-  a_page : Page → Named
+  a_page : DiscoveryPage → Named
   a_route : Form → Kind → Option (List ℕ) → Named
 
 -- the form of a method at an endpoint with these methods, or None if the endpoint doesn't allow it (RFC 7644
@@ -55,7 +55,7 @@ abbrev pub asked : Methods → List ℕ → Result Form Refusal
 asked methods method = ok_or (form_of methods method) (BadMethod methods)
 
 -- the page, unless the method is refused
-abbrev pub named_page : Page → Result Form Refusal → Result Named Refusal
+abbrev pub named_page : DiscoveryPage → Result Form Refusal → Result Named Refusal
 named_page p (Ok form) = Ok (a_page p)
 named_page p (Err refusal) = Err refusal
 

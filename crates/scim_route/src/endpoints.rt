@@ -10,7 +10,7 @@ use scim_schema::{Kind, Schema};
 
 /// A page about the server itself (RFC 7644 section 4).
 #[derive(Clone, Copy, Debug, PartialEq, Eq)]
-pub enum Page {
+pub enum DiscoveryPage {
     /// `/ServiceProviderConfig`
     ServiceProviderConfig,
     /// `/ResourceTypes`
@@ -29,7 +29,7 @@ pub(crate) enum Endpoint<'p> {
     /// A SCIM endpoint that this server doesn't support.
     Unsupported,
     /// A page about the server itself.
-    Discovery(Page),
+    Discovery(DiscoveryPage),
     /// The resources of a kind.
     Collection(Kind),
     /// The search among the resources of a kind.
@@ -46,8 +46,10 @@ fn endpoint_at(leads: Leads, text: &str) -> Option<Endpoint<'_>>
     match leads {
         Leads::Unsupported => Some(Endpoint::Unsupported),
         Leads::Page(page) => Some(Endpoint::Discovery(page)),
-        Leads::ResourceType => Some(Endpoint::Discovery(Page::ResourceType(Kind::named(text)?))),
-        Leads::Schema => Some(Endpoint::Discovery(Page::Schema(Schema::named(text)?))),
+        Leads::ResourceType => Some(Endpoint::Discovery(DiscoveryPage::ResourceType(Kind::named(
+            text,
+        )?))),
+        Leads::Schema => Some(Endpoint::Discovery(DiscoveryPage::Schema(Schema::named(text)?))),
         Leads::Collection(kind) => Some(Endpoint::Collection(kind)),
         Leads::Search(kind) => Some(Endpoint::Search(kind)),
         Leads::Resource(kind) => Some(Endpoint::Resource(kind, text)),

@@ -8,7 +8,7 @@ mod route_table;
 mod routes;
 mod targets;
 
-pub use endpoints::Page;
+pub use endpoints::DiscoveryPage;
 pub use parameters::Parameters;
 pub use route_table::Routes;
 pub use routes::{Form, Found, Route};

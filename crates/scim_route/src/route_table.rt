@@ -4,7 +4,7 @@ ghost use Rattle.matchit.specs.Seek.{first};
 ghost use Rattle.matchit.specs.Router.{rename};
 ghost use Rattle.scim_route.specs.code.Table as spec;
 
-use crate::endpoints::Page;
+use crate::endpoints::DiscoveryPage;
 use matchit::Router;
 use scim_schema::Kind;
 use scim_text::NoMemory;
@@ -16,7 +16,7 @@ pub(crate) enum Leads {
     /// A SCIM endpoint that this server doesn't support.
     Unsupported,
     /// A page about the server itself.
-    Page(Page),
+    Page(DiscoveryPage),
     /// The page of the resource type that the last segment names.
     ResourceType,
     /// The page of the schema that the last segment names.
@@ -38,11 +38,11 @@ static ROUTES: [(&str, Leads); 16] = [
     ("Me/{id}", Leads::Unsupported),
     (
         "ServiceProviderConfig",
-        Leads::Page(Page::ServiceProviderConfig),
+        Leads::Page(DiscoveryPage::ServiceProviderConfig),
     ),
-    ("ResourceTypes", Leads::Page(Page::ResourceTypes)),
+    ("ResourceTypes", Leads::Page(DiscoveryPage::ResourceTypes)),
     ("ResourceTypes/{name}", Leads::ResourceType),
-    ("Schemas", Leads::Page(Page::Schemas)),
+    ("Schemas", Leads::Page(DiscoveryPage::Schemas)),
     ("Schemas/{urn}", Leads::Schema),
     ("Users", Leads::Collection(Kind::User)),
     ("Users/.search", Leads::Search(Kind::User)),

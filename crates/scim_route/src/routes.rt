@@ -7,7 +7,7 @@ ghost use Rattle.scim_route.specs.Routes as spec;
 ghost use Rattle.scim_route.specs.Routes.{IsIdOf, Finds, Says};
 ghost use Rattle.scim_route.specs.code.Places.{place_at};
 
-use crate::endpoints::{Endpoint, Page, endpoint_of};
+use crate::endpoints::{DiscoveryPage, Endpoint, endpoint_of};
 use crate::route_table::Routes;
 use crate::targets::{decoded, read_target};
 use scim_audit::{Methods, Refusal};
@@ -69,7 +69,7 @@ pub struct Route<'t> {
 pub enum Found<'t> {
     /// A page about the server itself (RFC 7644 section 4), and the part of the target after the
     /// first `?`; None if there is no `?`.
-    Discovery(Page, Option<&'t [u8]>),
+    Discovery(DiscoveryPage, Option<&'t [u8]>),
     /// Resources of a kind, or one of them.
     Resource(Route<'t>),
 }

@@ -20,9 +20,9 @@ use Rattle.scim_view.specs.View.{Viewer, sees, visible_attributes}
 use Rattle.scim_view.specs.Groups.{and_those, with_groups, visible_with, view_with_groups, views}
 use Rattle.scim_view.proofs.Facts.{narrowed_groups}
 use Rattle.scim_shelf.specs.Stores.{Store, IsStore, is_group_with}
-use Rattle.scim_search.specs.declared.sights.Shows.{Shows}
-use Rattle.scim_search.specs.declared.sights.Shows.TheVariants.{Named, Whole}
-use Rattle.scim_search.specs.Sights.{made, made_of_all}
+use Rattle.scim_search.specs.declared.view_builders.ViewScope.{ViewScope}
+use Rattle.scim_search.specs.declared.view_builders.ViewScope.TheVariants.{Named, Whole}
+use Rattle.scim_search.specs.ViewBuilders.{made, made_of_all}
 
 -- the resources of a store are parts
 pub parts_of : (base : List ℕ) (store : Store) → IsStore base store → All IsPart store.resources
@@ -39,7 +39,7 @@ unfolding with_groups visible_with
 none_of_group v gs hs c is = rw is refl
 
 -- what is made of a resource has its id
-pub made_id : (v : Viewer) (groups : List Content) (shows : Shows) (c : Content) → (made v groups shows c).id ≡ c.id
+pub made_id : (v : Viewer) (groups : List Content) (scope : ViewScope) (c : Content) → (made v groups scope c).id ≡ c.id
 unfolding with_groups visible_with visible_attributes
 made_id v groups (Named attributes) c = refl
 made_id v groups (Whole index) c = refl

@@ -17,13 +17,13 @@ use Rattle.scim_view.specs.Listings.{AreListing}
 use Rattle.scim_view.proofs.Facts.{and_those_append}
 use Rattle.scim_query.specs.Pagers.{HasTaken}
 use Rattle.scim_shelf.specs.Stores.{is_at}
-use Rattle.scim_search.specs.declared.sights.Sight.{Sight}
+use Rattle.scim_search.specs.declared.view_builders.ViewBuilder.{ViewBuilder}
 use Rattle.scim_search.specs.declared.visitors.GroupVisitor.{GroupVisitor}
 use Rattle.scim_search.specs.declared.visitors.ListingVisitor.{ListingVisitor}
 use Rattle.scim_search.specs.declared.visitors.SearchVisitor.{SearchVisitor}
 use Rattle.scim_search.specs.Decided.{Recalls}
 use Rattle.scim_search.specs.ReadDecisions.{AreDecisions}
-use Rattle.scim_search.specs.Sights.{made, made_of_all, part_of, IsSight}
+use Rattle.scim_search.specs.ViewBuilders.{made, made_of_all, part_of, IsViewBuilder}
 use Rattle.scim_search.specs.Visits.{TakesGroup, TakesListing, TakesResource, Tells}
 
 -- what holds at Ok by what does
@@ -70,15 +70,15 @@ took_listing v cs id first (d ∷ ds) last founds all folds tells gathered is =
     (rest.0, subst (λ (gs : List Content). AreListing v id gs last.groups) (append_assoc gathered (d ∷ []) ds) rest.1)
 
 -- what is made of what a visitor has been shown has been handed to its pager
-abbrev made_by : List Content → Sight → List Content → List Content
-made_by groups sight cs = made_of_all (made (viewer_of sight.viewer.now) groups sight.shows) (viewer_of sight.viewer.now) cs
+abbrev made_by : List Content → ViewBuilder → List Content → List Content
+made_by groups builder cs = made_of_all (made (viewer_of builder.viewer.now) groups builder.scope) (viewer_of builder.viewer.now) cs
 
 pub record TookResources (v : SearchVisitor) (ds : List Content) (w : SearchVisitor) : Type 0 where
   pub query : w.pager.query ≡ v.pager.query
-  pub taken : (groups parts : List Content) → IsSight groups v.sight → HasTaken parts v.pager
-      → HasTaken (parts ++ made_by groups v.sight ds) w.pager
-  pub decided : (groups cs : List Content) (kind : Kind) → IsSight groups v.sight → All (λ d. find (is_at kind d.id) cs ≡ Some d) ds
-      → Recalls (viewer_of v.sight.viewer.now) kind cs v.decided → Recalls (viewer_of v.sight.viewer.now) kind cs w.decided
+  pub taken : (groups parts : List Content) → IsViewBuilder groups v.builder → HasTaken parts v.pager
+      → HasTaken (parts ++ made_by groups v.builder ds) w.pager
+  pub decided : (groups cs : List Content) (kind : Kind) → IsViewBuilder groups v.builder → All (λ d. find (is_at kind d.id) cs ≡ Some d) ds
+      → Recalls (viewer_of v.builder.viewer.now) kind cs v.decided → Recalls (viewer_of v.builder.viewer.now) kind cs w.decided
 
 pub took_resources : (v : SearchVisitor) (ds : List Content) (w : SearchVisitor) → FoldsTo TakesResource v ds w → TookResources v ds w
 took_resources v [] w same = rw (← same) (record { query = refl; taken = λ groups parts is was. rw (append-nil parts) was; decided = λ groups cs kind is founds was. was })
@@ -89,17 +89,17 @@ took_resources v (d ∷ ds) w steps =
     record {
       query = rest.query ∙ one.query;
       taken = λ groups parts is was.
-          let first = and_those (part_of groups v.sight d) [] in
-          let all : (parts ++ first) ++ made_by groups v.sight ds ≡ parts ++ made_by groups v.sight (d ∷ ds)
-          = append_assoc parts first (made_by groups v.sight ds)
-          ∙ ap (λ (t : List Content). parts ++ t) (sym (and_those_append (part_of groups v.sight d) [] (made_by groups v.sight ds))) in
-          let more : HasTaken ((parts ++ first) ++ made_by groups j.sight ds) w.pager
-          = rest.taken groups (parts ++ first) (subst (IsSight groups) (sym one.sight) is) (one.taken groups parts is was) in
-          subst (λ (t : List Content). HasTaken t w.pager) all (subst (λ (s : Sight). HasTaken ((parts ++ first) ++ made_by groups s ds) w.pager) one.sight more);
+          let first = and_those (part_of groups v.builder d) [] in
+          let all : (parts ++ first) ++ made_by groups v.builder ds ≡ parts ++ made_by groups v.builder (d ∷ ds)
+          = append_assoc parts first (made_by groups v.builder ds)
+          ∙ ap (λ (t : List Content). parts ++ t) (sym (and_those_append (part_of groups v.builder d) [] (made_by groups v.builder ds))) in
+          let more : HasTaken ((parts ++ first) ++ made_by groups j.builder ds) w.pager
+          = rest.taken groups (parts ++ first) (subst (IsViewBuilder groups) (sym one.builder) is) (one.taken groups parts is was) in
+          subst (λ (t : List Content). HasTaken t w.pager) all (subst (λ (s : ViewBuilder). HasTaken ((parts ++ first) ++ made_by groups s ds) w.pager) one.builder more);
       decided = λ groups cs kind is founds was.
           let Found : Content → Type 0 = λ e. find (is_at kind e.id) cs ≡ Some e in
           let kept = one.decided groups cs kind is (All-head Found d ds founds) was in
-          subst (λ (s : Sight). Recalls (viewer_of s.viewer.now) kind cs w.decided) one.sight
-          (rest.decided groups cs kind (subst (IsSight groups) (sym one.sight) is) (All-tail Found d ds founds)
-          (subst (λ (s : Sight). Recalls (viewer_of s.viewer.now) kind cs j.decided) (sym one.sight) kept));
+          subst (λ (s : ViewBuilder). Recalls (viewer_of s.viewer.now) kind cs w.decided) one.builder
+          (rest.decided groups cs kind (subst (IsViewBuilder groups) (sym one.builder) is) (All-tail Found d ds founds)
+          (subst (λ (s : ViewBuilder). Recalls (viewer_of s.viewer.now) kind cs j.decided) (sym one.builder) kept));
     }

@@ -39,13 +39,13 @@ use Rattle.scim_cell.specs.Ids.{id_text}
 use Rattle.scim_value.specs.Members.{lists}
 use Rattle.scim_schema.proofs.Facts.{and_first, and_second}
 use Rattle.scim_search.specs.declared.read_decisions.ReadDecisions.{ReadDecisions}
-use Rattle.scim_search.specs.declared.sights.Shows.TheVariants.{Named}
-use Rattle.scim_search.specs.declared.sights.Sight.{Sight}
+use Rattle.scim_search.specs.declared.view_builders.ViewScope.TheVariants.{Named}
+use Rattle.scim_search.specs.declared.view_builders.ViewBuilder.{ViewBuilder}
 use Rattle.scim_search.specs.Decided.{AreOn}
 use Rattle.scim_search.specs.ReadDecisions.{AreDecisions, AreFor}
 use Rattle.std.proofs.lemmas.Option.{same_Some}
-use Rattle.scim_search.specs.Sights.{made_of_all, IsSight}
-use Rattle.scim_search.specs.Walks.{Seen, made_of_kind}
+use Rattle.scim_search.specs.ViewBuilders.{made_of_all, IsViewBuilder}
+use Rattle.scim_search.specs.Walks.{SeenResource, made_of_kind}
 use Rattle.scim_search.proofs.ApartLemmas.{none_at}
 use Rattle.scim_search.proofs.StoreViews.{parts_of, made_map, made_views}
 
@@ -111,7 +111,7 @@ known_each v kind base store is k d lt =
 
 module _ (v : Viewer) (kind : Kind) (cs : List Content) where
   -- a list of resources of which that is known
-  with_known : (ds : List Content) → All (Known v kind cs) ds → (xs : List (Seen v kind cs)) × (map (λ x. x.own) xs ≡ ds)
+  with_known : (ds : List Content) → All (Known v kind cs) ds → (xs : List (SeenResource v kind cs)) × (map (λ x. x.own) xs ≡ ds)
   with_known [] known = ([], refl)
   with_known (d ∷ ds) known =
       let first = All-head (Known v kind cs) d ds known in
@@ -121,7 +121,7 @@ module _ (v : Viewer) (kind : Kind) (cs : List Content) where
       )
 
 pub all_seen : (v : Viewer) (kind : Kind) (base : List ℕ) (store : Store) → IsStore base store
-    → (xs : List (Seen v kind store.resources)) × (map (λ x. x.own) xs ≡ filter (sees v) (of_kind kind store.resources))
+    → (xs : List (SeenResource v kind store.resources)) × (map (λ x. x.own) xs ≡ filter (sees v) (of_kind kind store.resources))
 all_seen v kind base store is = with_known v kind store.resources _ (known_each v kind base store is)
 
 -- ---- pages
@@ -138,21 +138,21 @@ module _ (v : Viewer) (kind : Kind) (gs : List Content) (query : Query) (base : 
   abbrev cs : List Content
   cs = of_kind kind store.resources
 
-  abbrev small_of : Seen v kind store.resources → Content
+  abbrev small_of : SeenResource v kind store.resources → Content
   small_of x = small v query x.own
 
-  abbrev whole_of : Seen v kind store.resources → Content
+  abbrev whole_of : SeenResource v kind store.resources → Content
   whole_of x = with_groups v gs x.own
 
   -- what is made of all that is seen, by the list of those
   made_seen : (make : Content → Content) → made_of_all make v cs ≡ map (λ x. make x.own) (all_seen v kind base store is).0
   made_seen make =
       let xs = all_seen v kind base store is in
-      made_map make v cs ∙ ap (map make) (sym xs.1) ∙ map-map make (λ (x : Seen v kind store.resources). x.own) xs.0
+      made_map make v cs ∙ ap (map make) (sym xs.1) ∙ map-map make (λ (x : SeenResource v kind store.resources). x.own) xs.0
 
   -- the page by small parts shows some resources; the same with these whole is the page of the view
   pub page_by_small : (found : Page) → IsPage (made_of_all (small v query) v cs) query found
-      → (shown : List (Seen v kind store.resources)) × (found.items.items ≡ map small_of shown)
+      → (shown : List (SeenResource v kind store.resources)) × (found.items.items ≡ map small_of shown)
       × ((page : Page) → page.total ≡ found.total → page.start ≡ found.start → page.items.items ≡ map whole_of shown → IsPage (views v gs cs) query page)
   page_by_small found paged =
       let xs = (all_seen v kind base store is).0 in
@@ -165,33 +165,33 @@ module _ (v : Viewer) (kind : Kind) (gs : List Content) (query : Query) (base : 
       )
 
 -- a sight of some attributes is one of any groups
-pub named_sight : (viewer : Bor ViewerInCode) (attributes : Bor (List Attribute)) (decisions : Bor ReadDecisions) (sight : Sight) → AreDecisions (viewer_of viewer.now) decisions.now
-    → sight ≡ record { viewer = viewer; decisions = decisions; shows = Named attributes } → IsSight [] sight
-named_sight viewer attributes decisions sight are same = subst (IsSight []) (sym same) (record { decisions = are; index = tt })
+pub named_sight : (viewer : Bor ViewerInCode) (attributes : Bor (List Attribute)) (decisions : Bor ReadDecisions) (builder : ViewBuilder) → AreDecisions (viewer_of viewer.now) decisions.now
+    → builder ≡ record { viewer = viewer; decisions = decisions; scope = Named attributes } → IsViewBuilder [] builder
+named_sight viewer attributes decisions builder are same = subst (IsViewBuilder []) (sym same) (record { decisions = are; index = tt })
 
 -- the page by what is made at a sight of the attributes that a query names
 pub named_page : (viewer : Bor ViewerInCode) (kind : Kind) (query : Query) (base : List ℕ) (store : Store) → IsStore base store → (attributes : Bor (List Attribute)) → attributes.now ≡ attributes_of query
-    → names_groups query ≡ false → (found : Page) (decisions : Bor ReadDecisions) (sight : Sight) → AreDecisions (viewer_of viewer.now) decisions.now
-    → sight ≡ record { viewer = viewer; decisions = decisions; shows = Named attributes }
-    → (IsSight [] sight → IsPage (made_of_kind [] sight kind store.resources) query found)
-    → (shown : List (Seen (viewer_of viewer.now) kind store.resources)) × (found.items.items ≡ map (λ x. small (viewer_of viewer.now) query x.own) shown)
+    → names_groups query ≡ false → (found : Page) (decisions : Bor ReadDecisions) (builder : ViewBuilder) → AreDecisions (viewer_of viewer.now) decisions.now
+    → builder ≡ record { viewer = viewer; decisions = decisions; scope = Named attributes }
+    → (IsViewBuilder [] builder → IsPage (made_of_kind [] builder kind store.resources) query found)
+    → (shown : List (SeenResource (viewer_of viewer.now) kind store.resources)) × (found.items.items ≡ map (λ x. small (viewer_of viewer.now) query x.own) shown)
     × ((page : Page) → page.total ≡ found.total → page.start ≡ found.start → page.items.items ≡ map (λ x. with_groups (viewer_of viewer.now) (of_kind Group store.resources) x.own) shown
     → IsPage (views (viewer_of viewer.now) (of_kind Group store.resources) (of_kind kind store.resources)) query page)
-named_page viewer kind query base store is attributes named none found decisions sight are same paged =
+named_page viewer kind query base store is attributes named none found decisions builder are same paged =
     let v = viewer_of viewer.now in
     let cs = of_kind kind store.resources in
-    let known = named_sight viewer attributes decisions sight are same in
+    let known = named_sight viewer attributes decisions builder are same in
     let made_here : IsPage (made_of_all (λ (c : Content). visible_attributes attributes.now (read_decision v c) c) v cs) query found
-    = subst (λ (s : Sight). IsPage (made_of_kind [] s kind store.resources) query found) same (paged known) in
+    = subst (λ (s : ViewBuilder). IsPage (made_of_kind [] s kind store.resources) query found) same (paged known) in
     page_by_small v kind (of_kind Group store.resources) query base store is none found
     (subst (λ (those : List Attribute). IsPage (made_of_all (λ (c : Content). visible_attributes those (read_decision v c) c) v cs) query found) named made_here)
 
 -- the parts have the ids of the resources
-pub small_ids : (v : Viewer) (kind : Kind) (cs : List Content) (query : Query) (items : List Content) (shown : List (Seen v kind cs))
+pub small_ids : (v : Viewer) (kind : Kind) (cs : List Content) (query : Query) (items : List Content) (shown : List (SeenResource v kind cs))
     → items ≡ map (λ x. small v query x.own) shown → map (λ p. p.id) items ≡ map (λ x. x.own.id) shown
 unfolding visible_attributes
 small_ids v kind cs query items shown same =
-    ap (map (λ (p : Content). p.id)) same ∙ map-map (λ (p : Content). p.id) (λ (x : Seen v kind cs). small v query x.own) shown
+    ap (map (λ (p : Content). p.id)) same ∙ map-map (λ (p : Content). p.id) (λ (x : SeenResource v kind cs). small v query x.own) shown
 
 pub empty_list : {X : Type 0} (xs : List X) → (length xs == 0) ≡ true → xs ≡ []
 empty_list [] e = refl
@@ -205,17 +205,17 @@ none_shown f g (x ∷ xs) e = cc
 -- ---- parts that are pushed one by one
 
 module _ (v : Viewer) (kind : Kind) (cs gs : List Content) where
-  abbrev own_ids : List (Seen v kind cs) → List (List ℕ)
-  own_ids shown = map (λ (x : Seen v kind cs). x.own.id) shown
+  abbrev own_ids : List (SeenResource v kind cs) → List (List ℕ)
+  own_ids shown = map (λ (x : SeenResource v kind cs). x.own.id) shown
 
-  abbrev whole : List (Seen v kind cs) → List Content
-  whole shown = map (λ (x : Seen v kind cs). with_groups v gs x.own) shown
+  abbrev whole : List (SeenResource v kind cs) → List Content
+  whole shown = map (λ (x : SeenResource v kind cs). with_groups v gs x.own) shown
 
   -- the part of the first resource, and then those of the others, by what is told of groups after the first
-  pub pushed_more : (Told : Type 0) (item : Content) (rest : List Content) (shown : List (Seen v kind cs)) (found : Option Content) (old mid new : List Content)
+  pub pushed_more : (Told : Type 0) (item : Content) (rest : List Content) (shown : List (SeenResource v kind cs)) (found : Option Content) (old mid new : List Content)
       → map (λ (p : Content). p.id) (item ∷ rest) ≡ own_ids shown → found ≡ find (is_at kind item.id) cs
       → ((c : Content) → found ≡ Some c → find (is_at kind c.id) cs ≡ Some c → Told × (mid ≡ old ++ and_those (view_with_groups v gs c) []))
-      → (Told → (xs : List (Seen v kind cs)) → map (λ (p : Content). p.id) rest ≡ own_ids xs → new ≡ mid ++ whole xs)
+      → (Told → (xs : List (SeenResource v kind cs)) → map (λ (p : Content). p.id) rest ≡ own_ids xs → new ≡ mid ++ whole xs)
       → new ≡ old ++ whole shown
   pushed_more Told item rest [] found old mid new ids is first later = cc
   pushed_more Told item rest (x ∷ xs) found old mid new ids is first later =

@@ -2,6 +2,6 @@ pub mod Decided
 pub mod GroupsBeside
 pub mod Lookups
 pub mod ReadDecisions
-pub mod Sights
+pub mod ViewBuilders
 pub mod Visits
 pub mod Walks

@@ -15,7 +15,7 @@ use Rattle.scim_search.specs.declared.visitors.SearchVisitor.{SearchVisitor}
 use Rattle.scim_shelf.specs.Stores.{is_at}
 use Rattle.scim_search.specs.Decided.{Recalls}
 use Rattle.scim_search.specs.ReadDecisions.{AreDecisions}
-use Rattle.scim_search.specs.Sights.{IsSight, part_of}
+use Rattle.scim_search.specs.ViewBuilders.{IsViewBuilder, part_of}
 
 -- the visitor keeps its viewer and decisions, and its index has the group as well
 pub record TakesGroup (old : GroupVisitor) (c : Content) (new : GroupVisitor) : Type 0 where
@@ -39,9 +39,9 @@ TakesListing old c new = (v : Viewer) (cs : List Content) → find (is_at Group 
 -- the visitor keeps its sight and query, its pager has taken the part of the resource if it is seen, and its
 -- cached decisions stay right
 pub record TakesResource (old : SearchVisitor) (c : Content) (new : SearchVisitor) : Type 0 where
-  pub sight : new.sight ≡ old.sight
+  pub builder : new.builder ≡ old.builder
   pub query : new.pager.query ≡ old.pager.query
-  pub taken : (groups parts : List Content) → IsSight groups old.sight → HasTaken parts old.pager
-      → HasTaken (parts ++ and_those (part_of groups old.sight c) []) new.pager
-  pub decided : (groups cs : List Content) (kind : Kind) → IsSight groups old.sight → find (is_at kind c.id) cs ≡ Some c
-      → Recalls (viewer_of old.sight.viewer.now) kind cs old.decided → Recalls (viewer_of old.sight.viewer.now) kind cs new.decided
+  pub taken : (groups parts : List Content) → IsViewBuilder groups old.builder → HasTaken parts old.pager
+      → HasTaken (parts ++ and_those (part_of groups old.builder c) []) new.pager
+  pub decided : (groups cs : List Content) (kind : Kind) → IsViewBuilder groups old.builder → find (is_at kind c.id) cs ≡ Some c
+      → Recalls (viewer_of old.builder.viewer.now) kind cs old.decided → Recalls (viewer_of old.builder.viewer.now) kind cs new.decided

@@ -9,11 +9,11 @@ use Rattle.scim_view.specs.View.{Viewer, viewer_of, sees}
 use Rattle.scim_view.specs.Groups.{with_groups}
 use Rattle.scim_view.specs.Indexes.{IsIndexOf}
 use Rattle.scim_shelf.specs.Stores.{is_at}
-use Rattle.scim_search.specs.declared.sights.Sight.{Sight}
-use Rattle.scim_search.specs.declared.whole_items.ItemSight.{ItemSight}
+use Rattle.scim_search.specs.declared.view_builders.ViewBuilder.{ViewBuilder}
+use Rattle.scim_search.specs.declared.whole_items.ItemBuilder.{ItemBuilder}
 use Rattle.scim_search.specs.Decided.{Recalls}
 use Rattle.scim_search.specs.ReadDecisions.{AreDecisions}
-use Rattle.scim_search.specs.Sights.{made, made_of_all}
+use Rattle.scim_search.specs.ViewBuilders.{made, made_of_all}
 
 -- the viewer sees each resource of the kind with the groups of the index as with all groups of the store
 pub record IndexTells (v : Viewer) (kind : Kind) (cs : List Content) (index : GroupIndex) : Type 0 where
@@ -22,16 +22,16 @@ pub record IndexTells (v : Viewer) (kind : Kind) (cs : List Content) (index : Gr
   pub same : (c : Content) → c.kind ≡ kind → with_groups v groups c ≡ with_groups v (of_kind Group cs) c
 
 -- the parts that a sight makes of the resources of a kind that its viewer sees
-abbrev pub made_of_kind : List Content → Sight → Kind → List Content → List Content
-made_of_kind groups sight kind cs = made_of_all (made (viewer_of sight.viewer.now) groups sight.shows) (viewer_of sight.viewer.now) (of_kind kind cs)
+abbrev pub made_of_kind : List Content → ViewBuilder → Kind → List Content → List Content
+made_of_kind groups builder kind cs = made_of_all (made (viewer_of builder.viewer.now) groups builder.scope) (viewer_of builder.viewer.now) (of_kind kind cs)
 
 -- the decisions on the kind of a page's items, and the cached ones, are those on the viewer's reading
-pub record IsItemSight (cs : List Content) (sight : ItemSight) : Type 0 where
-  pub decisions : AreDecisions (viewer_of sight.viewer.now) sight.decisions.now
-  pub decided : Recalls (viewer_of sight.viewer.now) sight.kind cs sight.decided.now
+pub record IsItemBuilder (cs : List Content) (builder : ItemBuilder) : Type 0 where
+  pub decisions : AreDecisions (viewer_of builder.viewer.now) builder.decisions.now
+  pub decided : Recalls (viewer_of builder.viewer.now) builder.kind cs builder.decided.now
 
 -- a resource of the kind that the viewer sees, and that is the one found by its id
-pub record Seen (v : Viewer) (kind : Kind) (cs : List Content) : Type 0 where
+pub record SeenResource (v : Viewer) (kind : Kind) (cs : List Content) : Type 0 where
   pub own : Content
   pub part : IsPart own
   pub is_kind : own.kind ≡ kind
@@ -40,5 +40,5 @@ pub record Seen (v : Viewer) (kind : Kind) (cs : List Content) : Type 0 where
 
 -- for resources with the ids of the items, the second list has the viewer's view of each with its groups
 abbrev pub AreWhole : Viewer → Kind → List Content → List Content → List Content → Type 0
-AreWhole v kind cs items whole = (found : List (Seen v kind cs)) → map (λ p. p.id) items ≡ map (λ x. x.own.id) found
+AreWhole v kind cs items whole = (found : List (SeenResource v kind cs)) → map (λ p. p.id) items ≡ map (λ x. x.own.id) found
     → whole ≡ map (λ x. with_groups v (of_kind Group cs) x.own) found

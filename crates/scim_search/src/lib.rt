@@ -7,7 +7,7 @@ mod decided;
 mod lookups;
 mod pages;
 mod read_decisions;
-mod sights;
+mod view_builders;
 mod visitors;
 mod walks;
 mod whole_items;

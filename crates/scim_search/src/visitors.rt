@@ -13,7 +13,7 @@ ghost use Rattle.scim_search.specs.Visits.{TakesGroup, TakesListing, TakesResour
 
 use crate::decided::Decided;
 use crate::read_decisions::ReadDecisions;
-use crate::sights::Sight;
+use crate::view_builders::ViewBuilder;
 use scim_query::{Page, Pager, Query};
 use scim_schema::Kind;
 use scim_shelf::Visitor;
@@ -134,7 +134,7 @@ impl<'a> Visitor for ListingVisitor<'a> {
 /// A visitor that gives a pager the parts of the resources that a client sees.
 #[derive(Drop)]
 pub(crate) struct SearchVisitor<'a> {
-    sight: Sight<'a>,
+    builder: ViewBuilder<'a>,
     pager: Pager<'a>,
     /// The decisions on resources that the pager holds or has held.
     decided: Decided,
@@ -150,15 +150,19 @@ pub(crate) struct Found {
 
 impl<'a> SearchVisitor<'a> {
     /// Returns a visitor that has taken no resource, without allocating.
-    pub(crate) fn new(alloc: Global, sight: Sight<'a>, query: &'a Query) -> SearchVisitor<'a>
-        ensures sight { result.sight ≡ sight.entry }
+    pub(crate) fn new(
+        alloc: Global,
+        builder: ViewBuilder<'a>,
+        query: &'a Query,
+    ) -> SearchVisitor<'a>
+        ensures builder { result.builder ≡ builder.entry }
         ensures query { result.pager.query ≡ query.entry }
         ensures taken { HasTaken [] result.pager }
         ensures decided { (v : SpecViewer) (kind : SpecKind) (cs : List Content)
             → Recalls v kind cs result.decided }
     {
         SearchVisitor {
-            sight,
+            builder,
             pager: Pager::new(alloc, query),
             decided: Decided::new(alloc),
         }
@@ -184,14 +188,14 @@ impl<'a> Visitor for SearchVisitor<'a> {
     ghost takes = { TakesResource };
 
     fn take(&mut self, alloc: Global, resource: &Resource) -> Result<(), NoMemory> {
-        if let Some(decisions) = self.sight.on_all(resource) {
-            self.sight
+        if let Some(decisions) = self.builder.on_all(resource) {
+            self.builder
                 .show(alloc, decisions, resource, &mut self.pager)?;
             return Ok(());
         }
-        let decisions = self.sight.decide(alloc, resource)?;
+        let decisions = self.builder.decide(alloc, resource)?;
         if self
-            .sight
+            .builder
             .show(alloc, &decisions, resource, &mut self.pager)?
         {
             self.decided.keep(resource.id(), decisions)?;

@@ -12,13 +12,13 @@ ghost use Rattle.scim_shelf.specs.Shelves.{Answers, OnlyReads};
 ghost use Rattle.scim_shelf.specs.Stores.{IsStore};
 ghost use Rattle.scim_search.specs.Decided.{Recalls};
 ghost use Rattle.scim_search.specs.ReadDecisions.{AreDecisions};
-ghost use Rattle.scim_search.specs.Sights as sights;
+ghost use Rattle.scim_search.specs.ViewBuilders as sights;
 ghost use Rattle.scim_search.specs.Walks as spec;
 
 use crate::read_decisions::ReadDecisions;
-use crate::sights::{Shows, Sight};
+use crate::view_builders::{ViewBuilder, ViewScope};
 use crate::visitors::{Found, GroupVisitor, SearchVisitor};
-use crate::whole_items::{ItemSight, whole_items};
+use crate::whole_items::{ItemBuilder, whole_items};
 use scim_query::{Page, Pager, Query};
 use scim_schema::{Attribute, Kind};
 use scim_shelf::{Shelf, ShelfFault};
@@ -63,19 +63,19 @@ fn groups_for<S: Shelf>(
 /// The sight makes a part of each resource of the kind that its viewer sees.
 fn page_made<S: Shelf>(
     alloc: Global,
-    sight: Sight<'_>,
+    builder: ViewBuilder<'_>,
     shelf: &mut S,
     kind: Kind,
     query: &Query,
 ) -> Result<Found, Failed<ShelfFault>>
     ensures page { IfOk result (Answers S.stands S.is_honest shelf.old shelf.new
         (λ store found. (groups : List Content) (base : List ℕ)
-        → sights.IsSight groups sight.entry → IsStore base store
-        → IsPage (spec.made_of_kind groups sight.entry kind store.resources) query.now found.page
-        × Recalls (viewer_of sight.entry.viewer.now) kind store.resources found.decided)) }
+        → sights.IsViewBuilder groups builder.entry → IsStore base store
+        → IsPage (spec.made_of_kind groups builder.entry kind store.resources) query.now found.page
+        × Recalls (viewer_of builder.entry.viewer.now) kind store.resources found.decided)) }
     ensures read { OnlyReads S.stands S.is_honest S.failures shelf.old shelf.new result }
 {
-    let mut search = SearchVisitor::new(alloc, sight, query);
+    let mut search = SearchVisitor::new(alloc, builder, query);
     shelf.each(alloc, kind, &mut search)?;
     Ok(search.end()?)
 }
@@ -97,8 +97,8 @@ fn page_by_groups<S: Shelf>(
     ensures read { OnlyReads S.stands S.is_honest S.failures shelf.old shelf.new result }
 {
     let index = groups_for(alloc, viewer, shelf, kind)?;
-    let sight = Sight::new(viewer, decisions, Shows::Whole(&index));
-    Ok(page_made(alloc, sight, shelf, kind, query)?.page)
+    let builder = ViewBuilder::new(viewer, decisions, ViewScope::Whole(&index));
+    Ok(page_made(alloc, builder, shelf, kind, query)?.page)
 }
 
 /// Returns the page of a query that names `attributes`, without `groups`.
@@ -122,13 +122,13 @@ fn page_by_named<S: Shelf>(
         (of_kind kind store.resources)) query.now page)) }
     ensures read { OnlyReads S.stands S.is_honest S.failures shelf.old shelf.new result }
 {
-    let sight = Sight::new(viewer, decisions, Shows::Named(attributes));
-    let found = page_made(alloc, sight, shelf, kind, query)?;
+    let builder = ViewBuilder::new(viewer, decisions, ViewScope::Named(attributes));
+    let found = page_made(alloc, builder, shelf, kind, query)?;
     if found.page.items.as_slice().is_empty() {
         return Ok(found.page);
     }
-    let sight = ItemSight::new(viewer, kind, decisions, &found.decided);
-    let items = whole_items(alloc, sight, shelf, found.page.items.as_slice())?;
+    let builder = ItemBuilder::new(viewer, kind, decisions, &found.decided);
+    let items = whole_items(alloc, builder, shelf, found.page.items.as_slice())?;
     Ok(Page {
         total: found.page.total,
         start: found.page.start,

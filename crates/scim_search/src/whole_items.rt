@@ -23,21 +23,21 @@ use std::alloc::Global;
 
 /// The viewer of a page's items of one kind, with the decisions on reading them, some of them cached.
 #[derive(Clone, Copy)]
-pub(crate) struct ItemSight<'a> {
+pub(crate) struct ItemBuilder<'a> {
     viewer: &'a Viewer<'a>,
     kind: Kind,
     decisions: &'a ReadDecisions<'a>,
     decided: &'a Decided,
 }
 
-impl<'a> ItemSight<'a> {
+impl<'a> ItemBuilder<'a> {
     /// Returns the sight of a viewer on items of the kind.
     pub(crate) fn new(
         viewer: &'a Viewer<'a>,
         kind: Kind,
         decisions: &'a ReadDecisions<'a>,
         decided: &'a Decided,
-    ) -> ItemSight<'a>
+    ) -> ItemBuilder<'a>
         ensures { result ≡ record {
           viewer = viewer.entry;
           kind = kind;
@@ -45,7 +45,7 @@ impl<'a> ItemSight<'a> {
           decided = decided.entry;
         } }
     {
-        ItemSight {
+        ItemBuilder {
             viewer,
             kind,
             decisions,
@@ -63,7 +63,7 @@ impl<'a> ItemSight<'a> {
     ) -> Result<Option<Part>, Failed<ShelfFault>>
         ensures part { IfOk result (Answers S.stands S.is_honest shelf.old shelf.new
             (λ store part. (base : List ℕ) → IsStore base store
-            → spec.IsItemSight store.resources self.now
+            → spec.IsItemBuilder store.resources self.now
             → find (is_at self.now.kind resource.now.id) store.resources ≡ Some resource.now
             → Tells (viewer_of self.now.viewer.now) store.resources listing.old
             → Tells (viewer_of self.now.viewer.now) store.resources listing.new
@@ -94,7 +94,7 @@ fn push_if_seen(part: Option<Part>, parts: &mut Vec<Part>) -> Result<(), NoMemor
 /// Appends the part of the resource that the client sees, if there is a resource and the client sees it.
 fn push_part<S: Shelf>(
     alloc: Global,
-    sight: ItemSight<'_>,
+    builder: ItemBuilder<'_>,
     listing: &mut ListingVisitor<'_>,
     shelf: &mut S,
     resource: Option<Resource>,
@@ -102,19 +102,19 @@ fn push_part<S: Shelf>(
 ) -> Result<(), Failed<ShelfFault>>
     ensures parts { IfOk result (Answers S.stands S.is_honest shelf.old shelf.new
         (λ store _. (base : List ℕ) (c : Content) → IsStore base store
-        → spec.IsItemSight store.resources sight.entry → resource ≡ Some c
-        → find (is_at sight.entry.kind c.id) store.resources ≡ Some c
-        → Tells (viewer_of sight.entry.viewer.now) store.resources listing.old
-        → Tells (viewer_of sight.entry.viewer.now) store.resources listing.new
+        → spec.IsItemBuilder store.resources builder.entry → resource ≡ Some c
+        → find (is_at builder.entry.kind c.id) store.resources ≡ Some c
+        → Tells (viewer_of builder.entry.viewer.now) store.resources listing.old
+        → Tells (viewer_of builder.entry.viewer.now) store.resources listing.new
         × (parts.new.items ≡ parts.old.items
-        ++ and_those (view_with_groups (viewer_of sight.entry.viewer.now)
+        ++ and_those (view_with_groups (viewer_of builder.entry.viewer.now)
         (of_kind Kind.Group store.resources) c) []))) }
     ensures read { OnlyReads S.stands S.is_honest S.failures shelf.old shelf.new result }
 {
     let Some(resource) = resource else {
         return Ok(());
     };
-    let part = sight.part_of(alloc, listing, shelf, &resource)?;
+    let part = builder.part_of(alloc, listing, shelf, &resource)?;
     Ok(push_if_seen(part, parts)?)
 }
 
@@ -122,7 +122,7 @@ fn push_part<S: Shelf>(
 /// Recurses once per item, which is at most 200 times per request.
 fn push_parts<S: Shelf>(
     alloc: Global,
-    sight: ItemSight<'_>,
+    builder: ItemBuilder<'_>,
     listing: &mut ListingVisitor<'_>,
     shelf: &mut S,
     items: &[Part],
@@ -130,22 +130,22 @@ fn push_parts<S: Shelf>(
 ) -> Result<(), Failed<ShelfFault>>
     ensures parts { IfOk result (Answers S.stands S.is_honest shelf.old shelf.new
         (λ store _. (base : List ℕ)
-        (found : List (spec.Seen
-        (viewer_of sight.entry.viewer.now) sight.entry.kind store.resources))
-        → IsStore base store → spec.IsItemSight store.resources sight.entry
-        → Tells (viewer_of sight.entry.viewer.now) store.resources listing.old
+        (found : List (spec.SeenResource
+        (viewer_of builder.entry.viewer.now) builder.entry.kind store.resources))
+        → IsStore base store → spec.IsItemBuilder store.resources builder.entry
+        → Tells (viewer_of builder.entry.viewer.now) store.resources listing.old
         → map (λ p. p.id) items.now ≡ map (λ x. x.own.id) found
         → parts.new.items ≡ parts.old.items
-        ++ map (λ x. with_groups (viewer_of sight.entry.viewer.now)
+        ++ map (λ x. with_groups (viewer_of builder.entry.viewer.now)
         (of_kind Kind.Group store.resources) x.own) found)) }
     ensures read { OnlyReads S.stands S.is_honest S.failures shelf.old shelf.new result }
 {
     match items {
         [] => Ok(()),
         [item, rest @ ..] => {
-            let resource = shelf.by_id(alloc, sight.kind, item.id())?;
-            push_part(alloc, sight, listing, shelf, resource, parts)?;
-            push_parts(alloc, sight, listing, shelf, rest, parts)
+            let resource = shelf.by_id(alloc, builder.kind, item.id())?;
+            push_part(alloc, builder, listing, shelf, resource, parts)?;
+            push_parts(alloc, builder, listing, shelf, rest, parts)
         }
     }
 }
@@ -155,19 +155,19 @@ fn push_parts<S: Shelf>(
 /// again.
 pub(crate) fn whole_items<S: Shelf>(
     alloc: Global,
-    sight: ItemSight<'_>,
+    builder: ItemBuilder<'_>,
     shelf: &mut S,
     items: &[Part],
 ) -> Result<Vec<Part>, Failed<ShelfFault>>
     ensures whole { IfOk result (Answers S.stands S.is_honest shelf.old shelf.new
         (λ store whole. (base : List ℕ) → IsStore base store
-        → spec.IsItemSight store.resources sight.entry
-        → spec.AreWhole (viewer_of sight.entry.viewer.now) sight.entry.kind store.resources
+        → spec.IsItemBuilder store.resources builder.entry
+        → spec.AreWhole (viewer_of builder.entry.viewer.now) builder.entry.kind store.resources
         items.now whole.items)) }
     ensures read { OnlyReads S.stands S.is_honest S.failures shelf.old shelf.new result }
 {
-    let mut listing = ListingVisitor::new(alloc, sight.viewer)?;
+    let mut listing = ListingVisitor::new(alloc, builder.viewer)?;
     let mut parts = Vec::with_capacity(alloc, items.len())?;
-    push_parts(alloc, sight, &mut listing, shelf, items, &mut parts)?;
+    push_parts(alloc, builder, &mut listing, shelf, items, &mut parts)?;
     Ok(parts)
 }

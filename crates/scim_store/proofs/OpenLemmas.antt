@@ -18,7 +18,7 @@ use Rattle.scim_store_tables.specs.Lists.{Are}
 use Rattle.scim_store_tables.specs.Reading.{shown, Rests}
 use Rattle.scim_store_tables.specs.Whole.{AreRowsOf as AreRead, Is, IsUntouched}
 use Rattle.scim_store_tables.specs.declared.tables.TableRows.{TableRows}
-use Rattle.scim_store_tables.specs.declared.tables.Reading.TheVariants.{WrongVersion as OtherVersion, Foreign as OtherProgram}
+use Rattle.scim_store_tables.specs.declared.tables.DatabaseKind.TheVariants.{WrongVersion as OtherVersion, Foreign as OtherProgram}
 use Rattle.scim_store_tables.proofs.Facts.{order_rising}
 use Rattle.scim_store_tables.proofs.Facts.{rows_of, holds_lists}
 use Rattle.scim_store_rows.specs.Audit.{audit_rows}

@@ -9,7 +9,7 @@ use Rattle.scim_store_tables.specs.Tables.{no_schema}
 use Rattle.scim_store_tables.specs.Reading.{shown}
 use Rattle.scim_store_tables.specs.Whole.{AreRowsOf, Is, IsUntouched}
 use Rattle.scim_store_tables.specs.declared.tables.TableRows.{TableRows}
-use Rattle.scim_store_tables.specs.declared.tables.Reading.TheVariants.{WrongVersion as OtherVersion}
+use Rattle.scim_store_tables.specs.declared.tables.DatabaseKind.TheVariants.{WrongVersion as OtherVersion}
 use Rattle.scim_store.specs.declared.opening.Examined.{Examined}
 use Rattle.scim_store.specs.declared.opening.Examined.TheVariants.{Empty, Stands, WrongVersion, Damaged, Foreign}
 use Rattle.scim_store_rows.specs.Audit.{audit_rows}

@@ -14,7 +14,7 @@ ghost use Rattle.scim_store.specs.Opening as spec;
 use crate::damage::{Judged, ResourceRows, judge};
 use scim_cell::Id;
 use scim_store_rows::are_audit_rows;
-use scim_store_tables::{Reading, TableRows, read_tables};
+use scim_store_tables::{DatabaseKind, TableRows, read_tables};
 use scim_text::{Failed, NoMemory};
 use sqlite::{Alter, Connection, Error, ErrorCode, Row};
 use std::alloc::Global;
@@ -114,9 +114,9 @@ pub fn examine<S: Alter>(
         → OnErr result (Rests (state S.Store conn.old) (state S.Store conn.new)) }
 {
     match read_tables(conn)? {
-        Reading::Empty => Ok(Examined::Empty),
-        Reading::WrongVersion => Ok(Examined::WrongVersion),
-        Reading::Foreign => Ok(Examined::Foreign),
-        Reading::Tables(rows) => examine_rows(alloc, base, rows),
+        DatabaseKind::Empty => Ok(Examined::Empty),
+        DatabaseKind::WrongVersion => Ok(Examined::WrongVersion),
+        DatabaseKind::Foreign => Ok(Examined::Foreign),
+        DatabaseKind::Tables(rows) => examine_rows(alloc, base, rows),
     }
 }

@@ -13,8 +13,8 @@ use Rattle.scim_store_tables.specs.Reading.{shown, shown_settings, owner_first, 
 use Rattle.scim_store_tables.specs.code.Told.{Decides}
 use Rattle.scim_store_tables.specs.Whole.{HasVersion, AreAllKeyed, AreInOrder, AreRowsOf, IsByRows, IsReading, Is, AreNone}
 use Rattle.scim_store_tables.specs.declared.tables.TableRows.{TableRows}
-use Rattle.scim_store_tables.specs.declared.tables.Reading.{Reading}
-use Rattle.scim_store_tables.specs.declared.tables.Reading.TheVariants.{WrongVersion, Foreign}
+use Rattle.scim_store_tables.specs.declared.tables.DatabaseKind.{DatabaseKind}
+use Rattle.scim_store_tables.specs.declared.tables.DatabaseKind.TheVariants.{WrongVersion, Foreign}
 
 -- ---- the settings
 
@@ -38,7 +38,7 @@ shown_are db has version keyed = record {
 }
 
 -- what the rows told is what the database is
-pub is_reading : (old new : State) (reading : Reading) → old.now.schema ≡ store_schema → IsUnchanged old new × IsByRows old.now reading → IsReading old new reading
+pub is_reading : (old new : State) (reading : DatabaseKind) → old.now.schema ≡ store_schema → IsUnchanged old new × IsByRows old.now reading → IsReading old new reading
 is_reading old new reading has told = record {
   is = inr (has, told.1);
   untouched = record { was_open = λ _. told.0.0.was_open; unchanged = λ _. told.0 };

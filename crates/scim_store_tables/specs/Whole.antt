@@ -10,8 +10,8 @@ use Rattle.scim_store_tables.specs.Tables.{no_schema, store_schema}
 use Rattle.scim_store_tables.specs.Lists.{Lists, Are, AreKeyed, version_values}
 use Rattle.scim_store_tables.specs.Reading.{DoNotFall, shown, shown_settings, owner_first, group_first}
 use Rattle.scim_store_tables.specs.declared.tables.TableRows.{TableRows}
-use Rattle.scim_store_tables.specs.declared.tables.Reading.{Reading}
-use Rattle.scim_store_tables.specs.declared.tables.Reading.TheVariants.{Empty, WrongVersion, Foreign, Tables}
+use Rattle.scim_store_tables.specs.declared.tables.DatabaseKind.{DatabaseKind}
+use Rattle.scim_store_tables.specs.declared.tables.DatabaseKind.TheVariants.{Empty, WrongVersion, Foreign, Tables}
 
 -- ---- classification by table names
 
@@ -66,7 +66,7 @@ pub record IsUntouched (old new : State) : Type 0 where
   pub unchanged : IsTrue old.is_open → IsUnchanged old new
 
 -- The classification by table names of a database whose schema isn't that of version 1.
-abbrev pub IsByNames : Schema → Reading → Type 0
+abbrev pub IsByNames : Schema → DatabaseKind → Type 0
 IsByNames schema Empty = schema ≡ no_schema
 IsByNames schema WrongVersion = (schema ≢ no_schema) × (is_of_other_version schema ≡ true)
 IsByNames schema Foreign = (schema ≢ no_schema) × (is_of_other_version schema ≡ false)
@@ -74,18 +74,18 @@ IsByNames schema (Tables rows) = ⊥
 
 -- The classification by rows of a database with the five tables: of another version if `setting` isn't that
 -- of version 1, foreign if a key occurs twice, which no valid file has, and otherwise its rows.
-abbrev pub IsByRows : Database → Reading → Type 0
+abbrev pub IsByRows : Database → DatabaseKind → Type 0
 IsByRows db Empty = ⊥
 IsByRows db WrongVersion = ¬ HasVersion db
 IsByRows db Foreign = HasVersion db × (¬ AreAllKeyed db)
 IsByRows db (Tables rows) = Are db (shown db) × AreRowsOf (shown db) rows
 
 -- The classification of a database: by table names, or by rows if its schema is that of version 1.
-abbrev pub Is : Database → Reading → Type 0
+abbrev pub Is : Database → DatabaseKind → Type 0
 Is db reading = ((db.schema ≢ store_schema) × IsByNames db.schema reading) ⊎ ((db.schema ≡ store_schema) × IsByRows db reading)
 
 -- A reading is the classification of the database, and nothing is changed.
-pub record IsReading (old new : State) (reading : Reading) : Type 0 where
+pub record IsReading (old new : State) (reading : DatabaseKind) : Type 0 where
   pub is : Is old.now reading
   pub untouched : IsUntouched old new
 

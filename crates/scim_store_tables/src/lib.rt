@@ -17,7 +17,7 @@ pub use audit::{AuditColumns, insert_audit};
 pub use names::is_empty_database;
 pub use opening::{create_tables, make_tables};
 pub use schema::is_store_schema;
-pub use tables::{Reading, TableRows, read_tables};
+pub use tables::{DatabaseKind, TableRows, read_tables};
 pub use writes::{
     delete_member, delete_name, delete_resource, insert_member, insert_name, insert_resource,
     update_resource,

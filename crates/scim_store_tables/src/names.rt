@@ -63,15 +63,15 @@ fn is_no_schema(schema: &Schema) -> bool
 }
 
 /// Classifies a database by the names of its tables, if its schema isn't that of version 1.
-pub(crate) fn reading_by_names(schema: &Schema) -> Reading
+pub(crate) fn reading_by_names(schema: &Schema) -> DatabaseKind
     ensures { IsByNames schema.now result }
 {
     if is_no_schema(schema) {
-        Reading::Empty
+        DatabaseKind::Empty
     } else if is_of_other_version(schema) {
-        Reading::WrongVersion
+        DatabaseKind::WrongVersion
     } else {
-        Reading::Foreign
+        DatabaseKind::Foreign
     }
 }
 

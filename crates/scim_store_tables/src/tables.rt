@@ -34,7 +34,7 @@ pub struct TableRows {
 
 /// The classification of a database.
 #[derive(Drop)]
-pub enum Reading {
+pub enum DatabaseKind {
     /// It has no table, index or view.
     Empty,
     /// It has some of our tables, but not those of version 1.
@@ -144,17 +144,17 @@ fn read_all_rows<S: Alter>(conn: &mut Connection<S>) -> Result<TableRows, Error>
 }
 
 /// Classifies a database by its rows. The schema must be that of the five tables.
-fn reading_by_rows<S: Alter>(conn: &mut Connection<S>) -> Result<Reading, Error>
+fn reading_by_rows<S: Alter>(conn: &mut Connection<S>) -> Result<DatabaseKind, Error>
     ensures { OnlyAsks IsByRows (state S.Store conn.old) (state S.Store conn.new) result }
 {
     if !has_version(conn)? {
-        return Ok(Reading::WrongVersion);
+        return Ok(DatabaseKind::WrongVersion);
     }
     if !are_all_keyed(conn)? {
-        return Ok(Reading::Foreign);
+        return Ok(DatabaseKind::Foreign);
     }
     let rows = read_all_rows(conn)?;
-    Ok(Reading::Tables(rows))
+    Ok(DatabaseKind::Tables(rows))
 }
 
 /// Reads the rows of a database with the tables of version 1, and classifies any other as empty, of another
@@ -169,7 +169,7 @@ fn reading_by_rows<S: Alter>(conn: &mut Connection<S>) -> Result<Reading, Error>
 ///
 /// Fails with the database's error, or if a key isn't a number. The connection is then closed, or as before,
 /// or as the last commit left it. A crash can leave only what it could leave before the call.
-pub fn read_tables<S: Alter>(conn: &mut Connection<S>) -> Result<Reading, Error>
+pub fn read_tables<S: Alter>(conn: &mut Connection<S>) -> Result<DatabaseKind, Error>
     ensures mode { conn.old.in_transaction ≡ false → conn.new.in_transaction ≡ false }
     ensures clean { doubt (state S.Store conn.old).is_clean
         ≤ doubt (state S.Store conn.new).is_clean }

@@ -9,7 +9,7 @@ use Rattle.scim_schema.specs.Schemas.{extension_of, is_same_schema}
 use Rattle.scim_schema.specs.Units.{leaf_at, is_same_attribute, is_same_leaf}
 use Rattle.scim_filter_grammar.specs.declared.tree.Meant.{Meant}
 use Rattle.scim_filter_grammar.specs.declared.tree.Meant.TheVariants.{Nothing, Attribute as AnAttribute, SubAttribute as ASubAttribute}
-use Rattle.scim_filter_grammar.specs.declared.tree.Path.{Path}
+use Rattle.scim_filter_grammar.specs.declared.tree.AttributePath.{AttributePath}
 use Rattle.scim_filter_grammar.specs.Spelled.{path_in}
 use Rattle.scim_path.specs.Paths.{extension_named}
 use Rattle.scim_view.specs.declared.names.Names.{Names}
@@ -31,7 +31,7 @@ is_meant (ASubAttribute a b) l = is_same_leaf (leaf_at a b) l
 
 -- the meaning of a text for a kind; `Nothing` if the text isn't a path
 abbrev pub meaning_of : Kind → List ℕ → Meant
-meaning_of kind t = unwrap_or (option_map (λ (p : Path). p.meant) (path_in kind t)) Nothing
+meaning_of kind t = unwrap_or (option_map (λ (p : AttributePath). p.meant) (path_in kind t)) Nothing
 
 -- whether a text names a leaf of a kind: by the URN of its extension, or by the path of the leaf or its
 -- attribute

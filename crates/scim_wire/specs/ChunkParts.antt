@@ -2,8 +2,8 @@
 use Rattle.std.specs.Prelude.{ℕ, List, Result, Ok, Err}
 use Rattle.scim_wire.specs.declared.chunk_faults.BadChunks.{BadChunks}
 use Rattle.scim_wire.specs.declared.chunked.ChunkedPart.{ChunkedPart}
-use Rattle.scim_wire.specs.declared.chunked.Step.{Step}
-use Rattle.scim_wire.specs.declared.chunked.Step.TheVariants.{More, Whole}
+use Rattle.scim_wire.specs.declared.chunked.ChunkStep.{ChunkStep}
+use Rattle.scim_wire.specs.declared.chunked.ChunkStep.TheVariants.{More, Whole}
 use Rattle.scim_wire.specs.Chunked.{IsChunked, IsBadChunked}
 use Rattle.scim_wire.specs.code.ChunkSteps.{StandsAt}
 
@@ -13,7 +13,7 @@ StandsFor part bytes = StandsAt part.place part.body.items part.line.items bytes
 
 -- the result of reading these bytes: the state of an unfinished body, the content of a finished one, or the
 -- fault of one that the last byte makes invalid
-abbrev pub Leads : List ℕ → Result Step BadChunks → Type 0
+abbrev pub Leads : List ℕ → Result ChunkStep BadChunks → Type 0
 Leads bytes (Ok (More part)) = StandsFor part bytes
 Leads bytes (Ok (Whole body)) = IsChunked bytes body.items
 Leads bytes (Err fault) = IsBadChunked bytes fault

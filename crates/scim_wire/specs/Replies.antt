@@ -3,7 +3,7 @@ use Rattle.std.specs.Prelude.{ℕ, Bool, not, List, [], ◌∷◌, ◌++◌, len
 use Rattle.std.specs.Option.{option_copied}
 use Rattle.std.specs.Fmt.{decimal}
 use Rattle.http.specs.StatusCode.{reason_phrase}
-use Rattle.scim_wire.specs.declared.replies.Reply.{Reply}
+use Rattle.scim_wire.specs.declared.replies.HttpReply.{HttpReply}
 
 -- CR LF
 abbrev pub crlf : List ℕ
@@ -56,10 +56,10 @@ text_of said close =
     ++ body_text said
 
 -- the contents of a reply
-abbrev pub said_by : Reply → Said
+abbrev pub said_by : HttpReply → Said
 said_by reply =
     record { status = reply.status; body = option_copied reply.body; location = option_copied reply.location; allow = option_copied reply.allow; asks_for_token = reply.asks_for_token }
 
 -- the text of a reply, with `Connection: close` if it closes
-abbrev pub reply_text : Reply → Bool → List ℕ
+abbrev pub reply_text : HttpReply → Bool → List ℕ
 reply_text reply close = text_of (said_by reply) close

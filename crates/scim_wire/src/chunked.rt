@@ -38,7 +38,7 @@ pub struct ChunkedPart {
 
 /// The result of reading one byte.
 #[derive(Drop)]
-pub enum Step {
+pub enum ChunkStep {
     /// The body isn't finished.
     More(ChunkedPart),
     /// The body is finished and has this content.
@@ -62,7 +62,7 @@ impl ChunkedPart {
     /// [`BadChunks::Malformed`] at the first byte that can't continue a chunk line, the end of a chunk's data
     /// or the trailers. [`BadChunks::TooLarge`] at the end of the chunk line by which the content would
     /// exceed 1,048,576 bytes.
-    pub fn take(self, byte: u8) -> Result<Step, Failed<BadChunks>>
+    pub fn take(self, byte: u8) -> Result<ChunkStep, Failed<BadChunks>>
         ensures { (bytes : List ℕ) → StandsFor self bytes
             → UnlessMemory (Leads (bytes ++ byte ∷ [])) result }
     {
@@ -93,21 +93,21 @@ impl ChunkedPart {
     }
 
     /// Reads a byte of a chunk line.
-    fn take_in_line(mut self, byte: u8) -> Result<Step, Failed<BadChunks>>
+    fn take_in_line(mut self, byte: u8) -> Result<ChunkStep, Failed<BadChunks>>
         requires { self.place ≡ Place.Line }
         ensures { (bytes : List ℕ) → StandsAt Place.Line self.body.items self.line.items bytes
             → UnlessMemory (Leads (bytes ++ byte ∷ [])) result }
     {
         self.line.push(byte)?;
         match judge_line(self.line.as_slice()) {
-            Ok(None) => Ok(Step::More(self)),
+            Ok(None) => Ok(ChunkStep::More(self)),
             Ok(Some(size)) => self.after_line(size),
             Err(BadLine) => Err(Failed::Because(BadChunks::Malformed)),
         }
     }
 
     /// Returns the state after a whole chunk line of this size. Fails as [`ChunkedPart::take`].
-    fn after_line(mut self, size: u64) -> Result<Step, Failed<BadChunks>>
+    fn after_line(mut self, size: u64) -> Result<ChunkStep, Failed<BadChunks>>
         ensures { (bytes : List ℕ) → HasChunks bytes self.body.items self.line.items
             → IsLineOf size self.line.items
             → UnlessMemory (Leads bytes) result }
@@ -118,14 +118,14 @@ impl ChunkedPart {
         }
         if size == 0 {
             self.place = Place::Trailers(TrailerPart::new());
-            return Ok(Step::More(self));
+            return Ok(ChunkStep::More(self));
         }
         self.place = Place::Data(size);
-        Ok(Step::More(self))
+        Ok(ChunkStep::More(self))
     }
 
     /// Reads a byte of a chunk's data, of which `left` bytes are missing.
-    fn take_in_data(mut self, left: u64, byte: u8) -> Result<Step, Failed<BadChunks>>
+    fn take_in_data(mut self, left: u64, byte: u8) -> Result<ChunkStep, Failed<BadChunks>>
         requires { 0 < left }
         ensures { (bytes : List ℕ) → StandsAt
             (Place.Data left) self.body.items self.line.items bytes
@@ -133,11 +133,11 @@ impl ChunkedPart {
     {
         self.body.push(byte)?;
         self.place = Place::Data(left - 1);
-        Ok(Step::More(self))
+        Ok(ChunkStep::More(self))
     }
 
     /// Reads the CR after a chunk's data.
-    fn take_return(mut self, byte: u8) -> Result<Step, Failed<BadChunks>>
+    fn take_return(mut self, byte: u8) -> Result<ChunkStep, Failed<BadChunks>>
         ensures { (bytes : List ℕ) → StandsAt (Place.Data 0) self.body.items self.line.items bytes
             → UnlessMemory (Leads (bytes ++ byte ∷ [])) result }
     {
@@ -145,11 +145,11 @@ impl ChunkedPart {
             return Err(Failed::Because(BadChunks::Malformed));
         }
         self.place = Place::Return;
-        Ok(Step::More(self))
+        Ok(ChunkStep::More(self))
     }
 
     /// Reads the LF after a chunk's data.
-    fn take_feed(mut self, byte: u8) -> Result<Step, Failed<BadChunks>>
+    fn take_feed(mut self, byte: u8) -> Result<ChunkStep, Failed<BadChunks>>
         ensures { (bytes : List ℕ) → StandsAt Place.Return self.body.items self.line.items bytes
             → UnlessMemory (Leads (bytes ++ byte ∷ [])) result }
     {
@@ -158,11 +158,15 @@ impl ChunkedPart {
         }
         self.line.clear();
         self.place = Place::Line;
-        Ok(Step::More(self))
+        Ok(ChunkStep::More(self))
     }
 
     /// Reads a byte of the trailers.
-    fn take_in_trailers(mut self, part: TrailerPart, byte: u8) -> Result<Step, Failed<BadChunks>>
+    fn take_in_trailers(
+        mut self,
+        part: TrailerPart,
+        byte: u8,
+    ) -> Result<ChunkStep, Failed<BadChunks>>
         ensures { (bytes : List ℕ) → StandsAt
             (Place.Trailers part) self.body.items self.line.items bytes
             → UnlessMemory (Leads (bytes ++ byte ∷ [])) result }
@@ -170,9 +174,9 @@ impl ChunkedPart {
         match part.take(byte) {
             Trailed::More(next) => {
                 self.place = Place::Trailers(next);
-                Ok(Step::More(self))
+                Ok(ChunkStep::More(self))
             }
-            Trailed::Whole => Ok(Step::Whole(self.body)),
+            Trailed::Whole => Ok(ChunkStep::Whole(self.body)),
             Trailed::Bad => Err(Failed::Because(BadChunks::Malformed)),
         }
     }

@@ -28,10 +28,10 @@ mod writing;
 
 pub use chunk_faults::BadChunks;
 pub use chunk_laws::chunked_bodies_are_read_in_one_way;
-pub use chunked::{ChunkedPart, Step};
+pub use chunked::{ChunkStep, ChunkedPart};
 pub use laws::streams_are_read_in_one_way;
 pub use messages::{Item, Message};
 pub use octets::Octets;
-pub use replies::{Reply, print_reply};
+pub use replies::{HttpReply, print_reply};
 pub use wires::Wire;
 pub use writing::write_text;

@@ -9,7 +9,7 @@ use std::alloc::Global;
 
 /// The reply to a request.
 #[derive(Clone, Copy)]
-pub struct Reply<'a> {
+pub struct HttpReply<'a> {
     /// The status code (RFC 9110 section 15), a number of three digits. Any other number is printed as it is,
     /// without a phrase. 204 prints no `Content-Length`, since it has no body. A plain number rather than a
     /// type of `http`, so that callers don't depend on that crate.
@@ -90,7 +90,7 @@ fn status_line(alloc: Global, status: u16) -> Result<String, NoMemory>
 /// Returns the text of a reply (RFC 9112 section 4): status line, headers, empty line and body.
 ///
 /// With `close` it has the header `Connection: close`.
-pub fn print_reply(alloc: Global, reply: &Reply<'_>, close: bool) -> Result<String, NoMemory>
+pub fn print_reply(alloc: Global, reply: &HttpReply<'_>, close: bool) -> Result<String, NoMemory>
     ensures { IfOk result (λ text. string_bytes text ≡ reply_text reply.now close) }
 {
     let body = or_empty(reply.body);

@@ -7,7 +7,7 @@ ghost use Rattle.scim_wire.specs.Messages.{OpensSaying, announced, message_of};
 ghost use Rattle.scim_wire.specs.code.Wires.{StandsAt, Steps};
 
 use crate::chunk_faults::BadChunks;
-use crate::chunked::{ChunkedPart, Step};
+use crate::chunked::{ChunkStep, ChunkedPart};
 use crate::framings::Framing;
 use crate::message_heads::MessageHead;
 use crate::message_texts::parse_message_head;
@@ -171,11 +171,11 @@ impl ChunksPart {
     {
         let ChunksPart { head, chunks } = self;
         match chunks.take(byte) {
-            Ok(Step::More(chunks)) => Ok(StateStep {
+            Ok(ChunkStep::More(chunks)) => Ok(StateStep {
                 state: State::InChunks(ChunksPart { head, chunks }),
                 item: None,
             }),
-            Ok(Step::Whole(body)) => Ok(whole(alloc, head, body)),
+            Ok(ChunkStep::Whole(body)) => Ok(whole(alloc, head, body)),
             Err(Failed::Because(fault)) => Ok(refused(refusal_of(fault))),
             Err(Failed::NoMemory) => Err(NoMemory),
         }

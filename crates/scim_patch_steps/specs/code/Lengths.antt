@@ -3,12 +3,12 @@ use Rattle.std.specs.Prelude.{Bool, true, false, not, List, [], ◌∷◌, Optio
 use Rattle.std.specs.List.{list_any}
 use Rattle.scim_schema.specs.declared.Unit.{Unit as AttributeUnit}
 use Rattle.scim_cell.specs.Rows.{is_primary}
-use Rattle.scim_patch_steps.specs.Changes.{Change, Keep, KeepMatches, KeepSubAttribute, Append, Clear, RemoveListed, RemoveMatches}
+use Rattle.scim_patch_steps.specs.Changes.{StepChange, Keep, KeepMatches, KeepSubAttribute, Append, Clear, RemoveListed, RemoveMatches}
 use Rattle.scim_patch_steps.specs.Patch.{Step, Of, Patch}
 
 -- whether the number of values after a change suffices to tell whether it changed them: it only removes
 -- values, or only appends values without a primary one
-abbrev pub is_told_by_length : Change → Bool
+abbrev pub is_told_by_length : StepChange → Bool
 is_told_by_length Keep = true
 is_told_by_length (KeepMatches t) = true
 is_told_by_length (KeepSubAttribute b) = true

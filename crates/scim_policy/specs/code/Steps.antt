@@ -6,10 +6,10 @@ use mathlib.Core.Logic.{inl, inr}
 use Rattle.scim_filter_grammar.specs.declared.tree.Meant.TheVariants as meant
 use Rattle.scim_filter_grammar.specs.declared.tree.Operator.{Operator}
 use Rattle.scim_filter_grammar.specs.declared.tree.Literal.{Literal}
-use Rattle.scim_filter_grammar.specs.declared.tree.Path.{Path}
+use Rattle.scim_filter_grammar.specs.declared.tree.AttributePath.{AttributePath}
 use Rattle.scim_filter_grammar.specs.contracts.tree.Operator as operator
 use Rattle.scim_filter_grammar.specs.contracts.tree.Literal as literal
-use Rattle.scim_filter_grammar.specs.contracts.tree.Path as path
+use Rattle.scim_filter_grammar.specs.contracts.tree.AttributePath as path
 use Rattle.scim_filter_grammar.specs.Tree as tree
 use Rattle.scim_filter_grammar.specs.Tree.{Tree}
 
@@ -18,9 +18,9 @@ pub data Step : Type 0 where
   Or : Step
   And : Step
   Not : Step
-  Present : Path → Step
-  Compare : Path → Operator → Literal → Step
-  Values : Path → Step
+  Present : AttributePath → Step
+  Compare : AttributePath → Operator → Literal → Step
+  Values : AttributePath → Step
 
 -- the steps that build a tree, followed by further steps
 abbrev pub steps : Tree → List Step → List Step
@@ -63,7 +63,7 @@ stacked (tree.Values p a) more ts = stacked a (Values p ∷ more) ts
 
 -- the type that encodes a step: a number, a number and a path, or a comparison
 abbrev Stored : Type 0
-Stored = ℕ ⊎ ((ℕ × Path) ⊎ (Path × (Operator × Literal)))
+Stored = ℕ ⊎ ((ℕ × AttributePath) ⊎ (AttributePath × (Operator × Literal)))
 
 -- the encoding of a step
 abbrev stored : Step → Stored

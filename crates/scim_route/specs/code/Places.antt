@@ -1,7 +1,7 @@
 -- The endpoints of the code's types.
 use Rattle.std.specs.Prelude.{ℕ, List, Option, Some, option_map}
 use Rattle.scim_schema.specs.Lookup.{kind_named, schema_named}
-use Rattle.scim_route.specs.declared.endpoints.Page.TheVariants.{ResourceType as resource_type, Schema as schema}
+use Rattle.scim_route.specs.declared.endpoints.DiscoveryPage.TheVariants.{ResourceType as resource_type, Schema as schema}
 use Rattle.scim_route.specs.declared.route_table.Leads.{Leads}
 use Rattle.scim_route.specs.declared.route_table.Leads.TheVariants.{Unsupported as LeadsNowhere, Page as LeadsToPage, ResourceType as LeadsToResourceType, Schema as LeadsToSchema, Collection as LeadsToCollection, Search as LeadsToSearch, Resource as LeadsToResource}
 use Rattle.scim_route.specs.declared.endpoints.Endpoint.{Endpoint}

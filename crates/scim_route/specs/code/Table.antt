@@ -5,7 +5,7 @@ use Rattle.matchit.specs.Order.{placed}
 use Rattle.matchit.specs.Route.{Scan, parse_route}
 use Rattle.matchit.specs.declared.error.InsertError.{InsertError}
 use Rattle.scim_schema.specs.declared.Kind.TheVariants.{User, Group}
-use Rattle.scim_route.specs.declared.endpoints.Page.TheVariants.{ServiceProviderConfig, ResourceTypes, Schemas}
+use Rattle.scim_route.specs.declared.endpoints.DiscoveryPage.TheVariants.{ServiceProviderConfig, ResourceTypes, Schemas}
 use Rattle.scim_route.specs.declared.route_table.Leads.{Leads}
 use Rattle.scim_route.specs.declared.route_table.Leads.TheVariants.{Unsupported, Page, ResourceType, Schema, Collection, Search, Resource}
 

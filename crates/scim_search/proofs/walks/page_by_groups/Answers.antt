@@ -8,8 +8,8 @@ use Rattle.scim_cell.specs.Content.{Content}
 use Rattle.scim_cell.specs.Kinds.{is_of, of_kind}
 use Rattle.scim_view.specs.View.{viewer_of}
 use Rattle.scim_query.specs.Pages.{IsPage}
-use Rattle.scim_search.specs.declared.sights.Sight.{Sight}
-use Rattle.scim_search.specs.Sights.{IsSight}
+use Rattle.scim_search.specs.declared.view_builders.ViewBuilder.{ViewBuilder}
+use Rattle.scim_search.specs.ViewBuilders.{IsViewBuilder}
 use Rattle.scim_search.specs.Walks.{made_of_kind}
 use Rattle.scim_search.proofs.StoreViews.{made_views, views_alike}
 use Rattle.scim_search.proofs.walks.page_by_groups.Goals as goal
@@ -20,9 +20,9 @@ returns-clause-page g c store stands honest base is =
     let cs = of_kind c.args.kind store.resources in
     let page = c.in_ok-page_made.field-0.page in
     let told = c.in_ok-index.ensures.index store stands (c.in_ok-page_made.ensures.read.honest honest) in
-    let sight = c.new-sight.ensures in
-    let known : IsSight told.groups c.new-sight.result = subst (IsSight told.groups) (sym sight) (record { decisions = c.requires; index = told.is_index }) in
-    let whole = subst (λ (s : Sight). IsPage (made_of_kind told.groups s c.args.kind store.resources) c.args.query.now page) sight
+    let builder = c.new-builder.ensures in
+    let known : IsViewBuilder told.groups c.new-builder.result = subst (IsViewBuilder told.groups) (sym builder) (record { decisions = c.requires; index = told.is_index }) in
+    let whole = subst (λ (s : ViewBuilder). IsPage (made_of_kind told.groups s c.args.kind store.resources) c.args.query.now page) builder
     (c.in_ok-page_made.ensures.page store (c.in_ok-index.ensures.read.store store stands) honest told.groups base known is).0 in
     let own : All (λ d. is_of c.args.kind d ≡ true) cs = filter_passes (is_of c.args.kind) store.resources in
     subst (λ (view : List Content). IsPage view c.args.query.now page)

@@ -23,9 +23,9 @@ returns-in_ok-push_part-in-len1-up-clause-parts g t c =
     let looked = c.in_ok-push_part-in-len1-up.ensures.read.honest pushed in
     let stands_looked = c.in_ok-resource-in-len1-up.ensures.read.store store stands in
     let stands_pushed = c.in_ok-push_part-in-len1-up.ensures.read.store store stands_looked in
-    pushed_more (viewer_of c.args.sight.viewer.now) c.args.sight.kind store.resources groups (Tells (viewer_of c.args.sight.viewer.now) store.resources c.push_part.new.listing) item (drop 1 items) found c.in_ok-resource-in-len1-up.resource c.args.parts.now.items c.push_part.new.parts.items c.push_parts.new.parts.items
+    pushed_more (viewer_of c.args.builder.viewer.now) c.args.builder.kind store.resources groups (Tells (viewer_of c.args.builder.viewer.now) store.resources c.push_part.new.listing) item (drop 1 items) found c.in_ok-resource-in-len1-up.resource c.args.parts.now.items c.push_part.new.parts.items c.push_parts.new.parts.items
     (sym (ap (map (λ (p : Content). p.id)) split) ∙ ids)
-    (c.in_ok-resource-in-len1-up.ensures.answer store stands looked ∙ ap (λ (id : List ℕ). find (is_at c.args.sight.kind id) store.resources) c.id.ensures)
+    (c.in_ok-resource-in-len1-up.ensures.answer store stands looked ∙ ap (λ (id : List ℕ). find (is_at c.args.builder.kind id) store.resources) c.id.ensures)
     (λ own at found. c.in_ok-push_part-in-len1-up.ensures.parts store stands_looked pushed base own is item_sight at found tells)
     (λ told xs more. answer store stands_pushed honest base xs is item_sight told (ap (map (λ (p : Content). p.id)) (rest_whole items) ∙ more)))
     c.push_parts.ensures.parts

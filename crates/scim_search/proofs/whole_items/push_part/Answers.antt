@@ -10,10 +10,10 @@ use Rattle.scim_search.proofs.whole_items.push_part.Goals as goal
 
 pub returns-clause-parts : goal.returns-clause-parts
 returns-clause-parts g c store stands honest base own is item sought found tells =
-    let viewer = viewer_of c.args.sight.viewer.now in
+    let viewer = viewer_of c.args.builder.viewer.now in
     let same : c.in-Some.resource ≡ own = cc in
     let part = c.in_ok-part.ensures.part store stands honest base is item
-    (subst (λ (d : Content). find (is_at c.args.sight.kind d.id) store.resources ≡ Some d) (sym same) found) tells in (
+    (subst (λ (d : Content). find (is_at c.args.builder.kind d.id) store.resources ≡ Some d) (sym same) found) tells in (
       part.0,
       c.in_ok-push_if_seen.ensures
           ∙ ap (λ (o : Option Content). c.args.parts.now.items ++ and_those o [])

@@ -8,7 +8,7 @@ use Rattle.scim_search.proofs.whole_items.whole_items.Goals as goal
 
 pub returns-clause-whole : goal.returns-clause-whole
 returns-clause-whole g c store stands honest base is item found ids =
-    let viewer = viewer_of c.args.sight.viewer.now in
+    let viewer = viewer_of c.args.builder.viewer.now in
     let none : c.in_ok-parts.parts.items ≡ [] = search rules in
     c.in_ok-push_parts.ensures.parts store stands honest base found is item (c.in_ok-listing.ensures store.resources) ids
     ∙ ap (λ (ps : List Content). ps ++ map (λ x. with_groups viewer (of_kind Group store.resources) x.own) found) none

@@ -1,6 +1,6 @@
 use Rattle.std.proofs.lemmas.Result.{IfOk-weaker}
 use Rattle.scim_view.specs.View.{viewer_of}
-use Rattle.scim_search.proofs.whole_items.ItemSight.part_of.Goals as goal
+use Rattle.scim_search.proofs.whole_items.ItemBuilder.part_of.Goals as goal
 
 pub returns-in-Some-clause-part : goal.returns-in-Some-clause-part
 returns-in-Some-clause-part g c =

@@ -2,16 +2,16 @@ use Rattle.std.proofs.Common.{sym, subst, [], ◌++◌}
 use Rattle.scim_view.specs.Groups.{and_those}
 use Rattle.scim_view.specs.View.{viewer_of}
 use Rattle.scim_query.specs.Pagers.{HasTaken}
-use Rattle.scim_search.specs.declared.sights.Shows.{Shows}
-use Rattle.scim_search.specs.Sights.{made, made_if_seen}
+use Rattle.scim_search.specs.declared.view_builders.ViewScope.{ViewScope}
+use Rattle.scim_search.specs.ViewBuilders.{made, made_if_seen}
 use Rattle.scim_search.proofs.VisitLemmas.{ok_by}
-use Rattle.scim_search.proofs.sights.Sight.show.Goals as goal
+use Rattle.scim_search.proofs.view_builders.ViewBuilder.show.Goals as goal
 
 pub returns-in-Named-clause-taken : goal.returns-in-Named-clause-taken
 returns-in-Named-clause-taken c =
     ok_by c.show_named.result _ _
     (λ taken groups parts is own was.
     let viewer = viewer_of c.args.self.now.viewer.now in
-    subst (λ (s : Shows). HasTaken (parts ++ and_those (made_if_seen (made viewer groups s) viewer c.args.resource.now) []) c.show_named.new.pager) (sym c.in-Named.is)
+    subst (λ (s : ViewScope). HasTaken (parts ++ and_those (made_if_seen (made viewer groups s) viewer c.args.resource.now) []) c.show_named.new.pager) (sym c.in-Named.is)
     (taken viewer parts own was))
     c.show_named.ensures.taken

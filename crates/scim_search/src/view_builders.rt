@@ -5,7 +5,7 @@ ghost use Rattle.scim_view.specs.View.{Viewer as SpecViewer, read_decision, visi
 ghost use Rattle.scim_view.specs.Groups.{and_those};
 ghost use Rattle.scim_query.specs.Pagers.{HasTaken};
 ghost use Rattle.scim_search.specs.ReadDecisions.{AreFor};
-ghost use Rattle.scim_search.specs.Sights as spec;
+ghost use Rattle.scim_search.specs.ViewBuilders as spec;
 
 use crate::read_decisions::ReadDecisions;
 use scim_policy::Decisions;
@@ -18,7 +18,7 @@ use std::alloc::Global;
 
 /// Which part of each resource is made.
 #[derive(Clone, Copy)]
-pub(crate) enum Shows<'a> {
+pub(crate) enum ViewScope<'a> {
     /// The visible part of these attributes only.
     Named(&'a [Attribute]),
     /// The whole visible part, with `groups` made from this index.
@@ -27,36 +27,36 @@ pub(crate) enum Shows<'a> {
 
 /// The viewer of resources, and which part of each is made.
 #[derive(Clone, Copy)]
-pub(crate) struct Sight<'a> {
+pub(crate) struct ViewBuilder<'a> {
     viewer: &'a Viewer<'a>,
     decisions: &'a ReadDecisions<'a>,
-    shows: Shows<'a>,
+    scope: ViewScope<'a>,
 }
 
-impl<'a> Sight<'a> {
+impl<'a> ViewBuilder<'a> {
     /// Returns the sight of a client, by these decisions on the kind of the resources.
     pub(crate) fn new(
         viewer: &'a Viewer<'a>,
         decisions: &'a ReadDecisions<'a>,
-        shows: Shows<'a>,
-    ) -> Sight<'a>
+        scope: ViewScope<'a>,
+    ) -> ViewBuilder<'a>
         ensures { result ≡ record {
           viewer = viewer.entry;
           decisions = decisions.entry;
-          shows =
-              shows.entry;
+          scope =
+              scope.entry;
         } }
     {
-        Sight {
+        ViewBuilder {
             viewer,
             decisions,
-            shows,
+            scope,
         }
     }
 
     /// Returns the decisions for the whole kind, if they don't differ by resource.
     pub(crate) fn on_all(&self, resource: &Resource) -> Option<&Decisions>
-        ensures { (groups : List Content) → spec.IsSight groups self.now
+        ensures { (groups : List Content) → spec.IsViewBuilder groups self.now
             → IfSome result (λ decisions.
             AreFor (viewer_of self.now.viewer.now) resource.now decisions.now) }
     {
@@ -65,7 +65,8 @@ impl<'a> Sight<'a> {
 
     /// Evaluates the decisions on reading the resource.
     pub(crate) fn decide(&self, alloc: Global, resource: &Resource) -> Result<Decisions, NoMemory>
-        ensures { IfOk result (λ decisions. (groups : List Content) → spec.IsSight groups self.now
+        ensures { IfOk result (λ decisions. (groups : List Content)
+            → spec.IsViewBuilder groups self.now
             → AreFor (viewer_of self.now.viewer.now) resource.now decisions) }
     {
         self.decisions.on(alloc, self.viewer, resource)
@@ -81,15 +82,16 @@ impl<'a> Sight<'a> {
         pager: &mut Pager<'_>,
     ) -> Result<bool, NoMemory>
         ensures query { pager.new.query ≡ pager.old.query }
-        ensures taken { OnOk result ((groups parts : List Content) → spec.IsSight groups self.now
+        ensures taken { OnOk result ((groups parts : List Content)
+            → spec.IsViewBuilder groups self.now
             → AreFor (viewer_of self.now.viewer.now) resource.now decisions.now
             → HasTaken parts pager.old
             → HasTaken (parts ++ and_those (spec.part_of groups self.now resource.now) [])
             pager.new) }
     {
-        match self.shows {
-            Shows::Named(attributes) => show_named(decisions, attributes, resource, pager),
-            Shows::Whole(index) => {
+        match self.scope {
+            ViewScope::Named(attributes) => show_named(decisions, attributes, resource, pager),
+            ViewScope::Whole(index) => {
                 let part = self
                     .viewer
                     .view_by_index(alloc, decisions, index, resource)?;

@@ -4,13 +4,13 @@ use Rattle.scim_cell.specs.Content.{Content}
 use Rattle.scim_view.specs.View.{Viewer, viewer_of, read_decision, sees, visible_attributes}
 use Rattle.scim_view.specs.Groups.{and_those, with_groups}
 use Rattle.scim_view.specs.Indexes.{IsIndexOf}
-use Rattle.scim_search.specs.declared.sights.Shows.{Shows}
-use Rattle.scim_search.specs.declared.sights.Shows.TheVariants.{Named, Whole}
-use Rattle.scim_search.specs.declared.sights.Sight.{Sight}
+use Rattle.scim_search.specs.declared.view_builders.ViewScope.{ViewScope}
+use Rattle.scim_search.specs.declared.view_builders.ViewScope.TheVariants.{Named, Whole}
+use Rattle.scim_search.specs.declared.view_builders.ViewBuilder.{ViewBuilder}
 use Rattle.scim_search.specs.ReadDecisions.{AreDecisions}
 
 -- the part made of a resource: its visible part of some attributes, or its whole visible part with groups
-abbrev pub made : Viewer → List Content → Shows → Content → Content
+abbrev pub made : Viewer → List Content → ViewScope → Content → Content
 made v groups (Named attributes) c = visible_attributes attributes.now (read_decision v c) c
 made v groups (Whole index) c = with_groups v groups c
 
@@ -24,15 +24,15 @@ made_of_all make v [] = []
 made_of_all make v (c ∷ cs) = and_those (made_if_seen make v c) (made_of_all make v cs)
 
 -- the index, if parts are made whole, is of these groups
-abbrev pub IsIndexed : Viewer → List Content → Shows → Type 0
+abbrev pub IsIndexed : Viewer → List Content → ViewScope → Type 0
 IsIndexed v groups (Named attributes) = ⊤
 IsIndexed v groups (Whole index) = IsIndexOf v groups index.now
 
 -- the sight's decisions are those on the viewer's reading, and its index, if any, is of these groups
-pub record IsSight (groups : List Content) (sight : Sight) : Type 0 where
-  pub decisions : AreDecisions (viewer_of sight.viewer.now) sight.decisions.now
-  pub index : IsIndexed (viewer_of sight.viewer.now) groups sight.shows
+pub record IsViewBuilder (groups : List Content) (builder : ViewBuilder) : Type 0 where
+  pub decisions : AreDecisions (viewer_of builder.viewer.now) builder.decisions.now
+  pub index : IsIndexed (viewer_of builder.viewer.now) groups builder.scope
 
 -- the part that a sight makes of a resource; None if its viewer doesn't see it
-abbrev pub part_of : List Content → Sight → Content → Option Content
-part_of groups sight c = made_if_seen (made (viewer_of sight.viewer.now) groups sight.shows) (viewer_of sight.viewer.now) c
+abbrev pub part_of : List Content → ViewBuilder → Content → Option Content
+part_of groups builder c = made_if_seen (made (viewer_of builder.viewer.now) groups builder.scope) (viewer_of builder.viewer.now) c

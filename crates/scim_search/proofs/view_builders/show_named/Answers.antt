@@ -12,7 +12,7 @@ use Rattle.scim_query.specs.Pagers.{HasTaken}
 use Rattle.scim_search.proofs.ListLemmas.{not_false}
 use Rattle.scim_search.proofs.WalkLemmas.{named_part, seen_by}
 use Rattle.scim_search.proofs.VisitLemmas.{ok_by}
-use Rattle.scim_search.proofs.sights.show_named.Goals as goal
+use Rattle.scim_search.proofs.view_builders.show_named.Goals as goal
 
 pub returns-then-not-of-clause-taken : goal.returns-then-not-of-clause-taken
 returns-then-not-of-clause-taken c v parts own was =
