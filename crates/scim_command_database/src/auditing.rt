@@ -58,8 +58,9 @@ fn audit_text<S: Alter>(
     from: u64,
     count: u64,
 ) -> Result<String, RunFault>
-    ensures text { IfOk result (Answers ⟦<SqlShelf<S> as Shelf>⟧.stands ⟦<SqlShelf<S> as Shelf>⟧.is_honest shelf.old shelf.new (λ store text. string_bytes text
-        ≡ spec.audit_text from count store.audit)) }
+    ensures text { IfOk result (Answers ⟦<SqlShelf<S> as Shelf>⟧.stands
+        ⟦<SqlShelf<S> as Shelf>⟧.is_honest shelf.old shelf.new
+        (λ store text. string_bytes text ≡ spec.audit_text from count store.audit)) }
     ensures store { KeepsStore ⟦<SqlShelf<S> as Shelf>⟧.stands shelf.old shelf.new }
     ensures honest { ⟦<SqlShelf<S> as Shelf>⟧.is_honest shelf.new
         → ⟦<SqlShelf<S> as Shelf>⟧.is_honest shelf.old }

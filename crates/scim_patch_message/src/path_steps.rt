@@ -15,7 +15,7 @@ use crate::operations::Operation;
 use crate::readings::Reading;
 use scim_body::{Tree, WrongValue, read_listed, read_units, values_clash};
 use scim_cell::{Atom, Row, Text};
-use scim_patch_steps::Change;
+use scim_patch_steps::StepChange;
 use scim_schema::{
     Attribute, JsonShape, Kind, Leaf, Mutability, SubAttribute, Unit, is_multi_valued,
     is_read_only, mutability_of, shape_of, sub_attributes, unit_of,

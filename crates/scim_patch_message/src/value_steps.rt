@@ -14,7 +14,7 @@ use crate::operations::Operation;
 use crate::readings::Reading;
 use scim_body::{Tree, WrongValue, field_given, read_field, read_fields, value_clashes};
 use scim_filter_grammar::Filter;
-use scim_patch_steps::Change;
+use scim_patch_steps::StepChange;
 use scim_schema::{
     Attribute, Kind, Leaf, SubAttribute, Unit, is_multi_valued, is_read_only, unit_of,
 };

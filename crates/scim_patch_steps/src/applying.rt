@@ -11,7 +11,7 @@ ghost use Rattle.scim_patch_steps.specs.Patch as spec;
 ghost use Rattle.scim_patch_steps.specs.Kept.{outcome, patch_of, step_of};
 ghost use Rattle.scim_patch_steps.specs.code.Outcomes.{rows_left};
 
-use crate::changes::Change;
+use crate::changes::StepChange;
 use crate::patches::{Patch, Step};
 use crate::steps::{StepFault, values_after};
 use crate::touched::{before_of, is_changed};

@@ -12,7 +12,7 @@ mod table;
 mod touched;
 
 pub use applying::apply;
-pub use changes::Change;
+pub use changes::StepChange;
 pub use laws::patching_rests_on_its_units;
 pub use patches::{Patch, Step};
 pub use steps::{StepFault, values_after};

@@ -3,7 +3,7 @@ ghost use Rattle.std.specs.Prelude.{◌≡◌, map};
 ghost use Rattle.scim_patch_steps.specs.Patch as spec;
 ghost use Rattle.scim_patch_steps.specs.Kept.{patch_of, step_of};
 
-use crate::changes::Change;
+use crate::changes::StepChange;
 use scim_schema::{Kind, Unit};
 use std::marker::Model;
 

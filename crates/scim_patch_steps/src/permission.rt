@@ -7,7 +7,7 @@ ghost use Rattle.scim_cell.specs.SameValues.{is_members};
 ghost use Rattle.scim_patch_values.specs.Matches as matches;
 ghost use Rattle.scim_patch_steps.specs.Steps as spec;
 
-use crate::changes::Change;
+use crate::changes::StepChange;
 use scim_cell::Row;
 use scim_filter_grammar::Filter;
 use scim_patch_values::is_any_match;

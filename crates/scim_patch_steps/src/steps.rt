@@ -5,7 +5,7 @@ ghost use Rattle.scim_patch_steps.specs.Changes.{change_of};
 ghost use Rattle.scim_patch_steps.specs.Steps as spec;
 ghost use Rattle.scim_patch_steps.specs.Steps.{rows_answered};
 
-use crate::changes::Change;
+use crate::changes::StepChange;
 use crate::permission::is_forbidden;
 use crate::settling::settle;
 use crate::table::row;

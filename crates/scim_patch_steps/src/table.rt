@@ -7,7 +7,7 @@ ghost use Rattle.scim_patch_values.specs.Matches as matches;
 ghost use Rattle.scim_patch_steps.specs.Changes.{ReplaceMatches, change_of};
 ghost use Rattle.scim_patch_steps.specs.Table as spec;
 
-use crate::changes::Change;
+use crate::changes::StepChange;
 use scim_cell::{Field, Row, with_values};
 use scim_filter_grammar::Filter;
 use scim_patch_values::{

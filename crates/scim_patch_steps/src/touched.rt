@@ -9,7 +9,7 @@ ghost use Rattle.scim_patch_steps.specs.code.Lengths as lengths;
 ghost use Rattle.scim_patch_steps.specs.code.Before.{IsBefore, IsInOrder, tells};
 ghost use Rattle.scim_patch_steps.specs.code.Touched.{is_about, is_other, rows_about};
 
-use crate::changes::Change;
+use crate::changes::StepChange;
 use crate::patches::{Patch, Step};
 use scim_cell::Row;
 use scim_schema::{Kind, Mutability, Unit, mutability_of};

@@ -55,7 +55,9 @@ impl<S: Shelf> CachedShelf<S> {
     pub fn fill(&mut self, alloc: Global) -> Result<(), Failed<ShelfFault>>
         ensures filled { OnOk result (IsFilled self.new) }
         ensures kept { OnErr result (self.new.resources ≡ self.old.resources) }
-        ensures read { OnlyReads (HasKeyed ⟦<CachedShelf<S> as Shelf>⟧.stands) ⟦<CachedShelf<S> as Shelf>⟧.is_honest ⟦<CachedShelf<S> as Shelf>⟧.failures self.old self.new result }
+        ensures read { OnlyReads (HasKeyed ⟦<CachedShelf<S> as Shelf>⟧.stands)
+            ⟦<CachedShelf<S> as Shelf>⟧.is_honest ⟦<CachedShelf<S> as Shelf>⟧.failures
+            self.old self.new result }
     {
         let resources = collection_of(alloc, &mut self.lower)?;
         self.resources = Some(resources);

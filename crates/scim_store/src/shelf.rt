@@ -194,9 +194,12 @@ impl<S: Alter> SqlShelf<S> {
         from: u64,
         count: u64,
     ) -> Result<Vec<AuditRow>, Failed<ShelfFault>>
-        ensures answer { IfOk result (Answers ⟦<SqlShelf<S> as Shelf>⟧.stands ⟦<SqlShelf<S> as Shelf>⟧.is_honest self.old self.new (λ store rows.
-            AreRowsFrom from count store rows.items)) }
-        ensures read { OnlyReads ⟦<SqlShelf<S> as Shelf>⟧.stands ⟦<SqlShelf<S> as Shelf>⟧.is_honest ⟦<SqlShelf<S> as Shelf>⟧.failures self.old self.new result }
+        ensures answer { IfOk result (Answers ⟦<SqlShelf<S> as Shelf>⟧.stands
+            ⟦<SqlShelf<S> as Shelf>⟧.is_honest self.old self.new
+            (λ store rows. AreRowsFrom from count store rows.items)) }
+        ensures read { OnlyReads ⟦<SqlShelf<S> as Shelf>⟧.stands
+            ⟦<SqlShelf<S> as Shelf>⟧.is_honest ⟦<SqlShelf<S> as Shelf>⟧.failures
+            self.old self.new result }
     {
         let read = read_audit_rows(&mut self.connection, alloc, from, count);
         told(&mut self.failures, read)

@@ -6,7 +6,7 @@ ghost use Rattle.scim_store_tables.specs.Tables.{no_schema};
 ghost use Rattle.scim_store_tables.specs.Whole as spec;
 ghost use Rattle.scim_store_tables.specs.Whole.{IsByNames};
 
-use crate::tables::Reading;
+use crate::tables::DatabaseKind;
 use sqlite::{Alter, Connection};
 use sqlite_schema::names::same_name;
 use sqlite_schema::schema::Schema;
