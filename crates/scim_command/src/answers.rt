@@ -4,6 +4,7 @@ ghost use Rattle.scim_audit.specs.declared.refusals.Refusal.{Refusal};
 ghost use Rattle.scim_shelf.specs.Stores.{Store, IsStore};
 ghost use Rattle.scim_exchange.specs.Replies as replies;
 ghost use Rattle.scim_command.specs.Once.{IsReplyTo};
+ghost use Rattle.scim_service.specs.Setting.{service_base, service_policy, service_shelf};
 
 use scim_audit::Refusal;
 use scim_exchange::{Answer, Arrival, answer};
@@ -22,10 +23,11 @@ pub(crate) fn reply_text(
     arrival: &Arrival<'_>,
     message: &Message,
 ) -> Result<String, NoMemory>
-    ensures { (store : Store) → ⟦<MemoryShelf as Shelf>⟧.stands service.old.shelf store
-        → IsStore service.old.base store
+    ensures { (store : Store) → ⟦<MemoryShelf as Shelf>⟧.stands (service_shelf service.old) store
+        → IsStore (service_base service.old) store
         → IfOk result (λ t.
-        IsReplyTo service.old.policy service.old.base arrival.now store message.now
+        IsReplyTo (service_policy service.old)
+        (service_base service.old) arrival.now store message.now
         (string_bytes t)) }
 {
     let answer = answer(alloc, routes, service, arrival, message);

@@ -15,6 +15,7 @@ ghost use Rattle.scim_hub.specs.HubStates.{IsHubState, owned_event_of};
 ghost use Rattle.scim_command.specs.EventFiles.{IsEventFile, IsFaultyAt};
 ghost use Rattle.scim_command.specs.Replays.{Replays, AreResultsOf};
 ghost use Rattle.scim_command.specs.code.ReplayExits.{IsHubOver, IsOfFiles, IsOfEvents, IsReplayFault};
+ghost use Rattle.scim_hub.specs.HubSetting.{hub_base, hub_policy, hub_tokens};
 
 use crate::borrowed_events::events_of;
 use crate::event_files::{FaultyLine, read_events};
@@ -136,10 +137,10 @@ fn answered(
     hub: &mut Hub<MemoryShelf>,
     owned: &[OwnedEvent],
 ) -> Result<String, NoMemory>
-    ensures { (entries : List Entry) (state : HubState) → Knows entries hub.old.tokens
+    ensures { (entries : List Entry) (state : HubState) → Knows entries (hub_tokens hub.old)
         → IsHubState ⟦<MemoryShelf as Shelf>⟧.stands hub.old state
         → IfOk result (λ text.
-        AreResultsOf hub.old.service.policy hub.old.service.base entries state
+        AreResultsOf (hub_policy hub.old) (hub_base hub.old) entries state
         (map owned_event_of owned.now) (string_bytes text)) }
 {
     let events = events_of(alloc, owned)?;

@@ -13,6 +13,7 @@ ghost use Rattle.scim_exchange.specs.Replies as replies;
 ghost use Rattle.scim_command.specs.Inputs.{IsUnended};
 ghost use Rattle.scim_command.specs.code.Exits.{IsOfFiles, IsOfInput, text_or_store};
 ghost use Rattle.scim_command.specs.Once.{Answers, AreSound, IsStoreOf, IsAnswer};
+ghost use Rattle.scim_service.specs.Setting.{service_base, service_policy, service_shelf};
 
 use crate::answers::{refusal_text, reply_text};
 use crate::faults::RunFault;
@@ -133,9 +134,9 @@ pub fn once<R: Read, W: Write>(
 fn service_by(alloc: Global, setting: &Setting<'_>) -> Result<Service<MemoryShelf>, RunFault>
     ensures service { IfOk result (λ service. (store : Store)
         × IsStoreOf setting.now.base.now setting.now.users.now store
-        × ⟦<MemoryShelf as Shelf>⟧.stands service.shelf store
-        × (policy_of setting.now.policy.now ≡ Ok service.policy)
-        × (service.base ≡ setting.now.base.now)) }
+        × ⟦<MemoryShelf as Shelf>⟧.stands (service_shelf service) store
+        × (policy_of setting.now.policy.now ≡ Ok (service_policy service))
+        × ((service_base service) ≡ setting.now.base.now)) }
     ensures policy { (rule : ℕ) (cause : Cause) → result ≡ Err (RunFault.Policy rule cause)
         → policy_of setting.now.policy.now ≡ Err (record { rule = rule; cause = cause }) }
     ensures users { (n : ℕ) → result ≡ Err (RunFault.Users n)
@@ -157,10 +158,11 @@ fn reply_to<R: Read>(
     arrival: &Arrival<'_>,
     reader: &mut R,
 ) -> Result<Result<String, NoMemory>, RunFault>
-    ensures answer { (store : Store) → ⟦<MemoryShelf as Shelf>⟧.stands service.old.shelf store
-        → IsStore service.old.base store
+    ensures answer { (store : Store) → ⟦<MemoryShelf as Shelf>⟧.stands
+        (service_shelf service.old) store
+        → IsStore (service_base service.old) store
         → IfOk result (λ reply. IfSome (R.remaining reader.old) (λ input.
-        IsAnswer service.old.policy service.old.base arrival.now store input
+        IsAnswer (service_policy service.old) (service_base service.old) arrival.now store input
         (text_or_store reply))) }
     ensures ended { result ≡ Err RunFault.InputEnded → IfSome (R.remaining reader.old) IsUnended }
     ensures fault { IfErr result IsOfInput }

@@ -5,6 +5,7 @@ ghost use Rattle.scim_shelf.specs.Stores.{Store};
 ghost use Rattle.scim_command.specs.declared.faults.RunFault.{RunFault};
 ghost use Rattle.scim_command.specs.Faults.{IsOfUsers};
 ghost use Rattle.scim_command.specs.Once.{IsStoreOf};
+ghost use Rattle.scim_service.specs.Setting.{service_base, service_policy, service_shelf};
 
 use crate::faults::RunFault;
 use scim_cell::Text;
@@ -25,9 +26,9 @@ pub fn service_over(
 ) -> Result<Service<MemoryShelf>, RunFault>
     ensures service { IfOk result (λ service. (store : Store)
         × IsStoreOf base.now users.now store
-        × ⟦<MemoryShelf as Shelf>⟧.stands service.shelf store) }
-    ensures policy { IfOk result (λ service. service.policy ≡ policy) }
-    ensures base { IfOk result (λ service. service.base ≡ base.now) }
+        × ⟦<MemoryShelf as Shelf>⟧.stands (service_shelf service) store) }
+    ensures policy { IfOk result (λ service. (service_policy service) ≡ policy) }
+    ensures base { IfOk result (λ service. (service_base service) ≡ base.now) }
     ensures damaged { (n : ℕ) → result ≡ Err (RunFault.Users n) → IsDamagedAt base.now users.now n }
     ensures fault { IfErr result IsOfUsers }
 {

@@ -11,6 +11,7 @@ ghost use Rattle.scim_service.specs.Answers.{IsCause};
 ghost use Rattle.scim_exchange.specs.Exchanges.{IsTurnOf, IsPageOr, IsServedTo, IsTold, Exchanged};
 ghost use Rattle.scim_exchange.specs.code.Faults as spec;
 ghost use Rattle.scim_exchange.specs.declared.answers.Answer.{Answer};
+ghost use Rattle.scim_service.specs.Setting.{service_base, service_policy, service_shelf, KeepsSetting};
 
 use crate::answers::Answer;
 use crate::asks::ask;
@@ -115,17 +116,21 @@ fn served<S: Shelf>(
     route: &Route<'_>,
     message: &Message,
 ) -> Answer
-    ensures policy { service.new.policy ≡ service.old.policy }
-    ensures base { service.new.base ≡ service.old.base }
-    ensures served { (store : Store) → S.stands service.old.shelf store
-        → S.is_honest service.new.shelf → IsStore service.old.base store
-        → (next : Store) × S.stands service.new.shelf next × IsStore service.old.base next
-        × (IsServedTo (option_copied arrival.now.client) service.old.policy service.old.base
-        (IsCause (S.failures service.old.shelf) (S.failures service.new.shelf) store) arrival.now
+    ensures keeps { KeepsSetting service.old service.new }
+    ensures served { (store : Store) → S.stands (service_shelf service.old) store
+        → S.is_honest (service_shelf service.new) → IsStore (service_base service.old) store
+        → (next : Store) × S.stands (service_shelf service.new) next
+        × IsStore (service_base service.old) next
+        × (IsServedTo (option_copied arrival.now.client) (service_policy service.old)
+        (service_base service.old)
+        (IsCause (S.failures (service_shelf service.old))
+        (S.failures (service_shelf service.new)) store) arrival.now
         route.now message.now store result next
         ⊎ IsTold (Answer.Refused Refusal.Store) store result next) }
-    ensures honest { S.is_honest service.new.shelf → S.is_honest service.old.shelf }
-    ensures grown { S.failures service.old.shelf ≤ S.failures service.new.shelf }
+    ensures honest { S.is_honest (service_shelf service.new)
+        → S.is_honest (service_shelf service.old) }
+    ensures grown { S.failures (service_shelf service.old)
+        ≤ S.failures (service_shelf service.new) }
 {
     let Some(client) = arrival.client else {
         return Answer::Refused(Refusal::NoToken);
@@ -151,16 +156,19 @@ pub fn answer<S: Shelf>(
     arrival: &Arrival<'_>,
     message: &Message,
 ) -> Answer
-    ensures policy { service.new.policy ≡ service.old.policy }
-    ensures base { service.new.base ≡ service.old.base }
-    ensures exchanged { (store : Store) → S.stands service.old.shelf store
-        → S.is_honest service.new.shelf → IsStore service.old.base store
-        → (next : Store) × S.stands service.new.shelf next × IsStore service.old.base next
-        × Exchanged service.old.policy service.old.base
-        (IsCause (S.failures service.old.shelf) (S.failures service.new.shelf) store)
+    ensures keeps { KeepsSetting service.old service.new }
+    ensures exchanged { (store : Store) → S.stands (service_shelf service.old) store
+        → S.is_honest (service_shelf service.new) → IsStore (service_base service.old) store
+        → (next : Store) × S.stands (service_shelf service.new) next
+        × IsStore (service_base service.old) next
+        × Exchanged (service_policy service.old) (service_base service.old)
+        (IsCause (S.failures (service_shelf service.old))
+        (S.failures (service_shelf service.new)) store)
         arrival.now message.now store result next }
-    ensures honest { S.is_honest service.new.shelf → S.is_honest service.old.shelf }
-    ensures grown { S.failures service.old.shelf ≤ S.failures service.new.shelf }
+    ensures honest { S.is_honest (service_shelf service.new)
+        → S.is_honest (service_shelf service.old) }
+    ensures grown { S.failures (service_shelf service.old)
+        ≤ S.failures (service_shelf service.new) }
 {
     match found_in(alloc, routes, message) {
         Ok(Found::Discovery(page, query)) => page_answer(alloc, page, query),

@@ -8,6 +8,7 @@ ghost use Rattle.scim_hub.specs.Answering as spec;
 ghost use Rattle.scim_hub.specs.Answering.{Arrives};
 ghost use Rattle.scim_exchange.specs.Replies.{answer_text};
 ghost use Rattle.scim_hub.specs.code.Replies.{Says, IsReplyToItem, IsReplyToMessage, AreReplies};
+ghost use Rattle.scim_service.specs.Setting.{service_base, service_policy, service_shelf, KeepsSetting};
 
 use crate::events::{Output, Stamp};
 use scim_cell::{Id, id_of, uuid_of};
@@ -117,14 +118,16 @@ fn answer_message<S: Shelf>(
     arrival: &Arrival<'_>,
     message: &Message,
 ) -> Result<Reply, NoMemory>
-    ensures policy { service.new.policy ≡ service.old.policy }
-    ensures base { service.new.base ≡ service.old.base }
-    ensures answered { (store : Store) → S.stands service.old.shelf store
-        → S.is_honest service.new.shelf → IsStore service.old.base store
-        → (next : Store) × S.stands service.new.shelf next × IsStore service.old.base next
-        × IsReplyToMessage service.old.policy service.old.base arrival.now message.now store result
+    ensures keeps { KeepsSetting service.old service.new }
+    ensures answered { (store : Store) → S.stands (service_shelf service.old) store
+        → S.is_honest (service_shelf service.new) → IsStore (service_base service.old) store
+        → (next : Store) × S.stands (service_shelf service.new) next
+        × IsStore (service_base service.old) next
+        × IsReplyToMessage (service_policy service.old)
+        (service_base service.old) arrival.now message.now store result
         next }
-    ensures honest { S.is_honest service.new.shelf → S.is_honest service.old.shelf }
+    ensures honest { S.is_honest (service_shelf service.new)
+        → S.is_honest (service_shelf service.old) }
 {
     let answer = answer(alloc, routes, service, arrival, message);
     reply_with(alloc, &answer, message.close)
@@ -142,15 +145,17 @@ fn answer_item<S: Shelf>(
     count: usize,
     item: &Item,
 ) -> Result<Reply, NoMemory>
-    ensures policy { service.new.policy ≡ service.old.policy }
-    ensures base { service.new.base ≡ service.old.base }
+    ensures keeps { KeepsSetting service.old service.new }
     ensures answered { (entries : List Entry) (store : Store) → Knows entries tokens.now
-        → S.stands service.old.shelf store
-        → S.is_honest service.new.shelf → IsStore service.old.base store
-        → (next : Store) × S.stands service.new.shelf next × IsStore service.old.base next
-        × IsReplyToItem service.old.policy service.old.base entries stamp.now count item.now store
+        → S.stands (service_shelf service.old) store
+        → S.is_honest (service_shelf service.new) → IsStore (service_base service.old) store
+        → (next : Store) × S.stands (service_shelf service.new) next
+        × IsStore (service_base service.old) next
+        × IsReplyToItem (service_policy service.old)
+        (service_base service.old) entries stamp.now count item.now store
         result next }
-    ensures honest { S.is_honest service.new.shelf → S.is_honest service.old.shelf }
+    ensures honest { S.is_honest (service_shelf service.new)
+        → S.is_honest (service_shelf service.old) }
 {
     match item {
         Item::Continue => continue_reply(alloc),
@@ -184,15 +189,17 @@ pub(crate) fn answer_items<S: Shelf>(
     connection: u64,
     items: &[Item],
 ) -> Result<Replies, NoMemory>
-    ensures policy { service.new.policy ≡ service.old.policy }
-    ensures base { service.new.base ≡ service.old.base }
+    ensures keeps { KeepsSetting service.old service.new }
     ensures answered { (entries : List Entry) (store : Store) → Knows entries tokens.now
-        → S.stands service.old.shelf store
-        → S.is_honest service.new.shelf → IsStore service.old.base store
-        → (next : Store) × S.stands service.new.shelf next × IsStore service.old.base next
-        × AreReplies service.old.policy service.old.base entries stamp.now connection items.now
+        → S.stands (service_shelf service.old) store
+        → S.is_honest (service_shelf service.new) → IsStore (service_base service.old) store
+        → (next : Store) × S.stands (service_shelf service.new) next
+        × IsStore (service_base service.old) next
+        × AreReplies (service_policy service.old)
+        (service_base service.old) entries stamp.now connection items.now
         store result next }
-    ensures honest { S.is_honest service.new.shelf → S.is_honest service.old.shelf }
+    ensures honest { S.is_honest (service_shelf service.new)
+        → S.is_honest (service_shelf service.old) }
 {
     let mut outputs = Vec::new(alloc);
     let mut count = 0;

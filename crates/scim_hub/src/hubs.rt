@@ -6,6 +6,8 @@ ghost use Rattle.scim_shelf.specs.Stores.{Store, IsStore};
 ghost use Rattle.scim_hub.specs.Events.{HubState, Hears, Runs, none_joined};
 ghost use Rattle.scim_hub.specs.HubStates.{IsHubState, event_of, done};
 ghost use Rattle.scim_hub.specs.code.Changes.{TakesPiece};
+ghost use Rattle.scim_service.specs.Setting.{service_base, service_shelf};
+ghost use Rattle.scim_hub.specs.HubSetting.{hub_base, hub_policy, hub_shelf, hub_tokens, KeepsHubSetting};
 
 use crate::answering::{Replies, answer_items};
 use crate::connections::Connections;
@@ -44,8 +46,9 @@ impl<S: Shelf> Hub<S> {
     /// Returns a hub without connections over the service, with these routes and the clients' tokens.
     pub fn new(alloc: Global, routes: Routes, service: Service<S>, tokens: Tokens) -> Hub<S>
         ensures service { result.service ≡ service }
-        ensures tokens { result.tokens ≡ tokens }
-        ensures state { (store : Store) → S.stands service.shelf store → IsStore service.base store
+        ensures tokens { hub_tokens result ≡ tokens }
+        ensures state { (store : Store) → S.stands (service_shelf service) store
+            → IsStore (service_base service) store
             → IsHubState S.stands result (none_joined store) }
     {
         Hub {
@@ -69,15 +72,14 @@ impl<S: Shelf> Hub<S> {
     /// connection whose piece was read is shut and its outputs are lost, while the changes of its requests
     /// remain committed. Other connections aren't affected.
     pub fn event(&mut self, alloc: Global, event: &Event<'_>) -> Result<Vec<Output>, HubFault>
-        ensures policy { self.new.service.policy ≡ self.old.service.policy }
-        ensures base { self.new.service.base ≡ self.old.service.base }
-        ensures tokens { self.new.tokens ≡ self.old.tokens }
-        ensures heard { (entries : List Entry) (state : HubState) → Knows entries self.old.tokens
-            → IsHubState S.stands self.old state → S.is_honest self.new.service.shelf
+        ensures keeps { KeepsHubSetting self.old self.new }
+        ensures heard { (entries : List Entry) (state : HubState)
+            → Knows entries (hub_tokens self.old)
+            → IsHubState S.stands self.old state → S.is_honest (hub_shelf self.new)
             → (next : HubState) × IsHubState S.stands self.new next
-            × Hears self.old.service.policy self.old.service.base entries (event_of event.now) state
+            × Hears (hub_policy self.old) (hub_base self.old) entries (event_of event.now) state
             (done result) next }
-        ensures honest { S.is_honest self.new.service.shelf → S.is_honest self.old.service.shelf }
+        ensures honest { S.is_honest (hub_shelf self.new) → S.is_honest (hub_shelf self.old) }
     {
         match event.kind {
             EventKind::Joined => {
@@ -103,15 +105,14 @@ impl<S: Shelf> Hub<S> {
         stamp: &Stamp,
         piece: &[u8],
     ) -> Result<Vec<Output>, HubFault>
-        ensures policy { self.new.service.policy ≡ self.old.service.policy }
-        ensures base { self.new.service.base ≡ self.old.service.base }
-        ensures tokens { self.new.tokens ≡ self.old.tokens }
-        ensures heard { (entries : List Entry) (state : HubState) → Knows entries self.old.tokens
-            → IsHubState S.stands self.old state → S.is_honest self.new.service.shelf
+        ensures keeps { KeepsHubSetting self.old self.new }
+        ensures heard { (entries : List Entry) (state : HubState)
+            → Knows entries (hub_tokens self.old)
+            → IsHubState S.stands self.old state → S.is_honest (hub_shelf self.new)
             → (next : HubState) × IsHubState S.stands self.new next
-            × TakesPiece self.old.service.policy self.old.service.base entries stamp.now connection
+            × TakesPiece (hub_policy self.old) (hub_base self.old) entries stamp.now connection
             piece.now state (done result) next }
-        ensures honest { S.is_honest self.new.service.shelf → S.is_honest self.old.service.shelf }
+        ensures honest { S.is_honest (hub_shelf self.new) → S.is_honest (hub_shelf self.old) }
     {
         let items = self.connections.feed(alloc, connection, piece)?;
         match answer_items(
@@ -148,17 +149,15 @@ impl<S: Shelf> Hub<S> {
         alloc: Global,
         events: &[Event<'_>],
     ) -> Result<Vec<Result<Vec<Output>, HubFault>>, NoMemory>
-        ensures policy { self.new.service.policy ≡ self.old.service.policy }
-        ensures base { self.new.service.base ≡ self.old.service.base }
-        ensures tokens { self.new.tokens ≡ self.old.tokens }
+        ensures keeps { KeepsHubSetting self.old self.new }
         ensures ran { IfOk result (λ results. (entries : List Entry) (state : HubState)
-            → Knows entries self.old.tokens → IsHubState S.stands self.old state
-            → S.is_honest self.new.service.shelf
+            → Knows entries (hub_tokens self.old) → IsHubState S.stands self.old state
+            → S.is_honest (hub_shelf self.new)
             → (next : HubState) × IsHubState S.stands self.new next
-            × Runs self.old.service.policy self.old.service.base entries state
+            × Runs (hub_policy self.old) (hub_base self.old) entries state
             (map event_of events.now) (map done results.items) next) }
         ensures nothing { OnErr result (self.new ≡ self.old) }
-        ensures honest { S.is_honest self.new.service.shelf → S.is_honest self.old.service.shelf }
+        ensures honest { S.is_honest (hub_shelf self.new) → S.is_honest (hub_shelf self.old) }
     {
         let mut results = Vec::with_capacity(alloc, events.len())?;
         for event in events {

@@ -6,6 +6,7 @@ ghost use Rattle.scim_hub.specs.Events.{HubState};
 ghost use Rattle.scim_hub.specs.HubStates.{IsHubState};
 ghost use Rattle.scim_hub.specs.Streams.{IsStreamServed, IsVisit};
 ghost use Rattle.scim_hub.specs.code.Servings.{IsPieceServed};
+ghost use Rattle.scim_hub.specs.HubSetting.{hub_base, hub_policy, hub_shelf, hub_tokens, KeepsHubSetting};
 
 use crate::events::{Event, EventKind, Stamp};
 use crate::hubs::Hub;
@@ -57,17 +58,15 @@ fn serve_piece<W: Write, S: Shelf, T: Stamps>(
     connection: u64,
     stamps: &mut T,
 ) -> Result<Written, IoFault>
-    ensures policy { hub.new.service.policy ≡ hub.old.service.policy }
-    ensures base { hub.new.service.base ≡ hub.old.service.base }
-    ensures tokens { hub.new.tokens ≡ hub.old.tokens }
-    ensures served { (entries : List Entry) (state : HubState) → Knows entries hub.old.tokens
-        → IsHubState S.stands hub.old state → S.is_honest hub.new.service.shelf
+    ensures keeps { KeepsHubSetting hub.old hub.new }
+    ensures served { (entries : List Entry) (state : HubState) → Knows entries (hub_tokens hub.old)
+        → IsHubState S.stands hub.old state → S.is_honest (hub_shelf hub.new)
         → (next : HubState) × IsHubState S.stands hub.new next
-        × IsPieceServed hub.old.service.policy hub.old.service.base entries connection state next
+        × IsPieceServed (hub_policy hub.old) (hub_base hub.old) entries connection state next
         piece.now
         (T.given stamps.old) (T.given stamps.new) (W.contents writer.old)
         (W.contents writer.new) result }
-    ensures honest { S.is_honest hub.new.service.shelf → S.is_honest hub.old.service.shelf }
+    ensures honest { S.is_honest (hub_shelf hub.new) → S.is_honest (hub_shelf hub.old) }
 {
     let stamp = stamps.next()?;
     let event = Event {
@@ -95,17 +94,15 @@ fn serve_pieces<R: Read, W: Write, S: Shelf, T: Stamps>(
     connection: u64,
     stamps: &mut T,
 ) -> Result<Served, IoFault>
-    ensures policy { hub.new.service.policy ≡ hub.old.service.policy }
-    ensures base { hub.new.service.base ≡ hub.old.service.base }
-    ensures tokens { hub.new.tokens ≡ hub.old.tokens }
-    ensures served { (entries : List Entry) (state : HubState) → Knows entries hub.old.tokens
-        → IsHubState S.stands hub.old state → S.is_honest hub.new.service.shelf
+    ensures keeps { KeepsHubSetting hub.old hub.new }
+    ensures served { (entries : List Entry) (state : HubState) → Knows entries (hub_tokens hub.old)
+        → IsHubState S.stands hub.old state → S.is_honest (hub_shelf hub.new)
         → (next : HubState) × IsHubState S.stands hub.new next
-        × IsStreamServed hub.old.service.policy hub.old.service.base entries connection state next
+        × IsStreamServed (hub_policy hub.old) (hub_base hub.old) entries connection state next
         (R.remaining reader.old) (R.remaining reader.new)
         (T.given stamps.old) (T.given stamps.new) (W.contents writer.old)
         (W.contents writer.new) result }
-    ensures honest { S.is_honest hub.new.service.shelf → S.is_honest hub.old.service.shelf }
+    ensures honest { S.is_honest (hub_shelf hub.new) → S.is_honest (hub_shelf hub.old) }
 {
     let mut replies: u64 = 0;
     let mut block = [0; 8192];
@@ -145,17 +142,15 @@ pub fn serve_stream<R: Read, W: Write, S: Shelf, T: Stamps>(
     connection: u64,
     stamps: &mut T,
 ) -> Result<Served, IoFault>
-    ensures policy { hub.new.service.policy ≡ hub.old.service.policy }
-    ensures base { hub.new.service.base ≡ hub.old.service.base }
-    ensures tokens { hub.new.tokens ≡ hub.old.tokens }
-    ensures visit { (entries : List Entry) (state : HubState) → Knows entries hub.old.tokens
-        → IsHubState S.stands hub.old state → S.is_honest hub.new.service.shelf
+    ensures keeps { KeepsHubSetting hub.old hub.new }
+    ensures visit { (entries : List Entry) (state : HubState) → Knows entries (hub_tokens hub.old)
+        → IsHubState S.stands hub.old state → S.is_honest (hub_shelf hub.new)
         → (next : HubState) × IsHubState S.stands hub.new next
-        × IsVisit hub.old.service.policy hub.old.service.base entries connection state next
+        × IsVisit (hub_policy hub.old) (hub_base hub.old) entries connection state next
         (R.remaining reader.old) (R.remaining reader.new)
         (T.given stamps.old) (T.given stamps.new) (W.contents writer.old)
         (W.contents writer.new) result }
-    ensures honest { S.is_honest hub.new.service.shelf → S.is_honest hub.old.service.shelf }
+    ensures honest { S.is_honest (hub_shelf hub.new) → S.is_honest (hub_shelf hub.old) }
 {
     let joining = Event {
         connection,

@@ -10,6 +10,7 @@ ghost use Rattle.scim_serve.specs.Serving.{IsFront, text_to, due_for, due, leave
 ghost use Rattle.scim_serve.specs.code.Levels.{Fits, IsLevel, Keeps, Grows};
 ghost use Rattle.scim_serve.specs.code.Waiting.{waiting_for};
 ghost use Rattle.scim_serve.specs.code.Wholes.{AllTaken, StaysOpen, IsWhole};
+ghost use Rattle.scim_hub.specs.HubSetting.{hub_base, hub_policy, hub_shelf, hub_tokens, KeepsHubSetting};
 
 use crate::peers::{PeerEvent, Peers, PeersFault};
 use crate::waiting::Waiting;
@@ -224,16 +225,14 @@ fn hear<P: Peers, S: Shelf>(
     waiting: &mut Waiting,
     event: &OwnedEvent,
 )
-    ensures policy { hub.new.service.policy ≡ hub.old.service.policy }
-    ensures base { hub.new.service.base ≡ hub.old.service.base }
-    ensures tokens { hub.new.tokens ≡ hub.old.tokens }
+    ensures keeps { KeepsHubSetting hub.old hub.new }
     ensures seen { IsTrue P.is_known → P.seen peers.new ≡ P.seen peers.old }
     ensures heard { IsTrue P.is_known → (entries : List Entry) (state : HubState)
-        → Knows entries hub.old.tokens → IsHubState S.stands hub.old state
-        → S.is_honest hub.new.service.shelf
+        → Knows entries (hub_tokens hub.old) → IsHubState S.stands hub.old state
+        → S.is_honest (hub_shelf hub.new)
         → (result : Result (List HubOutput) HubFault) × (next : HubState)
         × IsHubState S.stands hub.new next
-        × Hears hub.old.service.policy hub.old.service.base entries
+        × Hears (hub_policy hub.old) (hub_base hub.old) entries
         (owned_event_of event.now) state result next
         × ((due : ℕ → List ℕ) → IsLevel (P.written peers.old) waiting.old due
         → IsLevel (P.written peers.new) waiting.new (λ m. due m ++ due_for m result))
@@ -241,7 +240,7 @@ fn hear<P: Peers, S: Shelf>(
         → IsWhole first state seen (P.takes_all peers.old) (P.is_closed peers.old) waiting.old due
         → IsWhole first next (seen ++ owned_event_of event.now ∷ []) (P.takes_all peers.new)
         (P.is_closed peers.new) waiting.new (λ m. due m ++ due_for m result)) }
-    ensures honest { S.is_honest hub.new.service.shelf → S.is_honest hub.old.service.shelf }
+    ensures honest { S.is_honest (hub_shelf hub.new) → S.is_honest (hub_shelf hub.old) }
 {
     prepare(alloc, peers, waiting, event);
     let answer = hub.event(alloc, &event.event());
@@ -261,23 +260,21 @@ pub fn serve<P: Peers, S: Shelf>(
     peers: &mut P,
     hub: &mut Hub<S>,
 ) -> Result<(), PeersFault>
-    ensures policy { hub.new.service.policy ≡ hub.old.service.policy }
-    ensures base { hub.new.service.base ≡ hub.old.service.base }
-    ensures tokens { hub.new.tokens ≡ hub.old.tokens }
+    ensures keeps { KeepsHubSetting hub.old hub.new }
     ensures fronts { IsTrue P.is_known → (entries : List Entry) (state : HubState)
         → P.seen peers.old ≡ [] → ((m : ℕ) → P.written peers.old m ≡ [])
-        → Knows entries hub.old.tokens → IsHubState S.stands hub.old state
-        → S.is_honest hub.new.service.shelf
+        → Knows entries (hub_tokens hub.old) → IsHubState S.stands hub.old state
+        → S.is_honest (hub_shelf hub.new)
         → (results : List (Result (List HubOutput) HubFault)) × (next : HubState)
         × IsHubState S.stands hub.new next
-        × Runs hub.old.service.policy hub.old.service.base entries state
+        × Runs (hub_policy hub.old) (hub_base hub.old) entries state
         (P.seen peers.new) results next
         × ((m : ℕ) → IsFront (P.written peers.new m) (due m results))
         × ((m : ℕ) → state.connections m ≡ absent → has_left m (P.seen peers.new) ≡ false
         → P.is_closed peers.new m ≡ false → P.takes_all peers.new m ≡ true
         → P.written peers.new m ≡ due m results) }
     ensures over { IsTrue P.is_known → OnOk result (P.is_over peers.new ≡ true) }
-    ensures honest { S.is_honest hub.new.service.shelf → S.is_honest hub.old.service.shelf }
+    ensures honest { S.is_honest (hub_shelf hub.new) → S.is_honest (hub_shelf hub.old) }
 {
     let mut waiting = Waiting::new(alloc);
     for _ in 0..u64::MAX {

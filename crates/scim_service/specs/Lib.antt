@@ -1,4 +1,5 @@
 pub mod Replies
+pub mod Setting
 pub mod Requests
 pub mod Step
 pub mod Answers

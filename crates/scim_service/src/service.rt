@@ -7,6 +7,7 @@ ghost use Rattle.scim_shelf.specs.Shelves.{Counts, KeepsStore, Answers};
 ghost use Rattle.scim_shelf.specs.Stores.{Store, IsStore, after, last_number};
 ghost use Rattle.scim_service.specs.Step as spec;
 ghost use Rattle.scim_service.specs.Answers.{IsCause, Answered, Runs};
+ghost use Rattle.scim_service.specs.Setting.{service_base, service_policy, service_shelf, KeepsSetting};
 
 use crate::plans::planned;
 use crate::replies::Reply;
@@ -77,9 +78,9 @@ impl<S: Shelf> Service<S> {
     /// Returns a service with this policy, base URI and shelf. The locations of its resources are below the
     /// base, as `http://127.0.0.1:8080`. Doesn't allocate.
     pub fn new(policy: Policy, base: Text, shelf: S) -> Service<S>
-        ensures policy { result.policy ≡ policy }
-        ensures base { result.base ≡ base }
-        ensures shelf { result.shelf ≡ shelf }
+        ensures policy { service_policy result ≡ policy }
+        ensures base { service_base result ≡ base }
+        ensures shelf { service_shelf result ≡ shelf }
     {
         Service {
             policy,
@@ -93,16 +94,18 @@ impl<S: Shelf> Service<S> {
     ///
     /// A request that is refused already with [`Refusal::Store`] is answered so, without an audit row.
     pub fn answer(&mut self, alloc: Global, turn: &Turn) -> Reply
-        ensures policy { self.new.policy ≡ self.old.policy }
-        ensures base { self.new.base ≡ self.old.base }
-        ensures answered { (store : Store) → S.stands self.old.shelf store
-            → S.is_honest self.new.shelf → IsStore self.old.base store
-            → (next : Store) × S.stands self.new.shelf next × IsStore self.old.base next
-            × Answered self.old.policy self.old.base
-            (IsCause (S.failures self.old.shelf) (S.failures self.new.shelf) store) turn.now store
+        ensures keeps { KeepsSetting self.old self.new }
+        ensures answered { (store : Store) → S.stands (service_shelf self.old) store
+            → S.is_honest (service_shelf self.new) → IsStore (service_base self.old) store
+            → (next : Store) × S.stands (service_shelf self.new) next
+            × IsStore (service_base self.old) next
+            × Answered (service_policy self.old) (service_base self.old)
+            (IsCause (S.failures (service_shelf self.old))
+            (S.failures (service_shelf self.new)) store) turn.now store
             result next }
-        ensures honest { S.is_honest self.new.shelf → S.is_honest self.old.shelf }
-        ensures grown { S.failures self.old.shelf ≤ S.failures self.new.shelf }
+        ensures honest { S.is_honest (service_shelf self.new)
+            → S.is_honest (service_shelf self.old) }
+        ensures grown { S.failures (service_shelf self.old) ≤ S.failures (service_shelf self.new) }
     {
         if let Err(Refusal::Store) = &turn.request.ask {
             return Reply::Refused(Refusal::Store);
@@ -121,10 +124,13 @@ impl<S: Shelf> Service<S> {
     /// Answers turns in order. On an error, for which memory for the replies is the only cause, no turn was
     /// answered.
     pub fn run(&mut self, alloc: Global, turns: &[Turn]) -> Result<Vec<Reply>, NoMemory>
-        ensures ran { IfOk result (λ replies. (store : Store) → S.stands self.old.shelf store
-            → S.is_honest self.new.shelf → IsStore self.old.base store
-            → (next : Store) × S.stands self.new.shelf next × IsStore self.old.base next
-            × Runs self.old.policy self.old.base store turns.now replies.items next) }
+        ensures ran { IfOk result (λ replies. (store : Store)
+            → S.stands (service_shelf self.old) store
+            → S.is_honest (service_shelf self.new) → IsStore (service_base self.old) store
+            → (next : Store) × S.stands (service_shelf self.new) next
+            × IsStore (service_base self.old) next
+            × Runs (service_policy self.old)
+            (service_base self.old) store turns.now replies.items next) }
         ensures nothing { OnErr result (self.new ≡ self.old) }
     {
         let mut replies = reserved(alloc, turns.len())?;
@@ -139,14 +145,14 @@ impl<S: Shelf> Service<S> {
 
     /// Returns the shelf.
     pub fn shelf(&self) -> &S
-        ensures { result.now ≡ self.now.shelf }
+        ensures { result.now ≡ service_shelf self.now }
     {
         &self.shelf
     }
 
     /// Consumes the service and returns the shelf.
     pub fn into_shelf(self) -> S
-        ensures { result ≡ self.shelf }
+        ensures { result ≡ service_shelf self }
     {
         let Service {
             policy: _policy,

@@ -72,8 +72,8 @@ loop-item-preserved g c =
     let more = take_more items i item c.loop-item-test.true ∙ ap (λ (x : Item). take i items ++ x ∷ []) (sym c.item-item.is) in
     let reply = c.in_ok-reply.reply in
     record {
-      policy = c.in_ok-reply.ensures.policy ∙ inv.policy;
-      base = c.in_ok-reply.ensures.base ∙ inv.base;
+      policy = c.in_ok-reply.ensures.keeps.policy ∙ inv.policy;
+      base = c.in_ok-reply.ensures.keeps.base ∙ inv.base;
       honest = λ h. inv.honest (c.in_ok-reply.ensures.honest h);
       count = omega (arith, inv.count, c.whole_count-count.ensures, at_most_one item);
       answered = λ entries store knows stands honest is.

@@ -91,9 +91,9 @@ loop-preserved g c =
     let policy = c.args.hub.now.service.policy in
     let base = c.args.hub.now.service.base in
     record {
-      policy = c.in_ok-written.ensures.policy ∙ inv.policy;
-      base = c.in_ok-written.ensures.base ∙ inv.base;
-      tokens = c.in_ok-written.ensures.tokens ∙ inv.tokens;
+      policy = c.in_ok-written.ensures.keeps.policy ∙ inv.policy;
+      base = c.in_ok-written.ensures.keeps.base ∙ inv.base;
+      tokens = c.in_ok-written.ensures.keeps.tokens ∙ inv.tokens;
       served = λ entries state knows is honest.
           let s = inv.served entries state knows is (c.in_ok-written.ensures.honest honest) in
           let l = c.in_ok-written.ensures.served entries s.0 (subst (λ (t : Tokens). Knows entries t) (sym inv.tokens) knows) s.3 honest in

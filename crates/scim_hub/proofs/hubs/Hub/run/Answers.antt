@@ -29,9 +29,9 @@ loop-event-preserved g c =
     record {
       size = longer ∙ ap (λ (m : ℕ). m + 1) inv.size;
       room = omega (arith, inv.room, c.push.ensures.capacity);
-      policy = c.event-result.ensures.policy ∙ inv.policy;
-      base = c.event-result.ensures.base ∙ inv.base;
-      tokens = c.event-result.ensures.tokens ∙ inv.tokens;
+      policy = c.event-result.ensures.keeps.policy ∙ inv.policy;
+      base = c.event-result.ensures.keeps.base ∙ inv.base;
+      tokens = c.event-result.ensures.keeps.tokens ∙ inv.tokens;
       ran = λ entries state knows is honest.
           let before = inv.ran entries state knows is (c.event-result.ensures.honest honest) in
           let step = c.event-result.ensures.heard entries before.0 (subst (λ (t : Tokens). Knows entries t) (sym inv.tokens) knows) before.1 honest in

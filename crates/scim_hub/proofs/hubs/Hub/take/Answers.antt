@@ -29,7 +29,7 @@ returns-in-Ok-true-clause-heard g c entries state knows is honest =
     let t = takes_last policy base entries stamp n c.args.piece.now state (state.connections n) c.in_ok-items.items c.feed.new.self c.shut.new.self outputs done.0
     (c.in_ok-items.ensures state.connections is.connections) c.shut.ensures all in (
       record { connections = t.0; store = done.0 },
-      record { store = done.1; is_store = subst (λ (b : List ℕ). IsStore b done.0) (sym c.in-Ok-true.ensures.base) done.2; connections = t.1 },
+      record { store = done.1; is_store = subst (λ (b : List ℕ). IsStore b done.0) (sym c.in-Ok-true.ensures.keeps.base) done.2; connections = t.1 },
       t.2,
     )
 
@@ -48,7 +48,7 @@ returns-in-Ok-clause-heard g c entries state knows is honest =
     let t = takes_on policy base entries stamp n c.args.piece.now state (state.connections n) c.in_ok-items.items c.feed.new.self outputs done.0
     (c.in_ok-items.ensures state.connections is.connections) all in (
       record { connections = t.0; store = done.0 },
-      record { store = done.1; is_store = subst (λ (b : List ℕ). IsStore b done.0) (sym c.in-Ok.ensures.base) done.2; connections = t.1 },
+      record { store = done.1; is_store = subst (λ (b : List ℕ). IsStore b done.0) (sym c.in-Ok.ensures.keeps.base) done.2; connections = t.1 },
       t.2,
     )
 
@@ -63,6 +63,6 @@ returns-clause-heard g c entries state knows is honest =
     let t = takes_some policy base entries stamp n c.args.piece.now state (state.connections n) c.in_ok-items.items c.feed.new.self c.shut-in-Err.new.self done.0
     (c.in_ok-items.ensures state.connections is.connections) c.shut-in-Err.ensures some in (
       record { connections = t.0; store = done.0 },
-      record { store = done.1; is_store = subst (λ (b : List ℕ). IsStore b done.0) (sym c.in-Err.ensures.base) done.2; connections = t.1 },
+      record { store = done.1; is_store = subst (λ (b : List ℕ). IsStore b done.0) (sym c.in-Err.ensures.keeps.base) done.2; connections = t.1 },
       t.2,
     )

@@ -23,8 +23,8 @@ loop-turn-preserved g c =
     record {
       size = omega (arith, length-set {A = Reply});
       here = ap (λ n. n + 1) inv.here;
-      policy = c.answer-reply.ensures.policy ∙ inv.policy;
-      base = c.answer-reply.ensures.base ∙ inv.base;
+      policy = c.answer-reply.ensures.keeps.policy ∙ inv.policy;
+      base = c.answer-reply.ensures.keeps.base ∙ inv.base;
       ran = λ store stands honest is.
           let before = inv.ran store stands (c.answer-reply.ensures.honest honest) is in
           let step = c.answer-reply.ensures.answered before.0 before.1 honest (subst (λ (b : List ℕ). IsStore b before.0) (sym inv.base) before.2) in

@@ -1,0 +1,28 @@
+-- The setting of a hub: the policy and the base of its service, and the tokens; and the shelf of its service.
+use Rattle.std.specs.Prelude.{◌≡◌, ℕ, List}
+use Rattle.scim_policy.specs.Rules.{Rule}
+use Rattle.scim_service.specs.Setting.{service_policy, service_base, service_shelf}
+use Rattle.scim_token.specs.declared.tokens.Tokens.{Tokens}
+use Rattle.scim_hub.specs.declared.hubs.Hub.{Hub}
+
+-- The rules of the policy by which a hub answers.
+abbrev pub hub_policy : {S : Type 0} → Hub S → List Rule
+hub_policy hub = service_policy hub.service
+
+-- The base URI of the locations in a hub's replies.
+abbrev pub hub_base : {S : Type 0} → Hub S → List ℕ
+hub_base hub = service_base hub.service
+
+-- The tokens of a hub's clients.
+abbrev pub hub_tokens : {S : Type 0} → Hub S → Tokens
+hub_tokens hub = hub.tokens
+
+-- The shelf of a hub's service.
+abbrev pub hub_shelf : {S : Type 0} → Hub S → S
+hub_shelf hub = service_shelf hub.service
+
+-- A hub keeps its policy, its base and its tokens.
+pub record KeepsHubSetting {S : Type 0} (old new : Hub S) : Type 0 where
+  pub policy : hub_policy new ≡ hub_policy old
+  pub base : hub_base new ≡ hub_base old
+  pub tokens : hub_tokens new ≡ hub_tokens old

@@ -1,0 +1,21 @@
+-- The setting of a service: its policy and the base of its locations; and its shelf.
+use Rattle.std.specs.Prelude.{◌≡◌, ℕ, List}
+use Rattle.scim_policy.specs.Rules.{Rule}
+use Rattle.scim_service.specs.declared.service.Service.{Service}
+
+-- The rules of a service's policy.
+abbrev pub service_policy : {S : Type 0} → Service S → List Rule
+service_policy service = service.policy
+
+-- The base URI of a service's locations.
+abbrev pub service_base : {S : Type 0} → Service S → List ℕ
+service_base service = service.base
+
+-- The shelf of a service.
+abbrev pub service_shelf : {S : Type 0} → Service S → S
+service_shelf service = service.shelf
+
+-- A service keeps its policy and its base.
+pub record KeepsSetting {S : Type 0} (old new : Service S) : Type 0 where
+  pub policy : service_policy new ≡ service_policy old
+  pub base : service_base new ≡ service_base old
