@@ -1,5 +1,7 @@
-//! What is done over a database, and what is found in one. It is generic in what the database lies in: a function that holds a
-//! connection to one that is known is dear to prove.
+//! Work on a database, and the contents of a database as text.
+//!
+//! The functions are generic in the storage of the database: a function that holds a connection to a concrete
+//! storage takes long to prove.
 ghost use Rattle.std.specs.Prelude.{◌≡◌, false};
 
 use crate::request_parts::{RequestParts, are_answered};
@@ -18,16 +20,18 @@ use scim_value::Resource;
 use sqlite::{Alter, Connection};
 use std::alloc::Global;
 
-/// What is done over a database.
+/// Work on a database.
 #[derive(Clone, Copy)]
 pub(crate) enum Work<'a> {
-    /// A store is opened, and answers these. An empty text comes of it where none is answered by the 500.
+    /// Answers these requests by a store. The result is an empty text, or None if a reply is 500.
     Answer(&'a [RequestParts]),
-    /// What the database has is told: nothing, or the resources of the store and the rows of its audit.
+    /// Returns the contents of the database: the resources and the audit rows of the store, or an empty text
+    /// if it has no tables.
     Look,
 }
 
-/// Does it, and gives the connection back. None, where the store isn't opened, or fails.
+/// Opens the store in a database, does the work and returns its result and the connection. None if the store
+/// can't be opened or the work fails.
 pub(crate) fn work_over<S: Alter>(
     alloc: Global,
     connection: Connection<S>,
@@ -81,7 +85,7 @@ fn look<S: Alter>(
     (told, shelf.into_connection())
 }
 
-/// The documents of a store, and the rows of its audit. None, where it can't be read.
+/// Returns the documents of a store's resources and the rows of its audit. None if the store can't be read.
 fn told_of<S: Alter>(alloc: Global, shelf: &mut SqlShelf<S>) -> Option<String> {
     let (Ok(users), Ok(groups)) = (
         all_of(alloc, shelf, Kind::User),

@@ -1,4 +1,4 @@
-//! Files in memory whose calls come to an end, and which crash.
+//! Files in memory that fail after a number of calls, and crash.
 use crate::databases::{Work, work_over};
 use crate::request_parts::RequestParts;
 use scim_text::NoMemory;
@@ -6,39 +6,39 @@ use sqlite::{Connection, Options};
 use sqlite_disk::{Crash, Disk, Files, Fuse, Memory};
 use std::alloc::Global;
 
-/// What the files of a database hold.
+/// The contents of the files of a database.
 #[derive(Drop)]
 pub(crate) struct Contents {
     log: Vec<u8>,
     db: Vec<u8>,
 }
 
-/// How many calls each file is good for.
+/// The number of calls after which each file fails.
 #[derive(Clone, Copy)]
 pub(crate) struct Calls {
     pub(crate) log: u64,
     pub(crate) db: u64,
 }
 
-/// None of the two fails.
+/// The number of calls with which no file fails.
 pub(crate) const ALL: Calls = Calls {
     log: u64::MAX,
     db: u64::MAX,
 };
 
-/// What comes of a work over files that crash after it.
+/// The result of work on files that crash after it.
 #[derive(Drop)]
 pub(crate) struct Outcome {
-    /// Nothing failed as far as was answered.
+    /// All requests were answered, none with 500.
     pub(crate) is_answered: bool,
-    /// Both files were good for all calls, and for more.
+    /// Neither file failed, and both have calls left.
     pub(crate) is_whole: bool,
-    /// What is found then, where a store can be opened over the files.
+    /// The contents of the database after the crash, if a store can be opened over the files.
     pub(crate) found: Option<String>,
 }
 
 impl Contents {
-    /// Those of a database that there isn't yet.
+    /// Returns the contents of the files of a new database.
     pub(crate) fn none(alloc: Global) -> Contents {
         Contents {
             log: Vec::new(alloc),
@@ -46,7 +46,7 @@ impl Contents {
         }
     }
 
-    /// Those after a store over a new database has answered these. None, where it fails.
+    /// Returns the contents after a store in a new database has answered these requests. None if it fails.
     pub(crate) fn after(alloc: Global, requests: &[RequestParts]) -> Option<Contents> {
         let files = Contents::none(alloc).files(alloc, ALL)?;
         let (told, files) = over_files(alloc, files, Work::Answer(requests));
@@ -57,7 +57,7 @@ impl Contents {
         }
     }
 
-    /// Files that hold this, and are good for so many calls.
+    /// Returns files with these contents that fail after the given numbers of calls.
     fn files(&self, alloc: Global, calls: Calls) -> Option<Files<Fuse<Memory>>> {
         match (
             holding(alloc, self.log.as_slice()),
@@ -71,7 +71,7 @@ impl Contents {
         }
     }
 
-    /// What comes of a store over them that answers these.
+    /// Returns the result of answering these requests by a store over files with these contents.
     pub(crate) fn outcome(
         &self,
         alloc: Global,
@@ -92,7 +92,7 @@ fn copied(alloc: Global, files: &Files<Fuse<Memory>>) -> Result<Contents, NoMemo
     })
 }
 
-/// A file that holds these bytes, which a crash leaves.
+/// Returns a file with these bytes, which survive a crash.
 fn holding(alloc: Global, bytes: &[u8]) -> Option<Memory> {
     let mut memory = Memory::new(alloc);
     if memory.write_at(0, bytes).is_err() || memory.sync().is_err() {
@@ -101,7 +101,7 @@ fn holding(alloc: Global, bytes: &[u8]) -> Option<Memory> {
     Some(memory)
 }
 
-/// Does a work over files, which are given back as they are.
+/// Does the work on a database in the files, and returns its result and the files.
 fn over_files<D: Disk + Drop>(
     alloc: Global,
     files: Files<D>,

@@ -1,5 +1,6 @@
-//! The calls where reads, writes and disks fail: streams that end in one way or another, replies that a writer takes in small steps or not
-//! at all, a server over connections that a script plays and over a socket, and stores whose disk stops at a call and crashes.
+//! The calls in which reads, writes and disks fail: inputs and streams that end or fail, writers that take
+//! few bytes at a call or fail, a server over scripted connections and over a socket, and stores whose disk
+//! stops at a call and crashes.
 #![tactic(auto)]
 
 mod databases;
@@ -36,7 +37,7 @@ static CALLS: [(&str, Call); 7] = [
     ("stream_ends", Call::StreamEnds),
 ];
 
-/// What a call gives, if it is one of this crate.
+/// Returns the result of the case's call, or None if it isn't a call of this crate.
 pub fn answer(rt: &HostRuntime, case: &Case<'_>, call: &str) -> Option<Result<String, CaseFault>> {
     let call = named(&CALLS, call)?;
     Some(match call {

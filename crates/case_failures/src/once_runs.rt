@@ -1,4 +1,4 @@
-//! What `once` does where a read or a write fails.
+//! Runs `once` with reads and writes that fail.
 use crate::streams::{Stutter, Trickle};
 use case_values::{Case, CaseFault, said, shown, truth};
 use scim_command::{RunFault, Setting, once};
@@ -6,33 +6,33 @@ use scim_samples::{BASE, POLICY};
 use std::alloc::Global;
 use std::io::{ErrorKind, Read};
 
-/// To get a user who isn't there, with another request behind it.
+/// A request for a user who doesn't exist, followed by another request.
 const REQUEST: &str =
     "GET /Users/00000000-0000-4000-8000-00000000000a HTTP/1.1\r\n\r\nGET / HTTP/1.1\r\n\r\n";
 
-/// What is answered to that.
+/// The reply to the first request.
 const REPLY: &str =
     "HTTP/1.1 404 Not Found\r\nContent-Type: application/scim+json\r\nContent-Length: 105\r\n\r\n{\"detail\":\"Resource not found.\",\"schemas\":[\"urn:ietf:params:scim:api:messages:2.0:Error\"],\"status\":\"404\"}";
 
-/// What comes of a request over a users file without users.
+/// Runs `once` over a users file without users.
 fn answer<R: Read>(alloc: Global, reader: &mut R, writer: &mut Stutter) -> Result<(), RunFault> {
     let setting = Setting::new(POLICY, "[]", "hr", BASE);
     once(alloc, &setting, reader, writer)
 }
 
-/// Whether the writer took the first bytes of the reply, so many, and nothing else.
+/// Whether the writer took the first `count` bytes of the reply and nothing else.
 fn took(writer: &Stutter, count: usize) -> bool {
     writer.taken.len() == count && REPLY.as_bytes().starts_with(writer.taken.as_slice())
 }
 
-/// Whether the input comes to this fault, and nothing is written.
+/// Whether `once` fails with this fault and writes nothing.
 fn fails<R: Read>(alloc: Global, reader: &mut R, told: RunFault) -> bool {
     let mut writer = Stutter::new(alloc, 1_000, u32::MAX, ErrorKind::Other);
     let done = answer(alloc, reader, &mut writer);
     done == Err(told) && took(&writer, 0)
 }
 
-/// Whether an input that begins so is told to have failed where a read fails then, and to have ended where it ends.
+/// Whether, after this text, a failed read gives InputFailed and the end of the input gives InputEnded.
 fn are_told_apart(alloc: Global, text: &str) -> bool {
     let mut failing = Trickle {
         bytes: text.as_bytes(),
@@ -41,7 +41,7 @@ fn are_told_apart(alloc: Global, text: &str) -> bool {
         && fails(alloc, &mut text.as_bytes(), RunFault::InputEnded)
 }
 
-/// What is left of the request where it has been answered.
+/// Returns the bytes that `once` leaves unread after it has answered the first request. None if it fails.
 fn left(alloc: Global) -> Option<&'static [u8]> {
     let mut reader = Trickle {
         bytes: REQUEST.as_bytes(),
@@ -51,7 +51,7 @@ fn left(alloc: Global) -> Option<&'static [u8]> {
     (done.is_ok() && took(&writer, REPLY.len())).then_some(reader.bytes)
 }
 
-/// The call of the writer that fails; none where the case names none.
+/// Returns the number of the writer's call that fails, from 0; a number never reached if the case gives none.
 fn failing(case: &Case<'_>) -> Result<u32, CaseFault> {
     if case.has("failing") {
         Ok(u32::try_from(case.count("failing")?).unwrap_or(u32::MAX))
@@ -60,7 +60,8 @@ fn failing(case: &Case<'_>) -> Result<u32, CaseFault> {
     }
 }
 
-/// How much of the reply a writer has that takes so many bytes at a call and fails at one: all of it, or so many bytes, where the writing failed.
+/// Returns the part of the reply that a writer gets that takes `step` bytes at a call and fails at the call
+/// `failing`: `whole`, or the number of bytes before the failure.
 pub(crate) fn written_call(case: &Case<'_>) -> Result<String, CaseFault> {
     let kind = if case.is_true("interrupted") {
         ErrorKind::Interrupted
@@ -77,12 +78,12 @@ pub(crate) fn written_call(case: &Case<'_>) -> Result<String, CaseFault> {
     }
 }
 
-/// Whether an input that breaks off behind this text is told to have failed where a read fails, and to have ended where it ends.
+/// Whether, after the argument `text`, a failed read and the end of the input give different faults.
 pub(crate) fn input_call(case: &Case<'_>) -> Result<String, CaseFault> {
     truth(case.alloc, are_told_apart(case.alloc, case.text("text")?))
 }
 
-/// What is left of two requests where the first has been answered.
+/// Returns the bytes left of two requests after the first has been answered.
 pub(crate) fn left_call(case: &Case<'_>) -> Result<String, CaseFault> {
     match left(case.alloc) {
         Some(bytes) => said(case.alloc, str::from_utf8(bytes).unwrap_or("no UTF-8")),

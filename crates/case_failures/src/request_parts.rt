@@ -1,4 +1,4 @@
-//! Requests to a store, by their parts, and whether they are answered.
+//! Requests to a store, given by their parts.
 use scim_body::{UseFor, read_body};
 use scim_cell::{Id, Text};
 use scim_patch_message::read_patch;
@@ -9,7 +9,7 @@ use scim_text::Moment;
 use scim_view::Wanted;
 use std::alloc::Global;
 
-/// A request: what it is about to do, with which resource, and its body, which is empty where it has none.
+/// A request: its operation, its resource and its body, which is empty if it has none.
 #[derive(Clone, Copy)]
 pub(crate) struct RequestParts {
     pub(crate) op: Op,
@@ -56,7 +56,7 @@ fn turn_of(alloc: Global, parts: RequestParts) -> Option<Turn> {
     }
 }
 
-/// Whether a request is answered otherwise than by the 500.
+/// Whether a request is answered with another status than 500.
 fn is_answered<H: Shelf>(alloc: Global, service: &mut Service<H>, parts: RequestParts) -> bool {
     match turn_of(alloc, parts) {
         Some(turn) => !matches!(service.answer(alloc, &turn), Reply::Failed(..)),
@@ -64,7 +64,7 @@ fn is_answered<H: Shelf>(alloc: Global, service: &mut Service<H>, parts: Request
     }
 }
 
-/// Whether all these are answered so, one after another.
+/// Whether all these requests are answered, one after another, with another status than 500.
 pub(crate) fn are_answered<H: Shelf>(
     alloc: Global,
     service: &mut Service<H>,

@@ -1,4 +1,6 @@
-//! Connections of which a script says beforehand what happens. What they took is looked at by cases: to a contract they are as sockets.
+//! Connections whose incidents are given by a script.
+//!
+//! The contracts say no more of them than of sockets; the cases check the bytes that they took.
 use scim_cell::id_of;
 use scim_hub::{OwnedEvent, OwnedEventKind, Stamp};
 use scim_serve::{PeerEvent, Peers, PeersFault};
@@ -6,21 +8,21 @@ use scim_text::Moment;
 use std::alloc::{AllocError, Global};
 use uuid::Uuid;
 
-/// Connections 0 and 1, which take `step` bytes at a call.
+/// The connections 0 and 1, which take `step` bytes at a call.
 #[derive(Drop)]
 pub(crate) struct ScriptedPeers {
-    // What happens yet, the last first.
+    // The incidents to come, in reverse order.
     left: Vec<PeerEvent>,
     step: usize,
-    /// What connection 0 has taken.
+    /// The bytes that connection 0 has taken.
     pub(crate) first: Vec<u8>,
-    /// What connection 1 has taken.
+    /// The bytes that connection 1 has taken.
     pub(crate) second: Vec<u8>,
-    /// Those that were closed, in order.
+    /// The closed connections, in order.
     pub(crate) closed: Vec<u64>,
 }
 
-/// What happens to a connection: it joins, where no bytes come.
+/// Returns the incident of a connection: these bytes arrive, or it joins if there are none.
 fn peer_event(
     alloc: Global,
     connection: u64,
@@ -45,7 +47,8 @@ fn peer_event(
 }
 
 impl ScriptedPeers {
-    /// Connections to which these things happen, in this order: bytes come, or one joins where none do.
+    /// Returns connections with these incidents, in order: bytes arrive, or a connection joins if there are
+    /// none.
     pub(crate) fn new(
         alloc: Global,
         step: usize,
@@ -66,7 +69,7 @@ impl ScriptedPeers {
         })
     }
 
-    /// Puts bytes behind what a connection has taken.
+    /// Appends bytes to those that a connection has taken.
     fn take(&mut self, connection: u64, bytes: &[u8]) -> Result<(), AllocError> {
         if connection == 0 {
             self.first.extend_from_slice(bytes)
@@ -101,7 +104,8 @@ impl Peers for ScriptedPeers {
             return 0;
         }
         if count < bytes.len() {
-            // It may take more at once. Where this isn't kept, the reply isn't whole.
+            // The connection can take more at once. If the push fails, the reply stays incomplete and the
+            // case fails.
             let _kept = self.left.push(PeerEvent::Ready(connection));
         }
         count

@@ -1,4 +1,4 @@
-//! What `serve_stream` does where a read or a write fails, where there is no stamp, and where a stream comes to no end.
+//! Runs `serve_stream` with failing reads and writes, without stamps, and on streams that are too long.
 use crate::streams::{EmptyLines, Stutter, Trickle};
 use case_values::{Case, CaseFault, named, truth};
 use scim_cell::id_of;
@@ -14,14 +14,14 @@ use std::alloc::Global;
 use std::io::{ErrorKind, Read};
 use uuid::Uuid;
 
-/// To ask twice for what isn't served, which needs no token.
+/// Two requests for an endpoint that isn't supported; they need no token.
 pub(crate) const REQUESTS: &str = "GET /Me HTTP/1.1\r\n\r\nGET /Me HTTP/1.1\r\n\r\n";
 
-/// What is answered to that.
+/// The replies to the two requests.
 pub(crate) const REPLIES: &str =
     "HTTP/1.1 501 Not Implemented\r\nContent-Type: application/scim+json\r\nContent-Length: 100\r\n\r\n{\"detail\":\"Not supported.\",\"schemas\":[\"urn:ietf:params:scim:api:messages:2.0:Error\"],\"status\":\"501\"}HTTP/1.1 501 Not Implemented\r\nContent-Type: application/scim+json\r\nContent-Length: 100\r\n\r\n{\"detail\":\"Not supported.\",\"schemas\":[\"urn:ietf:params:scim:api:messages:2.0:Error\"],\"status\":\"501\"}";
 
-/// Gives so many stamps, and then none.
+/// Returns a number of stamps, and then fails.
 #[derive(Drop)]
 struct Few {
     left: u32,
@@ -47,7 +47,7 @@ impl Stamps for Few {
     }
 }
 
-/// A hub over no users; None where there is none.
+/// Returns a hub without users. None if memory runs out.
 pub(crate) fn hub(alloc: Global) -> Option<Hub<MemoryShelf>> {
     let (Ok(policy), Ok(tokens)) = (read_policy(alloc, POLICY), Tokens::read(alloc, "")) else {
         return None;
@@ -58,22 +58,22 @@ pub(crate) fn hub(alloc: Global) -> Option<Hub<MemoryShelf>> {
     }
 }
 
-/// What ends the serving of a stream.
+/// The end of serving a stream.
 #[derive(Clone, Copy)]
 enum Ending {
-    /// A read that fails, behind the requests.
+    /// A read after the requests fails.
     Read,
-    /// The failing write of this number, from 0, of single bytes.
+    /// The write with this number, from 0, fails; each write takes one byte.
     Write(u32),
-    /// That there is no stamp for the first piece.
+    /// There is no stamp for the first piece.
     Stamp,
-    /// The stream's own end behind so many empty lines, a line at a read.
+    /// The stream ends after this many empty lines, one at each read.
     Lines(u32),
-    /// Too many reads, where so many empty lines come.
+    /// The stream has this many empty lines, one at each read, which are more reads than are allowed.
     Turns(u32),
 }
 
-/// Whether a stream comes to this end, and so many of the first bytes of the replies have been written then.
+/// Whether serving the stream has this result and writes exactly the first `count` bytes of the replies.
 fn comes_to<R: Read>(
     alloc: Global,
     reader: &mut R,
@@ -92,13 +92,13 @@ fn comes_to<R: Read>(
         && REPLIES.as_bytes().starts_with(writer.taken.as_slice())
 }
 
-/// Whether so many empty lines come to this end, and nothing is written.
+/// Whether serving this many empty lines has this result and writes nothing.
 fn are_read(alloc: Global, left: u32, told: Result<Served, IoFault>) -> bool {
     let writer = Stutter::new(alloc, 7, u32::MAX, ErrorKind::Other);
     comes_to(alloc, &mut EmptyLines { left }, writer, u32::MAX, told, 0)
 }
 
-/// Whether a stream that is ended so is served up to there.
+/// Whether a stream with this end is served up to it.
 fn is_served_up_to(alloc: Global, ending: Ending) -> bool {
     let mut bytes = REQUESTS.as_bytes();
     match ending {
@@ -136,8 +136,8 @@ static ENDINGS: [(&str, Ending); 11] = [
     ("lines without an end", Ending::Turns(u32::MAX)),
 ];
 
-/// Whether a stream is served up to a read or a write that fails or a piece without a stamp, and read a million times and no more, and what
-/// has been written then is a front of the replies.
+/// Whether a stream with the end in the argument `end` is served up to it, and a prefix of the replies is
+/// written. A stream is read at most a million times.
 pub(crate) fn ends_call(case: &Case<'_>) -> Result<String, CaseFault> {
     let Some(ending) = named(&ENDINGS, case.text("end")?) else {
         return Err(CaseFault::Missing("end"));

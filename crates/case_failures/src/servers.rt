@@ -1,4 +1,4 @@
-//! What a server answers: over connections that a script plays, and over a socket.
+//! Runs a server over scripted connections, and over a socket.
 use crate::scripted_peers::ScriptedPeers;
 use crate::served::{REPLIES, REQUESTS, hub};
 use case_values::{Case, CaseFault, truth};
@@ -11,8 +11,8 @@ use std::io;
 use std::io::{Read, Write};
 use std::net::{Ipv4Addr, Shutdown, SocketAddr, TcpStream};
 
-/// Two connections whose pieces come in turn. The one sends the two requests, cut in the midst of them; the other sends no
-/// HTTP.
+/// The incidents of two connections in turn. Connection 0 sends the two requests, cut within them; connection
+/// 1 sends bytes that aren't HTTP.
 const HAPPENINGS: [(u64, &str); 7] = [
     (0, ""),
     (1, ""),
@@ -23,12 +23,12 @@ const HAPPENINGS: [(u64, &str); 7] = [
     (0, "\n"),
 ];
 
-/// What is answered to what is no HTTP.
+/// The reply to bytes that aren't HTTP.
 const REFUSAL: &str =
     "HTTP/1.1 400 Bad Request\r\nContent-Type: application/scim+json\r\nContent-Length: 109\r\nConnection: close\r\n\r\n{\"detail\":\"Malformed request head.\",\"schemas\":[\"urn:ietf:params:scim:api:messages:2.0:Error\"],\"status\":\"400\"}";
 
-/// Whether each connection is answered what is due to it, where it takes `step` bytes at a call, and that alone closed
-/// which sent no HTTP.
+/// Whether each connection gets all its replies when it takes `step` bytes at a call, and only the one that
+/// sent invalid HTTP is closed.
 fn answers_each(alloc: Global, step: usize) -> bool {
     let (Some(mut hub), Ok(mut peers)) = (hub(alloc), ScriptedPeers::new(alloc, step, &HAPPENINGS))
     else {
@@ -40,7 +40,8 @@ fn answers_each(alloc: Global, step: usize) -> bool {
         && peers.closed.as_slice() == [1].as_slice()
 }
 
-/// Whether a client gets its replies over a socket. It sends the two requests and closes its sending side before it is served.
+/// Whether a client gets its replies over a socket. It sends the two requests and closes its sending side
+/// before it is served.
 fn answers_client(
     rt: &HostRuntime,
     sockets: &mut Sockets<'_, HostRuntime>,
@@ -58,7 +59,8 @@ fn answers_client(
     Ok(replies.as_slice() == REPLIES.as_bytes())
 }
 
-/// Whether a client gets its replies over a socket; true too where the machine has no loopback, so that nothing is shown.
+/// Whether a client gets its replies over a socket. Also true if the machine has no loopback; nothing is
+/// tested then.
 fn answers_over_socket(rt: &HostRuntime) -> bool {
     let Some(mut hub) = hub(rt.alloc()) else {
         return false;
@@ -72,12 +74,12 @@ fn answers_over_socket(rt: &HostRuntime) -> bool {
     }
 }
 
-/// Whether each connection is answered what is due to it, where it takes so many bytes at a call.
+/// Whether each connection gets all its replies when it takes `step` bytes at a call.
 pub(crate) fn peers_call(case: &Case<'_>) -> Result<String, CaseFault> {
     truth(case.alloc, answers_each(case.alloc, case.count("step")?))
 }
 
-/// Whether what a client sends over a socket is answered.
+/// Whether a client gets its replies over a socket.
 pub(crate) fn socket_call(rt: &HostRuntime, case: &Case<'_>) -> Result<String, CaseFault> {
     truth(case.alloc, answers_over_socket(rt))
 }

@@ -1,4 +1,4 @@
-//! A store whose files stop at each call in turn.
+//! A store whose disk stops at each call in turn.
 use crate::files::{ALL, Calls, Contents, Outcome};
 use crate::request_parts::RequestParts;
 use case_values::{Case, CaseFault, named, truth};
@@ -6,10 +6,10 @@ use scim_samples::{ALICE, BOB, TEAM};
 use scim_schema::{Kind, Op};
 use std::alloc::Global;
 
-/// No turn takes so many calls of a file.
+/// An upper limit of the calls of a file in one turn.
 const MOST: u64 = 1_000;
 
-/// A user, and a group of which it is a member.
+/// A user, and a group with the user as member.
 const MADE: [RequestParts; 2] = [
     RequestParts {
         op: Op::Create,
@@ -46,13 +46,14 @@ const REMOVE: [RequestParts; 1] = [RequestParts {
     body: "",
 }];
 
-/// Whether what is found after a stop is what was there before or what is there after all calls; the latter where it was answered.
+/// Whether the contents after a stop are those before the turn or those after it. They must be those after it
+/// if the turn was answered.
 fn is_right(outcome: &Outcome, before: &Outcome, after: &Outcome) -> bool {
     let is_done = outcome.found == after.found;
     is_done || (outcome.found == before.found && !outcome.is_answered)
 }
 
-/// Whether that is so of each stop of one of the files, up to a run that has calls left.
+/// Whether the contents are right for each stop of one of the files, up to the first run that has calls left.
 fn stops_well(
     alloc: Global,
     contents: &Contents,
@@ -80,6 +81,7 @@ fn stops_well(
     false
 }
 
+/// Whether each stop of either file in the turn leaves the contents before or after the turn.
 fn nothing_else_is_left(alloc: Global, contents: &Contents, requests: &[RequestParts]) -> bool {
     let none = Calls { log: 0, db: 0 };
     let (Some(before), Some(after)) = (
@@ -95,6 +97,7 @@ fn nothing_else_is_left(alloc: Global, contents: &Contents, requests: &[RequestP
         && stops_well(alloc, contents, requests, (&before, &after), false)
 }
 
+/// As [`nothing_else_is_left`], for a database with the user and the group of [`MADE`].
 fn nothing_else_is_left_of(alloc: Global, requests: &[RequestParts]) -> bool {
     match Contents::after(alloc, &MADE) {
         Some(contents) => nothing_else_is_left(alloc, &contents, requests),
@@ -102,7 +105,7 @@ fn nothing_else_is_left_of(alloc: Global, requests: &[RequestParts]) -> bool {
     }
 }
 
-/// What is under way where a disk stops.
+/// The turn in which a disk stops.
 #[derive(Clone, Copy)]
 enum Stopped {
     /// The first opening of a database.
@@ -128,7 +131,8 @@ fn is_done_or_not(alloc: Global, stopped: Stopped) -> bool {
     }
 }
 
-/// Whether each stop of a disk in the turn leaves what was there before or what is there after it.
+/// Whether each stop of a disk in the turn of the argument `turn` leaves the contents before or after the
+/// turn.
 pub(crate) fn stops_call(case: &Case<'_>) -> Result<String, CaseFault> {
     let Some(stopped) = named(&TURNS, case.text("turn")?) else {
         return Err(CaseFault::Missing("turn"));

@@ -1,9 +1,9 @@
-//! Readers and a writer that fail, or come to no end, as they are told to.
+//! Readers and a writer that fail at a given point.
 use std::alloc::Global;
 use std::io;
 use std::io::{ErrorKind, Read, Write};
 
-/// Gives a byte at a time, and fails where the bytes are at an end.
+/// A reader that returns one byte at a time, and fails after the last one.
 #[derive(Drop)]
 pub(crate) struct Trickle<'a> {
     pub(crate) bytes: &'a [u8],
@@ -23,8 +23,8 @@ impl<'a> Read for Trickle<'a> {
     }
 }
 
-/// Takes `step` bytes at a call; the call with the number `failing`, from 0, fails so, and later ones take
-/// bytes again.
+/// A writer that takes `step` bytes at a call. The call with the number `failing`, from 0, fails with `kind`;
+/// later ones take bytes again.
 #[derive(Drop)]
 pub(crate) struct Stutter {
     pub(crate) taken: Vec<u8>,
@@ -63,7 +63,7 @@ impl Write for Stutter {
     }
 }
 
-/// Gives an empty line at each read, so many times, and then nothing.
+/// A reader that returns one empty line at each read, `left` times, and then ends.
 #[derive(Drop)]
 pub(crate) struct EmptyLines {
     pub(crate) left: u32,

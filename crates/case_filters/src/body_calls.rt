@@ -1,4 +1,4 @@
-//! The calls of `scim_body`.
+//! The call of `scim_body`.
 use case_values::{Case, CaseFault, kind_of, push_all, said};
 use scim_body::{BodyFault, Draft, UseFor, read_body};
 use scim_cell::Row;
@@ -7,7 +7,7 @@ use scim_schema::{Kind, Unit};
 use scim_text::Failed;
 use std::alloc::Global;
 
-/// What a call on a body gives; None where it isn't one.
+/// Returns the result of the case's call, or None if it isn't `read_body`.
 pub fn answer(case: &Case<'_>, call: &str) -> Option<Result<String, CaseFault>> {
     match call {
         "read_body" => Some(body_call(case)),
@@ -15,12 +15,13 @@ pub fn answer(case: &Case<'_>, call: &str) -> Option<Result<String, CaseFault>> 
     }
 }
 
-/// The kind that the body is read for: the argument `body_kind`, or else `kind`.
+/// Returns the kind that the body is read for: the argument `body_kind`, by default `kind`.
 pub fn body_kind(case: &Case<'_>) -> Kind {
     kind_of(case.text_or("body_kind", case.text_or("kind", "User")))
 }
 
-/// The argument `use`, `creating` or `replacing`: what the body is read for; creating where it isn't given.
+/// Returns the use that the body is read for: the argument `use`, `creating` or `replacing`, by default
+/// `creating`.
 pub fn use_for(case: &Case<'_>) -> UseFor {
     match case.text_or("use", "creating") {
         "replacing" => UseFor::Replacing,
@@ -28,7 +29,7 @@ pub fn use_for(case: &Case<'_>) -> UseFor {
     }
 }
 
-/// The units that the body gives and the rows of their values, or its fault.
+/// Returns the units that the body gives and the rows of their values, or the body's fault.
 fn body_call(case: &Case<'_>) -> Result<String, CaseFault> {
     match read_body(
         case.alloc,

@@ -1,4 +1,4 @@
-//! The calls of `scim_filter`.
+//! The calls of `scim_filter` and `scim_filter_grammar`.
 use case_values::{
     Case, CaseFault, attribute_name, between, debugged, joined, named, push_all, said, shown,
     spaced_text, truth,
@@ -15,7 +15,7 @@ use scim_text::Failed;
 use std::alloc::Global;
 use std::str;
 
-/// A call of `scim_filter`.
+/// A call of `scim_filter` or `scim_filter_grammar`.
 #[derive(Clone, Copy)]
 enum FilterCall {
     OnFilter(OfFilter),
@@ -26,7 +26,7 @@ enum FilterCall {
     WrittenPath,
 }
 
-/// What is told of a filter.
+/// A call on a filter.
 #[derive(Clone, Copy)]
 enum OfFilter {
     Tree,
@@ -49,7 +49,7 @@ static CALLS: [(&str, FilterCall); 10] = [
     ("written_path", FilterCall::WrittenPath),
 ];
 
-/// What a call of `scim_filter` gives; None where it isn't one.
+/// Returns the result of the case's call, or None if it isn't a call on filters.
 pub fn answer(case: &Case<'_>, call: &str) -> Option<Result<String, CaseFault>> {
     let call = named(&CALLS, call)?;
     Some(match call {
@@ -62,13 +62,13 @@ pub fn answer(case: &Case<'_>, call: &str) -> Option<Result<String, CaseFault>> 
     })
 }
 
-/// The filter of the argument `filter`.
+/// Reads the filter in the argument `filter`.
 pub fn filter_of(case: &Case<'_>) -> Result<Result<Filter, Failed<FilterFault>>, CaseFault> {
     let text = spaced_text(case, "filter")?;
     Ok(read_filter(case.alloc, case.kind(), text.as_str()))
 }
 
-/// A fault by its name, `Syntax` with its byte.
+/// Returns the name of a fault; for `Syntax` also the byte position.
 fn fault_text(alloc: Global, fault: Failed<FilterFault>) -> Result<String, CaseFault> {
     match fault {
         Failed::Because(FilterFault::Syntax(at)) => between(alloc, "Syntax ", &at, ""),
@@ -79,7 +79,8 @@ fn fault_text(alloc: Global, fault: Failed<FilterFault>) -> Result<String, CaseF
     }
 }
 
-/// What a path names, as `emails.value`; `nothing` of what the kind lacks.
+/// Returns the attribute or leaf that a path names, such as `emails.value`; `nothing` if the kind doesn't
+/// have it.
 fn meant_text(alloc: Global, meant: Meant) -> Result<String, CaseFault> {
     match meant {
         Meant::Nothing => said(alloc, "nothing"),
@@ -104,7 +105,7 @@ fn literal_text(alloc: Global, literal: &Literal) -> Result<String, CaseFault> {
     }
 }
 
-/// What a node is written with in front.
+/// Returns the text that a node begins with.
 fn opening(node: &Node) -> &'static str {
     match node {
         Node::Or(_, _) => "(or ",
@@ -116,8 +117,9 @@ fn opening(node: &Node) -> &'static str {
     }
 }
 
-/// Writes a tree with its operators in front, as `(and (pr title) (Eq emails.value "a"))`, by what its paths
-/// name; a value path as `(of emails (pr emails.type))`.
+/// Appends a tree in prefix notation, such as `(and (pr title) (Eq emails.value "a"))`.
+///
+/// Paths are printed as the attributes they name, and a value path as `(of emails (pr emails.type))`.
 pub fn push_tree(alloc: Global, node: &Node, text: &mut String) -> Result<(), CaseFault> {
     text.push_str(opening(node))?;
     match node {
@@ -157,7 +159,7 @@ fn push_comparison(
     )
 }
 
-/// What the filter gives, or its fault.
+/// Returns the result of a call on the filter, or the filter's fault.
 fn filter_call(case: &Case<'_>, told: OfFilter) -> Result<String, CaseFault> {
     match filter_of(case)? {
         Ok(filter) => told_of_filter(case, told, &filter),
@@ -187,7 +189,7 @@ fn holds_text(case: &Case<'_>, filter: &Filter) -> Result<String, CaseFault> {
     truth(case.alloc, found)
 }
 
-/// Whether the filter holds at the position `position`.
+/// Whether the filter holds at the argument `position`.
 fn holds_at_text(case: &Case<'_>, filter: &Filter) -> Result<String, CaseFault> {
     let position = case.count("position")?;
     let part = case.part()?;
@@ -195,7 +197,7 @@ fn holds_at_text(case: &Case<'_>, filter: &Filter) -> Result<String, CaseFault> 
     truth(case.alloc, found)
 }
 
-/// The names in the order of the text, each as it is written and with its attribute.
+/// Returns the names in the filter in order of the text, each as written and with its attribute.
 fn names_call(case: &Case<'_>) -> Result<String, CaseFault> {
     match filter_of(case)? {
         Ok(filter) => listed_names(case.alloc, &filter),
@@ -203,7 +205,7 @@ fn names_call(case: &Case<'_>) -> Result<String, CaseFault> {
     }
 }
 
-/// The names in a filter, each with its attribute.
+/// Returns the names in a filter, each with its attribute.
 fn listed_names(alloc: Global, filter: &Filter) -> Result<String, CaseFault> {
     let names = mentioned_names(alloc, filter)?;
     let mut text = String::new(alloc);
@@ -221,7 +223,8 @@ fn push_name(name: &Named, text: &mut String) -> Result<(), CaseFault> {
     push_all(text, &[" ", attribute_name(name.attribute)])
 }
 
-/// Of a comparison with a string the text, its folding, and the second of the moment that it spells.
+/// Returns the text of a comparison with a string, its folded form, and the second of the moment that it
+/// spells.
 fn string_text(alloc: Global, node: &Node) -> Result<String, CaseFault> {
     let Node::Compare(_, _, Literal::Text(string)) = node else {
         return said(alloc, "no string");
@@ -236,7 +239,7 @@ fn string_text(alloc: Global, node: &Node) -> Result<String, CaseFault> {
     }
 }
 
-/// Each token with where it begins and ends, as `0-5 title|6-8 pr`.
+/// Returns each token with its start and end, such as `0-5 title|6-8 pr`.
 fn tokens_call(case: &Case<'_>) -> Result<String, CaseFault> {
     let source = spaced_text(case, "text")?;
     match read_tokens(case.alloc, source.as_str()) {
@@ -262,8 +265,8 @@ fn push_token(alloc: Global, token: &Token<'_>, text: &mut String) -> Result<(),
     push_all(text, &[start.as_str(), "-", end.as_str(), " ", token.slice])
 }
 
-/// What the path names; the attribute whose sub-attributes may stand between brackets, the attribute that is
-/// named, and the leaf that is compared.
+/// Returns what the path names: the attribute or leaf; the attribute whose sub-attributes are allowed in
+/// brackets; the attribute that is mentioned; and the leaf that is compared.
 fn attribute_path_call(case: &Case<'_>) -> Result<String, CaseFault> {
     match attribute_path(case.kind(), case.text("text")?) {
         Some(meant) => told_of_meant(case.alloc, meant),
@@ -295,8 +298,8 @@ fn lone_word_call(case: &Case<'_>) -> Result<String, CaseFault> {
     }
 }
 
-/// What the path names, or the tree of the value path and the name behind it; `wrong types` before it where
-/// the filter compares values of wrong types.
+/// Returns what the path names, or the tree of a value path and the name after it. `wrong types` goes before
+/// the tree if the filter compares values of wrong types.
 fn written_path_call(case: &Case<'_>) -> Result<String, CaseFault> {
     let source = spaced_text(case, "text")?;
     match written_path(case.alloc, case.kind(), source.as_str())? {
@@ -316,7 +319,8 @@ fn written_text(alloc: Global, path: &WrittenPath) -> Result<String, CaseFault> 
     }
 }
 
-/// Writes the tree of a filter, behind a word where its values are of wrong types, and the name behind it.
+/// Appends the tree of a filter and the name after it, with `wrong types` before it if its values have wrong
+/// types.
 fn push_filter(
     alloc: Global,
     filter: &Filter,

@@ -1,4 +1,4 @@
-//! The calls of `scim_json`, and lines that hold a users file and what is said of it in place of a call.
+//! The calls of `scim_json`, and cases of users files.
 use case_values::{Case, CaseFault, between, file_text, named, said};
 use scim_json::{Damaged, DamagedItem, read_documents, read_stored, stored_text, to_json};
 use scim_samples::{BASE, part_text};
@@ -26,7 +26,7 @@ static CALLS: [(&str, JsonCall); 6] = [
     ("users_file", JsonCall::UsersFile),
 ];
 
-/// What a call of `scim_json` gives; None where it isn't one.
+/// Returns the result of the case's call, or None if it isn't a call of `scim_json`.
 pub fn answer(case: &Case<'_>, call: &str) -> Option<Result<String, CaseFault>> {
     let call = named(&CALLS, call)?;
     Some(match call {
@@ -49,7 +49,8 @@ fn stored_text_call(case: &Case<'_>) -> Result<String, CaseFault> {
     Ok(stored_text(case.alloc, &resource)?)
 }
 
-/// The cells of the resource that a text is the document of, or `again` its document as it is written; `Damaged`.
+/// Reads a stored document and returns its resource, as cells or, if `again` is true, as a document.
+/// `Damaged` if the document is invalid.
 fn read_stored_call(case: &Case<'_>, again: bool) -> Result<String, CaseFault> {
     match read_stored(case.alloc, case.text_or("base", BASE), case.text("text")?) {
         Ok(resource) => resource_text(case.alloc, again, &resource),
@@ -66,7 +67,7 @@ fn resource_text(alloc: Global, again: bool, resource: &Resource) -> Result<Stri
     }
 }
 
-/// Whether what is read of a resource's document is the resource.
+/// Whether reading the document of a resource gives the resource.
 fn reads_back(case: &Case<'_>) -> Result<String, CaseFault> {
     let resource = case.resource()?;
     read_again(case.alloc, &resource)
@@ -81,7 +82,7 @@ fn read_again(alloc: Global, resource: &Resource) -> Result<String, CaseFault> {
     }
 }
 
-/// `ok, N resources`, or `item N`. A file that isn't in UTF-8 is refused before it is read, as item 0.
+/// Returns `ok, N resources`, or `item N` for the first invalid item; `item 0` if the file isn't UTF-8.
 fn users_file(case: &Case<'_>) -> Result<String, CaseFault> {
     match file_text(case, "users", "users_hex")? {
         Some(text) => users_told(case, text.as_str()),

@@ -1,4 +1,4 @@
-//! The calls of the crates of messages: their routes, their tokens and their bytes.
+//! The calls of `scim_token`, `scim_route` and `scim_wire`.
 #![tactic(auto)]
 
 mod route_calls;
@@ -8,7 +8,7 @@ mod wire_calls;
 use case_values::{Case, CaseFault};
 pub use token_calls::{client_of, tokens_of};
 
-/// What a call gives, if it is one of this crate.
+/// Returns the result of the case's call, or None if it isn't a call of this crate.
 pub fn answer(case: &Case<'_>, call: &str) -> Option<Result<String, CaseFault>> {
     if let Some(found) = token_calls::answer(case, call) {
         return Some(found);

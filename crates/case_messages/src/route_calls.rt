@@ -5,7 +5,7 @@ use scim_route::{Found, Parameters, Route, Routes};
 use scim_text::{Failed, NoMemory};
 use std::alloc::Global;
 
-/// What a call of `scim_route` gives; None where it isn't one.
+/// Returns the result of the case's call, or None if it isn't a call of `scim_route`.
 pub fn answer(case: &Case<'_>, call: &str) -> Option<Result<String, CaseFault>> {
     match call {
         "find" => Some(find_call(case)),
@@ -14,7 +14,7 @@ pub fn answer(case: &Case<'_>, call: &str) -> Option<Result<String, CaseFault>> 
     }
 }
 
-/// What the method and the target name, or the refusal.
+/// Returns the route of the method and the target, or the refusal.
 fn find_call(case: &Case<'_>) -> Result<String, CaseFault> {
     let method = case.text_or("method", "GET").as_bytes();
     let target = case.text("target")?.as_bytes();
@@ -26,7 +26,7 @@ fn find_call(case: &Case<'_>) -> Result<String, CaseFault> {
     }
 }
 
-/// What is found, and behind a `?` the query.
+/// Returns the discovery page or the route, with the query after a `?`.
 fn found_text(alloc: Global, found: &Found<'_>) -> Result<String, CaseFault> {
     match found {
         Found::Discovery(page, query) => {
@@ -37,7 +37,7 @@ fn found_text(alloc: Global, found: &Found<'_>) -> Result<String, CaseFault> {
     }
 }
 
-/// The form, the operation, the kind, and the id, `-` where there is none.
+/// Returns the form, the operation, the kind and the id of a route; `-` if it has no id.
 fn route_text(alloc: Global, route: &Route<'_>) -> Result<String, CaseFault> {
     let form = debugged(alloc, &route.form)?;
     let op = debugged(alloc, &route.op)?;
@@ -72,7 +72,7 @@ fn with_query(mut text: String, query: Option<&[u8]>) -> Result<String, CaseFaul
     Ok(text)
 }
 
-/// The parameters that a query string gives, each behind its name; a query string in hex where it is no UTF-8.
+/// Returns the parameters of a query string as `NAME=VALUE;`.
 fn parameters_call(case: &Case<'_>) -> Result<String, CaseFault> {
     let query = query_of(case)?;
     let parameters = parameters_in(case.alloc, query.as_ref())?;
@@ -86,7 +86,7 @@ fn parameters_in(alloc: Global, query: Option<&Vec<u8>>) -> Result<Parameters, N
     }
 }
 
-/// The argument `query`, or `query_hex`; None where neither is given.
+/// Returns the query string: the argument `query`, or `query_hex` in hex. None if neither is given.
 fn query_of(case: &Case<'_>) -> Result<Option<Vec<u8>>, CaseFault> {
     if let Ok(digits) = case.text("query_hex") {
         return Ok(hex::decode(case.alloc, digits).ok());

@@ -1,11 +1,11 @@
-//! The calls of `scim_token`, and who asks for a step of whole requests.
+//! The call of `scim_token`, and the client of a step.
 use case_values::{Case, CaseFault, said, shown};
 use scim_text::{Failed, NoMemory};
 use scim_token::Tokens;
 use scim_wire::Message;
 use std::alloc::Global;
 
-/// What a call of `scim_token` gives; None where it isn't one.
+/// Returns the result of the case's call, or None if it isn't `client_of`.
 pub fn answer(case: &Case<'_>, call: &str) -> Option<Result<String, CaseFault>> {
     match call {
         "client_of" => Some(client_call(case)),
@@ -13,7 +13,7 @@ pub fn answer(case: &Case<'_>, call: &str) -> Option<Result<String, CaseFault>> 
     }
 }
 
-/// The client that has the token, by the lines of a token file; or what is wrong with the file.
+/// Returns the client that has the token by a token file; `none`, or the file's fault.
 fn client_call(case: &Case<'_>) -> Result<String, CaseFault> {
     let token = case.text("token")?.as_bytes();
     let file = token_file(case)?;
@@ -28,7 +28,7 @@ fn client_in(alloc: Global, file: &str, token: &[u8]) -> Result<String, CaseFaul
     }
 }
 
-/// The argument `tokens`, and behind it as many lines as the argument `more` says, each with a token of its own.
+/// Returns the argument `tokens`, followed by `more` lines, each with another token.
 fn token_file(case: &Case<'_>) -> Result<String, NoMemory> {
     let mut file = String::from_str(case.alloc, case.text_or("tokens", ""))?;
     for number in 0..case.number("more").unwrap_or(0) {
@@ -37,7 +37,7 @@ fn token_file(case: &Case<'_>) -> Result<String, NoMemory> {
     Ok(file)
 }
 
-/// Adds the line of a token of which the digest is a number, in 64 hex digits.
+/// Appends the line of a token whose digest is the number in hex.
 fn push_token_line(alloc: Global, number: i64, file: &mut String) -> Result<(), NoMemory> {
     let digits = hex::encode(alloc, number.to_be_bytes())?;
     file.push_str("client 000000000000000000000000000000000000000000000000")?;
@@ -45,7 +45,7 @@ fn push_token_line(alloc: Global, number: i64, file: &mut String) -> Result<(), 
     Ok(file.push_str("\n")?)
 }
 
-/// The tokens of the argument `tokens`, the text of a token file; of no client where it isn't given.
+/// Returns the tokens of the token file in the argument `tokens`, by default empty. Missing if it is invalid.
 pub fn tokens_of(case: &Case<'_>) -> Result<Tokens, CaseFault> {
     match Tokens::read(case.alloc, case.text_or("tokens", "")) {
         Ok(tokens) => Ok(tokens),
@@ -54,7 +54,7 @@ pub fn tokens_of(case: &Case<'_>) -> Result<Tokens, CaseFault> {
     }
 }
 
-/// The client of a step: its `client`, or else the one that has the token of the message.
+/// Returns the client of a step: its argument `client`, or else the client that has the message's token.
 pub fn client_of<'c>(step: &'c Case<'_>, message: &Message, tokens: &'c Tokens) -> Option<&'c str> {
     if let Ok(client) = step.text("client") {
         return Some(client);

@@ -3,7 +3,7 @@ use case_values::{Case, CaseFault, between, debugged, push_all};
 use scim_wire::{HttpReply, Item, Message, Octets, Wire, print_reply};
 use std::alloc::Global;
 
-/// What a call of `scim_wire` gives; None where it isn't one.
+/// Returns the result of the case's call, or None if it isn't a call of `scim_wire`.
 pub fn answer(case: &Case<'_>, call: &str) -> Option<Result<String, CaseFault>> {
     match call {
         "feed" => Some(feed_call(case)),
@@ -12,7 +12,7 @@ pub fn answer(case: &Case<'_>, call: &str) -> Option<Result<String, CaseFault>> 
     }
 }
 
-/// The bytes of a stream: of `hex`; or of `text`, then `count` times `again`, then `end`.
+/// Returns the bytes of a stream: those of `hex`; or `text`, then `count` times `again`, then `end`.
 fn stream(case: &Case<'_>) -> Result<Vec<u8>, CaseFault> {
     if let Ok(digits) = case.text("hex") {
         return bytes_of(case.alloc, digits);
@@ -32,8 +32,9 @@ fn bytes_of(alloc: Global, digits: &str) -> Result<Vec<u8>, CaseFault> {
     }
 }
 
-/// What a stream gives byte by byte, each item with the count of bytes that had come; and, with `cuts`, the first cut
-/// into two pieces by which it gives something else.
+/// Returns the items of a stream that is fed byte by byte, each with the number of bytes fed until then.
+///
+/// If `cuts` is true, also returns the first way to feed it in two pieces that gives other items, if any.
 fn feed_call(case: &Case<'_>) -> Result<String, CaseFault> {
     let bytes = stream(case)?;
     let mut text = String::new(case.alloc);
@@ -44,7 +45,7 @@ fn feed_call(case: &Case<'_>) -> Result<String, CaseFault> {
     Ok(text)
 }
 
-/// Adds what the bytes of a stream give one by one.
+/// Appends the items of a stream that is fed byte by byte.
 fn push_stream(alloc: Global, bytes: &[u8], text: &mut String) -> Result<(), CaseFault> {
     let mut wire = Wire::new(alloc);
     for (index, byte) in bytes.iter().enumerate() {
@@ -53,7 +54,7 @@ fn push_stream(alloc: Global, bytes: &[u8], text: &mut String) -> Result<(), Cas
     Ok(())
 }
 
-/// Adds the items that some bytes end, each with the count of bytes that had come.
+/// Feeds some bytes and appends the items that they complete, each with the number of bytes fed until then.
 fn push_fed(
     alloc: Global,
     wire: &mut Wire,
@@ -74,7 +75,8 @@ fn push_count(alloc: Global, count: usize, text: &mut String) -> Result<(), Case
     push_all(text, &[count.as_str()])
 }
 
-/// Adds an item: `Continue`, a refusal, or a message's method, target, token, body, and whether it closes.
+/// Appends an item: `Continue`, a refusal, or a message's method, target, token, body, and whether it closes
+/// the connection.
 fn push_item(alloc: Global, item: &Item, text: &mut String) -> Result<(), CaseFault> {
     match item {
         Item::Continue => push_all(text, &["Continue"]),
@@ -104,7 +106,7 @@ fn text_of(octets: &Octets) -> &str {
     str::from_utf8(octets.as_slice()).unwrap_or("no UTF-8")
 }
 
-/// What a stream gives in two pieces, of which the first has so many bytes.
+/// Returns the items of a stream that is fed in two pieces, the first with `cut` bytes.
 fn items_in_two(alloc: Global, bytes: &[u8], cut: usize) -> Result<String, CaseFault> {
     let (front, back) = bytes.split_at(cut.min(bytes.len()));
     let mut wire = Wire::new(alloc);
@@ -114,7 +116,7 @@ fn items_in_two(alloc: Global, bytes: &[u8], cut: usize) -> Result<String, CaseF
     Ok(text)
 }
 
-/// Adds the first cut by which a stream gives something else than whole.
+/// Appends the first cut whose items differ from those of the uncut stream; ` however cut` if no cut's do.
 fn push_cuts(alloc: Global, bytes: &[u8], text: &mut String) -> Result<(), CaseFault> {
     let whole = items_in_two(alloc, bytes, 0)?;
     for cut in 1..bytes.len() {
@@ -131,7 +133,7 @@ fn push_cut(alloc: Global, cut: usize, found: &str, text: &mut String) -> Result
     push_all(text, &[cut.as_str(), found])
 }
 
-/// The text of a reply.
+/// Returns the text of a reply.
 fn print_reply_call(case: &Case<'_>) -> Result<String, CaseFault> {
     let Ok(status) = u16::try_from(case.number("status")?) else {
         return Err(CaseFault::Missing("status"));

@@ -1,4 +1,5 @@
-//! The calls of `scim_policy` on what a client may write, and what a change would open to it.
+//! The calls of `scim_policy` on the units that a client may write, and on the access that a change would
+//! add.
 use crate::policy_calls::{decision_text, policy};
 use case_values::{Case, CaseFault, beside, joined, named, said};
 use scim_policy::{Decision, Policy};
@@ -19,7 +20,7 @@ static CALLS: [(&str, AccessCall); 2] = [
     ("widens", AccessCall::Widens),
 ];
 
-/// What a call on access gives; None where it isn't one.
+/// Returns the result of the case's call, or None if it isn't a call on access.
 pub fn answer(case: &Case<'_>, call: &str) -> Option<Result<String, CaseFault>> {
     let call = named(&CALLS, call)?;
     Some(access_call(case, call))
@@ -38,7 +39,7 @@ fn told_of_access(case: &Case<'_>, call: AccessCall, policy: &Policy) -> Result<
     }
 }
 
-/// The leaf at which the unit of `leaf` may not be written, with the rule; or `nothing`.
+/// Returns the leaf that forbids writing the unit of `leaf`, with the deciding rule; or `nothing`.
 fn forbidding_text(
     case: &Case<'_>,
     policy: &Policy,
@@ -51,8 +52,8 @@ fn forbidding_text(
     }
 }
 
-/// What is opened where the resource becomes one with the cells `then`: the operation and the leaf, with the
-/// rule; or `nothing`.
+/// Returns the operation and the leaf that the client gains if the resource gets the cells `then`, with the
+/// deciding rule; or `nothing`.
 fn widening_text(case: &Case<'_>, policy: &Policy, before: &Resource) -> Result<String, CaseFault> {
     let after = resource(
         case.alloc,

@@ -1,4 +1,4 @@
-//! The calls of `scim_explain` and of `scim_policy_sentences`.
+//! The calls of `scim_explain` and `scim_policy_sentences`.
 use crate::policy_calls::policy;
 use case_values::{Case, CaseFault, named};
 use scim_explain::{explain, idle_rules, print, print_idle_rules, table};
@@ -6,7 +6,7 @@ use scim_policy::Policy;
 use scim_policy_sentences::rule_sentences;
 use scim_value::Resource;
 
-/// A call of `scim_explain` or of `scim_policy_sentences`.
+/// A call of `scim_explain` or `scim_policy_sentences`.
 #[derive(Clone, Copy)]
 enum ExplainCall {
     Explain,
@@ -22,7 +22,7 @@ static CALLS: [(&str, ExplainCall); 4] = [
     ("idle_rules", ExplainCall::IdleRules),
 ];
 
-/// What a call of these crates gives; None where it isn't one.
+/// Returns the result of the case's call, or None if it isn't a call of these crates.
 pub fn answer(case: &Case<'_>, call: &str) -> Option<Result<String, CaseFault>> {
     let call = named(&CALLS, call)?;
     Some(policy_call(case, call))
@@ -38,20 +38,20 @@ fn policy_call(case: &Case<'_>, call: ExplainCall) -> Result<String, CaseFault> 
     }
 }
 
-/// The rules that never decide, in lines.
+/// Returns the rules that can never decide, one per line.
 fn idle_text(case: &Case<'_>, policy: &Policy) -> Result<String, CaseFault> {
     let idle = idle_rules(case.alloc, policy)?;
     Ok(print_idle_rules(case.alloc, idle.as_slice())?)
 }
 
-/// What is decided of the whole resource, in lines.
+/// Returns the decisions on all leaves of the resource, one per line.
 fn table_text(case: &Case<'_>, policy: &Policy) -> Result<String, CaseFault> {
     let client = case.text("client")?;
     let resource = case.resource()?;
     Ok(table(case.alloc, policy, client, case.op(), &resource)?)
 }
 
-/// Why it is decided so, in lines.
+/// Returns the explanation of a decision, one rule per line.
 fn explanation_text(case: &Case<'_>, policy: &Policy) -> Result<String, CaseFault> {
     let client = case.text("client")?;
     let resource = case.resource()?;

@@ -1,4 +1,5 @@
-//! The calls of the crates of policies, views and searches.
+//! The calls of `scim_policy`, `scim_policy_file`, `scim_explain`, `scim_policy_sentences`, `scim_view` and
+//! `scim_query`.
 #![tactic(auto)]
 
 mod access_calls;
@@ -12,7 +13,7 @@ pub use policy_calls::policy;
 pub use query_calls::query_of;
 pub use view_calls::wanted;
 
-/// What a call gives, if it is one of this crate.
+/// Returns the result of the case's call, or None if it isn't a call of this crate.
 pub fn answer(case: &Case<'_>, call: &str) -> Option<Result<String, CaseFault>> {
     if let Some(found) = policy_calls::answer(case, call) {
         return Some(found);

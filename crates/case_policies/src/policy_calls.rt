@@ -1,4 +1,4 @@
-//! The calls of `scim_policy` and of `scim_policy_file`.
+//! The calls of `scim_policy` and `scim_policy_file`.
 use case_values::{
     Case, CaseFault, between, debugged, file_text, named, policy_text, push_all, said, shown, truth,
 };
@@ -8,7 +8,7 @@ use scim_samples::read_leaf;
 use scim_value::Resource;
 use std::alloc::Global;
 
-/// A call of `scim_policy` or of `scim_policy_file`.
+/// A call of `scim_policy` or `scim_policy_file`.
 #[derive(Clone, Copy)]
 enum PolicyCall {
     IsClientName,
@@ -18,7 +18,7 @@ enum PolicyCall {
     OnResource(OfDecision),
 }
 
-/// What is told of a rule.
+/// A call on a rule.
 #[derive(Clone, Copy)]
 enum OfRule {
     Rule,
@@ -26,7 +26,7 @@ enum OfRule {
     Targets,
 }
 
-/// What is told of how a policy decides.
+/// A call on the decisions of a policy.
 #[derive(Clone, Copy)]
 enum OfDecision {
     Decision,
@@ -48,7 +48,7 @@ static CALLS: [(&str, PolicyCall); 10] = [
     ("misfits", PolicyCall::OnResource(OfDecision::Misfits)),
 ];
 
-/// What a call of `scim_policy` gives; None where it isn't one.
+/// Returns the result of the case's call, or None if it isn't a call of these crates.
 pub fn answer(case: &Case<'_>, call: &str) -> Option<Result<String, CaseFault>> {
     let call = named(&CALLS, call)?;
     Some(match call {
@@ -64,13 +64,13 @@ fn is_client_name_call(case: &Case<'_>) -> Result<String, CaseFault> {
     truth(case.alloc, is_client_name(case.text("text")?))
 }
 
-/// `ok, N rules`, or what the fault is written as.
+/// Returns `ok, N rules`, or the text of the policy's fault.
 fn read_policy_call(case: &Case<'_>) -> Result<String, CaseFault> {
     let text = policy_text(case)?;
     told_of_text(case.alloc, text.as_str())
 }
 
-/// The same of a policy file. One that isn't in UTF-8 is refused before it is read, as no JSON.
+/// Returns `ok, N rules`, or the text of the policy file's fault; the fault `json` if the file isn't UTF-8.
 fn policy_file(case: &Case<'_>) -> Result<String, CaseFault> {
     match file_text(case, "policy", "policy_hex")? {
         Some(text) => told_of_text(case.alloc, text.as_str()),
@@ -85,12 +85,12 @@ fn told_of_text(alloc: Global, text: &str) -> Result<String, CaseFault> {
     }
 }
 
-/// What is told of a policy of so many rules.
+/// Returns the text for a valid policy with this number of rules.
 fn count_text(alloc: Global, rules: usize) -> Result<String, CaseFault> {
     between(alloc, "ok, ", &rules, " rules")
 }
 
-/// The policy of a case, as [`policy_text`] tells.
+/// Returns the policy of a case, read from [`policy_text`]. Missing if it is invalid.
 pub fn policy(case: &Case<'_>) -> Result<Policy, CaseFault> {
     let text = policy_text(case)?;
     match read_policy(case.alloc, text.as_str()) {
@@ -99,7 +99,7 @@ pub fn policy(case: &Case<'_>) -> Result<Policy, CaseFault> {
     }
 }
 
-/// The rule `number` of the policy, from 1; the first where no number is given.
+/// Returns the rule with the number `number`, from 1, by default the first. Missing if there is none.
 fn rule_of<'p>(case: &Case<'_>, policy: &'p Policy) -> Result<&'p Rule, CaseFault> {
     let number = if case.has("number") {
         case.count("number")?
@@ -112,7 +112,7 @@ fn rule_of<'p>(case: &Case<'_>, policy: &'p Policy) -> Result<&'p Rule, CaseFaul
     }
 }
 
-/// What is told of a rule of the policy.
+/// Returns the result of a call on a rule of the policy.
 fn rule_call(case: &Case<'_>, told: OfRule) -> Result<String, CaseFault> {
     let policy = policy(case)?;
     told_of_rule(case, told, &policy)
@@ -127,7 +127,7 @@ fn told_of_rule(case: &Case<'_>, told: OfRule, policy: &Policy) -> Result<String
     }
 }
 
-/// Whether a rule allows, for which clients, and for which operations and kinds.
+/// Returns a rule's effect, clients, operations and kinds.
 fn rule_text(alloc: Global, rule: &Rule) -> Result<String, CaseFault> {
     let mut text = said(alloc, if rule.allows() { "allow" } else { "deny" })?;
     for client in rule.clients() {
@@ -144,14 +144,14 @@ fn push_client(client: &ClientName, text: &mut String) -> Result<(), CaseFault> 
     }
 }
 
-/// Writes the operations and the kinds of a rule.
+/// Appends the operations and the kinds of a rule.
 fn push_scope(alloc: Global, rule: &Rule, text: &mut String) -> Result<(), CaseFault> {
     let ops = debugged(alloc, &rule.ops())?;
     let kinds = debugged(alloc, &rule.kinds())?;
     push_all(text, &[" ", ops.as_str(), " ", kinds.as_str()])
 }
 
-/// The targets of a rule, and of each whether its values are of the types of their attributes.
+/// Returns the targets of a rule, each with whether its values have the types of their attributes.
 fn targets_text(alloc: Global, targets: &[Target]) -> Result<String, CaseFault> {
     let mut text = String::new(alloc);
     for target in targets {
@@ -167,7 +167,7 @@ fn push_target(alloc: Global, target: &Target, text: &mut String) -> Result<(), 
     Ok(text.push_str(if is_typed { " true " } else { " false " })?)
 }
 
-/// What the policy decides of the resource.
+/// Returns the result of a call on the policy and the resource.
 fn decision_call(case: &Case<'_>, told: OfDecision) -> Result<String, CaseFault> {
     let policy = policy(case)?;
     decided_by(case, told, &policy)
@@ -192,6 +192,7 @@ fn told_of_decision(
     }
 }
 
+/// Returns the text of a decision, such as `rule 3: allow`.
 pub fn decision_text(alloc: Global, decision: Decision) -> Result<String, CaseFault> {
     let effect = if decision.allow { ": allow" } else { ": deny" };
     between(alloc, "rule ", &decision.rule, effect)
@@ -204,7 +205,7 @@ fn decision_of(case: &Case<'_>, policy: &Policy, resource: &Resource) -> Result<
     decision_text(case.alloc, decision)
 }
 
-/// The decisions on some leaves, one after another.
+/// Returns the decisions on the leaves of the list `leaves`, separated by `; `.
 fn decisions_of(
     case: &Case<'_>,
     policy: &Policy,
@@ -234,7 +235,7 @@ fn push_decision(alloc: Global, decision: Decision, text: &mut String) -> Result
     Ok(text.push_str(decision.as_str())?)
 }
 
-/// What of the rule `number` doesn't fit, asked of the policy.
+/// Returns why the rule with the number `number` doesn't fit, from the policy.
 fn misfit_text(case: &Case<'_>, policy: &Policy, resource: &Resource) -> Result<String, CaseFault> {
     let leaf = case.leaf("leaf")?;
     let client = case.text("client")?;
@@ -246,7 +247,7 @@ fn misfit_text(case: &Case<'_>, policy: &Policy, resource: &Resource) -> Result<
     debugged(case.alloc, &misfit)
 }
 
-/// What of each of the rules doesn't fit.
+/// Returns for each rule why it doesn't fit.
 fn misfits_text(
     case: &Case<'_>,
     policy: &Policy,

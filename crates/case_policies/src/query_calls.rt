@@ -32,7 +32,7 @@ static CALLS: [(&str, QueryCall); 4] = [
     ("read_sort_by", QueryCall::ReadSortBy),
 ];
 
-/// What a call of `scim_query` gives; None where it isn't one.
+/// Returns the result of the case's call, or None if it isn't a call of `scim_query`.
 pub fn answer(case: &Case<'_>, call: &str) -> Option<Result<String, CaseFault>> {
     let call = named(&CALLS, call)?;
     Some(match call {
@@ -43,7 +43,7 @@ pub fn answer(case: &Case<'_>, call: &str) -> Option<Result<String, CaseFault>> 
     })
 }
 
-/// The leaf that is sorted by.
+/// Returns the leaf that a `sortBy` names; `none` if it names none.
 fn read_sort_by_call(case: &Case<'_>) -> Result<String, CaseFault> {
     let text = spaced_text(case, "text")?;
     match read_sort_by(case.kind(), text.as_str()) {
@@ -52,7 +52,7 @@ fn read_sort_by_call(case: &Case<'_>) -> Result<String, CaseFault> {
     }
 }
 
-/// The filter of the argument `filter`, if it is given.
+/// Returns the filter in the argument `filter`, if it is given. Missing if it is invalid.
 fn wanted_filter(case: &Case<'_>) -> Result<Option<Filter>, CaseFault> {
     if case.text("filter").is_err() {
         return Ok(None);
@@ -63,12 +63,12 @@ fn wanted_filter(case: &Case<'_>) -> Result<Option<Filter>, CaseFault> {
     }
 }
 
-/// The argument `sortBy` as it is read, if it is given.
+/// Returns the leaf that the argument `sortBy` names, if it is given and names one.
 fn sort_leaf(case: &Case<'_>) -> Option<Leaf> {
     read_sort_by(case.kind(), case.text("sortBy").ok()?)
 }
 
-/// The query of a case, by default all by id.
+/// Returns the query of a case, by default the first 100 resources by id.
 pub fn query_of(case: &Case<'_>) -> Result<Query, CaseFault> {
     let wanted = wanted(case)?;
     Ok(Query {
@@ -81,7 +81,7 @@ pub fn query_of(case: &Case<'_>) -> Result<Query, CaseFault> {
     })
 }
 
-/// The page of the parts of the list `parts` that the query asks for.
+/// Returns the page of the query over the parts in the list `parts`.
 fn found_page(case: &Case<'_>) -> Result<String, CaseFault> {
     let query = query_of(case)?;
     found_by(case, &query)
@@ -97,7 +97,7 @@ fn found_among(case: &Case<'_>, parts: &[Part], query: &Query) -> Result<String,
     page_text(case, &page)
 }
 
-/// The parts of the list `parts`, where it is given, else those of the resources that `users` or the kind names.
+/// Returns the parts in the list `parts`; if it is empty, the parts of the resources of [`resources_of`].
 fn pushed_parts(case: &Case<'_>) -> Result<Vec<Part>, CaseFault> {
     if !case.list("parts").is_empty() {
         return parts_of(case);
@@ -111,7 +111,8 @@ fn pushed_parts(case: &Case<'_>) -> Result<Vec<Part>, CaseFault> {
     )
 }
 
-/// The page of the parts that are pushed one by one, and the most that were held between two of them.
+/// Returns the page of a pager that gets the parts one by one, and the maximum number of parts it held
+/// between two calls.
 fn paged(case: &Case<'_>) -> Result<String, CaseFault> {
     let query = query_of(case)?;
     paged_by(case, &query)
@@ -125,7 +126,7 @@ fn paged_by(case: &Case<'_>, query: &Query) -> Result<String, CaseFault> {
     told_page(case, &page, most)
 }
 
-/// Pushes the parts, and tells the most that were held between two of them.
+/// Pushes the parts to the pager and returns the maximum number of parts it held between two calls.
 fn push_parts(pager: &mut Pager<'_>, parts: Vec<Part>) -> Result<usize, CaseFault> {
     let mut most = 0;
     for part in parts {
@@ -141,13 +142,13 @@ fn told_page(case: &Case<'_>, page: &Page, most: usize) -> Result<String, CaseFa
     joined(case.alloc, &[text.as_str(), held.as_str()])
 }
 
-/// The page of what the client sees by the policy.
+/// Returns the page of the query over the client's view, as text.
 fn seen_page(case: &Case<'_>) -> Result<String, CaseFault> {
     let page = page_of_view(case)?;
     page_text(case, &page)
 }
 
-/// The page that a query asks for of what the client sees by the policy.
+/// Returns the page of the query over the client's view.
 fn page_of_view(case: &Case<'_>) -> Result<Page, CaseFault> {
     let query = query_of(case)?;
     page_for(case, &query)
@@ -174,8 +175,8 @@ fn page_among(
     Ok(search_view(case.alloc, viewer, groups, resources.as_slice(), query)?)
 }
 
-/// A page as its total, its start and its items: of each its JSON, or where the argument `tell` names a leaf
-/// what stands there.
+/// Returns a page as its total, its start and its items. An item is printed as JSON, or as the atom at the
+/// leaf that the argument `tell` names.
 fn page_text(case: &Case<'_>, page: &Page) -> Result<String, CaseFault> {
     let mut text = page_head(case.alloc, page)?;
     for item in &page.items {

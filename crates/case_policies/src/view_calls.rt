@@ -17,7 +17,7 @@ enum ViewCall {
     Includes,
 }
 
-/// What is told of how a client sees a resource.
+/// A call on the view of a resource.
 #[derive(Clone, Copy)]
 enum OfView {
     Sees,
@@ -41,7 +41,7 @@ static CALLS: [(&str, ViewCall); 8] = [
     ("includes", ViewCall::Includes),
 ];
 
-/// What a call of `scim_view` gives; None where it isn't one.
+/// Returns the result of the case's call, or None if it isn't a call of `scim_view`.
 pub fn answer(case: &Case<'_>, call: &str) -> Option<Result<String, CaseFault>> {
     let call = named(&CALLS, call)?;
     Some(match call {
@@ -52,7 +52,7 @@ pub fn answer(case: &Case<'_>, call: &str) -> Option<Result<String, CaseFault>> 
     })
 }
 
-/// The client of a case, by this policy.
+/// Returns the viewer for the case's client, with this policy.
 pub fn viewer<'c>(case: &'c Case<'_>, policy: &'c Policy) -> Result<Viewer<'c>, CaseFault> {
     Ok(Viewer {
         policy,
@@ -61,7 +61,7 @@ pub fn viewer<'c>(case: &'c Case<'_>, policy: &'c Policy) -> Result<Viewer<'c>, 
     })
 }
 
-/// What the client sees of the resource.
+/// Returns the result of a call on the client's view of the resource.
 fn view_call(case: &Case<'_>, told: OfView) -> Result<String, CaseFault> {
     let policy = policy(case)?;
     seen_by(case, told, &policy)
@@ -113,7 +113,7 @@ fn cells_text(alloc: Global, part: &Part) -> Result<String, CaseFault> {
     Ok(part_text(alloc, part)?)
 }
 
-/// The part that is seen; `unseen` where the resource isn't.
+/// Returns the cells of the visible part; `unseen` if the client doesn't see the resource.
 fn seen_text(alloc: Global, part: Option<Part>) -> Result<String, CaseFault> {
     match part {
         Some(part) => cells_text(alloc, &part),
@@ -121,12 +121,12 @@ fn seen_text(alloc: Global, part: Option<Part>) -> Result<String, CaseFault> {
     }
 }
 
-/// The groups of the list `groups`.
+/// Returns the groups in the list `groups`.
 fn groups(case: &Case<'_>) -> Result<Vec<Resource>, CaseFault> {
     resources(case, Kind::Group, "groups")
 }
 
-/// The parts that are seen of the list `resources`, one after another.
+/// Returns the visible parts of the resources in the list `resources`, with a bar after each.
 fn views_call(case: &Case<'_>) -> Result<String, CaseFault> {
     let parts = seen_parts(case)?;
     parts_text(case.alloc, parts.as_slice())
@@ -165,13 +165,14 @@ fn push_part(alloc: Global, part: &Part, text: &mut String) -> Result<(), CaseFa
     push_all(text, &[cells.as_str(), " | "])
 }
 
-/// The names that a list has.
+/// Returns the attribute names in a list.
 fn names(case: &Case<'_>, list: &'static str) -> Result<Names, CaseFault> {
     let texts = texts(case, list)?;
     Ok(Names::of(case.alloc, case.kind(), texts.as_slice())?)
 }
 
-/// What is wanted: by the list `attributes`, by the list `excludedAttributes`, or the default.
+/// Returns the attributes wanted: the list `attributes`, all but the list `excludedAttributes`, or the
+/// default.
 pub fn wanted(case: &Case<'_>) -> Result<Wanted, CaseFault> {
     if case.has("attributes") {
         return Ok(Wanted::Only(names(case, "attributes")?));
@@ -193,7 +194,7 @@ fn shown_part(case: &Case<'_>, wanted: &Wanted) -> Result<Part, CaseFault> {
     Ok(project(case.alloc, part, wanted)?)
 }
 
-/// Whether the list `attributes` names the leaf.
+/// Whether the list `attributes` includes the leaf.
 fn includes_call(case: &Case<'_>) -> Result<String, CaseFault> {
     let leaf = case.leaf("leaf")?;
     let names = names(case, "attributes")?;

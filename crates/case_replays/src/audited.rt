@@ -1,4 +1,4 @@
-//! The audit of what happens to connections.
+//! The audit after a recording's events.
 use crate::recordings::Texts;
 use case_values::{CaseFault, push_rows_after};
 use scim_command::{DatabaseFault, Recording, RunFault, events_of, read_events, service_over};
@@ -9,14 +9,14 @@ use scim_shelf::MemoryShelf;
 use scim_token::Tokens;
 use std::alloc::Global;
 
-/// The lines of the audit after what a recording tells.
+/// Returns the lines of the audit after the events of a recording.
 pub(crate) fn audit_lines(alloc: Global, texts: &Texts) -> Result<String, CaseFault> {
     let recording = texts.recording();
     let mut hub = hub_of(alloc, &recording)?;
     lines_after(alloc, &mut hub, recording.events)
 }
 
-/// The lines of the audit of a hub after the events of a file.
+/// Returns the lines of a hub's audit after the events of a file.
 fn lines_after(
     alloc: Global,
     hub: &mut Hub<MemoryShelf>,
@@ -28,7 +28,7 @@ fn lines_after(
     Ok(text)
 }
 
-/// A hub by the files of a recording.
+/// Returns a hub with the policy, tokens and users of a recording.
 pub(crate) fn hub_of(
     alloc: Global,
     recording: &Recording<'_>,
@@ -46,7 +46,7 @@ pub(crate) fn hub_of(
     }
 }
 
-/// Lets the events of a file happen.
+/// Runs the events of a file on the hub.
 fn run_events(alloc: Global, hub: &mut Hub<MemoryShelf>, events: &str) -> Result<(), CaseFault> {
     match read_events(alloc, events) {
         Ok(owned) => run_recorded(alloc, hub, owned.as_slice()),

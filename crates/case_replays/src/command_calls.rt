@@ -13,7 +13,7 @@ use scim_schema::Leaf;
 use scim_text::{print_moment, push};
 use std::alloc::Global;
 
-/// What is written behind `before`, and the line of the fault where there is one.
+/// Returns the output of `once` after the text `before`, followed by the line of its fault, if any.
 pub(crate) fn once_call(case: &Case<'_>) -> Result<String, CaseFault> {
     let setting = Setting::new(
         case.text_or("policy", POLICY),
@@ -27,7 +27,7 @@ pub(crate) fn once_call(case: &Case<'_>) -> Result<String, CaseFault> {
     end_text(case.alloc, written.as_slice(), done)
 }
 
-/// What is written of the policy file behind `before`, and the line of the fault where there is one.
+/// Returns the output of `check` after the text `before`, followed by the line of its fault, if any.
 pub(crate) fn check_call(case: &Case<'_>) -> Result<String, CaseFault> {
     let policy = case.text_or("policy", POLICY);
     let is_verbose = case.has("verbose");
@@ -36,7 +36,7 @@ pub(crate) fn check_call(case: &Case<'_>) -> Result<String, CaseFault> {
     end_text(case.alloc, written.as_slice(), done)
 }
 
-/// What a command wrote, and the line of the fault where there is one.
+/// Returns the output of a command, followed by the line of its fault, if any.
 pub(crate) fn end_text(
     alloc: Global,
     written: &[u8],
@@ -49,7 +49,7 @@ pub(crate) fn end_text(
     }
 }
 
-/// The words of a command line.
+/// Returns the arguments of a command line, in the list `words`.
 fn words(case: &Case<'_>) -> Result<Vec<String>, CaseFault> {
     let mut words = Vec::new(case.alloc);
     for value in case.list("words") {
@@ -60,7 +60,7 @@ fn words(case: &Case<'_>) -> Result<Vec<String>, CaseFault> {
     Ok(words)
 }
 
-/// The options that the words of a command line give, or the exit status where they are none.
+/// Returns the options of a command line, or the exit status if it is invalid.
 pub(crate) fn command_line(case: &Case<'_>) -> Result<String, CaseFault> {
     let words = words(case)?;
     told_of_words(case.alloc, words.as_slice())
@@ -174,7 +174,7 @@ fn serve_options(alloc: Global, matches: &ArgMatches<'_>) -> Result<String, Case
     }
 }
 
-/// The options of `serve`; 0 connections where it doesn't end.
+/// Returns the options of `serve`; 0 connections if the server doesn't end.
 fn served_text(alloc: Global, options: &ServeOptions<'_>) -> Result<String, CaseFault> {
     let port = shown(alloc, &options.port)?;
     let connections = shown(alloc, &options.connections.unwrap_or(0))?;
@@ -223,7 +223,7 @@ fn import_options(alloc: Global, matches: &ArgMatches<'_>) -> Result<String, Cas
     }
 }
 
-/// Of the options of `explain` the leaf: `all` where none is given.
+/// Returns the leaf in the options of `explain`; `all` if none is given.
 fn explain_options(alloc: Global, matches: &ArgMatches<'_>) -> Result<String, CaseFault> {
     match ExplainOptions::of(matches) {
         Ok(options) => leaf_text(alloc, options.leaf),
@@ -258,7 +258,7 @@ fn options_text(alloc: Global, options: &OnceOptions<'_>) -> Result<String, Case
     joined(alloc, &words)
 }
 
-/// The line that tells a fault, and the exit status.
+/// Returns the line of a fault and the exit status.
 pub(crate) fn fault_line(case: &Case<'_>) -> Result<String, CaseFault> {
     let fault = fault_of(case)?;
     line_and_status(case.alloc, &fault)
@@ -270,14 +270,14 @@ enum FaultNamed {
     NotText,
     /// The file `path` can't be read.
     CannotRead,
-    /// The item `item` of the users file is faulty.
+    /// The item `item` of the users file is invalid.
     Users,
     InputEnded,
     InputFailed,
     Output,
     NoMemory,
     Absent,
-    /// The rows of `id` in the database are no resource.
+    /// The rows of `id` in the database aren't those of a resource.
     Damaged,
     WrongVersion,
     Unusable,

@@ -1,17 +1,21 @@
-//! The events of a case as the text of an events file.
+//! Writes the events of a case as the text of an events file.
 use case_runs::request_bytes;
 use case_values::{Argument, Case, CaseFault, joined, said, shown};
 use std::alloc::Global;
 
-/// When an event comes, where the case doesn't say it.
+/// The default time of an event.
 const NOON: &str = "2024-06-01T12:00:00Z";
 
-/// The id for what its first message makes, where the case doesn't say it.
+/// The default id of the resource that an event's first message creates.
 const FRESH: &str = "00000000-0000-4000-8000-0000000000e1";
 
-/// The lines of the list `events`. An event is a line as it stands; or an object with the connection `on` which `joins`, `leaves`, or
-/// sends a `request`; or an object with a list `interleaved` of such that send, which do so by turns, a byte each. `at` and
-/// `first` are its stamp.
+/// Returns the lines of the list `events`. An event is one of:
+///
+/// - a string: a line of an events file;
+/// - an object with a connection `on` that `joins`, `leaves` or sends a `request`;
+/// - an object with a list `interleaved` of two events that send; each sends one byte in turn.
+///
+/// `at` and `first` are the event's stamp.
 pub(crate) fn events_text(case: &Case<'_>) -> Result<String, CaseFault> {
     let mut text = String::new(case.alloc);
     for value in case.list("events") {
@@ -21,7 +25,7 @@ pub(crate) fn events_text(case: &Case<'_>) -> Result<String, CaseFault> {
     Ok(text)
 }
 
-/// The lines of an event of the case.
+/// Returns the lines of an event.
 fn event_lines(case: &Case<'_>, event: &Argument) -> Result<String, CaseFault> {
     match event.as_str() {
         Some(line) => line_of(case.alloc, line),
@@ -29,7 +33,7 @@ fn event_lines(case: &Case<'_>, event: &Argument) -> Result<String, CaseFault> {
     }
 }
 
-/// The lines of an event that is an object.
+/// Returns the lines of an event that is an object.
 fn told_of_event(event: &Case<'_>) -> Result<String, CaseFault> {
     if event.has("interleaved") {
         return interleaved(event);
@@ -43,12 +47,12 @@ fn told_of_event(event: &Case<'_>) -> Result<String, CaseFault> {
     piece_line(event, request_bytes(event)?.as_slice())
 }
 
-/// A line with its end.
+/// Returns a line followed by a line feed.
 fn line_of(alloc: Global, line: &str) -> Result<String, CaseFault> {
     joined(alloc, &[line, "\n"])
 }
 
-/// The line of what happens to the connection of an event, with what stands behind its number.
+/// Returns the line for a change of the event's connection, with `behind` after the connection's number.
 fn change_line(event: &Case<'_>, name: &str, behind: &str) -> Result<String, CaseFault> {
     let connection = shown(event.alloc, &event.count("on")?)?;
     let mut line = stamp_text(event)?;
@@ -60,7 +64,7 @@ fn change_line(event: &Case<'_>, name: &str, behind: &str) -> Result<String, Cas
     Ok(line)
 }
 
-/// The stamp of an event, and a space behind it.
+/// Returns the stamp of an event, followed by a space.
 fn stamp_text(event: &Case<'_>) -> Result<String, CaseFault> {
     let mut text = said(event.alloc, event.text_or("at", NOON))?;
     text.push_str(" ")?;
@@ -69,14 +73,14 @@ fn stamp_text(event: &Case<'_>) -> Result<String, CaseFault> {
     Ok(text)
 }
 
-/// The line of a piece.
+/// Returns the line for a piece of a stream.
 pub(crate) fn piece_line(event: &Case<'_>, bytes: &[u8]) -> Result<String, CaseFault> {
     let digits = hex::encode(event.alloc, bytes)?;
     let behind = joined(event.alloc, &[" ", digits.as_str()])?;
     change_line(event, "piece", behind.as_str())
 }
 
-/// The lines of two streams that come by turns, a byte each.
+/// Returns the lines of two streams that send one byte each in turn.
 fn interleaved(event: &Case<'_>) -> Result<String, CaseFault> {
     let [first, second] = event.list("interleaved") else {
         return Err(CaseFault::Missing("interleaved"));
@@ -95,7 +99,7 @@ fn by_turns(first: &Case<'_>, second: &Case<'_>) -> Result<String, CaseFault> {
     Ok(text)
 }
 
-/// Adds the line of a stream's byte at an index, if it has one there.
+/// Appends the line for a stream's byte at an index, if there is one.
 fn push_byte(
     event: &Case<'_>,
     bytes: &[u8],

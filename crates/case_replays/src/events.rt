@@ -1,4 +1,4 @@
-//! The events of a case, answered as `replay` does.
+//! Cases of events, answered as by `replay`.
 use crate::audited::audit_lines;
 use crate::command_calls::end_text;
 use crate::event_lines::{events_text, piece_line};
@@ -8,8 +8,8 @@ use case_values::{Case, CaseFault, push_all, said, shown};
 use scim_command::replay;
 use std::alloc::Global;
 
-/// What is to be done for the events of a case, in lines as `replay` writes them; and behind them the lines of the audit, where the
-/// case has `audit`.
+/// Returns the outputs for the events of a case, in lines as `replay` writes them, followed by the lines of
+/// the audit if the case has `audit`.
 pub fn answered(case: &Case<'_>) -> Result<String, CaseFault> {
     let texts = Texts::of(case, events_text(case)?)?;
     told_of_events(case, &texts)
@@ -24,14 +24,15 @@ fn told_of_events(case: &Case<'_>, texts: &Texts) -> Result<String, CaseFault> {
     Ok(lines)
 }
 
-/// What `replay` writes behind `before` of the text `events`, and the line of the fault where there is one.
+/// Returns the output of `replay` for the text `events`, after the text `before`, followed by the line of its
+/// fault, if any.
 pub(crate) fn replay_call(case: &Case<'_>) -> Result<String, CaseFault> {
     let texts = Texts::of(case, said(case.alloc, case.text("events")?)?)?;
     replayed(case.alloc, &texts, case.text_or("before", ""))
 }
 
-/// What is to be done where the request of a case comes on a connection, if that is the same where it comes in two pieces, wherever
-/// it is cut; else also what is done instead.
+/// Returns the outputs for the request of a case. If the request in two pieces has other outputs at some cut,
+/// the first such cut and its outputs are appended.
 pub(crate) fn cut_call(case: &Case<'_>) -> Result<String, CaseFault> {
     let request = request_bytes(case)?;
     told_of_cuts(case, request.as_slice())
@@ -43,7 +44,7 @@ fn told_of_cuts(case: &Case<'_>, request: &[u8]) -> Result<String, CaseFault> {
     Ok(text)
 }
 
-/// Adds to what is done for a request whole what is done at the first cut where that is something else.
+/// Appends the first cut of the request with other outputs than the whole request, if any.
 fn push_first_cut(case: &Case<'_>, request: &[u8], whole: &mut String) -> Result<(), CaseFault> {
     for place in 1..request.len() {
         let cut = sent(case, request, place)?;
@@ -54,13 +55,14 @@ fn push_first_cut(case: &Case<'_>, request: &[u8], whole: &mut String) -> Result
     Ok(())
 }
 
-/// Adds what is done where a request is cut at a place.
+/// Appends a cut and its outputs.
 fn push_cut(alloc: Global, place: usize, cut: &str, text: &mut String) -> Result<(), CaseFault> {
     let place = shown(alloc, &place)?;
     push_all(text, &["cut at ", place.as_str(), ": ", cut])
 }
 
-/// What is to be done where a request comes in two pieces, of which the first ends at a place; in one, where that is 0.
+/// Returns the outputs for a request in two pieces, the first with `place` bytes; in one piece if `place` is
+/// 0.
 fn sent(case: &Case<'_>, request: &[u8], place: usize) -> Result<String, CaseFault> {
     let mut events = events_text(case)?;
     push_pieces(case, request, place, &mut events)?;
@@ -68,7 +70,7 @@ fn sent(case: &Case<'_>, request: &[u8], place: usize) -> Result<String, CaseFau
     replayed(case.alloc, &texts, "")
 }
 
-/// Adds the lines of a request in two pieces, or in one.
+/// Appends the lines of a request in two pieces, or in one.
 fn push_pieces(
     case: &Case<'_>,
     request: &[u8],

@@ -1,5 +1,5 @@
-//! The calls of commands over the texts of files: command lines, `once`, `check` and `replay`; what happens to connections, as events
-//! files tell it; and streams that are served whole, over a users file in memory.
+//! The calls of `scim_command`: command lines, `once`, `check` and `replay`; cases of events of connections;
+//! and streams served whole, over users in memory.
 #![tactic(auto)]
 
 mod audited;
@@ -34,7 +34,7 @@ static CALLS: [(&str, Call); 7] = [
     ("fault_line", Call::FaultLine),
 ];
 
-/// What a call gives, if it is one of this crate.
+/// Returns the result of the case's call, or None if it isn't a call of this crate.
 pub fn answer(case: &Case<'_>, call: &str) -> Option<Result<String, CaseFault>> {
     let call = named(&CALLS, call)?;
     Some(match call {

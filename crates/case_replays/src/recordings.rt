@@ -1,9 +1,9 @@
-//! What the events of a case are answered by.
+//! The files that the events of a case are answered with.
 use case_values::{Case, CaseFault, policy_text, said, text_or_json};
 use scim_command::Recording;
 use scim_samples::{BASE, USERS};
 
-/// The tokens where a case gives none: those of `hr`, which is `abc`, and of `mail`, which is `hello`.
+/// The default tokens: `abc` of the client `hr` and `hello` of the client `mail`.
 const TOKENS: &str =
     "hr ba7816bf8f01cfea414140de5dae2223b00361a396177a9cb410ff61f20015ad\nmail 2cf24dba5fb0a30e26e83b2ac5b9e29e1b161e5c1fa7425e73043362938b9824\n";
 
@@ -16,7 +16,6 @@ pub(crate) struct Texts {
     events: String,
 }
 
-/// One call, wherever they are dropped, in place of a look at each text.
 impl Drop for Texts {
     fn drop(self) {
         let Texts {
@@ -30,8 +29,8 @@ impl Drop for Texts {
 }
 
 impl Texts {
-    /// These events, to be answered by the policy, the users, the tokens and the base of a case; by the samples where they aren't
-    /// given.
+    /// Returns the texts with these events and with the policy, tokens, users and base of a case, by default
+    /// those of the samples.
     pub(crate) fn of(case: &Case<'_>, events: String) -> Result<Texts, CaseFault> {
         Ok(Texts {
             policy: policy_text(case)?,
@@ -42,7 +41,7 @@ impl Texts {
         })
     }
 
-    /// The recording.
+    /// Returns the recording with these texts.
     pub(crate) fn recording(&self) -> Recording<'_> {
         Recording {
             policy: self.policy.as_str(),

@@ -11,7 +11,7 @@ use scim_text::read_printed_moment;
 use std::alloc::Global;
 use uuid::Uuid;
 
-/// Gives one stamp again and again.
+/// Returns the same stamp at each call.
 #[derive(Clone, Copy)]
 struct OneStamp {
     stamp: Stamp,
@@ -27,7 +27,7 @@ impl Stamps for OneStamp {
     }
 }
 
-/// What is written for the request of a case, as a stream that ends behind it, and how many replies that were.
+/// Returns the output for the request of a case as a whole stream, and the number of replies.
 pub(crate) fn stream_call(case: &Case<'_>) -> Result<String, CaseFault> {
     let request = request_bytes(case)?;
     told_of_stream(case, request.as_slice())
@@ -47,7 +47,7 @@ fn told_of_hub(
     served_by(alloc, request, &mut hub)
 }
 
-/// What a hub writes for a stream, on a connection of its own.
+/// Returns the output of a hub for a stream on its own connection.
 fn served_by(
     alloc: Global,
     request: &[u8],
@@ -63,7 +63,8 @@ fn served_by(
     told(alloc, written.as_slice(), done)
 }
 
-/// Noon of 2024-06-01, and the id for what the first message makes; None where no memory was to be had.
+/// Returns the stamp 2024-06-01T12:00:00Z, with an id for the resource that the first message creates. None
+/// if memory runs out.
 fn stamp(alloc: Global) -> Option<Stamp> {
     match read_printed_moment(alloc, "2024-06-01T12:00:00Z") {
         Ok(Some(moment)) => Some(Stamp {
@@ -74,7 +75,7 @@ fn stamp(alloc: Global) -> Option<Stamp> {
     }
 }
 
-/// What was written, and how many replies, or the fault.
+/// Returns the output, followed by the number of replies or the fault.
 fn told(alloc: Global, written: &[u8], done: Result<Served, IoFault>) -> Result<String, CaseFault> {
     let text = str::from_utf8(written).unwrap_or("no UTF-8");
     let end = match done {

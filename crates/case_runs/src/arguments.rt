@@ -1,28 +1,28 @@
-//! The arguments of a case, out of its JSON.
+//! Converts the JSON of a case to arguments.
 use case_values::{Argument, Form};
 use scim_text::{NoMemory, push};
 use serde_json::{Map, Value};
 use std::alloc::Global;
 
-/// A value that was met, and what it is called.
+/// A JSON value in the queue, with its name as a member of an object.
 #[derive(Clone, Copy)]
 struct Met<'v> {
     name: &'v str,
     value: &'v Value,
 }
 
-/// A value, and behind it all that stand in it, level by level, so that the items of a list and the members of an object stand
-/// side by side. NoMemory where none was to be had.
+/// Returns a value and all values in it, breadth first, so that the items of one list and the members of one
+/// object are adjacent.
 pub(crate) fn arguments_of(alloc: Global, value: &Value) -> Result<Vec<Argument>, NoMemory> {
     let mut met = Vec::new(alloc);
     push(&mut met, Met { name: "", value })?;
     all_of(alloc, &mut met)
 }
 
-/// What was met, and all that stands in it and is met thereby.
+/// Returns the arguments for the queue's values, and for all values in them.
 fn all_of(alloc: Global, met: &mut Vec<Met<'_>>) -> Result<Vec<Argument>, NoMemory> {
     let mut arguments = Vec::new(alloc);
-    // Each turn may meet more, so this goes by places; it ends behind the last that was met.
+    // The queue may grow in each iteration, so it is walked by index up to its end.
     for place in 0..usize::MAX {
         let Some(next) = met.get(place).copied() else {
             break;
@@ -32,14 +32,14 @@ fn all_of(alloc: Global, met: &mut Vec<Met<'_>>) -> Result<Vec<Argument>, NoMemo
     Ok(arguments)
 }
 
-/// An argument whose items or members are met now, behind all that were met before.
+/// Appends the items or members of a value to the queue, and returns the value's argument.
 fn opened<'v>(alloc: Global, next: Met<'v>, met: &mut Vec<Met<'v>>) -> Result<Argument, NoMemory> {
     let first = met.len();
     push_inner(next.value, met)?;
     argument_of(alloc, next, first, met.len().saturating_sub(first))
 }
 
-/// Puts the items of a list or the members of an object behind all that were met.
+/// Appends the items of a list or the members of an object to the queue.
 fn push_inner<'v>(value: &'v Value, met: &mut Vec<Met<'v>>) -> Result<(), NoMemory> {
     match value {
         Value::Array(items) => push_items(items.as_slice(), met),
@@ -81,7 +81,7 @@ fn argument_of(
     })
 }
 
-/// The text of a string, and of all else its JSON.
+/// Returns the text of a string, or the JSON of any other value.
 fn text_of(alloc: Global, value: &Value) -> Result<String, NoMemory> {
     if let Value::String(text) = value {
         return Ok(String::from_str(alloc, text.as_str())?);

@@ -1,11 +1,13 @@
-//! What a case says that it gives.
+//! The expected result of a case.
 use crate::outputs::outputs_text;
 use crate::requests::{message_text, push_lines};
 use crate::stores::{Store, goes_to, stores_of};
 use case_values::{Case, CaseFault, text_or_json};
 
-/// What the case says that it gives: the replies of whole requests; what is to be done for events; else a text as it stands, or all else as compact JSON
-/// with keys in order.
+/// Returns the expected result of a case: the replies of its steps, or the outputs of its events.
+///
+/// For any other case it is `gives`, or `said` if there is no `gives`: a string as it is, or any other value
+/// as compact JSON with sorted keys.
 pub fn expected(case: &Case<'_>) -> Result<String, CaseFault> {
     if case.has("steps") {
         return replies(case);
@@ -17,8 +19,7 @@ pub fn expected(case: &Case<'_>) -> Result<String, CaseFault> {
     text_or_json(case, name, "")
 }
 
-/// What the steps are to be answered, each with the lines of the audit where it has `audit`; by each store of the case,
-/// one after the other.
+/// Returns the expected replies of the steps, each followed by its `audit` lines, for each store in turn.
 fn replies(case: &Case<'_>) -> Result<String, CaseFault> {
     let mut text = String::new(case.alloc);
     for store in stores_of(case) {
@@ -27,8 +28,8 @@ fn replies(case: &Case<'_>) -> Result<String, CaseFault> {
     Ok(text)
 }
 
-/// Adds what the steps are to be answered by a store. A step that says wrongly where it goes is to be answered all the
-/// same, and isn't.
+/// Appends the expected replies of a store. A step with an invalid `over` is expected to have a reply;
+/// running it fails, so the case is reported.
 fn push_replies(case: &Case<'_>, store: &Store, text: &mut String) -> Result<(), CaseFault> {
     for value in case.list("steps") {
         let step = case.inner(value);

@@ -1,10 +1,10 @@
-//! Why there was no going through the cases.
+//! The faults of a run of the cases.
 use scim_text::NoMemory;
 use std::alloc::{AllocError, AllocFailed};
 use std::io;
 use thiserror::Error;
 
-/// Why there was no going through the cases.
+/// The fault that ends a run of the cases.
 #[derive(Debug, Drop, Error)]
 pub enum FolderFault {
     /// The command line names no folder.
@@ -13,7 +13,7 @@ pub enum FolderFault {
     /// A folder or a file can't be read, or the output can't be written.
     #[error("{0}")]
     Failed(io::Error),
-    /// No memory was to be had.
+    /// Memory ran out.
     #[error("out of memory")]
     NoMemory,
 }

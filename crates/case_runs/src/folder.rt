@@ -4,7 +4,7 @@ use std::alloc::Global;
 use std::fs;
 use std::rt::Files;
 
-/// The names of the files of cases, in order: those that end in `.jsonl` or `.json`.
+/// Returns the names of the folder's files of cases, sorted: those that end in `.jsonl` or `.json`.
 pub fn case_files<R: Files + AllocGlobal + Clone + Drop>(
     rt: &R,
     alloc: Global,
@@ -22,7 +22,7 @@ pub fn case_files<R: Files + AllocGlobal + Clone + Drop>(
     Ok(names)
 }
 
-/// The text of a file of the folder.
+/// Returns the text of a file of the folder.
 pub fn read(
     rt: &(impl Files + AllocGlobal),
     alloc: Global,

@@ -1,5 +1,5 @@
-//! Going through cases: the files of a folder, what each case is to give and what it gives, and how many came as they are
-//! written. What the calls of the cases do is told by whoever goes through them.
+//! Runs the cases in a folder: compares the expected result of each case with the actual one, and counts the
+//! cases. The caller provides the calls of the cases.
 #![tactic(auto)]
 
 mod arguments;

@@ -1,9 +1,11 @@
-//! What is to be done for the events of a case.
+//! The expected outputs of a case of events.
 use crate::requests::{message_text, push_lines};
 use case_values::{Argument, Case, CaseFault, Form, push_all, said, shown};
 
-/// The lines of the list `outputs`, and then those of `audit`. An output is a line as `replay` writes it; or an object with the
-/// connection `to` which a text is written, and the text as a `reply` of whole requests. A list in the list holds lines.
+/// Returns the lines of the list `outputs`, followed by those of `audit`.
+///
+/// An output is a line as `replay` writes it, a list of such lines, or an object with a connection `to` and
+/// the `reply` written to it, in the form of the replies of steps.
 pub(crate) fn outputs_text(case: &Case<'_>) -> Result<String, CaseFault> {
     let mut text = String::new(case.alloc);
     for value in case.list("outputs") {
@@ -14,7 +16,7 @@ pub(crate) fn outputs_text(case: &Case<'_>) -> Result<String, CaseFault> {
     Ok(text)
 }
 
-/// The lines of an output of the case.
+/// Returns the lines of one output.
 fn output_lines(case: &Case<'_>, output: &Argument) -> Result<String, CaseFault> {
     match output.form {
         Form::Text => with_end(case, output.text.as_str()),
@@ -37,7 +39,7 @@ fn lines_of(case: &Case<'_>, lines: &[Argument]) -> Result<String, CaseFault> {
     Ok(text)
 }
 
-/// The line that a reply is written by.
+/// Returns the line for a reply written to a connection.
 fn write_line(output: &Case<'_>) -> Result<String, CaseFault> {
     let connection = shown(output.alloc, &output.count("to")?)?;
     let reply = message_text(output, "reply", "gives", false)?;

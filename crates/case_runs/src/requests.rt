@@ -1,8 +1,11 @@
-//! The texts of whole requests and of their replies.
+//! The texts of requests and replies.
 use case_values::{Case, CaseFault, push_all, said, shown, text_or_json};
 
-/// The text of a message: the argument `head`, if it is a text; else the lines of its list, an empty line and the
-/// argument `body`, JSON or a text. With `counts` a body has its length told.
+/// Returns the text of a message, given as head and body.
+///
+/// If the argument `head` is a string, it is the whole message. Otherwise it is a list of lines, followed by
+/// an empty line and the argument `body`, JSON or a string. If `counts` is true, a `Content-Length` line is
+/// added for a body that isn't empty.
 pub fn message_text(
     step: &Case<'_>,
     head: &'static str,
@@ -22,7 +25,7 @@ pub fn message_text(
     Ok(text)
 }
 
-/// Adds the lines of a list, each with its end.
+/// Appends the lines of a list, each followed by `end`.
 pub fn push_lines(
     step: &Case<'_>,
     name: &'static str,
@@ -42,7 +45,7 @@ fn push_length(step: &Case<'_>, length: usize, text: &mut String) -> Result<(), 
     push_all(text, &["Content-Length: ", number.as_str(), "\r\n"])
 }
 
-/// The bytes of the step's request, which may stand in hex.
+/// Returns the bytes of the step's request, given as a message or in hex.
 pub fn request_bytes(step: &Case<'_>) -> Result<Vec<u8>, CaseFault> {
     let Ok(digits) = step.text("request_hex") else {
         return Ok(message_text(step, "request", "body", true)?.into_bytes());

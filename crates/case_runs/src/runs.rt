@@ -1,4 +1,4 @@
-//! Going through the files of a folder.
+//! Runs the cases in the files of a folder.
 use crate::arguments::arguments_of;
 use crate::expected::expected;
 use crate::faults::FolderFault;
@@ -12,12 +12,12 @@ use std::rt::Files;
 
 /// The calls that cases make.
 pub trait Calls {
-    /// What the call of a case gives, as text.
+    /// Returns the result of the case's call as text.
     fn answer(&self, case: &Case<'_>) -> Result<String, CaseFault>;
 }
 
-/// Makes the calls of the cases in a folder's files, prints each case that doesn't come as it is written, and last how
-/// many there were.
+/// Runs the cases in a folder's files, and prints each case whose result differs from the expected one, and
+/// the numbers of cases.
 pub fn go_through<R: Print + Files + AllocGlobal + Clone + Drop>(
     rt: &R,
     alloc: Global,
@@ -53,7 +53,7 @@ fn take_files(
     Ok(tally)
 }
 
-/// Goes through the cases of the folder's file of this name.
+/// Runs the cases in the folder's file with this name.
 fn take_named(
     rt: &(impl Print + Files + AllocGlobal),
     alloc: Global,
@@ -66,7 +66,7 @@ fn take_named(
     take_file(rt, alloc, name, text.as_str(), calls, tally)
 }
 
-/// Goes through the cases of a file: the items of a JSON list, where its name ends in `.json`, else its lines.
+/// Runs the cases in a file: the items of a JSON list if its name ends in `.json`, otherwise its lines.
 fn take_file(
     rt: &impl Print,
     alloc: Global,
@@ -82,8 +82,8 @@ fn take_file(
     }
 }
 
-/// Goes through the items of a JSON list, which are counted from 1 as lines are. A text that is no JSON list is a case
-/// that doesn't come as it is written.
+/// Runs the cases in a JSON list, numbered from 1. A text that isn't a JSON list counts as one case whose
+/// result differs.
 fn take_list(
     rt: &impl Print,
     alloc: Global,
@@ -103,7 +103,7 @@ fn take_list(
     Ok(())
 }
 
-/// Goes through the lines of a file; empty ones and those that begin with `#` are no cases.
+/// Runs the cases in the lines of a file. Empty lines and those that begin with `#` are skipped.
 fn take_lines(
     rt: &impl Print,
     alloc: Global,
@@ -138,7 +138,7 @@ fn take_line(
     }
 }
 
-/// Takes a text that isn't the JSON that was expected.
+/// Counts a text that isn't the JSON that was expected as a case whose result differs.
 fn take_no_json(
     rt: &impl Print,
     alloc: Global,
@@ -151,7 +151,7 @@ fn take_no_json(
     tally.take(rt, place, &case, &Outcome { expected, found })
 }
 
-/// Makes the call of the case that a JSON value is.
+/// Runs the case in a JSON value.
 fn take_value(
     rt: &impl Print,
     alloc: Global,
@@ -165,7 +165,7 @@ fn take_value(
     take_case(rt, place, &case, calls, tally)
 }
 
-/// Makes the call of a case.
+/// Runs a case and compares its result with the expected one.
 fn take_case(
     rt: &impl Print,
     place: &Place<'_>,
@@ -182,7 +182,7 @@ fn take_case(
     tally.take(rt, place, case, &outcome)
 }
 
-/// What a call gave, or why it gave nothing.
+/// Returns the result, or `no answer: ` and the fault.
 fn told(case: &Case<'_>, found: Result<String, CaseFault>) -> Result<String, FolderFault> {
     match found {
         Ok(found) => Ok(found),

@@ -1,18 +1,19 @@
-//! The stores that whole requests go to: one, or two side by side.
+//! The stores that the steps of a case go to: one, or two side by side.
 use case_values::{Case, CaseFault};
 
-/// A store, and the keys of what a case and its steps say of it.
+/// A store of a case, and its keys in the case and in the steps.
 #[derive(Clone, Copy)]
 pub struct Store {
-    /// What stands before each of its replies.
+    /// The text before each of its replies.
     pub title: &'static str,
     /// The key of its users file.
     pub users: &'static str,
-    /// The keys of the head and of the body of a reply that it gives, where the step has them; else the reply is the one
-    /// that both give.
+    /// The keys of the head and the body of its reply in a step. A step without the first has one reply for
+    /// both stores.
     pub reply: &'static str,
     pub gives: &'static str,
-    /// What `over` says of a step that goes to it alone, and of one that goes to the other store alone.
+    /// The values of `over` in a step that goes only to this store, and in one that goes only to the other
+    /// store.
     own: &'static str,
     other: &'static str,
 }
@@ -45,12 +46,13 @@ static TWO: [Store; 2] = [
     },
 ];
 
-/// The stores of a case: that of `users`, and beside it that of `beside`, where it is given.
+/// Returns the stores of a case: the one of `users`, and the one of `beside` if it is given.
 pub fn stores_of(case: &Case<'_>) -> &'static [Store] {
     if case.has("beside") { &TWO } else { &ONE }
 }
 
-/// Whether a step goes to the store, as all do but those that are for the other one.
+/// Whether a step goes to the store; it does unless its `over` names the other store. Missing if `over` is
+/// invalid.
 pub fn goes_to(step: &Case<'_>, store: &Store) -> Result<bool, CaseFault> {
     if !step.has("over") {
         return Ok(true);

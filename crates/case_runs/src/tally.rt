@@ -1,24 +1,24 @@
-//! How many cases there were, and how many came as they are written.
+//! Counts the cases, and those with the expected result.
 use crate::faults::FolderFault;
 use case_values::Case;
 use std::io::Print;
 use std::process::ExitCode;
 
-/// How many cases there were, and how many came as they are written.
+/// The number of cases, and the number of those with the expected result.
 #[derive(Clone, Copy)]
 pub struct Tally {
     cases: u64,
     as_written: u64,
 }
 
-/// Where a case stands: a line of a file, from 1.
+/// The place of a case: a line of a file, or an item of a list, from 1.
 #[derive(Clone, Copy)]
 pub struct Place<'a> {
     pub file: &'a str,
     pub line: usize,
 }
 
-/// What a case is to give, and what it gives.
+/// The expected and the actual result of a case.
 #[derive(Clone, Copy)]
 pub struct Outcome<'a> {
     pub expected: &'a str,
@@ -26,7 +26,7 @@ pub struct Outcome<'a> {
 }
 
 impl Tally {
-    /// That of no case.
+    /// Returns a tally of no cases.
     pub fn new() -> Tally {
         Tally {
             cases: 0,
@@ -34,7 +34,7 @@ impl Tally {
         }
     }
 
-    /// Counts a case, and prints it where it doesn't come as it is written.
+    /// Counts a case, and prints it if its result differs from the expected one.
     pub fn take(
         &mut self,
         rt: &impl Print,
@@ -57,7 +57,7 @@ impl Tally {
         Ok(())
     }
 
-    /// 0 where all came as they are written, 1 where one did not, 2 where there was none.
+    /// Returns the exit status: 0 if all results are as expected, 1 if one isn't, 2 if there are no cases.
     pub fn exit_code(self) -> ExitCode {
         if self.cases == 0 {
             ExitCode::from(2)
@@ -69,14 +69,14 @@ impl Tally {
     }
 }
 
-/// Prints where a case stands and what it is told by: its call, or the sentence that says what its requests show.
+/// Prints the place of a case and its call, or the sentence that says what it shows.
 fn print_place(rt: &impl Print, place: &Place<'_>, case: &Case<'_>) -> Result<(), FolderFault> {
     let name = case.text_or("call", case.text_or("shows", case.text_or("name", "")));
     println!(rt; "{} line {}: {name}", place.file, place.line)?;
     Ok(())
 }
 
-/// Prints what a case is to give and what it gives, and why where the case says so.
+/// Prints the expected and the actual result of a case, and its reason if it gives one.
 fn print_outcome(
     rt: &impl Print,
     case: &Case<'_>,
@@ -91,7 +91,7 @@ fn print_outcome(
     Ok(())
 }
 
-/// Prints a text behind what it is.
+/// Prints a text after its label.
 fn print_line(rt: &impl Print, what: &str, text: &str) -> Result<(), FolderFault> {
     println!(rt; "{what}{text}")?;
     Ok(())

@@ -1,4 +1,4 @@
-//! Stores that whole requests go to.
+//! The stores that whole requests go to.
 use crate::databases::opened;
 use crate::faults::StoreFault;
 use case_values::{Case, CaseFault};
@@ -9,15 +9,16 @@ use scim_text::push;
 use sqlite::Alter;
 use std::alloc::Global;
 
-/// A store that whole requests go to, and its audit.
+/// A store that whole requests go to, with its audit.
 pub trait Audited: Shelf {
-    /// The rows of the audit after the first `known`.
+    /// Returns the rows of the audit after the first `known`.
     fn rows_after(&mut self, alloc: Global, known: u64) -> Result<Vec<AuditRow>, StoreFault>;
 
-    /// The store, after its database was closed and opened again; as it is, where it has none.
+    /// Closes the store's database, opens it again and returns the store. A store without a database is
+    /// returned as it is.
     fn reopened(self, case: &Case<'_>) -> Result<Self, StoreFault>;
 
-    /// Lets the store go.
+    /// Closes the store.
     fn close(self);
 }
 
@@ -64,7 +65,7 @@ impl<S: Audited> Audited for CachedShelf<S> {
     }
 }
 
-/// A store whose resources are kept in memory too.
+/// Returns the store with a cache of all its resources.
 pub fn cached<S: Audited>(alloc: Global, shelf: S) -> Result<CachedShelf<S>, StoreFault> {
     let mut store = CachedShelf::over(shelf);
     match store.fill(alloc) {
@@ -76,7 +77,7 @@ pub fn cached<S: Audited>(alloc: Global, shelf: S) -> Result<CachedShelf<S>, Sto
     }
 }
 
-/// Copies of the rows after the first `known`.
+/// Returns copies of the rows after the first `known`.
 fn copied_after(
     alloc: Global,
     rows: &[AuditRow],

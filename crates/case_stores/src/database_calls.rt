@@ -1,4 +1,4 @@
-//! The call `database`: what the opening of a database gives.
+//! The call `database`, which opens a database.
 ghost use Rattle.std.specs.Prelude.{◌≡◌, false, IfOk};
 
 use crate::audited::Audited;
@@ -9,14 +9,12 @@ use scim_store::{OpenFault, SqlShelf};
 use sqlite::{Alter, Connection};
 use std::alloc::Global;
 
-/// What the opening of a database gives that has the users of the argument `users`, after the statements of the list
-/// `sql`: that it opens, and how many rows its audit has; or what keeps it from being opened. With `empty` it has no
-/// tables but those that the statements make.
+/// Returns the result of opening a [`prepared`] database: the number of its audit rows, or the fault.
 pub fn database_call(case: &Case<'_>) -> Result<String, CaseFault> {
     told_or_fault(case.alloc, over_new_database(case, &Opening))
 }
 
-/// To open a database.
+/// Opens a database as a store.
 struct Opening;
 
 impl OverDatabase for Opening {
@@ -33,8 +31,11 @@ impl OverDatabase for Opening {
     }
 }
 
-/// An empty database with the users of the argument `users`, after the statements of the list `sql`. With `empty` it has
-/// no tables but those that the statements make.
+/// Returns the connection to a database with the users of the argument `users`, after the statements in the
+/// list `sql`.
+///
+/// With `empty`, the database has only the tables that the statements create. NotRun if a statement fails or
+/// if they leave a transaction open.
 pub fn prepared<S: Alter + Drop>(
     case: &Case<'_>,
     connection: Connection<S>,
@@ -53,7 +54,7 @@ pub fn prepared<S: Alter + Drop>(
     Ok(connection)
 }
 
-/// Runs the statements of the list `sql`.
+/// Runs the statements in the list `sql`.
 fn run_statements<S: Alter>(
     case: &Case<'_>,
     connection: &mut Connection<S>,
@@ -67,7 +68,7 @@ fn run_statements<S: Alter>(
     Ok(())
 }
 
-/// How many rows the audit of a store has, which is let go then.
+/// Returns the number of audit rows of a store, and closes it.
 fn told_of_audit<S: Audited>(alloc: Global, shelf: S) -> Result<String, StoreFault> {
     let mut shelf = shelf;
     let rows = shelf.rows_after(alloc, 0);

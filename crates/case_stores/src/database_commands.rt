@@ -16,17 +16,18 @@ use sqlite::{Alter, Connection};
 /// A command over a database.
 #[derive(Clone, Copy)]
 pub enum DatabaseCommand {
-    /// The rows of the audit from the argument `from` on, at most `count`.
+    /// Prints at most `count` rows of the audit from the argument `from` on.
     Audit,
-    /// The users file of the database.
+    /// Exports the users file of the database.
     Export,
-    /// The users file of the database after the text `file` was imported; or the line of the fault.
+    /// Imports the text `file` and exports the users file of the database.
     Import,
-    /// Why the policy decides as it does of the case's client, operation, kind, `id` and `leaf`, or of all leaves.
+    /// Explains the policy's decision on `client`, `op`, `kind`, `id` and `leaf`; or on all leaves, if no
+    /// leaf is given.
     Explain,
 }
 
-/// What a command writes over a database, and the line of its fault where there is one.
+/// Returns the output of a command over a database, followed by the line of its fault, if any.
 pub fn command_call(case: &Case<'_>, command: DatabaseCommand) -> Result<String, CaseFault> {
     told_or_fault(case.alloc, over_new_database(case, &command))
 }
@@ -47,7 +48,7 @@ impl OverDatabase for DatabaseCommand {
     }
 }
 
-/// Rows of the audit of a store, which is let go then.
+/// Returns rows of the audit of a store, and closes it.
 fn audited<S: Alter + Drop>(
     case: &Case<'_>,
     connection: Connection<S>,
@@ -71,7 +72,7 @@ fn audit_text<S: Alter + Drop>(
     Ok(written_text(case.alloc, written.as_slice(), done)?)
 }
 
-/// The users file of a store, which is let go then.
+/// Returns the users file of a store, and closes it.
 fn exported<S: Alter + Drop>(
     case: &Case<'_>,
     connection: Connection<S>,
@@ -93,7 +94,8 @@ fn export_text<S: Alter + Drop>(
     Ok(written_text(case.alloc, written.as_slice(), done)?)
 }
 
-/// The users file of a database into which the text `file` is imported; or the line of the fault.
+/// Returns the users file of a database after an import of the text `file`, or the line of the import's
+/// fault.
 fn imported<S: Alter + Drop>(
     case: &Case<'_>,
     connection: Connection<S>,
@@ -108,7 +110,7 @@ fn imported<S: Alter + Drop>(
     }
 }
 
-/// Why a decision falls by the store of a database.
+/// Returns the explanation of a decision by the store of a database.
 fn explained<S: Alter + Drop>(
     case: &Case<'_>,
     connection: Connection<S>,
@@ -146,7 +148,7 @@ fn answer_text<S: Alter + Drop>(
     Ok(written_text(case.alloc, written.as_slice(), done)?)
 }
 
-/// What a case asks about; None where its `id` is none. A leaf that isn't one is as none.
+/// Returns the question of a case; None if its `id` isn't an id. An invalid `leaf` counts as not given.
 fn question_of<'c>(case: &'c Case<'_>) -> Option<Question<'c>> {
     let Ok(text) = case.text("id") else {
         return None;

@@ -1,4 +1,4 @@
-//! Stores of the users of a case: in memory, and in a database.
+//! Stores with the users of a case: in memory, and in a database.
 ghost use Rattle.std.specs.Prelude.{◌≡◌, false};
 
 use crate::faults::StoreFault;
@@ -9,12 +9,13 @@ use scim_shelf::MemoryShelf;
 use scim_store::{SqlShelf, import};
 use sqlite::{Alter, Connection};
 
-/// That below which the resources of a case stand: its argument `base`.
+/// Returns the base URL of the resources of a case: the argument `base`, by default that of the samples.
 pub fn base_of<'c>(case: &'c Case<'_>) -> &'c str {
     case.text_or("base", BASE)
 }
 
-/// A shelf in memory of the argument `name`, a users file; of the sample users and groups where it isn't given.
+/// Returns a shelf in memory with the users file in the argument `name`, by default the sample users and
+/// groups.
 pub fn shelf_of(case: &Case<'_>, name: &'static str) -> Result<MemoryShelf, CaseFault> {
     let users = text_or_json(case, name, USERS)?;
     match read_documents(case.alloc, base_of(case), users.as_str()) {
@@ -23,7 +24,7 @@ pub fn shelf_of(case: &Case<'_>, name: &'static str) -> Result<MemoryShelf, Case
     }
 }
 
-/// Puts the users of that argument into an empty database.
+/// Imports the users file in the argument `name` into an empty database.
 pub fn fill<S: Alter>(
     case: &Case<'_>,
     name: &'static str,
@@ -42,7 +43,7 @@ pub fn fill<S: Alter>(
     }
 }
 
-/// A shelf over a database.
+/// Opens the store in a database.
 pub fn opened<S: Alter + Drop>(
     case: &Case<'_>,
     connection: Connection<S>,
@@ -55,7 +56,7 @@ pub fn opened<S: Alter + Drop>(
     }
 }
 
-/// A shelf over an empty database, which gets the users of that argument.
+/// Imports the users file in the argument `name` into an empty database, and opens its store.
 pub fn filled<S: Alter + Drop>(
     case: &Case<'_>,
     name: &'static str,
@@ -68,9 +69,9 @@ pub fn filled<S: Alter + Drop>(
     opened(case, connection)
 }
 
-/// What is done over a database.
+/// Work on an open database.
 pub trait OverDatabase {
-    /// Does it over a connection to a new one, and says what came of it.
+    /// Does the work on the connection to a new database, and returns its result as text.
     fn over<S: Alter + Drop>(
         &self,
         case: &Case<'_>,
@@ -79,8 +80,10 @@ pub trait OverDatabase {
         requires { connection.in_transaction ≡ false };
 }
 
-/// What comes of it over a new database in memory. All else is generic in what a database lies in: a function that holds a
-/// connection to one that is known is dear to prove.
+/// Does the work on a new database in memory, and returns its result.
+///
+/// All other functions are generic in the storage of the database: a function that holds a connection to a
+/// concrete storage takes long to prove.
 pub fn over_new_database<W: OverDatabase>(case: &Case<'_>, work: &W) -> Result<String, StoreFault> {
     match Connection::open_in_memory(case.alloc) {
         Ok(connection) => work.over(case, connection),

@@ -1,4 +1,4 @@
-//! Whole requests: messages as bytes, one after another, over a store, and the replies that come.
+//! Whole requests: the messages in a stream of bytes, answered over a store.
 use case_messages::client_of;
 use case_runs::request_bytes;
 use case_values::{Case, CaseFault};
@@ -12,13 +12,13 @@ use scim_token::Tokens;
 use scim_wire::{Item, Message, Wire};
 use std::alloc::Global;
 
-/// The id for the resource that a request may make, where the case gives none.
+/// The default id of the resource that a request creates.
 pub const FRESH: &str = "00000000-0000-4000-8000-0000000000e1";
 
-/// What is written where a message's body is waited for (RFC 9110 section 15.2.1).
+/// The response that asks for the body of a message (RFC 9110 section 15.2.1).
 const CONTINUE: &str = "HTTP/1.1 100 Continue\r\n\r\n";
 
-/// Adds what the messages of a step are answered, up to one that closes the connection.
+/// Appends the replies to the messages of a step, up to one that closes the connection.
 pub fn push_replies<S: Shelf>(
     step: &Case<'_>,
     tokens: &Tokens,
@@ -29,14 +29,14 @@ pub fn push_replies<S: Shelf>(
     push_items(step, items.as_slice(), tokens, service, text)
 }
 
-/// What a wire finds in the bytes of a step.
+/// Returns the items that a wire finds in the bytes of a step.
 fn items_of(step: &Case<'_>) -> Result<Vec<Item>, CaseFault> {
     let bytes = request_bytes(step)?;
     let mut wire = Wire::new(step.alloc);
     Ok(wire.feed(step.alloc, bytes.as_slice())?)
 }
 
-/// Adds what is written for the items of a step, up to one after which the connection is closed.
+/// Appends the replies to the items of a step, up to one that closes the connection.
 fn push_items<S: Shelf>(
     step: &Case<'_>,
     items: &[Item],
@@ -52,8 +52,9 @@ fn push_items<S: Shelf>(
     Ok(())
 }
 
-/// Adds what is written for an item, and says whether the connection is closed after it. A step that names its client
-/// goes as `once` does, which writes no Continue; another goes by its token.
+/// Appends the reply to an item, and returns whether the connection is closed after it.
+///
+/// A step with a `client` is answered as by `once`, without 100 (Continue); any other by its token.
 fn push_item<S: Shelf>(
     step: &Case<'_>,
     item: &Item,
@@ -79,8 +80,10 @@ fn push_item<S: Shelf>(
     }
 }
 
-/// Adds the reply to a message: of the step's `client`, or else of the client that has its token; at the moment `at`, by
-/// default noon of 2024-06-01; and with the id `first` for what it creates.
+/// Appends the reply to a message.
+///
+/// The client is the step's `client`, or else the one that has the message's token. The time is `at`, by
+/// default 2024-06-01T12:00:00Z, and `first` is the id of the resource that the message creates.
 fn push_answer<S: Shelf>(
     step: &Case<'_>,
     message: &Message,

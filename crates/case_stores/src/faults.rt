@@ -1,24 +1,24 @@
-//! Why a store gave no answer.
+//! The faults of the stores of cases.
 use case_values::{CaseFault, shown};
 use std::alloc::{AllocError, Global};
 use thiserror::Error;
 
-/// Why a store gave no answer. Its text stands in the place of what was found.
+/// The fault of a store of a case. Its text is reported in place of the result.
 #[derive(Clone, Copy, Debug, Error)]
 pub enum StoreFault {
-    /// The case itself is at fault, or memory was wanting.
+    /// The case has a fault, or memory ran out.
     #[error("{0}")]
     Case(CaseFault),
-    /// The users aren't put into a database.
+    /// The users can't be imported into a database.
     #[error("the database can't be filled")]
     NotFilled,
     /// A statement of the case fails.
     #[error("a statement can't be run")]
     NotRun,
-    /// A database isn't opened.
+    /// A database can't be opened.
     #[error("the database can't be opened")]
     NotOpened,
-    /// What is kept can't be read.
+    /// The store can't be read.
     #[error("the store can't be read")]
     NotRead,
 }
@@ -35,7 +35,7 @@ impl From<AllocError> for StoreFault {
     }
 }
 
-/// What was told, or the text of the fault in its place.
+/// Returns the result, or the text of the store's fault. A fault of the case is returned as an error.
 pub fn told_or_fault(alloc: Global, told: Result<String, StoreFault>) -> Result<String, CaseFault> {
     match told {
         Ok(text) => Ok(text),

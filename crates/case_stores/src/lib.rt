@@ -1,5 +1,5 @@
-//! Whole requests over a store in memory and over one in SQLite, which are to answer alike; turns of a service; refusals with
-//! their status codes; commands over a database; and databases in SQLite that are damaged.
+//! Whole requests over a store in memory and over SQLite, which must give the same replies; turns of a
+//! service; refusals with their status codes; commands over a database; and the opening of damaged databases.
 #![tactic(auto)]
 
 mod audited;
@@ -39,7 +39,7 @@ static CALLS: [(&str, Call); 9] = [
     ("explain_kept", Call::Command(DatabaseCommand::Explain)),
 ];
 
-/// What a call gives, if it is one of this crate.
+/// Returns the result of the case's call, or None if it isn't a call of this crate.
 pub fn answer(case: &Case<'_>, call: &str) -> Option<Result<String, CaseFault>> {
     let call = named(&CALLS, call)?;
     Some(match call {

@@ -1,9 +1,9 @@
-//! What a refusal is answered with.
+//! The call `refusal`, which tells how a refusal is answered.
 use case_values::{Case, CaseFault, joined, push_all, refusal_of, shown};
 use scim_audit::Refusal;
 use std::alloc::Global;
 
-/// The number of a refusal, its status, its keyword where it has one, and what else the reply says.
+/// Returns a refusal's number, status, `scimType` and further parts of its reply.
 pub fn refusal_call(case: &Case<'_>) -> Result<String, CaseFault> {
     let refusal = refusal_of(case)?;
     let mut text = number_and_status(case.alloc, refusal)?;
@@ -18,7 +18,7 @@ fn number_and_status(alloc: Global, refusal: Refusal) -> Result<String, CaseFaul
     joined(alloc, &["F", number.as_str(), " ", status.as_str()])
 }
 
-/// Writes the keyword and the methods that are allowed, where there are any.
+/// Appends the `scimType` and the allowed methods, if any.
 fn push_words(refusal: Refusal, text: &mut String) -> Result<(), CaseFault> {
     if let Some(scim_type) = refusal.scim_type() {
         push_all(text, &[" ", scim_type])?;
@@ -29,7 +29,7 @@ fn push_words(refusal: Refusal, text: &mut String) -> Result<(), CaseFault> {
     Ok(())
 }
 
-/// Writes whether a token is asked for, and whether the connection is closed.
+/// Appends whether the reply asks for a token and whether it closes the connection.
 fn push_asks(refusal: Refusal, text: &mut String) -> Result<(), CaseFault> {
     if refusal.asks_for_token() {
         text.push_str(", asks for a token")?;

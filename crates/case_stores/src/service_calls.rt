@@ -13,22 +13,23 @@ use scim_shelf::MemoryShelf;
 use scim_text::{Failed, Moment, push};
 use std::alloc::Global;
 
-/// 2024-06-01T12:00:00Z, when all turns are.
+/// The time of all turns, 2024-06-01T12:00:00Z.
 const NOON: i64 = 1_717_243_200;
 
-/// What the turns of the list `turns` are answered one after another, and then the lines of the audit.
+/// Returns the replies to the turns in the list `turns`, answered one by one, followed by the lines of the
+/// audit.
 pub fn service_call(case: &Case<'_>) -> Result<String, CaseFault> {
     let mut service = service_of(case)?;
     told_of_turns(case, &mut service)
 }
 
-/// The same where the service is given all turns at once.
+/// As [`service_call`], with all turns given to the service at once.
 pub fn run_call(case: &Case<'_>) -> Result<String, CaseFault> {
     let mut service = service_of(case)?;
     told_of_run(case, &mut service)
 }
 
-/// A service by the case's policy over the argument `users`, below the argument `base`.
+/// Returns a service with the case's policy, over the users file in the argument `users`.
 fn service_of(case: &Case<'_>) -> Result<Service<MemoryShelf>, CaseFault> {
     let base = Text::copy_of(case.alloc, base_of(case))?;
     let policy = policy(case)?;
@@ -82,7 +83,7 @@ fn told_of_replies(
     Ok(text)
 }
 
-/// Adds what a turn is answered: its status, the location of what it made, and its body where it has one.
+/// Appends the reply to a turn: its status, the location of the resource that it created, and its body.
 fn push_answer(
     case: &Case<'_>,
     service: &mut Service<MemoryShelf>,
@@ -135,14 +136,14 @@ fn request_of(case: &Case<'_>) -> Result<Request, CaseFault> {
     })
 }
 
-/// What the argument `ask` names.
+/// The value of the argument `ask`.
 #[derive(Clone, Copy)]
 enum AskNamed {
     Get,
     Search,
     Create,
     Remove,
-    /// What is asked is refused before the service sees it.
+    /// The request is refused before the service gets it.
     Refused(Refusal),
 }
 
@@ -158,7 +159,7 @@ static ASKS: [(&str, AskNamed); 9] = [
     ("Store", AskNamed::Refused(Refusal::Store)),
 ];
 
-/// What the argument `ask` says: `get`, `search`, `create`, `remove`, or what is wrong with it.
+/// Returns the request body that the argument `ask` names: `get`, `search`, `create`, `remove` or a refusal.
 fn ask_of(case: &Case<'_>) -> Result<Result<Ask, Refusal>, CaseFault> {
     let Some(ask) = named(&ASKS, case.text("ask")?) else {
         return Err(CaseFault::Missing("ask"));
@@ -172,7 +173,7 @@ fn ask_of(case: &Case<'_>) -> Result<Result<Ask, Refusal>, CaseFault> {
     }
 }
 
-/// To make a resource of the argument `body`; or what is wrong with the body.
+/// Returns the request to create a resource with the argument `body`, or the refusal of the body.
 fn create_of(case: &Case<'_>) -> Result<Result<Ask, Refusal>, CaseFault> {
     match read_body(
         case.alloc,
@@ -187,7 +188,7 @@ fn create_of(case: &Case<'_>) -> Result<Result<Ask, Refusal>, CaseFault> {
     }
 }
 
-/// To make a resource of a body.
+/// Returns the request to create a resource with a draft.
 fn creating(case: &Case<'_>, draft: Draft) -> Result<Result<Ask, Refusal>, CaseFault> {
     let wanted = wanted(case)?;
     Ok(Ok(Ask::Create(draft, wanted)))

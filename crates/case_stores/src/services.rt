@@ -1,4 +1,4 @@
-//! Services by the policy of a case.
+//! Services with the policy of a case.
 use crate::audited::Audited;
 use crate::databases::base_of;
 use crate::faults::StoreFault;
@@ -8,7 +8,7 @@ use scim_cell::Text;
 use scim_policy::Policy;
 use scim_service::Service;
 
-/// A service by the policy of a case over a store. The store is let go where there is none.
+/// Returns a service with the policy of a case over a store. On a fault the store is closed.
 pub fn service_over<S: Audited>(case: &Case<'_>, shelf: S) -> Result<Service<S>, StoreFault> {
     match policy_and_base(case) {
         Ok((policy, base)) => Ok(Service::new(policy, base, shelf)),
@@ -19,7 +19,7 @@ pub fn service_over<S: Audited>(case: &Case<'_>, shelf: S) -> Result<Service<S>,
     }
 }
 
-/// The policy of a case, and that below which its resources stand.
+/// Returns the policy of a case and the base URL of its resources.
 fn policy_and_base(case: &Case<'_>) -> Result<(Policy, Text), CaseFault> {
     let base = Text::copy_of(case.alloc, base_of(case))?;
     Ok((policy(case)?, base))

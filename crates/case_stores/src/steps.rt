@@ -1,4 +1,4 @@
-//! The steps of a case, over a store in memory, over one in a database, and over one in a database that is kept in memory too.
+//! The steps of a case, over stores in memory, in a database, and in a database with a cache.
 use crate::audited::{Audited, cached};
 use crate::databases::{OverDatabase, filled, over_new_database, shelf_of};
 use crate::exchanges::push_replies;
@@ -12,8 +12,8 @@ use scim_shelf::Shelf;
 use scim_token::Tokens;
 use sqlite::{Alter, Connection};
 
-/// What the steps are answered over a store in memory; and behind it, where that is another text, what they are over one
-/// in a database, and over one that is kept in memory too.
+/// Returns the replies to the steps over a store in memory. If those over a database, or over a database with
+/// a cache, differ, they are appended.
 pub fn answered(case: &Case<'_>) -> Result<String, CaseFault> {
     let tokens = tokens_of(case)?;
     told_of_all(case, &tokens)
@@ -68,7 +68,7 @@ fn told_in_database(
     Ok(text)
 }
 
-/// Which of the stores of a case is asked, who has which token, and whether the resources of a database are kept in memory too.
+/// The store of the case that the steps go to, the tokens of its clients, and whether it has a cache.
 #[derive(Clone, Copy)]
 struct Asked<'a> {
     store: &'a Store,
@@ -93,7 +93,7 @@ impl OverDatabase for Asked<'_> {
     }
 }
 
-/// Adds what the steps of a case are answered by a store, which is let go then.
+/// Appends the replies of a store to the steps of a case, and closes it.
 fn push_steps<S: Audited>(
     case: &Case<'_>,
     asked: &Asked<'_>,
@@ -111,7 +111,7 @@ fn push_steps<S: Audited>(
     Ok(())
 }
 
-/// A service for a step. Where the step `reopens` the store, its database is closed and opened again before.
+/// Returns a service for a step. If the step has `reopens`, the database is closed and opened again first.
 fn service_for<S: Audited>(
     case: &Case<'_>,
     step: &Case<'_>,
@@ -124,8 +124,10 @@ fn service_for<S: Audited>(
     }
 }
 
-/// The store after a step, of which is added what it is answered, and the lines of the audit that it adds, where it has
-/// `audit`. The store is let go where one of them can't be told.
+/// Answers a step and returns the store. Appends the replies and, if the step has `audit`, the new audit
+/// lines.
+///
+/// On a fault the store is closed.
 fn after_step<S: Audited>(
     step: &Case<'_>,
     asked: &Asked<'_>,
@@ -150,7 +152,7 @@ fn after_step<S: Audited>(
     }
 }
 
-/// Adds what a step is answered, if it goes to the store.
+/// Appends the replies to a step, if it goes to the store.
 fn push_answers<S: Shelf>(
     step: &Case<'_>,
     asked: &Asked<'_>,
@@ -164,7 +166,8 @@ fn push_answers<S: Shelf>(
     push_replies(step, asked.tokens, service, text)
 }
 
-/// Adds the lines of the rows of the audit after the first `known`, where the step has `audit`, and counts the rows.
+/// Appends the lines of the audit rows after the first `known`, if the step has `audit`, and adds their
+/// number to `known`.
 fn push_new_rows<S: Audited>(
     step: &Case<'_>,
     shelf: &mut S,

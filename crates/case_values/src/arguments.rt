@@ -1,4 +1,4 @@
-//! Arguments of calls that are more than a text, and the texts of what calls give.
+//! Typed arguments of calls, and the texts of results.
 use crate::case::Case;
 use crate::faults::CaseFault;
 use scim_samples::{ALICE, part, read_leaf, sample};
@@ -9,23 +9,23 @@ use std::cmp::Ordering;
 use std::fmt::{Debug, Display};
 
 impl Case<'_> {
-    /// The argument `kind`, `User` or `Group`; `User` where it isn't given.
+    /// Returns the argument `kind`, `User` or `Group`, by default `User`.
     pub fn kind(&self) -> Kind {
         kind_of(self.text_or("kind", "User"))
     }
 
-    /// The argument `op`: `read`, `create`, `modify` or `delete`; `read` where it isn't given.
+    /// Returns the argument `op`, one of `read`, `create`, `modify` and `delete`, by default `read`.
     pub fn op(&self) -> Op {
         Op::named(self.text_or("op", "read")).unwrap_or(Op::Read)
     }
 
-    /// The argument of this name as a leaf, as `emails.value`.
+    /// Returns the argument as a leaf, such as `emails.value`.
     pub fn leaf(&self, name: &'static str) -> Result<Leaf, CaseFault> {
         Ok(read_leaf(self.text(name)?)?)
     }
 
-    /// The argument `part`: a sample's name, or the cells of a part of `kind` with the id `id`, by default
-    /// Alice's.
+    /// Returns the argument `part`: the name of a sample, or the cells of a part with the kind `kind` and the
+    /// id `id`, by default Alice's.
     pub fn part(&self) -> Result<Part, CaseFault> {
         let text = self.text("part")?;
         match sample(self.alloc, text)? {
@@ -34,8 +34,8 @@ impl Case<'_> {
         }
     }
 
-    /// The argument `resource`: a sample's name, or the cells of a resource of `kind` with the id `id`, by
-    /// default Alice's, which has its `id` and `meta` beside them.
+    /// Returns the argument `resource`: the name of a sample, or the cells of a resource with the kind `kind`
+    /// and the id `id`, by default Alice's. The cells of `id` and `meta` are added.
     pub fn resource(&self) -> Result<Resource, CaseFault> {
         let text = self.text("resource")?;
         match sample(self.alloc, text)? {
@@ -50,24 +50,24 @@ impl Case<'_> {
     }
 }
 
-/// The kind of this name; `User` where there is none.
+/// Returns the kind with this name, by default `User`.
 pub fn kind_of(name: &str) -> Kind {
     Kind::named(name).unwrap_or(Kind::User)
 }
 
-/// A text of one's own.
+/// Returns a copy of the text.
 pub fn said(alloc: Global, text: &str) -> Result<String, CaseFault> {
     Ok(String::from_str(alloc, text)?)
 }
 
-/// Texts one after another.
+/// Returns the texts joined without separators.
 pub fn joined(alloc: Global, texts: &[&str]) -> Result<String, CaseFault> {
     let mut whole = String::new(alloc);
     push_all(&mut whole, texts)?;
     Ok(whole)
 }
 
-/// Adds texts, one after another.
+/// Appends the texts in order.
 pub fn push_all(whole: &mut String, texts: &[&str]) -> Result<(), CaseFault> {
     for text in texts {
         whole.push_str(text)?;
@@ -75,17 +75,17 @@ pub fn push_all(whole: &mut String, texts: &[&str]) -> Result<(), CaseFault> {
     Ok(())
 }
 
-/// Two texts with a space between them.
+/// Returns the two texts with a space between them.
 pub fn beside(alloc: Global, first: &str, second: &str) -> Result<String, CaseFault> {
     joined(alloc, &[first, " ", second])
 }
 
-/// What a value is written as.
+/// Returns the `Display` text of a value.
 pub fn shown<T: Display>(alloc: Global, value: &T) -> Result<String, CaseFault> {
     Ok(value.to_string(alloc)?)
 }
 
-/// What a value is written as, between two texts.
+/// Returns the `Display` text of a value between two texts.
 pub fn between<T: Display>(
     alloc: Global,
     before: &str,
@@ -96,7 +96,7 @@ pub fn between<T: Display>(
     joined(alloc, &[before, text.as_str(), behind])
 }
 
-/// What a command wrote, and behind it its fault where there is one.
+/// Returns the output of a command, followed by its fault if it failed.
 pub fn written_text<E: Display + Drop>(
     alloc: Global,
     written: &[u8],
@@ -109,12 +109,12 @@ pub fn written_text<E: Display + Drop>(
     }
 }
 
-/// What a value is written as in Rattle's own words, as `BadMethod(Search)`.
+/// Returns the `Debug` text of a value, such as `BadMethod(Search)`.
 pub fn debugged<T: Debug>(alloc: Global, value: &T) -> Result<String, CaseFault> {
     Ok(format!(in alloc; "{value:?}")?)
 }
 
-/// The name of an order.
+/// Returns the name of an ordering.
 pub fn order(alloc: Global, order: Ordering) -> Result<String, CaseFault> {
     let name = match order {
         Ordering::Less => "Less",
@@ -124,12 +124,12 @@ pub fn order(alloc: Global, order: Ordering) -> Result<String, CaseFault> {
     said(alloc, name)
 }
 
-/// The text of a truth.
+/// Returns `true` or `false`.
 pub fn truth(alloc: Global, truth: bool) -> Result<String, CaseFault> {
     said(alloc, if truth { "true" } else { "false" })
 }
 
-/// An argument's text, or its JSON without spaces; another text where it isn't given.
+/// Returns the argument's text, or its JSON without spaces if it isn't a string; `other` if it isn't given.
 pub fn text_or_json(case: &Case<'_>, name: &'static str, other: &str) -> Result<String, CaseFault> {
     match case.get(name) {
         Some(value) => said(case.alloc, value.text.as_str()),
@@ -137,7 +137,8 @@ pub fn text_or_json(case: &Case<'_>, name: &'static str, other: &str) -> Result<
     }
 }
 
-/// The text of a file, which a case holds as it stands or in hex; None where it isn't in UTF-8.
+/// Returns the text of a file, given as text in the argument `name` or in hex in `hex_name`. None if it isn't
+/// UTF-8.
 pub fn file_text(
     case: &Case<'_>,
     name: &'static str,

@@ -8,7 +8,7 @@ use scim_cell::{Id, Text};
 use scim_text::read_printed_moment;
 use std::alloc::Global;
 
-/// The refusals of a method beside that which [`Refusal::all`] has.
+/// The refusals of a wrong method that [`Refusal::all`] doesn't contain.
 const OTHER_METHODS: [Refusal; 3] = [
     Refusal::BadMethod(Methods::Search),
     Refusal::BadMethod(Methods::Resource),
@@ -31,7 +31,7 @@ static CALLS: [(&str, AuditCall); 4] = [
     ("copied_audit_row", AuditCall::CopiedRow),
 ];
 
-/// What a call of `scim_audit` gives; None where it isn't one.
+/// Returns the result of the case's call, or None if it isn't a call of `scim_audit`.
 pub fn answer(case: &Case<'_>, call: &str) -> Option<Result<String, CaseFault>> {
     let call = named(&CALLS, call)?;
     Some(match call {
@@ -42,7 +42,7 @@ pub fn answer(case: &Case<'_>, call: &str) -> Option<Result<String, CaseFault>> 
     })
 }
 
-/// The refusal that `refusal` names, as `NotFound` or `BadMethod(Search)`.
+/// Returns the refusal that the argument `refusal` names, such as `NotFound` or `BadMethod(Search)`.
 pub fn refusal_of(case: &Case<'_>) -> Result<Refusal, CaseFault> {
     let name = case.text("refusal")?;
     if let Some(refusal) = refusal_named(case.alloc, Refusal::all(), name)? {
@@ -80,7 +80,7 @@ fn leaf_path_call(case: &Case<'_>) -> Result<String, CaseFault> {
     Ok(leaf_path(case.alloc, case.leaf("leaf")?)?)
 }
 
-/// What `decided` names; `Allow` where it isn't given.
+/// Returns the decision that the argument `decided` names, by default `Allow`.
 fn decided(case: &Case<'_>) -> Result<Decided, CaseFault> {
     let name = case.text_or("decided", "Allow");
     for decided in Decided::all() {
@@ -91,11 +91,12 @@ fn decided(case: &Case<'_>) -> Result<Decided, CaseFault> {
     Err(CaseFault::Missing("decided"))
 }
 
+/// Returns the argument `rule`; None if it isn't given or doesn't fit in 32 bits.
 fn rule(case: &Case<'_>) -> Option<u32> {
     u32::try_from(case.number("rule").ok()?).ok()
 }
 
-/// A row of the arguments; what isn't given is absent in it.
+/// Returns the audit row of the arguments; fields that may be absent are, if they aren't given.
 fn row(case: &Case<'_>) -> Result<AuditRow, CaseFault> {
     let Some(moment) = read_printed_moment(case.alloc, case.text("moment")?)? else {
         return Err(CaseFault::Missing("moment"));
@@ -115,18 +116,18 @@ fn row(case: &Case<'_>) -> Result<AuditRow, CaseFault> {
     })
 }
 
-/// The number of a row; 1 where it isn't given.
+/// Returns the argument `number`, by default 1; 0 if it is negative.
 fn number(case: &Case<'_>) -> u64 {
     u64::try_from(case.number("number").unwrap_or(1)).unwrap_or(0)
 }
 
-/// The line of a row.
+/// Returns the line of the row.
 fn row_line(case: &Case<'_>) -> Result<String, CaseFault> {
     let row = row(case)?;
     line_of(case, &row)
 }
 
-/// The line of a copy of a row.
+/// Returns the line of a copy of the row.
 fn copied_row_line(case: &Case<'_>) -> Result<String, CaseFault> {
     let row = row(case)?;
     copy_line(case, &row)
@@ -141,7 +142,7 @@ fn line_of(case: &Case<'_>, row: &AuditRow) -> Result<String, CaseFault> {
     Ok(print_row(case.alloc, number(case), row)?)
 }
 
-/// Adds the lines of rows of the audit, before which there are `known` rows.
+/// Appends the lines of audit rows, numbered from `known` + 1, with a `;` after each.
 pub fn push_rows_after(
     alloc: Global,
     known: u64,

@@ -1,21 +1,21 @@
-//! One case: a call and its arguments.
+//! A case: a call and its arguments.
 use crate::faults::CaseFault;
 use crate::forms::{Argument, Form};
 use std::alloc::Global;
 
-/// A case: a JSON object with the name of a call, its arguments, what it gives, and where it isn't plain a
-/// sentence that says why.
+/// A case: a JSON object with the name of a call, its arguments and the expected result. It may have a
+/// comment.
 #[derive(Clone, Copy)]
 pub struct Case<'a> {
     pub alloc: Global,
-    /// What was read with it: the items of a list and the members of an object stand side by side.
+    /// All values of the line; the items of one list, or the members of one object, are adjacent.
     values: &'a [Argument],
-    /// The value that is the case; None where nothing was read.
+    /// The value that is the case; None if nothing was read.
     value: Option<&'a Argument>,
 }
 
 impl Case<'_> {
-    /// The case that is the first of these values, among which stand all items and members that they have.
+    /// Returns the case that is the first of these values, which include all its items and members.
     pub fn of(alloc: Global, values: &[Argument]) -> Case<'_> {
         Case {
             alloc,
@@ -24,7 +24,7 @@ impl Case<'_> {
         }
     }
 
-    /// A value of this case, looked at as a case of its own.
+    /// Returns the value of this case as a case.
     pub fn inner<'b>(&'b self, value: &'b Argument) -> Case<'b> {
         Case {
             alloc: self.alloc,
@@ -33,8 +33,8 @@ impl Case<'_> {
         }
     }
 
-    /// The name of the call. A case that has `steps` in place of a call holds whole requests; one that has `said`, the
-    /// text of a policy file or of a users file.
+    /// Returns the name of the call. A case without `call` is a case of whole requests, if it has `steps`, or
+    /// a case of a users file or a policy file, if it has `said`.
     pub fn call(&self) -> Result<&str, CaseFault> {
         if self.has("steps") {
             return Ok("steps");
@@ -49,7 +49,7 @@ impl Case<'_> {
         }
     }
 
-    /// An argument, if it is given.
+    /// Returns an argument, if it is given.
     pub(crate) fn get(&self, name: &'static str) -> Option<&Argument> {
         let value = self.value?;
         if !matches!(value.form, Form::Object) {
@@ -63,7 +63,7 @@ impl Case<'_> {
         None
     }
 
-    /// The items or members of a value.
+    /// Returns the items or members of a value.
     fn within(&self, value: &Argument) -> &[Argument] {
         let end = value.first.saturating_add(value.count);
         match self.values.get(value.first..end) {
@@ -77,7 +77,7 @@ impl Case<'_> {
         self.get(name).is_some()
     }
 
-    /// The text of an argument.
+    /// Returns the text of an argument. Missing if it isn't given as a string.
     pub fn text(&self, name: &'static str) -> Result<&str, CaseFault> {
         match self.text_of(name) {
             Some(text) => Ok(text),
@@ -85,7 +85,7 @@ impl Case<'_> {
         }
     }
 
-    /// The text of an argument; another where it isn't given.
+    /// Returns the text of an argument, or `other` if it isn't given as a string.
     pub fn text_or<'b>(&'b self, name: &'static str, other: &'b str) -> &'b str {
         match self.text_of(name) {
             Some(text) => text,
@@ -98,7 +98,7 @@ impl Case<'_> {
         value.as_str()
     }
 
-    /// The number of an argument.
+    /// Returns the number of an argument. Missing if it isn't given as a whole number.
     pub fn number(&self, name: &'static str) -> Result<i64, CaseFault> {
         match self.form_of(name) {
             Form::Number(number) => Ok(number),
@@ -106,18 +106,19 @@ impl Case<'_> {
         }
     }
 
-    /// The number of an argument as a count or a position; 0 where it is below that.
+    /// Returns the number of an argument as a count or position; 0 if it is negative. Missing if it isn't
+    /// given as a whole number.
     pub fn count(&self, name: &'static str) -> Result<usize, CaseFault> {
         let number = self.number(name)?;
         Ok(usize::try_from(number).unwrap_or(0))
     }
 
-    /// Whether an argument is given as true.
+    /// Whether an argument is given as `true`.
     pub fn is_true(&self, name: &'static str) -> bool {
         matches!(self.form_of(name), Form::Truth(true))
     }
 
-    /// What an argument is; that of null where it isn't given.
+    /// Returns the form of an argument; that of null if it isn't given.
     fn form_of(&self, name: &'static str) -> Form {
         match self.get(name) {
             Some(value) => value.form,
@@ -125,7 +126,7 @@ impl Case<'_> {
         }
     }
 
-    /// The items of an argument that is a list; none where it isn't given.
+    /// Returns the items of an argument that is a list; empty if it isn't given as one.
     pub fn list(&self, name: &'static str) -> &[Argument] {
         match self.get(name) {
             Some(value) => self.items(value),
@@ -133,7 +134,7 @@ impl Case<'_> {
         }
     }
 
-    /// The items of a value of this case that is a list; none where it isn't one.
+    /// Returns the items of a value of this case; empty if it isn't a list.
     pub fn items(&self, value: &Argument) -> &[Argument] {
         match value.form {
             Form::List => self.within(value),

@@ -32,7 +32,7 @@ enum CellCall {
     SameField,
 }
 
-/// What is told of an id: its text, as it is made or written, or its bytes in hex.
+/// A call on an id: its text as a new string or in a buffer, or its bytes in hex.
 #[derive(Clone, Copy)]
 enum OfId {
     Text,
@@ -40,7 +40,7 @@ enum OfId {
     Bytes,
 }
 
-/// What is told of a row.
+/// A call on a row.
 #[derive(Clone, Copy)]
 enum OfRow {
     Copied,
@@ -73,7 +73,7 @@ static CALLS: [(&str, CellCall); 20] = [
     ("same_field", CellCall::SameField),
 ];
 
-/// What a call of `scim_cell` gives; None where it isn't one.
+/// Returns the result of the case's call, or None if it isn't a call of `scim_cell`.
 pub fn answer(case: &Case<'_>, call: &str) -> Option<Result<String, CaseFault>> {
     let call = named(&CALLS, call)?;
     Some(match call {
@@ -94,7 +94,7 @@ pub fn answer(case: &Case<'_>, call: &str) -> Option<Result<String, CaseFault>> 
     })
 }
 
-/// The text of the id that a text is, as it is made or written, or its bytes in hex; `none` where it is none.
+/// Returns the text or the bytes of the id in the argument `text`; `none` if it isn't an id.
 fn id_call(case: &Case<'_>, told: OfId) -> Result<String, CaseFault> {
     let Some(id) = Id::read(case.text("text")?) else {
         return said(case.alloc, "none");
@@ -109,7 +109,7 @@ fn id_call(case: &Case<'_>, told: OfId) -> Result<String, CaseFault> {
     }
 }
 
-/// How two ids compare.
+/// Returns the order of two ids; `none` if one isn't an id.
 fn order_of_ids(case: &Case<'_>) -> Result<String, CaseFault> {
     let first = Id::read(case.text("text")?);
     let second = Id::read(case.text("other")?);
@@ -130,7 +130,7 @@ fn same_text(case: &Case<'_>) -> Result<String, CaseFault> {
     truth(case.alloc, first == second)
 }
 
-/// The cell that an argument has.
+/// Returns the cell in an argument; the last one if it has several.
 pub fn cell(case: &Case<'_>, name: &'static str) -> Result<Cell, CaseFault> {
     let mut cells = read_cells(case.alloc, case.text(name)?)?;
     match cells.pop() {
@@ -158,7 +158,7 @@ fn has_type_call(case: &Case<'_>) -> Result<String, CaseFault> {
     truth(case.alloc, has_type(attribute_type, &cell.atom))
 }
 
-/// The leaf and the position of a cell's place.
+/// Returns the leaf and the position of a cell.
 fn place(case: &Case<'_>) -> Result<String, CaseFault> {
     let place = cell(case, "cell")?.place();
     let path = leaf_text(case.alloc, place.leaf())?;
@@ -172,14 +172,14 @@ fn order_of_places(case: &Case<'_>) -> Result<String, CaseFault> {
     order(case.alloc, first.compare(second))
 }
 
-/// How the units of two leaves compare.
+/// Returns the order of the units of two leaves.
 fn order_of_units(case: &Case<'_>) -> Result<String, CaseFault> {
     let first = unit_of(case.leaf("leaf")?);
     let second = unit_of(case.leaf("other")?);
     order(case.alloc, compare_units(first, second))
 }
 
-/// The names of an attribute's sub-attributes in order of place, with a space behind each.
+/// Returns the names of an attribute's sub-attributes in order of place, with a space after each.
 fn sub_attributes_call(case: &Case<'_>) -> Result<String, CaseFault> {
     let leaf = case.leaf("attribute")?;
     let mut text = String::new(case.alloc);
@@ -194,7 +194,7 @@ fn field_of(cell: Cell) -> Field {
     Field { leaf, atom }
 }
 
-/// The fields of a text of cells.
+/// Reads the fields of a text of cells.
 fn fields(alloc: Global, text: &str) -> Result<Vec<Field>, CaseFault> {
     let mut fields = Vec::new(alloc);
     for cell in read_cells(alloc, text)? {
@@ -203,7 +203,7 @@ fn fields(alloc: Global, text: &str) -> Result<Vec<Field>, CaseFault> {
     Ok(fields)
 }
 
-/// A row: a leaf of its unit and its cells, with a bar between them, as `emails.value|emails.type=work`.
+/// Reads a row, given as a leaf of its unit, a bar and its cells, such as `emails.value|emails.type=work`.
 fn row(alloc: Global, text: &str) -> Result<Row, CaseFault> {
     let Some((path, cells)) = text.split_once('|') else {
         return Err(CaseFault::Missing("row"));
@@ -211,7 +211,7 @@ fn row(alloc: Global, text: &str) -> Result<Row, CaseFault> {
     Ok(Row::new(unit_of(read_leaf(path)?), fields(alloc, cells)?))
 }
 
-/// The rows that `rows` lists.
+/// Returns the rows in the list `rows`.
 pub fn rows(case: &Case<'_>) -> Result<Vec<Row>, CaseFault> {
     let mut rows = Vec::new(case.alloc);
     for value in case.list("rows") {
@@ -222,7 +222,7 @@ pub fn rows(case: &Case<'_>) -> Result<Vec<Row>, CaseFault> {
     Ok(rows)
 }
 
-/// What is told of the row.
+/// Returns the result of a call on the row in the argument `row`.
 fn row_call(case: &Case<'_>, told: OfRow) -> Result<String, CaseFault> {
     let row = row(case.alloc, case.text("row")?)?;
     told_of_row(case, told, &row)
@@ -242,7 +242,7 @@ fn fields_text(alloc: Global, row: &Row) -> Result<String, CaseFault> {
     Ok(row_text(alloc, row)?)
 }
 
-/// The row of copies of the fields of a row.
+/// Returns the row made of copies of the row's fields.
 fn copied_fields(alloc: Global, row: &Row) -> Result<String, CaseFault> {
     let mut copies = Vec::new(alloc);
     for field in row.fields() {
@@ -251,7 +251,7 @@ fn copied_fields(alloc: Global, row: &Row) -> Result<String, CaseFault> {
     fields_text(alloc, &Row::new(row.unit(), copies))
 }
 
-/// The atom that a row has at a leaf; `none` where it has none.
+/// Returns the atom of a row at a leaf; `none` if it has none.
 fn atom_of_row(case: &Case<'_>, row: &Row) -> Result<String, CaseFault> {
     let atom = row.get(case.leaf("leaf")?);
     Ok(atom_text(case.alloc, atom)?)
@@ -262,14 +262,14 @@ fn same_row(case: &Case<'_>, one: &Row) -> Result<String, CaseFault> {
     truth(case.alloc, *one == other)
 }
 
-/// What is left of a row where the fields of one sub-attribute are kept.
+/// Returns the row restricted to the fields of one sub-attribute.
 fn restricted_row(case: &Case<'_>, row: &Row) -> Result<String, CaseFault> {
     let test = of_sub_attribute(case)?;
     let rest = row.restrict(case.alloc, &test)?;
     fields_text(case.alloc, &rest)
 }
 
-/// Whether rows are values of a leaf's unit.
+/// Whether the rows are values of a leaf's unit.
 fn are_values_call(case: &Case<'_>) -> Result<String, CaseFault> {
     let unit = unit_of(case.leaf("leaf")?);
     let rows = rows(case)?;
@@ -283,7 +283,7 @@ fn same_field(case: &Case<'_>) -> Result<String, CaseFault> {
     truth(case.alloc, first == second)
 }
 
-/// The test that keeps the sub-attribute of the leaf `keep`.
+/// Returns the test that keeps the sub-attribute of the leaf in the argument `keep`.
 pub fn of_sub_attribute(case: &Case<'_>) -> Result<OfSubAttribute, CaseFault> {
     match case.leaf("keep")?.sub_attribute {
         Some(sub_attribute) => Ok(OfSubAttribute { sub_attribute }),

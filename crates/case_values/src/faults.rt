@@ -1,25 +1,25 @@
-//! Why a case gave no answer.
+//! The faults of cases.
 use scim_samples::SampleFault;
 use scim_text::NoMemory;
 use std::alloc::{AllocError, AllocFailed};
 use thiserror::Error;
 
-/// Why a case gave no answer. Its text stands in the place of what was found.
+/// The fault of a case without a result. Its text is reported in place of the result.
 #[derive(Clone, Copy, Debug, Error)]
 pub enum CaseFault {
     /// The line isn't a JSON object.
     #[error("the line is no JSON object")]
     NoObject,
-    /// `call` names no call.
+    /// The case names no known call.
     #[error("there is no such call")]
     NoSuchCall,
-    /// An argument of the call isn't there, or isn't of its type.
+    /// An argument of the call is missing or has the wrong type.
     #[error("the argument {0} is missing or of a wrong type")]
     Missing(&'static str),
-    /// A sample that the case names can't be made.
+    /// A sample of the case can't be made.
     #[error("{0}")]
     Sample(SampleFault),
-    /// No memory was to be had.
+    /// Memory ran out.
     #[error("out of memory")]
     NoMemory,
 }

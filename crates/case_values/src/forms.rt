@@ -1,11 +1,11 @@
-//! What a case is made of: values, each in its form.
+//! The JSON values of a case.
 
-/// What a JSON value is.
+/// The type of a JSON value.
 #[derive(Clone, Copy)]
 pub enum Form {
     /// A string.
     Text,
-    /// A whole number.
+    /// An integer that fits in 64 bits.
     Number(i64),
     /// True or false.
     Truth(bool),
@@ -13,26 +13,26 @@ pub enum Form {
     List,
     /// An object.
     Object,
-    /// Null, or a number that isn't whole or goes beyond an `i64`.
+    /// Null, or any other number.
     Other,
 }
 
-/// A JSON value of a case: an argument, an item of a list, or the case itself. It is a type of our own, since a type of a
-/// reader of JSON would lead each crate of calls to all of that reader.
+/// A JSON value of a case: an argument, an item of a list, or the case itself.
+///
+/// It is a separate type so that the crates of calls don't depend on a JSON parser.
 pub struct Argument {
-    /// The name that it has as a member of an object; else empty.
+    /// Its name as a member of an object; empty for any other value.
     pub name: String,
-    /// Its text, if it is one; else its JSON without spaces.
+    /// Its text if it is a string, otherwise its JSON without spaces.
     pub text: String,
-    /// What it is.
+    /// Its type.
     pub form: Form,
-    /// Where its items or members begin among the values of the case.
+    /// The index of its first item or member in the case's values.
     pub first: usize,
-    /// How many items or members it has.
+    /// The number of its items or members.
     pub count: usize,
 }
 
-/// One call, wherever an argument is dropped, in place of a look at each text.
 impl Drop for Argument {
     fn drop(self) {
         let Argument {
@@ -46,7 +46,7 @@ impl Drop for Argument {
 }
 
 impl Argument {
-    /// Its text, if it is one.
+    /// Returns its text, if it is a string.
     pub fn as_str(&self) -> Option<&str> {
         match self.form {
             Form::Text => Some(self.text.as_str()),

@@ -1,5 +1,8 @@
-//! Cases as calls with arguments, and the calls of the crates of texts, tables, values and audit rows. The calls of other
-//! crates stand above, since what a function is proved over is what its crate stands on.
+//! The type of a case, and the calls of `scim_text`, `scim_schema`, `scim_cell`, `scim_value` and
+//! `scim_audit`.
+//!
+//! Calls of other crates are in crates above this one, since a function is proved with everything that its
+//! crate depends on.
 #![tactic(auto)]
 
 mod arguments;
@@ -29,7 +32,7 @@ pub use policies::policy_text;
 pub use schema_calls::{attribute_name, urn_of};
 pub use tables::named;
 
-/// What a call gives, if it is one of this crate.
+/// Returns the result of the case's call, or None if it isn't a call of this crate.
 pub fn answer(case: &Case<'_>, call: &str) -> Option<Result<String, CaseFault>> {
     if let Some(found) = text_calls::answer(case, call) {
         return Some(found);

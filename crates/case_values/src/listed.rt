@@ -1,4 +1,4 @@
-//! Arguments that are lists, and those that stand for many resources.
+//! Arguments that are lists, and lists of parts and resources.
 use crate::arguments::{between, joined, said};
 use crate::case::Case;
 use crate::faults::CaseFault;
@@ -9,7 +9,7 @@ use scim_text::push;
 use scim_value::{Part, Resource};
 use std::alloc::Global;
 
-/// The texts of a list.
+/// Returns the texts of a list. Missing if an item isn't a string.
 pub fn texts<'c>(case: &'c Case<'_>, name: &'static str) -> Result<Vec<&'c str>, CaseFault> {
     let mut texts = Vec::new(case.alloc);
     for value in case.list(name) {
@@ -21,7 +21,7 @@ pub fn texts<'c>(case: &'c Case<'_>, name: &'static str) -> Result<Vec<&'c str>,
     Ok(texts)
 }
 
-/// The argument of this name, with so many spaces behind it as the argument `spaces` says.
+/// Returns the text of an argument followed by `spaces` spaces, by default none.
 pub fn spaced_text(case: &Case<'_>, name: &'static str) -> Result<String, CaseFault> {
     let mut text = said(case.alloc, case.text(name)?)?;
     for _ in 0..case.number("spaces").unwrap_or(0) {
@@ -30,7 +30,7 @@ pub fn spaced_text(case: &Case<'_>, name: &'static str) -> Result<String, CaseFa
     Ok(text)
 }
 
-/// The parts of the list `parts`, each by the last two digits of its id and its cells.
+/// Returns the parts in the list `parts`, each given as the last two digits of its id and its cells.
 pub fn parts_of(case: &Case<'_>) -> Result<Vec<Part>, CaseFault> {
     let mut parts = Vec::new(case.alloc);
     for value in case.list("parts") {
@@ -39,13 +39,14 @@ pub fn parts_of(case: &Case<'_>) -> Result<Vec<Part>, CaseFault> {
     Ok(parts)
 }
 
+/// Returns the part of `DIGITS CELLS`, with the digits at the end of its id.
 fn part_of(case: &Case<'_>, text: &str) -> Result<Part, CaseFault> {
     let (digits, cells) = text.split_once(' ').unwrap_or((text, ""));
     let id = joined(case.alloc, &["00000000-0000-4000-8000-0000000000", digits])?;
     Ok(part(case.alloc, case.kind(), id.as_str(), cells)?)
 }
 
-/// The resources of a list: names of samples, or objects of an `id` and `cells`.
+/// Returns the resources in a list of names of samples and of objects with an `id` and `cells`.
 pub fn resources(
     case: &Case<'_>,
     kind: Kind,
@@ -72,7 +73,7 @@ fn resource_of(case: &Case<'_>, kind: Kind, value: &Argument) -> Result<Resource
     }
 }
 
-/// So many users as the argument `users` says, or the samples of the kind.
+/// Returns as many users as the argument `users` says, or by default the sample resources of the kind.
 pub fn resources_of(case: &Case<'_>) -> Result<Vec<Resource>, CaseFault> {
     if let Ok(number) = case.number("users") {
         return numbered_users(case.alloc, number);
@@ -83,7 +84,7 @@ pub fn resources_of(case: &Case<'_>) -> Result<Vec<Resource>, CaseFault> {
     }
 }
 
-/// So many users, whose names are `user0`, `user1` and so on, by their ids.
+/// Returns users with the names `user0`, `user1` and so on, in order of id.
 fn numbered_users(alloc: Global, number: i64) -> Result<Vec<Resource>, CaseFault> {
     let mut users = Vec::new(alloc);
     for index in 0..number {
@@ -92,7 +93,7 @@ fn numbered_users(alloc: Global, number: i64) -> Result<Vec<Resource>, CaseFault
     Ok(users)
 }
 
-/// What stands in an id before a number, which takes three digits.
+/// Returns the prefix of the id that ends in this number of at most three digits.
 fn id_before(number: i64) -> &'static str {
     if number < 10 {
         "00000000-0000-4000-8000-00000000000"

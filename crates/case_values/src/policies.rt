@@ -5,8 +5,10 @@ use crate::faults::CaseFault;
 use scim_samples::POLICY;
 use std::alloc::Global;
 
-/// The text of a policy file: `policy`, a text or a JSON value; or the file of the list `rules`; or of `times`
-/// times the rule `rule`; else the sample policy.
+/// Returns the text of the policy file of a case.
+///
+/// It has the rules of the list `rules`, or `times` times the rule `rule`; otherwise it is the argument
+/// `policy`, a string or a JSON value, by default the sample policy.
 pub fn policy_text(case: &Case<'_>) -> Result<String, CaseFault> {
     let alloc = case.alloc;
     if let Some(rules) = case.get("rules") {
@@ -18,12 +20,12 @@ pub fn policy_text(case: &Case<'_>) -> Result<String, CaseFault> {
     text_or_json(case, "policy", POLICY)
 }
 
-/// The file of a list of rules.
+/// Returns the policy file with a list of rules.
 fn file_of(alloc: Global, rules: &str) -> Result<String, CaseFault> {
     joined(alloc, &["{\"version\":1,\"rules\":", rules, "}"])
 }
 
-/// The file of a rule so many times.
+/// Returns the policy file with a rule repeated `times` times.
 fn repeated(alloc: Global, rule: &str, times: i64) -> Result<String, CaseFault> {
     let mut text = String::from_str(alloc, "{\"version\":1,\"rules\":[")?;
     for number in 0..times {

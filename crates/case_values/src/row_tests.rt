@@ -1,4 +1,4 @@
-//! Tests of rows, by which cases restrict rows and parts.
+//! Tests that cases restrict rows and parts with.
 ghost use Rattle.std.specs.Option.{option_eq};
 ghost use Rattle.std.specs.Prelude.{Some};
 ghost use denote.Enum.Bare.{sameb};
@@ -23,7 +23,7 @@ impl RowTest for OfSubAttribute {
     }
 }
 
-/// Keeps the rows with one atom at a leaf, whole.
+/// Keeps whole rows that have the given atom at the given leaf.
 #[derive(Drop)]
 pub struct WithAtom {
     pub leaf: Leaf,

@@ -29,7 +29,7 @@ enum SchemaCall {
     UnitOf,
 }
 
-/// What a schema is found by.
+/// What a schema is looked up by.
 #[derive(Clone, Copy)]
 enum SchemaBy {
     Urn,
@@ -57,7 +57,7 @@ static CALLS: [(&str, SchemaCall); 16] = [
     ("unit_of", SchemaCall::UnitOf),
 ];
 
-/// What a call of `scim_schema` gives; None where it isn't one.
+/// Returns the result of the case's call, or None if it isn't a call of `scim_schema`.
 pub fn answer(case: &Case<'_>, call: &str) -> Option<Result<String, CaseFault>> {
     let call = named(&CALLS, call)?;
     Some(match call {
@@ -85,8 +85,8 @@ fn schema_word(schema: Schema) -> &'static str {
     }
 }
 
-/// Type, `multi` or `single`, `required` or `optional`, `caseExact` or `caseInexact`, mutability, when it is
-/// returned, and uniqueness.
+/// Returns the characteristics as text: type, `multi` or `single`, `required` or `optional`, `caseExact` or
+/// `caseInexact`, mutability, `returned` and uniqueness.
 fn characteristics_text(
     alloc: Global,
     multi_valued: bool,
@@ -117,12 +117,12 @@ fn characteristics_text(
     joined(alloc, &words)
 }
 
-/// The attribute of either kind that the case names.
+/// Returns the attribute that the case names, of either kind.
 fn attribute_of(case: &Case<'_>) -> Result<Attribute, CaseFault> {
     Ok(case.leaf("attribute")?.attribute)
 }
 
-/// The schema that the case names by its URN.
+/// Returns the schema that the case names by its URN.
 fn schema_named(case: &Case<'_>) -> Result<Schema, CaseFault> {
     match Schema::named(case.text("urn")?) {
         Some(schema) => Ok(schema),
@@ -130,7 +130,7 @@ fn schema_named(case: &Case<'_>) -> Result<Schema, CaseFault> {
     }
 }
 
-/// The printed name of an attribute; `none` of none.
+/// Returns the name of an attribute; `none` for None.
 pub fn attribute_name(attribute: Option<Attribute>) -> &'static str {
     match attribute {
         Some(attribute) => attribute.name(),
@@ -138,20 +138,20 @@ pub fn attribute_name(attribute: Option<Attribute>) -> &'static str {
     }
 }
 
-/// The printed name of the attribute that a name finds.
+/// Returns the attribute that a name finds.
 fn attribute_call(case: &Case<'_>) -> Result<String, CaseFault> {
     let found = attribute_named(case.kind(), case.text("name")?);
     said(case.alloc, attribute_name(found))
 }
 
-/// The printed name of the attribute that a name finds in a schema.
+/// Returns the attribute that a name finds in a schema.
 fn attribute_in_call(case: &Case<'_>) -> Result<String, CaseFault> {
     let name = case.text("name")?;
     let found = attribute_named_in(case.kind(), schema_named(case)?, name);
     said(case.alloc, attribute_name(found))
 }
 
-/// The printed name of the sub-attribute that a name finds.
+/// Returns the sub-attribute that a name finds.
 fn sub_attribute_call(case: &Case<'_>) -> Result<String, CaseFault> {
     let name = case.text("name")?;
     match sub_attribute_named(attribute_of(case)?, name) {
@@ -160,7 +160,7 @@ fn sub_attribute_call(case: &Case<'_>) -> Result<String, CaseFault> {
     }
 }
 
-/// The URN of a schema; `none` of none.
+/// Returns the URN of a schema; `none` for None.
 pub fn urn_of(schema: Option<Schema>) -> &'static str {
     match schema {
         Some(schema) => schema.urn(),
@@ -168,7 +168,7 @@ pub fn urn_of(schema: Option<Schema>) -> &'static str {
     }
 }
 
-/// The URN of a schema.
+/// Returns the URN of the schema that the look-up finds.
 fn schema_call(case: &Case<'_>, by: SchemaBy) -> Result<String, CaseFault> {
     let found = match by {
         SchemaBy::Urn => Schema::named(case.text("urn")?),
@@ -179,7 +179,7 @@ fn schema_call(case: &Case<'_>, by: SchemaBy) -> Result<String, CaseFault> {
     said(case.alloc, urn_of(found))
 }
 
-/// The printed name of a kind, its endpoint, or the printed name of an operation.
+/// Returns the name of the kind, of its endpoint or of the operation.
 fn name(case: &Case<'_>) -> Result<String, CaseFault> {
     let name = match case.text("of")? {
         "kind" => case.kind().name(),
@@ -189,7 +189,7 @@ fn name(case: &Case<'_>) -> Result<String, CaseFault> {
     said(case.alloc, name)
 }
 
-/// URNs, with a space behind each.
+/// Returns the URNs of the schemas, with a space after each.
 fn urns(alloc: Global, schemas: &[Schema]) -> Result<String, CaseFault> {
     let mut text = String::new(alloc);
     for schema in schemas {
@@ -198,7 +198,7 @@ fn urns(alloc: Global, schemas: &[Schema]) -> Result<String, CaseFault> {
     Ok(text)
 }
 
-/// The names of a kind's attributes, with a space behind each.
+/// Returns the names of a kind's attributes, with a space after each.
 fn attribute_list(case: &Case<'_>) -> Result<String, CaseFault> {
     let mut text = String::new(case.alloc);
     for attribute in attributes(case.kind()) {
@@ -207,7 +207,7 @@ fn attribute_list(case: &Case<'_>) -> Result<String, CaseFault> {
     Ok(text)
 }
 
-/// The names of an attribute's sub-attributes, with a space behind each.
+/// Returns the names of an attribute's sub-attributes, with a space after each.
 fn sub_attribute_list(case: &Case<'_>) -> Result<String, CaseFault> {
     let mut text = String::new(case.alloc);
     for sub_attribute in sub_attributes(attribute_of(case)?) {
@@ -216,7 +216,7 @@ fn sub_attribute_list(case: &Case<'_>) -> Result<String, CaseFault> {
     Ok(text)
 }
 
-/// Schema, path and characteristics of the leaf at a place in leaf order, from 1.
+/// Returns the schema, path and characteristics of the leaf with this number in leaf order, from 1.
 fn leaf(case: &Case<'_>) -> Result<String, CaseFault> {
     let kind = case.kind();
     let place = case.count("place")?;
@@ -238,7 +238,7 @@ fn told_of_leaf(alloc: Global, kind: Kind, leaf: Leaf) -> Result<String, CaseFau
     )
 }
 
-/// The characteristics of a whole complex attribute.
+/// Returns the characteristics of a whole complex attribute.
 fn whole_attribute(case: &Case<'_>) -> Result<String, CaseFault> {
     let of = attribute_characteristics(case.kind(), attribute_of(case)?);
     characteristics_text(case.alloc, of.multi_valued, &of)
@@ -249,7 +249,7 @@ fn has_leaf_call(case: &Case<'_>) -> Result<String, CaseFault> {
     truth(case.alloc, has_leaf(case.kind(), case.leaf("leaf")?))
 }
 
-/// The path of a unit: of the whole attribute where it is multi-valued.
+/// Returns the path of a leaf's unit; it is that of the whole attribute if it is multi-valued.
 fn unit_call(case: &Case<'_>) -> Result<String, CaseFault> {
     let unit = unit_of(case.leaf("leaf")?);
     let leaf = Leaf {

@@ -1,7 +1,8 @@
-//! Tables of names.
+//! Look-up of names in tables.
 
-/// What stands beside a name in a table; None where the name doesn't stand there. A match on texts costs a proof for each of them,
-/// and a loop over a table one for all.
+/// Returns the value beside a name in a table, if any.
+///
+/// A loop over a table takes one proof; a match on texts would take one for each name.
 pub fn named<T: Copy>(table: &[(&str, T)], name: &str) -> Option<T> {
     for (own, meant) in table {
         if *own == name {

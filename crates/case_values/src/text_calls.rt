@@ -25,7 +25,7 @@ static CALLS: [(&str, TextCall); 6] = [
     ("order_of_readings", TextCall::OrderOfReadings),
 ];
 
-/// What a call of `scim_text` gives; None where it isn't one.
+/// Returns the result of the case's call, or None if it isn't a call of `scim_text`.
 pub fn answer(case: &Case<'_>, call: &str) -> Option<Result<String, CaseFault>> {
     let call = named(&CALLS, call)?;
     Some(match call {
@@ -49,7 +49,7 @@ fn fold_call(case: &Case<'_>) -> Result<String, CaseFault> {
     Ok(fold(case.alloc, case.text("text")?)?)
 }
 
-/// The text of the moment of this second; `none` where there is none.
+/// Returns the text of the moment with this second; `none` if there is no such moment.
 fn print_moment_call(case: &Case<'_>) -> Result<String, CaseFault> {
     match Moment::new(case.number("second")?) {
         Some(moment) => Ok(print_moment(case.alloc, moment)?),
@@ -57,7 +57,8 @@ fn print_moment_call(case: &Case<'_>) -> Result<String, CaseFault> {
     }
 }
 
-/// The second, and `later` where a fraction stands behind it.
+/// Returns the second of a timestamp, with `later` after it if the timestamp has a fraction beyond the
+/// second.
 fn read_moment_call(case: &Case<'_>) -> Result<String, CaseFault> {
     let Ok(reading) = read_moment(case.text("text")?) else {
         return said(case.alloc, "BadMoment");
@@ -76,7 +77,7 @@ fn read_printed_moment_call(case: &Case<'_>) -> Result<String, CaseFault> {
     }
 }
 
-/// How the readings of two texts compare.
+/// Returns the order of the readings of two timestamps.
 fn order_call(case: &Case<'_>) -> Result<String, CaseFault> {
     let first = read_moment(case.text("text")?);
     let second = read_moment(case.text("other")?);

@@ -1,4 +1,4 @@
-//! The calls of `scim_value`, and that of `scim_samples` which writes a part.
+//! The calls of `scim_value`, and the call of `scim_samples` that prints a part.
 use crate::arguments::{beside, joined, push_all, said, shown, truth};
 use crate::case::Case;
 use crate::cell_calls::{cell, of_sub_attribute, rows};
@@ -14,7 +14,7 @@ use scim_value::{
 };
 use std::alloc::Global;
 
-/// A call of `scim_value`, or that of `scim_samples`.
+/// A call of `scim_value`, or the one of `scim_samples`.
 #[derive(Clone, Copy)]
 enum ValueCall {
     Part,
@@ -35,7 +35,7 @@ enum ValueCall {
     OnResource(OfResource),
 }
 
-/// What is told of a part.
+/// A call on a part.
 #[derive(Clone, Copy)]
 enum OfPart {
     Rows,
@@ -52,7 +52,7 @@ enum OfPart {
     IsResource,
 }
 
-/// What is told of a resource.
+/// A call on a resource.
 #[derive(Clone, Copy)]
 enum OfResource {
     Copied,
@@ -101,7 +101,7 @@ static CALLS: [(&str, ValueCall); 29] = [
     ),
 ];
 
-/// What a call of `scim_value` gives; None where it isn't one.
+/// Returns the result of the case's call, or None if it isn't a call of `scim_value`.
 pub fn answer(case: &Case<'_>, call: &str) -> Option<Result<String, CaseFault>> {
     let call = named(&CALLS, call)?;
     Some(match call {
@@ -124,7 +124,7 @@ pub fn answer(case: &Case<'_>, call: &str) -> Option<Result<String, CaseFault>> 
     })
 }
 
-/// The cells of a part that was made, or `Invalid`.
+/// Returns the cells of a part, or `Invalid`.
 fn made_text(alloc: Global, made: Result<Part, Failed<Invalid>>) -> Result<String, CaseFault> {
     match made {
         Ok(part) => cells_text(alloc, &part),
@@ -133,7 +133,7 @@ fn made_text(alloc: Global, made: Result<Part, Failed<Invalid>>) -> Result<Strin
     }
 }
 
-/// The part of cells in any order.
+/// Returns the part of cells in any order.
 fn part_call(case: &Case<'_>) -> Result<String, CaseFault> {
     let Some(id) = Id::read(case.text_or("id", ALICE)) else {
         return Err(CaseFault::Missing("id"));
@@ -142,7 +142,7 @@ fn part_call(case: &Case<'_>) -> Result<String, CaseFault> {
     made_text(case.alloc, Part::of(case.alloc, case.kind(), id, cells))
 }
 
-/// The part of cells in order of place.
+/// Returns the part of cells in order of place.
 fn sorted_part_call(case: &Case<'_>) -> Result<String, CaseFault> {
     let Some(id) = Id::read(case.text_or("id", ALICE)) else {
         return Err(CaseFault::Missing("id"));
@@ -154,12 +154,12 @@ fn sorted_part_call(case: &Case<'_>) -> Result<String, CaseFault> {
     )
 }
 
-/// The position `position`, by default 0.
+/// Returns the argument `position`, by default 0.
 fn position(case: &Case<'_>) -> usize {
     case.count("position").unwrap_or(0)
 }
 
-/// What is told of the part.
+/// Returns the result of a call on the part in the argument `part`.
 fn part_told(case: &Case<'_>, told: OfPart) -> Result<String, CaseFault> {
     let part = case.part()?;
     told_of_part(case, told, &part)
@@ -187,13 +187,13 @@ fn part_copy_text(alloc: Global, part: &Part) -> Result<String, CaseFault> {
     cells_text(alloc, &copy)
 }
 
-/// The rows of the attribute of a leaf.
+/// Returns the part's rows of the attribute of a leaf.
 fn attribute_rows_text(case: &Case<'_>, part: &Part) -> Result<String, CaseFault> {
     let leaf = case.leaf("leaf")?;
     rows_text(case.alloc, part.attribute_rows(leaf.attribute))
 }
 
-/// The rows of the unit of a leaf.
+/// Returns the part's rows of the unit of a leaf.
 fn values_text(case: &Case<'_>, part: &Part) -> Result<String, CaseFault> {
     let unit = unit_of(case.leaf("leaf")?);
     rows_text(case.alloc, part.values(unit))
@@ -203,7 +203,7 @@ fn cells_text(alloc: Global, part: &Part) -> Result<String, CaseFault> {
     Ok(part_text(alloc, part)?)
 }
 
-/// Rows, with a bar between two.
+/// Returns rows as text, with a bar between two.
 fn rows_text(alloc: Global, rows: &[Row]) -> Result<String, CaseFault> {
     let mut text = String::new(alloc);
     for row in rows {
@@ -220,25 +220,25 @@ fn push_row(alloc: Global, row: &Row, text: &mut String) -> Result<(), CaseFault
     Ok(text.push_str(cells.as_str())?)
 }
 
-/// The atom at a position of a leaf; `none` where there is none.
+/// Returns the atom at a position of a leaf; `none` if there is none.
 fn atom_told(case: &Case<'_>, part: &Part) -> Result<String, CaseFault> {
     let atom = part.get(case.leaf("leaf")?, position(case));
     Ok(atom_text(case.alloc, atom)?)
 }
 
-/// The number of positions of a leaf's attribute.
+/// Returns the number of positions of a leaf's attribute.
 fn positions_text(case: &Case<'_>, part: &Part) -> Result<String, CaseFault> {
     let positions = part.positions(case.leaf("leaf")?.attribute);
     shown(case.alloc, &positions)
 }
 
-/// Whether the part equals that of a user with Alice's id and other cells.
+/// Whether the part equals the part of a user with Alice's id and the cells in `other`.
 fn same_part(case: &Case<'_>, one: &Part) -> Result<String, CaseFault> {
     let other = part(case.alloc, Kind::User, ALICE, case.text("other")?)?;
     truth(case.alloc, *one == other)
 }
 
-/// The kind and the rows that a part gives away.
+/// Returns the kind and the rows that the part is taken apart into.
 fn taken_apart(case: &Case<'_>) -> Result<String, CaseFault> {
     let (kind, _, rows) = case.part()?.into_parts();
     kind_and_rows(case.alloc, kind, rows.as_slice())
@@ -265,7 +265,7 @@ fn without_call(case: &Case<'_>) -> Result<String, CaseFault> {
     cells_text(case.alloc, &left)
 }
 
-/// The part with these values of a leaf's unit; `no values` where they are none.
+/// Returns the part with the given values of a leaf's unit; `no values` if the rows aren't values of it.
 fn put_call(case: &Case<'_>) -> Result<String, CaseFault> {
     let unit = unit_of(case.leaf("leaf")?);
     let values = rows(case)?;
@@ -281,31 +281,33 @@ fn put_text(alloc: Global, part: Part, unit: Unit, values: Vec<Row>) -> Result<S
     cells_text(alloc, &changed)
 }
 
-/// What is left where the fields of one sub-attribute are kept.
+/// Returns the part restricted to the fields of one sub-attribute.
 fn restricted_text(case: &Case<'_>, part: &Part) -> Result<String, CaseFault> {
     let rest = restricted(case, part)?;
     cells_text(case.alloc, &rest)
 }
 
-/// How many positions the attribute of a leaf has then.
+/// Returns the number of positions of a leaf's attribute in the part restricted to one sub-attribute.
 fn restricted_positions(case: &Case<'_>, part: &Part) -> Result<String, CaseFault> {
     let rest = restricted(case, part)?;
     positions_text(case, &rest)
 }
 
+/// Returns the part restricted to the sub-attribute of the leaf in the argument `keep`.
 fn restricted(case: &Case<'_>, part: &Part) -> Result<Part, CaseFault> {
     let test = of_sub_attribute(case)?;
     Ok(part.restrict(case.alloc, &test)?)
 }
 
-/// What is left where the values with the atom of a cell are kept.
+/// Returns the part restricted to the values that have the atom of a cell.
 fn restrict_by_atom(case: &Case<'_>, part: &Part) -> Result<String, CaseFault> {
     let Cell { leaf, atom, .. } = cell(case, "cell")?;
     let rest = part.restrict(case.alloc, &WithAtom { leaf, atom })?;
     cells_text(case.alloc, &rest)
 }
 
-/// `ok` where the part is a resource below the base, by default that of the samples; else `Invalid`.
+/// Returns `ok` if the part is a resource below the base, by default that of the samples; otherwise
+/// `Invalid`.
 fn resource_call(case: &Case<'_>) -> Result<String, CaseFault> {
     match Resource::of(case.part()?, case.text_or("base", BASE)) {
         Ok(_) => said(case.alloc, "ok"),
@@ -313,7 +315,7 @@ fn resource_call(case: &Case<'_>) -> Result<String, CaseFault> {
     }
 }
 
-/// The cells of a resource that was made, or `Invalid`.
+/// Returns the cells of a resource, or `Invalid`.
 fn resource_text(
     alloc: Global,
     made: Result<Resource, Failed<Invalid>>,
@@ -344,7 +346,7 @@ fn resource_without(case: &Case<'_>) -> Result<String, CaseFault> {
     )
 }
 
-/// `ok` where a resource may stand below a base of so many letters `x`.
+/// Returns `ok` if a resource may have a location below a base of `length` letters `x`; otherwise `refused`.
 fn resource_far_away(case: &Case<'_>) -> Result<String, CaseFault> {
     let resource = case.resource()?;
     let place = far_location(case, &resource)?;
@@ -355,7 +357,7 @@ fn resource_far_away(case: &Case<'_>) -> Result<String, CaseFault> {
     }
 }
 
-/// The location of a resource below a base of so many letters `x`.
+/// Returns the location of a resource below a base of `length` letters `x`.
 fn far_location(case: &Case<'_>, resource: &Resource) -> Result<Text, CaseFault> {
     let mut base = String::new(case.alloc);
     for _ in 0..case.number("length")? {
@@ -364,7 +366,7 @@ fn far_location(case: &Case<'_>, resource: &Resource) -> Result<Text, CaseFault>
     Ok(location(case.alloc, base.as_str(), resource.kind(), resource.id())?)
 }
 
-/// What is told of the resource.
+/// Returns the result of a call on the resource in the argument `resource`.
 fn resource_told(case: &Case<'_>, told: OfResource) -> Result<String, CaseFault> {
     let resource = case.resource()?;
     match told {
@@ -374,7 +376,7 @@ fn resource_told(case: &Case<'_>, told: OfResource) -> Result<String, CaseFault>
     }
 }
 
-/// The cells of a copy, where it equals the resource.
+/// Returns the cells of a copy of the resource; `another resource` if the copy differs.
 fn copy_text(alloc: Global, resource: &Resource) -> Result<String, CaseFault> {
     let copy = resource.try_copy(alloc)?;
     if copy != *resource {
@@ -383,7 +385,8 @@ fn copy_text(alloc: Global, resource: &Resource) -> Result<String, CaseFault> {
     cells_text(alloc, &copy.into_part())
 }
 
-/// The kind, the id, how many positions a leaf's attribute has, and the atom at its first one.
+/// Returns the kind, the id, the number of positions of a leaf's attribute, and the atom at its first
+/// position.
 fn told_of_resource(case: &Case<'_>, resource: &Resource) -> Result<String, CaseFault> {
     let id = resource.id().text(case.alloc)?;
     let rest = told_of_leaf(case, resource)?;
@@ -398,7 +401,7 @@ fn told_of_leaf(case: &Case<'_>, resource: &Resource) -> Result<String, CaseFaul
     beside(case.alloc, positions.as_str(), atom.as_str())
 }
 
-/// The unique names of a resource, each as `LEAF=TEXT`, with a space behind each.
+/// Returns the unique names of a resource, each as `LEAF=TEXT` with a space after it.
 fn unique_names_text(alloc: Global, resource: &Resource) -> Result<String, CaseFault> {
     let names = unique_names(alloc, resource)?;
     let mut text = String::new(alloc);
@@ -422,7 +425,7 @@ fn location_call(case: &Case<'_>) -> Result<String, CaseFault> {
     Ok(place.into_string())
 }
 
-/// The leaves of a kind where names are unique, with a space behind each.
+/// Returns the leaves of a kind with unique names, with a space after each.
 fn unique_leaves_call(case: &Case<'_>) -> Result<String, CaseFault> {
     let mut text = String::new(case.alloc);
     for leaf in unique_leaves(case.kind()) {
@@ -441,7 +444,7 @@ fn known_text_call(case: &Case<'_>) -> Result<String, CaseFault> {
     Ok(known_text(case.alloc, case.kind(), leaf, case.text("text")?)?)
 }
 
-/// What a fault is told as.
+/// Returns the text of the fault in the argument `name`.
 fn fault_call(case: &Case<'_>) -> Result<String, CaseFault> {
     let fault = match case.text("name")? {
         "Invalid" => Failed::Because(Invalid),

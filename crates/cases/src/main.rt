@@ -1,9 +1,11 @@
-//! `cases`: examples as data. Each line of a folder's `.jsonl` files names a call, its arguments and what must
-//! come, and each item of its `.json` files holds whole requests with their replies. The program makes the calls, prints
-//! each difference, and last how many cases came as they are written.
+//! `cases`: runs examples given as data.
 //!
-//! The exit status is 0 where all came so, 1 where one did not, and 2 where there is no case or a file can't be
-//! read.
+//! Each line of a folder's `.jsonl` files names a call, its arguments and the expected result; each item of
+//! its `.json` files has whole requests with their replies, or events with their outputs. The program runs
+//! the cases and prints each one whose result differs, and the numbers of cases.
+//!
+//! The exit status is 0 if all results are as expected, 1 if one isn't, and 2 if there are no cases or a file
+//! can't be read.
 #![tactic(auto)]
 
 use case_runs::{Calls, FolderFault, Tally, go_through};
@@ -11,6 +13,7 @@ use case_values::{Case, CaseFault};
 use std::env;
 use std::process::ExitCode;
 
+/// Runs the cases, prints a fault on standard error, and returns the exit status.
 fn main(rt: HostRuntime) -> ExitCode {
     match run(&rt) {
         Ok(tally) => tally.exit_code(),
@@ -21,13 +24,13 @@ fn main(rt: HostRuntime) -> ExitCode {
     }
 }
 
-/// Goes through the files of the folder that the command line names.
+/// Runs the cases in the folder that the command line names.
 fn run(rt: &HostRuntime) -> Result<Tally, FolderFault> {
     let folder = folder_named(rt)?;
     go_through(rt, rt.alloc(), folder.as_str(), &AllCalls { rt })
 }
 
-/// The last word of the command line.
+/// Returns the last argument of the command line. NoFolder if there is none.
 fn folder_named(rt: &HostRuntime) -> Result<String, FolderFault> {
     match env::args(rt)?.skip(1).last() {
         Some(folder) => Ok(folder),
@@ -38,7 +41,7 @@ fn folder_named(rt: &HostRuntime) -> Result<String, FolderFault> {
 /// The calls of all crates.
 #[derive(Drop)]
 struct AllCalls<'r> {
-    // For the one case of a socket.
+    // Needed for the case that opens a socket.
     rt: &'r HostRuntime,
 }
 

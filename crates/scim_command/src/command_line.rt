@@ -74,44 +74,44 @@ enum OptionForm {
 const POLICY: OptionText = OptionText {
     name: "policy",
     form: OptionForm::Required("FILE"),
-    help: "The policy: a JSON file of rules, of which the first that fits decides",
+    help: "Policy file in JSON; the first rule that fits decides",
 };
 
 const USERS: OptionText = OptionText {
     name: "users",
     form: OptionForm::Required("FILE"),
-    help: "The users: a JSON list of resources as they are stored",
+    help: "Users file in JSON: a list of stored resources",
 };
 
 const TOKENS: OptionText = OptionText {
     name: "tokens",
     form: OptionForm::Required("FILE"),
-    help: "The tokens: a line for each, of a client's name and the SHA-256 of its token in hex",
+    help: "File of bearer tokens, one per line: client and SHA-256 digest in hex",
 };
 
 const DATABASE: OptionText = OptionText {
     name: "db",
     form: OptionForm::Required("FILE"),
-    help: "The database: a file of SQLite's",
+    help: "SQLite database file",
 };
 
 const CLIENT: OptionText = OptionText {
     name: "client",
     form: OptionForm::Required("NAME"),
-    help: "The client, as the policy names it",
+    help: "Name of the client in the policy",
 };
 
 const BASE: OptionText = OptionText {
     name: "base",
     form: OptionForm::WithDefault("URL", DEFAULT_BASE),
-    help: "That below which the resources stand",
+    help: "Base URL of the resources",
 };
 
 const COMMANDS: [CommandText; 8] = [
     CommandText {
         command: CommandName::Once,
         name: "once",
-        about: "Answer one request from standard input over a users file, and write the reply to standard output",
+        about: "Answer one HTTP request from standard input over a users file",
         options: &[
             POLICY,
             USERS,
@@ -120,32 +120,32 @@ const COMMANDS: [CommandText; 8] = [
             OptionText {
                 name: "at",
                 form: OptionForm::WithDefault("MOMENT", "1970-01-01T00:00:00Z"),
-                help: "When the request comes",
+                help: "Time of the request",
             },
             OptionText {
                 name: "first",
                 form: OptionForm::WithDefault("UUID", "00000000-0000-0000-0000-000000000000"),
-                help: "The id of the resource that the request creates",
+                help: "Id of the resource that the request creates",
             },
         ],
     },
     CommandText {
         command: CommandName::Check,
         name: "check",
-        about: "Say whether a policy file is well, and which of its rules can never decide",
+        about: "Check a policy file and list the rules that can never decide",
         options: &[
             POLICY,
             OptionText {
                 name: "verbose",
                 form: OptionForm::Flag,
-                help: "Say each rule in a sentence as well",
+                help: "Also print each rule as a sentence",
             },
         ],
     },
     CommandText {
         command: CommandName::Serve,
         name: "serve",
-        about: "Serve a database to many clients, on 127.0.0.1",
+        about: "Serve a database over HTTP on 127.0.0.1",
         options: &[
             POLICY,
             TOKENS,
@@ -153,25 +153,25 @@ const COMMANDS: [CommandText; 8] = [
             OptionText {
                 name: "port",
                 form: OptionForm::WithDefault("N", "8080"),
-                help: "The port; 0 for any that is free",
+                help: "Port to listen on; 0 picks a free port",
             },
             BASE,
             OptionText {
                 name: "connections",
                 form: OptionForm::Optional("N"),
-                help: "End after so many connections; without it the server doesn't end",
+                help: "Exit after this many connections (default: run until stopped)",
             },
             OptionText {
                 name: "no-cache",
                 form: OptionForm::Flag,
-                help: "Read each resource from the database, and keep none in memory",
+                help: "Read resources from the database instead of caching them in memory",
             },
         ],
     },
     CommandText {
         command: CommandName::Replay,
         name: "replay",
-        about: "Answer what happened to connections, as a file tells it, over a users file, and write what is sent to whom",
+        about: "Replay recorded connection events over a users file and print the output to each connection",
         options: &[
             POLICY,
             TOKENS,
@@ -179,7 +179,7 @@ const COMMANDS: [CommandText; 8] = [
             OptionText {
                 name: "events",
                 form: OptionForm::Required("FILE"),
-                help: "The events: a line for each, MOMENT FIRST joined N, MOMENT FIRST piece N HEX or MOMENT FIRST left N",
+                help: "Events file, one event per line: MOMENT FIRST joined N, MOMENT FIRST piece N HEX or MOMENT FIRST left N",
             },
             BASE,
         ],
@@ -187,7 +187,7 @@ const COMMANDS: [CommandText; 8] = [
     CommandText {
         command: CommandName::Explain,
         name: "explain",
-        about: "Say why a client may or may not do something with a resource of a database",
+        about: "Explain why the policy allows or denies an operation on a stored resource",
         options: &[
             POLICY,
             DATABASE,
@@ -195,52 +195,52 @@ const COMMANDS: [CommandText; 8] = [
             OptionText {
                 name: "op",
                 form: OptionForm::Required("OP"),
-                help: "read, create, modify or delete",
+                help: "Operation: read, create, modify or delete",
             },
             OptionText {
                 name: "kind",
                 form: OptionForm::Required("KIND"),
-                help: "User or Group",
+                help: "Resource type: User or Group",
             },
             OptionText {
                 name: "id",
                 form: OptionForm::Required("ID"),
-                help: "The id of the resource",
+                help: "Id of the resource",
             },
             OptionText {
                 name: "path",
                 form: OptionForm::Optional("PATH"),
-                help: "What of the resource, as policies name it; all of it where this isn't given",
+                help: "Attribute or sub-attribute as in a policy, such as emails.value (default: all)",
             },
         ],
     },
     CommandText {
         command: CommandName::Import,
         name: "import",
-        about: "Bring the resources of a users file into an empty database, which is made where there is none",
+        about: "Import a users file into an empty or new database",
         options: &[DATABASE, USERS],
     },
     CommandText {
         command: CommandName::Export,
         name: "export",
-        about: "Write the resources of a database as a users file",
+        about: "Export the resources of a database as a users file",
         options: &[DATABASE],
     },
     CommandText {
         command: CommandName::Audit,
         name: "audit",
-        about: "Write the rows of the audit, a line for each",
+        about: "Print rows of the audit, one per line",
         options: &[
             DATABASE,
             OptionText {
                 name: "from",
                 form: OptionForm::WithDefault("N", "1"),
-                help: "The number of the first row that is shown",
+                help: "Number of the first row to print",
             },
             OptionText {
                 name: "count",
                 form: OptionForm::WithDefault("N", "100"),
-                help: "How many rows are shown at most",
+                help: "Maximum number of rows to print",
             },
         ],
     },
@@ -250,7 +250,7 @@ const COMMANDS: [CommandText; 8] = [
 pub fn command<'a>(alloc: Global) -> Result<Command<'a>, AllocError> {
     let mut root = Command::new(alloc, "scimd")
         .version(VERSION)
-        .about("A SCIM 2.0 service provider whose access policy is proved to be kept")
+        .about("A SCIM 2.0 service provider that is proved to enforce its access policy")
         .subcommand_required(true)
         .arg_required_else_help(true);
     for text in COMMANDS {

@@ -1,4 +1,4 @@
--- What `explain` writes of a decision on a kept resource.
+-- The text that `explain` writes for a stored resource.
 use Rattle.std.specs.Prelude.{ℕ, List, Option, None, Some}
 use Rattle.scim_schema.specs.declared.Leaf.{Leaf}
 use Rattle.scim_cell.specs.Content.{Content}
@@ -11,16 +11,16 @@ use Rattle.scim_command.specs.declared.faults.RunFault.{RunFault}
 use Rattle.scim_command.specs.declared.faults.RunFault.TheVariants.{Absent, Database, Output, NoMemory}
 use Rattle.scim_command_database.specs.declared.explaining.Question.{Question}
 
--- why it is decided so at a leaf; or, where none is given, what is decided at each
+-- the explanation of the decision on a leaf; or, without a leaf, the table of the decisions on all leaves
 abbrev pub told_at : Option Leaf → List Rule → Question → Content → List ℕ
 told_at (Some leaf) policy q c = explanation_text (explained policy q.client.now q.op c leaf)
 told_at None policy q c = table policy q.client.now q.op c
 
--- what is told of the resource that is asked about
+-- the text that `explain` writes for the question and the resource
 abbrev pub told : List Rule → Question → Content → List ℕ
 told policy q c = told_at q.leaf policy q c
 
--- what `explain` may answer in place of it: that there is no such resource, that the database can't be used, that the lines can't be written, or want of memory
+-- the fault is one of `explain`: no such resource, an unusable database, a failed write, or `NoMemory`
 abbrev pub IsExplainFault : RunFault → Type 0
 IsExplainFault Absent = Unit {0}
 IsExplainFault (Database Unusable) = Unit {0}

@@ -1,4 +1,4 @@
--- What `export` writes of a store, and that `import` reads it back.
+-- The text that `export` writes for a store, and the law that `import` reads it back.
 use Rattle.std.specs.Prelude.{ℕ, List, [], ◌++◌, codes}
 use Rattle.std.specs.List.{join_by}
 use Rattle.scim_schema.specs.declared.Kind.TheVariants.{User, Group}
@@ -12,15 +12,17 @@ use Rattle.scim_shelf.specs.Stores.{Store, IsStore, IsNewStore}
 abbrev pub users_and_groups : List Content → List Content
 users_and_groups cs = of_kind User cs ++ of_kind Group cs
 
--- the documents of these resources in a JSON list, with a line feed after each comma and at the end (RFC 8259 section 5)
+-- the documents of the resources as a JSON list, with a line feed after each comma and at the end (RFC 8259
+-- section 5)
 abbrev pub documents_text : List Content → List ℕ
 documents_text cs = codes "[" ++ join_by stored_text (codes ",\n") cs ++ codes "]\n"
 
--- the users file of these resources
+-- the users file of the resources
 abbrev pub export_text : List Content → List ℕ
 export_text cs = documents_text (users_and_groups cs)
 
--- what is exported of a store of resources below a base is a users file below that base, and a new store of what it holds has the same resources
+-- the export of a store below a base is a users file below this base, and the new store that `import` makes
+-- from it has the same resources
 abbrev pub ExportsAreImported : Type 0
 ExportsAreImported =
     (base : List ℕ) (store : Store) → IsStore base store

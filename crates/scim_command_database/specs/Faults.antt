@@ -9,14 +9,14 @@ use Rattle.scim_command.specs.declared.faults.DatabaseFault.TheVariants.{WrongVe
 use Rattle.scim_command.specs.declared.faults.RunFault.{RunFault}
 use Rattle.scim_command.specs.declared.faults.RunFault.TheVariants.{Users, Database, Output, NoMemory}
 
--- what keeps a database from being opened is to a command
+-- the fault of a command for a database that can't be opened
 abbrev pub of_opening : OpenFault → RunFault
 of_opening opening.WrongVersion = Database WrongVersion
 of_opening (opening.Damaged id) = Database (Damaged id)
 of_opening opening.Store = Database Unusable
 of_opening opening.NoMemory = NoMemory
 
--- what keeps resources from being brought into one is to a command; that one of them stands below another base never comes of a users file
+-- the fault of a command for a failed import; a users file never gives `OtherBase`
 abbrev pub of_importing : ImportFault → RunFault
 of_importing importing.NotEmpty = Database NotEmpty
 of_importing (importing.Database (SqliteFailure OutOfMemory)) = NoMemory
@@ -24,14 +24,16 @@ of_importing (importing.Database error) = Database Unusable
 of_importing importing.OtherBase = Database Unusable
 of_importing importing.NoMemory = NoMemory
 
--- what a command may answer that reads a store and writes what it finds: that the database can't be used, that the text can't be written, or want of memory
+-- the fault is one of a command that reads a store and writes a text: an unusable database, a failed write,
+-- or `NoMemory`
 abbrev pub IsDatabaseFault : RunFault → Type 0
 IsDatabaseFault (Database Unusable) = Unit {0}
 IsDatabaseFault Output = Unit {0}
 IsDatabaseFault NoMemory = Unit {0}
 IsDatabaseFault _ = ⊥
 
--- what `import` may answer: that the users file is damaged, that the database isn't empty or can't be used, or want of memory
+-- the fault is one of `import`: an invalid users file, a database that isn't empty or is unusable, or
+-- `NoMemory`
 abbrev pub IsImportFault : RunFault → Type 0
 IsImportFault (Users n) = Unit {0}
 IsImportFault (Database NotEmpty) = Unit {0}

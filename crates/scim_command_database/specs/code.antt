@@ -1,3 +1,3 @@
--- How the functions of the commands end, and what a visitor writes.
+-- How private functions of the commands end, and the state of the visitor of `export`.
 pub mod Exits
 pub mod Documents

@@ -1,4 +1,4 @@
-//! `audit`: rows of the audit, a line for each.
+//! The command `audit`: prints rows of the audit, one per line.
 ghost use Rattle.std.specs.Prelude.{◌≡◌, ◌≢◌, ◌≤◌, ◌+◌, ◌^◌, Err, IfOk, IfErr, OnOk, length, string_bytes};
 ghost use Rattle.std.specs.Io.KnownBytes.{Appends};
 ghost use Rattle.scim_shelf.specs.Shelves.{Answers, KeepsStore};
@@ -18,11 +18,11 @@ use sqlite::Alter;
 use std::alloc::Global;
 use std::io::Write;
 
-/// Writes the rows of the audit from a number on, a line for each, and the first `count` of them where there are more. The
-/// first row has number 1; from 0 counts as from there.
+/// Writes at most `count` rows of the audit, one per line, from the row with number `from` on.
 ///
-/// Database, where it can't be used, and NoMemory, where none was to be had: these write nothing. Output, where a write
-/// fails: then a front of the lines has been written, perhaps none or all of them, and nothing else.
+/// Rows are numbered from 1, and 0 counts as 1. Database if the store can't be read. Output if a write fails;
+/// a prefix of the lines has been written then, perhaps empty or whole, and nothing else. After any other
+/// error nothing is written.
 pub fn print_audit<S: Alter, W: Write>(
     alloc: Global,
     shelf: &mut SqlShelf<S>,
@@ -49,9 +49,9 @@ pub fn print_audit<S: Alter, W: Write>(
     write_or_fault(text.as_str(), writer)
 }
 
-/// The lines of the rows from a number on, at most so many.
+/// Returns the lines of at most `count` rows from the row with number `from` on.
 ///
-/// Database, where it can't be used; NoMemory where none was to be had.
+/// Database if the store can't be read.
 fn audit_text<S: Alter>(
     alloc: Global,
     shelf: &mut SqlShelf<S>,
@@ -70,9 +70,9 @@ fn audit_text<S: Alter>(
     Ok(audit_lines(alloc, from.max(1), rows.as_slice())?)
 }
 
-/// The lines of rows of which the first has this number; they have numbers in 64 bits where they are those of a store.
+/// Returns the lines of rows, numbered from `first`.
 ///
-/// The only error is [`NoMemory`].
+/// The numbers must fit in 64 bits, which those of a store's rows do.
 fn audit_lines(alloc: Global, first: u64, rows: &[AuditRow]) -> Result<String, NoMemory>
     ensures { first + length rows.now ≤ 2 ^ 64
         → IfOk result (λ text. string_bytes text ≡ spec.audit_lines first rows.now) }

@@ -1,4 +1,4 @@
-//! `explain`: why a decision fell on a kept resource.
+//! The command `explain`: explains the policy's decisions on a stored resource.
 ghost use Rattle.std.specs.Prelude.{◌≡◌, ◌≢◌, ℕ, List, None, Some, Err, IfOk, IfErr, OnOk, find, string_bytes};
 ghost use Rattle.std.specs.Io.KnownBytes.{Appends};
 ghost use Rattle.scim_cell.specs.Content.{Content};
@@ -19,23 +19,23 @@ use scim_value::Resource;
 use std::alloc::Global;
 use std::io::Write;
 
-/// What is asked about: a client's operation on a resource.
+/// The question of `explain`: a client's operation on a resource or on one of its leaves.
 #[derive(Clone, Copy)]
 pub struct Question<'a> {
     /// The name of the client.
     pub client: &'a str,
-    /// What the client would do.
+    /// The operation.
     pub op: Op,
     /// The kind of the resource.
     pub kind: Kind,
     /// The id of the resource.
     pub id: Id,
-    /// What of the resource; None for a table of all its leaves.
+    /// The leaf to explain; None for a table of the decisions on all leaves.
     pub leaf: Option<Leaf>,
 }
 
 impl<'a> Question<'a> {
-    /// What the options of `explain` ask about.
+    /// Returns the question that the options ask.
     pub fn of(options: &ExplainOptions<'a>) -> Question<'a> {
         Question {
             client: options.client,
@@ -47,12 +47,12 @@ impl<'a> Question<'a> {
     }
 }
 
-/// Writes why the policy decides as it does of what is asked: of each rule before the one that decides what doesn't fit,
-/// and then that one; or, where no leaf is given, what it decides of each leaf. What decides is the resource as it is kept.
+/// Writes the explanation of the policy's decision on the question's leaf: why each earlier rule doesn't fit,
+/// and which rule decides. Without a leaf, writes a table of the decisions on all leaves.
 ///
-/// Absent, where there is no resource of the kind with the id; Database, where the store can't be read; NoMemory, where
-/// none was to be had: these write nothing. Output, where a write fails: then a front of the lines has been written,
-/// perhaps none or all of them, and nothing else.
+/// Decisions are on the resource as it is stored. Absent if no resource of the kind has the id. Database if
+/// the store can't be read. Output if a write fails; a prefix of the text has been written then, perhaps
+/// empty or whole, and nothing else. After any other error nothing is written.
 pub fn explain<H: Shelf, W: Write>(
     alloc: Global,
     policy: &Policy,
@@ -84,7 +84,7 @@ pub fn explain<H: Shelf, W: Write>(
     write_or_fault(text.as_str(), writer)
 }
 
-/// What is told of a resource. NoMemory where none was to be had.
+/// Returns the text that answers the question for the resource.
 fn told(
     alloc: Global,
     policy: &Policy,

@@ -1,4 +1,4 @@
-//! `export`: all resources, as a users file.
+//! The command `export`: writes all resources as a users file.
 ghost use Rattle.std.specs.Prelude.{◌≡◌, ◌≢◌, ◌++◌, Err, IfOk, IfErr, OnOk, codes, string_bytes};
 ghost use Rattle.std.specs.List.{FoldsTo};
 ghost use Rattle.std.specs.Io.KnownBytes.{Appends};
@@ -19,16 +19,16 @@ use scim_value::Resource;
 use std::alloc::Global;
 use std::io::Write;
 
-/// A visitor that writes the documents of what it is shown.
+/// A visitor that collects the JSON documents of resources as one list.
 #[derive(Drop)]
 struct Documents {
     text: String,
-    /// What stands between the next document and what is written so far.
+    /// The text that goes before the next document: empty for the first, then a comma and a line feed.
     separator: &'static str,
 }
 
 impl Documents {
-    /// The beginning of a list. NoMemory where none was to be had.
+    /// Returns the beginning of a list.
     fn new(alloc: Global) -> Result<Documents, NoMemory>
         ensures { IfOk result (λ new. (string_bytes new.text ≡ codes "[")
             × (new.separator.now ≡ codes "")) }
@@ -39,7 +39,7 @@ impl Documents {
         })
     }
 
-    /// The whole list. NoMemory where none was to be had.
+    /// Returns the whole list, with its end.
     fn finish(self) -> Result<String, NoMemory>
         ensures { IfOk result (λ text. string_bytes text ≡ string_bytes self.text ++ codes "]\n") }
     {
@@ -66,10 +66,10 @@ impl Visitor for Documents {
     }
 }
 
-/// Writes the users file of a store: its users and then its groups, each in order of id, which `import` reads back.
+/// Writes the users file of a store, which `import` reads back: its users, then its groups, each by id.
 ///
-/// Database, where it can't be used, and NoMemory, where none was to be had: these write nothing. Output, where a write
-/// fails: then a front of the file has been written, perhaps none or all of it, and nothing else.
+/// Database if the store can't be read. Output if a write fails; a prefix of the file has been written then,
+/// perhaps empty or whole, and nothing else. After any other error nothing is written.
 pub fn export<H: Shelf, W: Write>(
     alloc: Global,
     shelf: &mut H,
@@ -91,9 +91,7 @@ pub fn export<H: Shelf, W: Write>(
     write_or_fault(text.as_str(), writer)
 }
 
-/// The users file of a store.
-///
-/// Database, where it can't be used; NoMemory where none was to be had.
+/// Returns the text of the users file of a store. Database if it can't be read.
 fn export_text<H: Shelf>(alloc: Global, shelf: &mut H) -> Result<String, RunFault>
     ensures text { IfOk result (Answers H.stands H.is_honest shelf.old shelf.new (λ store text.
         string_bytes text ≡ spec.export_text store.resources)) }
@@ -106,7 +104,7 @@ fn export_text<H: Shelf>(alloc: Global, shelf: &mut H) -> Result<String, RunFaul
     Ok(documents.finish()?)
 }
 
-/// Shows the visitor the users and then the groups. Fails as `Shelf::each` does.
+/// Shows the visitor all users and then all groups. Errors: as [`Shelf::each`].
 fn show_all<H: Shelf, V: Visitor>(
     alloc: Global,
     shelf: &mut H,

@@ -1,4 +1,4 @@
-//! Faults of a database as those of a command.
+//! Converts faults of a database to faults of a command.
 ghost use Rattle.std.specs.Prelude.{◌≡◌};
 ghost use Rattle.scim_command_database.specs.Faults.{of_opening};
 
@@ -6,7 +6,7 @@ use scim_command::{DatabaseFault, RunFault};
 use scim_store::OpenFault;
 use sqlite::{Error, ErrorCode};
 
-/// What keeps a database from being opened, as the fault of a command.
+/// Returns the fault of a command for a database that can't be opened as a store.
 pub fn open_fault(fault: OpenFault) -> RunFault
     ensures { result ≡ of_opening fault }
 {
@@ -18,7 +18,7 @@ pub fn open_fault(fault: OpenFault) -> RunFault
     }
 }
 
-/// What keeps a connection from being opened, as the fault of a command.
+/// Returns the fault of a command for a connection that can't be opened.
 pub fn unopened(error: Error) -> RunFault {
     match error {
         Error::SqliteFailure(ErrorCode::OutOfMemory) => RunFault::NoMemory,

@@ -1,4 +1,4 @@
-//! `import`: the resources of a users file, in an empty database.
+//! The command `import`: stores the resources of a users file in an empty database.
 ghost use Rattle.std.specs.Prelude.{◌≡◌, ◌≢◌, ℕ, List, false, Err, IfErr, OnOk, OnErr};
 ghost use Rattle.sqlite.specs.State.{HasCleanDisk, Survives};
 ghost use Rattle.sqlite.specs.Held.{state};
@@ -20,13 +20,14 @@ use scim_store::ImportFault;
 use sqlite::{Alter, Connection, Error, ErrorCode};
 use std::alloc::Global;
 
-/// Brings the resources of a users file into an empty database, in one transaction. The audit has no rows then.
+/// Stores the resources of a users file in an empty database, in one transaction. The audit has no rows
+/// afterwards.
 ///
-/// Users, where the file is damaged: the database isn't looked at then. Database with NotEmpty, where it has a table, an
-/// index or a view, and with Unusable, where it can't be read or written; NoMemory where none was to be had. Then the
-/// database is as it was or as the last commit left it, or the connection is shut.
+/// Users if the file is invalid; the database isn't read then. Database with NotEmpty if the database has a
+/// table, an index or a view, and with Unusable if it can't be read or written. After an error the database
+/// is as before or as the last commit left it, or the connection is closed.
 ///
-/// A crash meanwhile leaves what was there before, or all resources of the file.
+/// A crash during the call leaves what was there before, or the tables with all resources of the file.
 pub fn import<S: Alter>(
     alloc: Global,
     connection: &mut Connection<S>,
@@ -58,7 +59,7 @@ pub fn import<S: Alter>(
     }
 }
 
-/// What keeps resources below the base from being brought into a database, as the fault of a command.
+/// Returns the fault of a command for a failed import. Resources of a users file never give OtherBase.
 fn import_fault(fault: ImportFault) -> RunFault
     requires { fault ≢ ImportFault.OtherBase }
     ensures { result ≡ of_importing fault }

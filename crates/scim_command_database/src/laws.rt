@@ -1,8 +1,9 @@
-//! What holds of the texts that the commands write.
+//! Laws of the texts that the commands write.
 ghost use Rattle.scim_command_database.specs.Exports.{ExportsAreImported};
 
-/// What [`crate::export`] writes of a store is a users file of its resources, and a new store of these has the same
-/// resources: so nothing is lost by an export that is imported again, but the rows of the audit.
+/// States that the text that [`crate::export`] writes for a store is a users file of its resources, and that
+/// the new store that [`crate::import`] makes from it has the same resources. Only the rows of the audit are
+/// lost.
 pub fn exports_are_imported()
     ensures { ExportsAreImported }
 {}

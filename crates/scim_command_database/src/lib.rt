@@ -1,4 +1,7 @@
-//! The commands over a database, each over a shelf or a connection and a writer.
+//! The commands over a database: `explain`, `import`, `export` and `audit`, generic in the storage and the
+//! output.
+//!
+//! Cases: `crates/cases/data/database_commands.jsonl`.
 #![tactic(auto)]
 
 mod auditing;

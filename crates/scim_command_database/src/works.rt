@@ -1,4 +1,4 @@
-//! What the commands do over a database, and give its connection back.
+//! Runs each command on a connection to a database, and returns the connection to be closed.
 ghost use Rattle.std.specs.Prelude.{◌≡◌, false};
 
 use crate::auditing::print_audit;
@@ -15,12 +15,12 @@ use sqlite::{Alter, Connection};
 use std::alloc::Global;
 use std::io::Write;
 
-/// What is done over a database.
+/// A command that works on an open database.
 ///
-/// It is generic in the database's files, and gives the connection back to be closed: a function that holds a connection to
-/// the system's files costs its proof a minute, so that one function alone does.
+/// It is generic in the database's storage and returns the connection, so that only one function has to be
+/// proved with a connection to the system's files, which costs a minute of proof.
 pub trait DatabaseWork {
-    /// Does it over a connection to a database, and writes what it has to say.
+    /// Runs the command on the connection, writes its output, and returns the connection with the result.
     fn over<S: Alter + Drop, W: Write>(
         self,
         alloc: Global,
@@ -30,7 +30,7 @@ pub trait DatabaseWork {
         requires { connection.in_transaction ≡ false };
 }
 
-/// To say why a decision falls by a policy.
+/// The command `explain`: explains the policy's decisions.
 #[derive(Drop)]
 pub struct Explaining<'a> {
     pub policy: Policy,
@@ -55,7 +55,7 @@ impl DatabaseWork for Explaining<'_> {
     }
 }
 
-/// Writes rows of the audit.
+/// The command `audit`: writes rows of the audit.
 impl DatabaseWork for AuditOptions<'_> {
     fn over<S: Alter + Drop, W: Write>(
         self,
@@ -74,7 +74,7 @@ impl DatabaseWork for AuditOptions<'_> {
     }
 }
 
-/// Writes the users file of a store.
+/// The command `export`: writes the users file of a store.
 impl DatabaseWork for ExportOptions<'_> {
     fn over<S: Alter + Drop, W: Write>(
         self,
@@ -93,7 +93,7 @@ impl DatabaseWork for ExportOptions<'_> {
     }
 }
 
-/// To bring the resources of a users file, of which this is the text, into an empty database.
+/// The command `import`: stores the resources of a users file, given as its text, in an empty database.
 #[derive(Clone, Copy)]
 pub struct Importing<'a>(pub &'a str);
 
@@ -110,7 +110,9 @@ impl DatabaseWork for Importing<'_> {
     }
 }
 
-/// Opens the store in a database, whose resources stand below the base.
+/// Opens the store in a database, with resources located below the base URL.
+///
+/// The fault is that of [`SqlShelf::open`]; the connection is given back with it.
 fn open_store<S: Alter + Drop>(
     alloc: Global,
     connection: Connection<S>,
@@ -124,7 +126,7 @@ fn open_store<S: Alter + Drop>(
     }
 }
 
-/// What a command came to, with its fault as that of the command line.
+/// Returns the result with its fault as a fault of the program.
 fn of_run(done: Result<(), RunFault>) -> Result<(), CommandFault> {
     match done {
         Ok(()) => Ok(()),
@@ -132,10 +134,11 @@ fn of_run(done: Result<(), RunFault>) -> Result<(), CommandFault> {
     }
 }
 
-/// Opens the store in a database, whose resources stand below the base, with its resources in memory if they are to be kept
-/// there and memory suffices.
+/// Opens the store in a database, with resources located below the base URL, and with a cache of all
+/// resources if `has_cache` is true and memory suffices.
 ///
-/// The fault is that of [`SqlShelf::open`], or Database where the resources can't be read.
+/// The fault is that of [`SqlShelf::open`], or Database if the resources can't be read; the connection is
+/// given back with it.
 pub fn open_cached<S: Alter + Drop>(
     alloc: Global,
     connection: Connection<S>,
@@ -156,7 +159,8 @@ pub fn open_cached<S: Alter + Drop>(
     }
 }
 
-/// Reads the resources into memory, if they are to be kept there. Where memory alone is wanting, the database is read.
+/// Fills the cache if `has_cache` is true. If memory runs out the cache stays as it was, and reads go to the
+/// database.
 fn fill_if<S: Shelf>(
     alloc: Global,
     shelf: &mut CachedShelf<S>,

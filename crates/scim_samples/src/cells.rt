@@ -1,9 +1,9 @@
-//! Cells as text.
+//! Reads and prints cells as text.
 //!
-//! Cells stand one after another with a `;` between two, as in
-//! `userName=babs; emails[0].value=babs@example.com; active=#true; meta.created=@2024-01-01T00:00:00Z`.
-//! Behind the `=`, `#` begins a Boolean, `@` a moment, `~` and a number a text of so many letters `x`; all
-//! else is a text. `[0..3]` in place of a position makes the cell at each of the positions 0, 1 and 2.
+//! Cells are separated by `;`, as in `userName=babs; emails[0].value=babs@example.com; active=#true;
+//! meta.created=@2024-01-01T00:00:00Z`. A value that begins with `#` is a Boolean, one with `@` a moment, and
+//! one with `~` a text of that many letters `x`; any other value is a text. `[0..3]` as a position gives one
+//! cell at each of the positions 0, 1 and 2.
 use crate::faults::SampleFault;
 use crate::texts::{joined, push_all};
 use scim_cell::{Atom, Cell, Field, Row, Text};
@@ -13,8 +13,10 @@ use scim_value::Part;
 use std::alloc::Global;
 use std::ops::Range;
 
-/// The leaf of a path such as `emails.value`, of either kind. It also reads `emails.familyName`, which is a
-/// leaf of no kind.
+/// Reads the path of a leaf, such as `emails.value`. NoSuchLeaf if it isn't one.
+///
+/// The attribute may be one of a user or of a group. Any attribute may have the sub-attributes of `name`, so
+/// `emails.familyName` is read, though no kind has this leaf.
 pub fn read_leaf(path: &str) -> Result<Leaf, SampleFault> {
     let (name, sub_name) = path.split_once('.').unwrap_or((path, ""));
     let attribute = attribute_named(Kind::User, name)
@@ -33,7 +35,7 @@ pub fn read_leaf(path: &str) -> Result<Leaf, SampleFault> {
     })
 }
 
-/// The cells of a text, in its order.
+/// Reads the cells of a text, in its order.
 pub fn read_cells(alloc: Global, text: &str) -> Result<Vec<Cell>, SampleFault> {
     let mut cells = Vec::new(alloc);
     for piece in text.split(';') {
@@ -45,7 +47,7 @@ pub fn read_cells(alloc: Global, text: &str) -> Result<Vec<Cell>, SampleFault> {
     Ok(cells)
 }
 
-/// The cells of `ATTRIBUTE[POSITIONS].SUB=VALUE`.
+/// Appends the cells of `ATTRIBUTE[POSITIONS].SUB=VALUE`, one at each position.
 fn push_cells(alloc: Global, cells: &mut Vec<Cell>, text: &str) -> Result<(), SampleFault> {
     let Some((path, value)) = text.split_once('=') else {
         return Err(SampleFault::NotACell);
@@ -64,13 +66,13 @@ fn push_cells(alloc: Global, cells: &mut Vec<Cell>, text: &str) -> Result<(), Sa
     Ok(())
 }
 
-/// The leaf of a path whose positions stood between these two.
+/// Returns the leaf of an attribute and the rest of the path after the positions, such as `.value`.
 fn leaf_at(alloc: Global, name: &str, sub_name: &str) -> Result<Leaf, SampleFault> {
     let path = joined(alloc, &[name, sub_name])?;
     read_leaf(path.as_str())
 }
 
-/// The positions of `3`, or of `0..3`.
+/// Reads the positions of `3` or of `0..3`.
 fn read_positions(text: &str) -> Result<Range<usize>, SampleFault> {
     match text.split_once("..") {
         Some((first, end)) => Ok(read_number(first)?..read_number(end)?),
@@ -81,6 +83,7 @@ fn read_positions(text: &str) -> Result<Range<usize>, SampleFault> {
     }
 }
 
+/// Reads a number in decimal digits. NotACell if it isn't one.
 fn read_number(text: &str) -> Result<usize, SampleFault> {
     match text.parse::<usize>() {
         Ok(number) => Ok(number),
@@ -88,7 +91,7 @@ fn read_number(text: &str) -> Result<usize, SampleFault> {
     }
 }
 
-/// The atom of what stands behind the `=`.
+/// Reads the value of a cell.
 fn read_atom(alloc: Global, value: &str) -> Result<Atom, SampleFault> {
     if let Some(truth) = value.strip_prefix("#") {
         return Ok(Atom::Truth(truth == "true"));
@@ -102,7 +105,7 @@ fn read_atom(alloc: Global, value: &str) -> Result<Atom, SampleFault> {
     Ok(Atom::Text(Text::copy_of(alloc, value)?))
 }
 
-/// A moment as it is printed, or by its second.
+/// Reads a moment: as printed, or as a number of seconds since 1970-01-01T00:00:00Z.
 fn read_moment(alloc: Global, text: &str) -> Result<Moment, SampleFault> {
     match text.parse::<i64>() {
         Ok(second) => Moment::new(second).ok_or(SampleFault::NotACell),
@@ -110,7 +113,7 @@ fn read_moment(alloc: Global, text: &str) -> Result<Moment, SampleFault> {
     }
 }
 
-/// A text of so many letters `x`.
+/// Returns a text of `length` letters `x`.
 fn long_text(alloc: Global, length: usize) -> Result<Atom, SampleFault> {
     let mut text = String::new(alloc);
     for _ in 0..length {
@@ -119,7 +122,7 @@ fn long_text(alloc: Global, length: usize) -> Result<Atom, SampleFault> {
     Ok(Atom::Text(Text::new(text)))
 }
 
-/// The text of an atom as it stands behind the `=`; `none` of none.
+/// Returns the text of an atom as a cell's value; `none` for None.
 pub fn atom_text(alloc: Global, atom: Option<&Atom>) -> Result<String, NoMemory> {
     let mut text = String::new(alloc);
     match atom {
@@ -129,6 +132,7 @@ pub fn atom_text(alloc: Global, atom: Option<&Atom>) -> Result<String, NoMemory>
     Ok(text)
 }
 
+/// Appends the text of an atom as a cell's value.
 fn push_atom(alloc: Global, atom: &Atom, text: &mut String) -> Result<(), NoMemory> {
     match atom {
         Atom::Text(own) => Ok(text.push_str(own.as_str())?),
@@ -140,14 +144,14 @@ fn push_atom(alloc: Global, atom: &Atom, text: &mut String) -> Result<(), NoMemo
     }
 }
 
-/// The path of a leaf, as `emails.value`.
+/// Returns the path of a leaf, such as `emails.value`.
 pub fn leaf_text(alloc: Global, leaf: Leaf) -> Result<String, NoMemory> {
     let mut text = String::from_str(alloc, leaf.attribute.name())?;
     push_sub_attribute(leaf, &mut text)?;
     Ok(text)
 }
 
-/// Adds the sub-attribute of a leaf behind a point, where it has one.
+/// Appends a dot and the sub-attribute of a leaf, if it has one.
 fn push_sub_attribute(leaf: Leaf, text: &mut String) -> Result<(), NoMemory> {
     match leaf.sub_attribute {
         Some(sub_attribute) => push_all(text, &[".", sub_attribute.name()]),
@@ -155,6 +159,7 @@ fn push_sub_attribute(leaf: Leaf, text: &mut String) -> Result<(), NoMemory> {
     }
 }
 
+/// Appends a cell; the position is printed only for multi-valued attributes.
 fn push_cell(alloc: Global, cell: &Cell, text: &mut String) -> Result<(), NoMemory> {
     text.push_str(cell.leaf.attribute.name())?;
     if is_multi_valued(cell.leaf.attribute) {
@@ -167,7 +172,7 @@ fn push_cell(alloc: Global, cell: &Cell, text: &mut String) -> Result<(), NoMemo
     push_atom(alloc, &cell.atom, text)
 }
 
-/// The cells of a part in order of place, as [`read_cells`] reads them.
+/// Returns the cells of a part, in order of place, in the form that [`read_cells`] reads.
 pub fn part_text(alloc: Global, part: &Part) -> Result<String, NoMemory> {
     let cells = part.cells(alloc)?;
     let mut text = String::new(alloc);
@@ -180,7 +185,7 @@ pub fn part_text(alloc: Global, part: &Part) -> Result<String, NoMemory> {
     Ok(text)
 }
 
-/// A row by its attribute and its fields, as `emails .value=b .type=work`.
+/// Returns a row as its attribute and its fields, such as `emails .value=b .type=work`.
 pub fn row_text(alloc: Global, row: &Row) -> Result<String, NoMemory> {
     let mut text = String::from_str(alloc, row.unit().attribute.name())?;
     for field in row.fields() {
@@ -189,7 +194,7 @@ pub fn row_text(alloc: Global, row: &Row) -> Result<String, NoMemory> {
     Ok(text)
 }
 
-/// Adds a field; one without a sub-attribute as ` .=b`.
+/// Appends a field; one without a sub-attribute as ` .=b`.
 fn push_field(alloc: Global, field: &Field, text: &mut String) -> Result<(), NoMemory> {
     let name = match field.leaf.sub_attribute {
         Some(sub_attribute) => sub_attribute.name(),

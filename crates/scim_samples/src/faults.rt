@@ -1,25 +1,25 @@
-//! Why a sample wasn't made.
+//! The faults of samples.
 use scim_text::{Failed, NoMemory};
 use scim_value::Invalid;
 use std::alloc::{AllocError, AllocFailed};
 use thiserror::Error;
 
-/// Why a sample wasn't made.
+/// The fault of a sample that can't be made.
 #[derive(Clone, Copy, Debug, PartialEq, Eq, Error)]
 pub enum SampleFault {
-    /// The text isn't that of a cell.
+    /// The text isn't a cell.
     #[error("not a cell: it is ATTRIBUTE=VALUE, ATTRIBUTE.SUB=VALUE or ATTRIBUTE[POSITION].SUB=VALUE")]
     NotACell,
-    /// No kind of resource has the attribute, or no attribute the sub-attribute.
+    /// No kind has the attribute, or the attribute doesn't have the sub-attribute.
     #[error("no such attribute or sub-attribute")]
     NoSuchLeaf,
-    /// The text isn't that of an id.
+    /// The text isn't an id.
     #[error("not an id")]
     NotAnId,
-    /// The cells are not those of such a part or resource.
+    /// The cells aren't those of a valid part or resource.
     #[error("not the cells of such a part or resource")]
     Invalid,
-    /// No memory was to be had.
+    /// Memory ran out.
     #[error("out of memory")]
     NoMemory,
 }

@@ -1,5 +1,5 @@
-//! Sample values for examples, cases and measurements: cells from text, the sample users, the sample group and
-//! the sample policy. No server needs it.
+//! Sample values for the cases: cells as text, and sample users, groups and a policy. The server doesn't use
+//! them.
 #![tactic(auto)]
 
 mod cells;

@@ -8,11 +8,11 @@ use scim_text::push;
 use scim_value::{Part, Resource, location};
 use std::alloc::Global;
 
-/// When sample resources were made and last changed, and what stands before their kind.
+/// The text of the `meta` cells of sample resources, except the location, up to the kind.
 const MADE: &str =
     "; meta.created=@2024-01-01T00:00:00Z; meta.lastModified=@2024-01-01T00:00:00Z; meta.resourceType=";
 
-/// The part of a kind and an id with the cells of a text.
+/// Returns the part with this kind, id and cells. NotAnId if the id is invalid, and Invalid if the cells are.
 pub fn part(alloc: Global, kind: Kind, id: &str, cells: &str) -> Result<Part, SampleFault> {
     let Some(id) = Id::read(id) else {
         return Err(SampleFault::NotAnId);
@@ -20,15 +20,17 @@ pub fn part(alloc: Global, kind: Kind, id: &str, cells: &str) -> Result<Part, Sa
     Ok(Part::of(alloc, kind, id, read_cells(alloc, cells)?)?)
 }
 
-/// The resource of a kind and an id below [`BASE`] with the cells of a text, beside which it has its `id` and
-/// `meta`, made and last changed at 2024-01-01T00:00:00Z.
+/// Returns the resource with this kind, id and cells, located below [`BASE`].
+///
+/// Its `id` and `meta` are added to the cells; it is created and last modified at 2024-01-01T00:00:00Z.
+/// NotAnId if the id is invalid, and Invalid if the cells are.
 pub fn resource(alloc: Global, kind: Kind, id: &str, cells: &str) -> Result<Resource, SampleFault> {
     let cells = resource_cells(alloc, kind, id, cells)?;
     let part = part(alloc, kind, id, cells.as_str())?;
     Ok(Resource::of(part, BASE)?)
 }
 
-/// The cells of a resource, of which a text has those beside `id` and `meta`.
+/// Returns the cells of a resource as text: the given ones, and those of `id` and `meta`.
 fn resource_cells(alloc: Global, kind: Kind, id: &str, cells: &str) -> Result<String, SampleFault> {
     let Some(own) = Id::read(id) else {
         return Err(SampleFault::NotAnId);
@@ -42,7 +44,7 @@ fn resource_cells(alloc: Global, kind: Kind, id: &str, cells: &str) -> Result<St
     Ok(text)
 }
 
-/// The sample resource of this name: `alice`, `bob`, `straße` or `team`; None of another.
+/// Returns the sample resource with this name: `alice`, `bob`, `straße` or `team`. None for any other name.
 pub fn sample(alloc: Global, name: &str) -> Result<Option<Resource>, SampleFault> {
     let (kind, id, cells) = match name {
         "alice" => (
@@ -62,7 +64,7 @@ pub fn sample(alloc: Global, name: &str) -> Result<Option<Resource>, SampleFault
     Ok(Some(resource(alloc, kind, id, cells)?))
 }
 
-/// The sample resources of these names, but for names that none has.
+/// Returns the sample resources with these names; names without one are skipped.
 fn samples(alloc: Global, names: &[&str]) -> Result<Vec<Resource>, SampleFault> {
     let mut resources = Vec::new(alloc);
     for name in names {
@@ -73,12 +75,12 @@ fn samples(alloc: Global, names: &[&str]) -> Result<Vec<Resource>, SampleFault> 
     Ok(resources)
 }
 
-/// The sample users, in order of id: Alice, Bob and `straße`.
+/// Returns the sample users, by id: Alice, Bob and `straße`.
 pub fn sample_users(alloc: Global) -> Result<Vec<Resource>, SampleFault> {
     samples(alloc, &["alice", "bob", "straße"])
 }
 
-/// The sample groups: the team.
+/// Returns the sample groups: the team.
 pub fn sample_groups(alloc: Global) -> Result<Vec<Resource>, SampleFault> {
     samples(alloc, &["team"])
 }

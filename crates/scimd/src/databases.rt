@@ -1,4 +1,4 @@
-//! The commands over a database, which is a file.
+//! The commands over a database file.
 use clap::ArgMatches;
 use scim_command::{
     AuditOptions, CommandFault, DEFAULT_BASE, ExplainOptions, ExportOptions, FileKind,
@@ -8,10 +8,10 @@ use scim_command_database::{DatabaseWork, Explaining, Importing, Question, unope
 use scim_json::read_documents;
 use sqlite::Connection;
 
-/// Opens the database at a path, which is made where there is none; does what is to be done over it, and closes it.
+/// Opens the database at a path, runs a command on it, and closes it. The file is created if there is none.
 ///
-/// Database, where it can't be opened; NoMemory where none was to be had; else what the work comes to. Nothing is lost where the
-/// closing fails: what was committed stands in the log, which is read when the database is opened again.
+/// Database or NoMemory if it can't be opened; otherwise the fault of the command. A failed close loses
+/// nothing: committed changes are in the log, which is read when the database is next opened.
 pub(crate) fn with_database<W: DatabaseWork + Drop>(
     rt: &HostRuntime,
     path: &str,
@@ -27,7 +27,7 @@ pub(crate) fn with_database<W: DatabaseWork + Drop>(
     }
 }
 
-/// The same where there is a database; CannotRead where there is none.
+/// As [`with_database`], for a file that must exist. CannotRead if it doesn't.
 fn with_database_there<W: DatabaseWork + Drop>(
     rt: &HostRuntime,
     path: &str,
@@ -37,7 +37,7 @@ fn with_database_there<W: DatabaseWork + Drop>(
     with_database(rt, path, work)
 }
 
-/// `explain`: says why a decision fell. The policy file is looked through before the database is opened.
+/// Runs `explain`: explains a decision. The policy file is read before the database is opened.
 pub(crate) fn run_explain(rt: &HostRuntime, matches: &ArgMatches<'_>) -> Result<(), CommandFault> {
     let options = ExplainOptions::of(matches)?;
     let policy = policy_at(rt, options.policy)?;
@@ -45,20 +45,21 @@ pub(crate) fn run_explain(rt: &HostRuntime, matches: &ArgMatches<'_>) -> Result<
     with_database_there(rt, options.database, Explaining { policy, question })
 }
 
-/// `audit`: writes rows of the audit.
+/// Runs `audit`: prints rows of the audit.
 pub(crate) fn run_audit(rt: &HostRuntime, matches: &ArgMatches<'_>) -> Result<(), CommandFault> {
     let options = AuditOptions::of(matches)?;
     with_database_there(rt, options.database, options)
 }
 
-/// `export`: writes the users file of a store.
+/// Runs `export`: writes the users file of a store.
 pub(crate) fn run_export(rt: &HostRuntime, matches: &ArgMatches<'_>) -> Result<(), CommandFault> {
     let options = ExportOptions::of(matches)?;
     with_database_there(rt, options.database, options)
 }
 
-/// `import`: brings the resources of a users file into an empty database. The file is looked through before the database
-/// is opened, so that none is made for a damaged one.
+/// Runs `import`: stores the resources of a users file in an empty database.
+///
+/// The file is validated before the database is opened, so that an invalid one creates no database.
 pub(crate) fn run_import(rt: &HostRuntime, matches: &ArgMatches<'_>) -> Result<(), CommandFault> {
     let options = ImportOptions::of(matches)?;
     let users = read_file(rt, FileKind::Users, options.users)?;

@@ -1,6 +1,7 @@
 //! `scimd`: a SCIM 2.0 service provider (RFC 7643, RFC 7644) whose access policy is proved to be kept.
 //!
-//! The exit status is 0, 1 for a fault of a file, of the database, of the input or of memory, and 2 for the command line.
+//! The exit status is 0 on success, 1 for a fault of a file, the database, the input or memory, and 2 for a
+//! fault of the command line.
 #![tactic(auto)]
 
 mod databases;
@@ -17,7 +18,8 @@ use std::io::ErrorKind;
 use std::process::ExitCode;
 use std::{env, io};
 
-/// Carries out the command line. Where its end can't be told, or memory is wanting for the words, the status alone says so.
+/// Runs the command line. If standard error can't be written, or memory runs out for the arguments, the exit
+/// status alone tells the failure.
 fn main(rt: HostRuntime) -> ExitCode {
     match words(&rt) {
         Ok(words) => run_words(&rt, words.as_slice()),
@@ -26,11 +28,12 @@ fn main(rt: HostRuntime) -> ExitCode {
     }
 }
 
-/// The words of the command line; InvalidData where one is no text.
+/// Returns the arguments of the program. InvalidData if one isn't UTF-8.
 fn words(rt: &HostRuntime) -> io::Result<Vec<String>> {
     Ok(env::args(rt)?.collect(rt.alloc())?)
 }
 
+/// Parses the arguments and runs the command, or prints the help, the version or the usage error.
 fn run_words(rt: &HostRuntime, words: &[String]) -> ExitCode {
     let Ok(command) = command(rt.alloc()) else {
         return ExitCode::FAILURE;
@@ -41,7 +44,7 @@ fn run_words(rt: &HostRuntime, words: &[String]) -> ExitCode {
     }
 }
 
-/// Prints what clap tells: what is wrong with the words, or the help or the version that they ask for.
+/// Prints clap's text: a usage error, or the help or version asked for. Returns its exit status.
 fn show(rt: &HostRuntime, error: &Error) -> ExitCode {
     match error.print(rt) {
         Ok(()) => ExitCode::from(error.exit_code() as u8),
@@ -49,16 +52,17 @@ fn show(rt: &HostRuntime, error: &Error) -> ExitCode {
     }
 }
 
+/// Runs the command of the parsed arguments and returns the exit status.
 fn run_matches(rt: &HostRuntime, matches: &ArgMatches<'_>) -> ExitCode {
     match &run_command(rt, matches) {
         Ok(()) => ExitCode::SUCCESS,
-        // Where standard output fails there may be nobody who reads.
+        // No message: standard output has failed, so there may be no reader.
         Err(CommandFault::Run(RunFault::Output)) => ExitCode::FAILURE,
         Err(fault) => tell(rt, fault),
     }
 }
 
-/// Carries out the command that the words name.
+/// Runs the subcommand of the parsed arguments.
 fn run_command(rt: &HostRuntime, matches: &ArgMatches<'_>) -> Result<(), CommandFault> {
     let Some((name, matches)) = matches.subcommand() else {
         return Err(CommandFault::BadOption);
@@ -76,7 +80,7 @@ fn run_command(rt: &HostRuntime, matches: &ArgMatches<'_>) -> Result<(), Command
     }
 }
 
-/// Tells a fault in a line on standard error, and gives its exit status.
+/// Prints a fault as one line on standard error and returns its exit status.
 fn tell(rt: &HostRuntime, fault: &CommandFault) -> ExitCode {
     match eprintln!(rt; "scimd: {fault}") {
         Ok(()) => ExitCode::from(fault.exit_status()),

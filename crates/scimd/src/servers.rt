@@ -1,4 +1,4 @@
-//! `serve`: a database, served to many clients.
+//! The command `serve`: serves a database to many clients.
 use crate::databases::with_database;
 use clap::ArgMatches;
 use scim_cell::Text;
@@ -17,7 +17,7 @@ use sqlite::{Alter, Connection};
 use std::alloc::Global;
 use std::io::Write;
 
-/// To serve a database by a policy, to those who have the tokens.
+/// The command `serve` with the contents of its files.
 #[derive(Drop)]
 struct Serving<'o> {
     rt: &'o HostRuntime,
@@ -55,7 +55,8 @@ impl DatabaseWork for Serving<'_> {
     }
 }
 
-/// `serve`: serves a database, which is made where there is none. The files are looked through before it is opened.
+/// Runs `serve`: serves a database, which is created if there is none. The policy and token files are read
+/// before it is opened.
 pub(crate) fn run_serve(rt: &HostRuntime, matches: &ArgMatches<'_>) -> Result<(), CommandFault> {
     let options = ServeOptions::of(matches)?;
     let Ok(base) = Text::copy_of(rt.alloc(), options.base) else {
@@ -77,7 +78,7 @@ pub(crate) fn run_serve(rt: &HostRuntime, matches: &ArgMatches<'_>) -> Result<()
     with_database(rt, options.database, serving)
 }
 
-/// Listens at the port, and serves whoever connects.
+/// Listens on the port and serves all connections.
 fn serve_at_port<S: Shelf>(
     rt: &HostRuntime,
     options: &ServeOptions<'_>,
@@ -93,7 +94,7 @@ fn serve_at_port<S: Shelf>(
     }
 }
 
-/// Says at which port is listened, and serves whoever connects.
+/// Prints the address that the server listens on, and serves all connections.
 fn serve_over<S: Shelf>(
     rt: &HostRuntime,
     sockets: &mut Sockets<'_, HostRuntime>,
