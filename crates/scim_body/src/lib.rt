@@ -21,4 +21,4 @@ pub use members::{given_named, is_absent, is_twice, value_named};
 pub use reading::NotJson;
 pub use required::lacks_required;
 pub use trees::{Member, Tree};
-pub use values::{WrongValue, read_atom, read_field, read_fields, read_listed};
+pub use values::{WrongValue, read_field, read_fields, read_listed};

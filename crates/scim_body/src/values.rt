@@ -55,7 +55,7 @@ fn is_short(atom: &Atom) -> bool
 /// Reads a value as an atom of the given type.
 ///
 /// WrongValue if it isn't one, or is a text over 65,536 bytes.
-pub fn read_atom(
+pub(crate) fn read_atom(
     alloc: Global,
     value: &Tree<'_>,
     attribute_type: AttributeType,

@@ -69,7 +69,7 @@ fn result_lines(
 /// `write N HEX` for a text written to connection N, `close N` if it is shut, and `fault N` with the reason
 /// if the event isn't answered. `events` and `results` have the same length; further entries of the longer
 /// one are ignored.
-pub fn results_text(
+pub(crate) fn results_text(
     alloc: Global,
     events: &[Event<'_>],
     results: &[Result<Vec<Output>, HubFault>],

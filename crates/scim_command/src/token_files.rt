@@ -15,7 +15,7 @@ use std::alloc::Global;
 /// Reads the tokens of a file.
 ///
 /// Tokens with the first invalid line.
-pub fn read_tokens(alloc: Global, text: &str) -> Result<Tokens, RunFault>
+pub(crate) fn read_tokens(alloc: Global, text: &str) -> Result<Tokens, RunFault>
     ensures tokens { IfOk result (λ tokens. (entries : List Entry)
         × (entries_from 1 [] (lines text.now) ≡ Ok entries) × Knows entries tokens) }
     ensures faulty { (n : ℕ) → result ≡ Err (RunFault.Tokens n) → (cause : LineFault)

@@ -7,7 +7,7 @@ use scim_store::OpenFault;
 use sqlite::{Error, ErrorCode};
 
 /// Returns the fault of a command for a database that can't be opened as a store.
-pub fn open_fault(fault: OpenFault) -> RunFault
+pub(crate) fn open_fault(fault: OpenFault) -> RunFault
     ensures { result ≡ of_opening fault }
 {
     match fault {

@@ -15,7 +15,7 @@ mod works;
 pub use auditing::print_audit;
 pub use explaining::{Question, explain};
 pub use exporting::export;
-pub use faults::{open_fault, unopened};
+pub use faults::unopened;
 pub use importing::import;
 pub use laws::exports_are_imported;
 pub use works::{DatabaseWork, Explaining, Importing, open_cached};

@@ -15,4 +15,4 @@ pub use applying::apply;
 pub use changes::StepChange;
 pub use laws::patching_rests_on_its_units;
 pub use patches::{Patch, Step};
-pub use steps::{StepFault, values_after};
+pub use steps::StepFault;

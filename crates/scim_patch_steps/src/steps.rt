@@ -55,7 +55,7 @@ fn gives_two_primary(
 ///
 /// If the step marks one value as primary, no other is primary afterwards. The time is nearly linear in the
 /// number of existing and given values.
-pub fn values_after(
+pub(crate) fn values_after(
     alloc: Global,
     kind: Kind,
     unit: Unit,

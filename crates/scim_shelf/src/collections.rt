@@ -32,7 +32,7 @@ use std::collections::{BTreeMap, BTreeSet};
 /// A look-up by id searches a tree. One by unique name or by member value finds the ids in a hash table and
 /// then searches the tree for each, without reading the members of any group. A change reads only the
 /// resource with its id.
-pub struct Collection {
+pub(crate) struct Collection {
     by_id: BTreeMap<Id, Resource>,
     owners: Owners,
     members: Members,

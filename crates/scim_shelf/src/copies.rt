@@ -72,7 +72,7 @@ impl Visitor for Collecting {
 /// Returns copies of all resources of a shelf as a collection in memory.
 ///
 /// Fails as `Shelf::each` does.
-pub fn collection_of<S: Shelf>(
+pub(crate) fn collection_of<S: Shelf>(
     alloc: Global,
     shelf: &mut S,
 ) -> Result<Collection, Failed<ShelfFault>>

@@ -26,9 +26,7 @@ mod trailers;
 mod wires;
 mod writing;
 
-pub use chunk_faults::BadChunks;
 pub use chunk_laws::chunked_bodies_are_read_in_one_way;
-pub use chunked::{ChunkStep, ChunkedPart};
 pub use laws::streams_are_read_in_one_way;
 pub use messages::{Item, Message};
 pub use octets::Octets;
