@@ -5,7 +5,7 @@ ghost use Rattle.scim_cell.specs.Kinds.{of_kind};
 ghost use Rattle.scim_view.specs.Groups.{view_with_groups};
 ghost use Rattle.scim_view.specs.Listings.{AreListing};
 ghost use Rattle.scim_view.specs.View.{Viewer as SpecViewer, viewer_of};
-ghost use Rattle.scim_shelf.specs.Shelves.{Answers, OnlyReads};
+ghost use Rattle.scim_shelf.specs.Shelves.{Answers, IsReadFrom, OnlyReads};
 ghost use Rattle.scim_shelf.specs.Stores.{IsStore};
 ghost use Rattle.scim_search.specs.GroupsBeside as spec;
 ghost use Rattle.scim_search.specs.ReadDecisions.{AreFor};
@@ -32,9 +32,8 @@ pub fn groups_beside<S: Shelf>(
     shelf: &mut S,
     resource: &Resource,
 ) -> Result<ListingGroups, Failed<ShelfFault>>
-    ensures groups { IfOk result (Answers S.stands S.is_honest shelf.old shelf.new
-        (λ store groups. (base : List ℕ) → IsStore base store
-        → spec.TellGroups (viewer_of viewer.now) store.resources resource.now groups)) }
+    ensures groups { IsReadFrom S.stands S.is_honest shelf.old shelf.new result (λ store groups.
+        spec.TellGroups (viewer_of viewer.now) store.resources resource.now groups) }
     ensures read { OnlyReads S.stands S.is_honest S.failures shelf.old shelf.new result }
 {
     let mut listing = ListingVisitor::new(alloc, viewer)?;
@@ -91,13 +90,12 @@ pub(crate) fn view_beside<S: Shelf>(
     shelf: &mut S,
     resource: &Resource,
 ) -> Result<Option<Part>, Failed<ShelfFault>>
-    ensures part { IfOk result (Answers S.stands S.is_honest shelf.old shelf.new
-        (λ store part. (base : List ℕ) → IsStore base store
-        → AreFor (viewer_of viewer.now) resource.now decisions.now
+    ensures part { IsReadFrom S.stands S.is_honest shelf.old shelf.new result (λ store part.
+        AreFor (viewer_of viewer.now) resource.now decisions.now
         → Tells (viewer_of viewer.now) store.resources listing.old
         → Tells (viewer_of viewer.now) store.resources listing.new
         × (part ≡ view_with_groups (viewer_of viewer.now)
-        (of_kind Kind.Group store.resources) resource.now))) }
+        (of_kind Kind.Group store.resources) resource.now)) }
     ensures read { OnlyReads S.stands S.is_honest S.failures shelf.old shelf.new result }
 {
     let seen = decisions.of(Leaf::simple(Attribute::Id));

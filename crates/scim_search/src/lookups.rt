@@ -1,5 +1,5 @@
 //! Searches whose filter requires an id or a unique name: the only possible match is looked up by it.
-ghost use Rattle.std.specs.Prelude.{◌≡◌, ◌∷◌, ℕ, List, [], IfOk, IfSome};
+ghost use Rattle.std.specs.Prelude.{◌≡◌, ◌∷◌, [], IfOk, IfSome};
 ghost use Rattle.scim_schema.specs.declared.Kind.{Kind};
 ghost use Rattle.scim_schema.specs.Characteristics.{is_case_exact};
 ghost use Rattle.scim_cell.specs.Kinds.{of_kind};
@@ -8,8 +8,8 @@ ghost use Rattle.scim_filter.specs.Relation.{cased};
 ghost use Rattle.scim_view.specs.View.{viewer_of};
 ghost use Rattle.scim_view.specs.Groups.{and_those, views};
 ghost use Rattle.scim_query.specs.Pages.{IsPage};
-ghost use Rattle.scim_shelf.specs.Shelves.{Answers, OnlyReads};
-ghost use Rattle.scim_shelf.specs.Stores.{IsStore, has_name, is_at};
+ghost use Rattle.scim_shelf.specs.Shelves.{IsReadFrom, OnlyReads};
+ghost use Rattle.scim_shelf.specs.Stores.{has_name, is_at};
 ghost use Rattle.scim_search.specs.Lookups as spec;
 
 use crate::beside::view_beside;
@@ -77,11 +77,9 @@ fn seen_part<S: Shelf>(
     kind: Kind,
     resource: &Resource,
 ) -> Result<Option<Part>, Failed<ShelfFault>>
-    ensures part { IfOk result (Answers S.stands S.is_honest shelf.old shelf.new
-        (λ store part. (base : List ℕ) → IsStore base store
-        → and_those part []
-        ≡ views (viewer_of viewer.now) (of_kind Kind.Group store.resources)
-        (of_kind kind (resource.now ∷ [])))) }
+    ensures part { IsReadFrom S.stands S.is_honest shelf.old shelf.new result (λ store part.
+        and_those part [] ≡ views (viewer_of viewer.now) (of_kind Kind.Group store.resources)
+        (of_kind kind (resource.now ∷ []))) }
     ensures read { OnlyReads S.stands S.is_honest S.failures shelf.old shelf.new result }
 {
     if resource.kind() != kind {
@@ -100,11 +98,9 @@ fn seen_if_found<S: Shelf>(
     kind: Kind,
     found: Option<Resource>,
 ) -> Result<Option<Part>, Failed<ShelfFault>>
-    ensures part { IfOk result (Answers S.stands S.is_honest shelf.old shelf.new
-        (λ store part. (base : List ℕ) → IsStore base store
-        → and_those part []
-        ≡ views (viewer_of viewer.now) (of_kind Kind.Group store.resources)
-        (of_kind kind (and_those found [])))) }
+    ensures part { IsReadFrom S.stands S.is_honest shelf.old shelf.new result (λ store part.
+        and_those part [] ≡ views (viewer_of viewer.now) (of_kind Kind.Group store.resources)
+        (of_kind kind (and_those found []))) }
     ensures read { OnlyReads S.stands S.is_honest S.failures shelf.old shelf.new result }
 {
     match found {
@@ -141,10 +137,9 @@ fn page_found<S: Shelf>(
     found: Option<Resource>,
     query: &Query,
 ) -> Result<Page, Failed<ShelfFault>>
-    ensures page { IfOk result (Answers S.stands S.is_honest shelf.old shelf.new
-        (λ store page. (base : List ℕ) → IsStore base store
-        → IsPage (views (viewer_of viewer.now) (of_kind Kind.Group store.resources)
-        (of_kind kind (and_those found []))) query.now page)) }
+    ensures page { IsReadFrom S.stands S.is_honest shelf.old shelf.new result (λ store page.
+        IsPage (views (viewer_of viewer.now) (of_kind Kind.Group store.resources)
+        (of_kind kind (and_those found []))) query.now page) }
     ensures read { OnlyReads S.stands S.is_honest S.failures shelf.old shelf.new result }
 {
     let part = seen_if_found(alloc, viewer, shelf, kind, found)?;
@@ -162,10 +157,9 @@ pub(crate) fn page_named<S: Shelf>(
     query: &Query,
 ) -> Result<Page, Failed<ShelfFault>>
     requires { spec.OnlyThose kind query.now.filter (has_name (name_of name.now)) }
-    ensures page { IfOk result (Answers S.stands S.is_honest shelf.old shelf.new
-        (λ store page. (base : List ℕ) → IsStore base store
-        → IsPage (views (viewer_of viewer.now) (of_kind Kind.Group store.resources)
-        (of_kind kind store.resources)) query.now page)) }
+    ensures page { IsReadFrom S.stands S.is_honest shelf.old shelf.new result (λ store page.
+        IsPage (views (viewer_of viewer.now) (of_kind Kind.Group store.resources)
+        (of_kind kind store.resources)) query.now page) }
     ensures read { OnlyReads S.stands S.is_honest S.failures shelf.old shelf.new result }
 {
     let owner = shelf.name_owner(alloc, name)?;
@@ -182,10 +176,9 @@ pub(crate) fn page_with_id<S: Shelf>(
     query: &Query,
 ) -> Result<Page, Failed<ShelfFault>>
     requires { spec.OnlyThose kind query.now.filter (is_at kind id) }
-    ensures page { IfOk result (Answers S.stands S.is_honest shelf.old shelf.new
-        (λ store page. (base : List ℕ) → IsStore base store
-        → IsPage (views (viewer_of viewer.now) (of_kind Kind.Group store.resources)
-        (of_kind kind store.resources)) query.now page)) }
+    ensures page { IsReadFrom S.stands S.is_honest shelf.old shelf.new result (λ store page.
+        IsPage (views (viewer_of viewer.now) (of_kind Kind.Group store.resources)
+        (of_kind kind store.resources)) query.now page) }
     ensures read { OnlyReads S.stands S.is_honest S.failures shelf.old shelf.new result }
 {
     let owner = shelf.by_id(alloc, kind, id)?;

@@ -1,12 +1,10 @@
 //! The page of a client's query.
-ghost use Rattle.std.specs.Prelude.{ℕ, List, IfOk};
 ghost use Rattle.scim_schema.specs.declared.Kind.{Kind};
 ghost use Rattle.scim_cell.specs.Kinds.{of_kind};
 ghost use Rattle.scim_view.specs.View.{viewer_of};
 ghost use Rattle.scim_view.specs.Groups.{views};
 ghost use Rattle.scim_query.specs.Pages.{IsPage};
-ghost use Rattle.scim_shelf.specs.Shelves.{Answers, OnlyReads};
-ghost use Rattle.scim_shelf.specs.Stores.{IsStore};
+ghost use Rattle.scim_shelf.specs.Shelves.{IsReadFrom, OnlyReads};
 
 use crate::lookups::{needed_id, needed_name, page_named, page_with_id};
 use crate::walks::page_of_all;
@@ -28,10 +26,9 @@ pub fn page_of_query<S: Shelf>(
     kind: Kind,
     query: &Query,
 ) -> Result<Page, Failed<ShelfFault>>
-    ensures page { IfOk result (Answers S.stands S.is_honest shelf.old shelf.new
-        (λ store page. (base : List ℕ) → IsStore base store
-        → IsPage (views (viewer_of viewer.now) (of_kind Kind.Group store.resources)
-        (of_kind kind store.resources)) query.now page)) }
+    ensures page { IsReadFrom S.stands S.is_honest shelf.old shelf.new result (λ store page.
+        IsPage (views (viewer_of viewer.now) (of_kind Kind.Group store.resources)
+        (of_kind kind store.resources)) query.now page) }
     ensures read { OnlyReads S.stands S.is_honest S.failures shelf.old shelf.new result }
 {
     if let Some(id) = needed_id(query) {

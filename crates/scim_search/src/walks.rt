@@ -8,7 +8,7 @@ ghost use Rattle.scim_view.specs.Groups.{views};
 ghost use Rattle.scim_view.specs.Indexes.{IsIndexOf};
 ghost use Rattle.scim_query.specs.NamedAttributes.{attributes_of, names_groups};
 ghost use Rattle.scim_query.specs.Pages.{IsPage};
-ghost use Rattle.scim_shelf.specs.Shelves.{Answers, OnlyReads};
+ghost use Rattle.scim_shelf.specs.Shelves.{Answers, IsReadFrom, OnlyReads};
 ghost use Rattle.scim_shelf.specs.Stores.{IsStore};
 ghost use Rattle.scim_search.specs.Decided.{Recalls};
 ghost use Rattle.scim_search.specs.ReadDecisions.{AreDecisions};
@@ -90,10 +90,9 @@ fn page_by_groups<S: Shelf>(
     query: &Query,
 ) -> Result<Page, Failed<ShelfFault>>
     requires { AreDecisions (viewer_of viewer.now) decisions.now }
-    ensures page { IfOk result (Answers S.stands S.is_honest shelf.old shelf.new
-        (λ store page. (base : List ℕ) → IsStore base store
-        → IsPage (views (viewer_of viewer.now) (of_kind Kind.Group store.resources)
-        (of_kind kind store.resources)) query.now page)) }
+    ensures page { IsReadFrom S.stands S.is_honest shelf.old shelf.new result (λ store page.
+        IsPage (views (viewer_of viewer.now) (of_kind Kind.Group store.resources)
+        (of_kind kind store.resources)) query.now page) }
     ensures read { OnlyReads S.stands S.is_honest S.failures shelf.old shelf.new result }
 {
     let index = groups_for(alloc, viewer, shelf, kind)?;
@@ -116,10 +115,9 @@ fn page_by_named<S: Shelf>(
     requires decisions { AreDecisions (viewer_of viewer.now) decisions.now }
     requires named { attributes.now ≡ attributes_of query.now }
     requires no_groups { names_groups query.now ≡ false }
-    ensures page { IfOk result (Answers S.stands S.is_honest shelf.old shelf.new
-        (λ store page. (base : List ℕ) → IsStore base store
-        → IsPage (views (viewer_of viewer.now) (of_kind Kind.Group store.resources)
-        (of_kind kind store.resources)) query.now page)) }
+    ensures page { IsReadFrom S.stands S.is_honest shelf.old shelf.new result (λ store page.
+        IsPage (views (viewer_of viewer.now) (of_kind Kind.Group store.resources)
+        (of_kind kind store.resources)) query.now page) }
     ensures read { OnlyReads S.stands S.is_honest S.failures shelf.old shelf.new result }
 {
     let builder = ViewBuilder::new(viewer, decisions, ViewScope::Named(attributes));
@@ -145,10 +143,9 @@ pub(crate) fn page_of_all<S: Shelf>(
     kind: Kind,
     query: &Query,
 ) -> Result<Page, Failed<ShelfFault>>
-    ensures page { IfOk result (Answers S.stands S.is_honest shelf.old shelf.new
-        (λ store page. (base : List ℕ) → IsStore base store
-        → IsPage (views (viewer_of viewer.now) (of_kind Kind.Group store.resources)
-        (of_kind kind store.resources)) query.now page)) }
+    ensures page { IsReadFrom S.stands S.is_honest shelf.old shelf.new result (λ store page.
+        IsPage (views (viewer_of viewer.now) (of_kind Kind.Group store.resources)
+        (of_kind kind store.resources)) query.now page) }
     ensures read { OnlyReads S.stands S.is_honest S.failures shelf.old shelf.new result }
 {
     let decisions = ReadDecisions::of(alloc, viewer, kind)?;

@@ -5,7 +5,7 @@ ghost use Rattle.scim_cell.specs.Content.{Content};
 ghost use Rattle.scim_cell.specs.Kinds.{of_kind};
 ghost use Rattle.scim_view.specs.Groups.{and_those, view_with_groups, with_groups};
 ghost use Rattle.scim_view.specs.View.{viewer_of};
-ghost use Rattle.scim_shelf.specs.Shelves.{Answers, OnlyReads};
+ghost use Rattle.scim_shelf.specs.Shelves.{Answers, IsReadFrom, OnlyReads};
 ghost use Rattle.scim_shelf.specs.Stores.{IsStore, is_at};
 ghost use Rattle.scim_search.specs.Visits.{Tells};
 ghost use Rattle.scim_search.specs.Walks as spec;
@@ -61,14 +61,13 @@ impl<'a> ItemBuilder<'a> {
         shelf: &mut S,
         resource: &Resource,
     ) -> Result<Option<Part>, Failed<ShelfFault>>
-        ensures part { IfOk result (Answers S.stands S.is_honest shelf.old shelf.new
-            (λ store part. (base : List ℕ) → IsStore base store
-            → spec.IsItemBuilder store.resources self.now
+        ensures part { IsReadFrom S.stands S.is_honest shelf.old shelf.new result (λ store part.
+            spec.IsItemBuilder store.resources self.now
             → find (is_at self.now.kind resource.now.id) store.resources ≡ Some resource.now
             → Tells (viewer_of self.now.viewer.now) store.resources listing.old
             → Tells (viewer_of self.now.viewer.now) store.resources listing.new
             × (part ≡ view_with_groups (viewer_of self.now.viewer.now)
-            (of_kind Kind.Group store.resources) resource.now))) }
+            (of_kind Kind.Group store.resources) resource.now)) }
         ensures read { OnlyReads S.stands S.is_honest S.failures shelf.old shelf.new result }
     {
         match self.decisions.known(self.decided, resource) {
@@ -159,11 +158,10 @@ pub(crate) fn whole_items<S: Shelf>(
     shelf: &mut S,
     items: &[Part],
 ) -> Result<Vec<Part>, Failed<ShelfFault>>
-    ensures whole { IfOk result (Answers S.stands S.is_honest shelf.old shelf.new
-        (λ store whole. (base : List ℕ) → IsStore base store
-        → spec.IsItemBuilder store.resources builder.entry
+    ensures whole { IsReadFrom S.stands S.is_honest shelf.old shelf.new result (λ store whole.
+        spec.IsItemBuilder store.resources builder.entry
         → spec.AreWhole (viewer_of builder.entry.viewer.now) builder.entry.kind store.resources
-        items.now whole.items)) }
+        items.now whole.items) }
     ensures read { OnlyReads S.stands S.is_honest S.failures shelf.old shelf.new result }
 {
     let mut listing = ListingVisitor::new(alloc, builder.viewer)?;

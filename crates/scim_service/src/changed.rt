@@ -1,11 +1,11 @@
 //! Plans to store a resource that a PUT or a PATCH has changed.
-ghost use Rattle.std.specs.Prelude.{◌≡◌, ℕ, List, IfOk};
+ghost use Rattle.std.specs.Prelude.{◌≡◌, IfOk};
 ghost use Rattle.scim_schema.specs.declared.Attribute.{Attribute};
 ghost use Rattle.scim_schema.specs.Units.{simple};
 ghost use Rattle.scim_policy.specs.Table.{access_in};
 ghost use Rattle.scim_view.specs.View.{viewer_of};
-ghost use Rattle.scim_shelf.specs.Shelves.{Answers, OnlyReads};
-ghost use Rattle.scim_shelf.specs.Stores.{IsStore, AreOf};
+ghost use Rattle.scim_shelf.specs.Shelves.{IsReadFrom, OnlyReads};
+ghost use Rattle.scim_shelf.specs.Stores.{AreOf};
 ghost use Rattle.scim_service.specs.Step as spec;
 ghost use Rattle.scim_service.specs.code.Refusals.{IsRefusalToChange};
 
@@ -72,10 +72,9 @@ fn refusal_to_change<S: Shelf>(
     resource: &Resource,
 ) -> Result<Option<Plan>, Failed<ShelfFault>>
     requires { access_in after.now ≡ spec.access_to (viewer_of viewer.now) resource.now }
-    ensures refusal { IfOk result (Answers S.stands S.is_honest shelf.old shelf.new
-        (λ store refusal. (base : List ℕ) → IsStore base store
-        → IsRefusalToChange (viewer_of viewer.now) turn.now store.resources
-        (access_in before.now) resource.now refusal)) }
+    ensures refusal { IsReadFrom S.stands S.is_honest shelf.old shelf.new result (λ store refusal.
+        IsRefusalToChange (viewer_of viewer.now) turn.now store.resources
+        (access_in before.now) resource.now refusal) }
     ensures read { OnlyReads S.stands S.is_honest S.failures shelf.old shelf.new result }
 {
     if has_taken_name(alloc, shelf, &Some(resource.id()), resource)? {
@@ -102,11 +101,10 @@ pub(crate) fn plan_changed<S: Shelf>(
     rights: &Rights,
     changed: Changed,
 ) -> Result<Plan, Failed<ShelfFault>>
-    ensures plan { IfOk result (Answers S.stands S.is_honest shelf.old shelf.new
-        (λ store plan. (base : List ℕ) → IsStore base store
-        → AreOf changed.resource.kind changed.resource.id store.resources
+    ensures plan { IsReadFrom S.stands S.is_honest shelf.old shelf.new result (λ store plan.
+        AreOf changed.resource.kind changed.resource.id store.resources
         → plan ≡ spec.unique_change_plan (viewer_of viewer.now) turn.now store.resources wanted.now
-        (access_in rights.now) changed.changed changed.resource)) }
+        (access_in rights.now) changed.changed changed.resource) }
     ensures read { OnlyReads S.stands S.is_honest S.failures shelf.old shelf.new result }
 {
     let after = viewer

@@ -7,7 +7,7 @@ ghost use Rattle.scim_schema.specs.Units.{simple};
 ghost use Rattle.scim_policy.specs.Table.{decision};
 ghost use Rattle.scim_view.specs.View as view;
 ghost use Rattle.scim_view.specs.View.{viewer_of};
-ghost use Rattle.scim_shelf.specs.Shelves.{Answers, OnlyReads};
+ghost use Rattle.scim_shelf.specs.Shelves.{Answers, IsReadFrom, OnlyReads};
 ghost use Rattle.scim_shelf.specs.Stores.{IsStore, is_used};
 ghost use Rattle.scim_service.specs.Step as spec;
 ghost use Rattle.scim_service.specs.code.Refusals.{IsRefusalToMake};
@@ -143,10 +143,9 @@ fn plan_if_free<S: Shelf>(
 ) -> Result<Plan, Failed<ShelfFault>>
     requires { rule ≡ (spec.create_decision (viewer_of viewer.now) resource
         (simple Attribute.Id)).rule }
-    ensures plan { IfOk result (Answers S.stands S.is_honest shelf.old shelf.new
-        (λ store plan. (base : List ℕ) → IsStore base store
-        → plan ≡ spec.unique_creation_plan
-        (viewer_of viewer.now) turn.now store.resources wanted.now resource)) }
+    ensures plan { IsReadFrom S.stands S.is_honest shelf.old shelf.new result (λ store plan. plan
+        ≡ spec.unique_creation_plan
+        (viewer_of viewer.now) turn.now store.resources wanted.now resource) }
     ensures read { OnlyReads S.stands S.is_honest S.failures shelf.old shelf.new result }
 {
     let refusal = refusal_to_make(alloc, shelf, turn, &resource)?;
@@ -168,10 +167,8 @@ pub(crate) fn plan_create<S: Shelf>(
     draft: &Draft,
     wanted: &Wanted,
 ) -> Result<Plan, Failed<ShelfFault>>
-    ensures plan { IfOk result (Answers S.stands S.is_honest shelf.old shelf.new
-        (λ store plan. (base : List ℕ) → IsStore base store
-        → plan ≡ spec.creation_plan
-        (viewer_of viewer.now) turn.now store.resources draft.now wanted.now)) }
+    ensures plan { IsReadFrom S.stands S.is_honest shelf.old shelf.new result (λ store plan. plan
+        ≡ spec.creation_plan (viewer_of viewer.now) turn.now store.resources draft.now wanted.now) }
     ensures read { OnlyReads S.stands S.is_honest S.failures shelf.old shelf.new result }
 {
     if !is_for(turn, draft) {

@@ -1,9 +1,9 @@
 //! Tests whether unique names are in use (RFC 7643 section 2.2).
-ghost use Rattle.std.specs.Prelude.{◌≡◌, ℕ, List, map, IfOk};
+ghost use Rattle.std.specs.Prelude.{◌≡◌, map};
 ghost use Rattle.std.specs.List.{list_any};
 ghost use Rattle.scim_value.specs.Uniqueness.{name_of};
-ghost use Rattle.scim_shelf.specs.Shelves.{Answers, OnlyReads};
-ghost use Rattle.scim_shelf.specs.Stores.{IsStore, has_name, is_taken};
+ghost use Rattle.scim_shelf.specs.Shelves.{IsReadFrom, OnlyReads};
+ghost use Rattle.scim_shelf.specs.Stores.{has_name, is_taken};
 ghost use Rattle.scim_service.specs.code.Others as spec;
 
 use scim_cell::Id;
@@ -32,10 +32,9 @@ fn any_taken<S: Shelf>(
     own: &Option<Id>,
     names: &[UniqueName],
 ) -> Result<bool, Failed<ShelfFault>>
-    ensures answer { IfOk result (Answers S.stands S.is_honest shelf.old shelf.new
-        (λ store b. (base : List ℕ) → IsStore base store
-        → b ≡ list_any (λ n. list_any (has_name n) (spec.beside own.now store.resources))
-        (map name_of names.now))) }
+    ensures answer { IsReadFrom S.stands S.is_honest shelf.old shelf.new result (λ store b. b
+        ≡ list_any (λ n. list_any (has_name n) (spec.beside own.now store.resources))
+        (map name_of names.now)) }
     ensures read { OnlyReads S.stands S.is_honest S.failures shelf.old shelf.new result }
 {
     match names {
@@ -57,9 +56,8 @@ pub(crate) fn has_taken_name<S: Shelf>(
     own: &Option<Id>,
     new: &Resource,
 ) -> Result<bool, Failed<ShelfFault>>
-    ensures answer { IfOk result (Answers S.stands S.is_honest shelf.old shelf.new
-        (λ store b. (base : List ℕ) → IsStore base store
-        → b ≡ is_taken (spec.beside own.now store.resources) new.now)) }
+    ensures answer { IsReadFrom S.stands S.is_honest shelf.old shelf.new result (λ store b. b
+        ≡ is_taken (spec.beside own.now store.resources) new.now) }
     ensures read { OnlyReads S.stands S.is_honest S.failures shelf.old shelf.new result }
 {
     let names = unique_names(alloc, new)?;

@@ -1,11 +1,11 @@
 //! Plans a PATCH (RFC 7644 section 3.5.2).
-ghost use Rattle.std.specs.Prelude.{◌≡◌, ℕ, List, None, IfOk};
+ghost use Rattle.std.specs.Prelude.{◌≡◌, None};
 ghost use Rattle.scim_patch_steps.specs.Patch.{touched};
 ghost use Rattle.scim_patch_steps.specs.Kept.{patch_of};
 ghost use Rattle.scim_policy.specs.Table.{access_in};
 ghost use Rattle.scim_view.specs.View.{viewer_of};
-ghost use Rattle.scim_shelf.specs.Shelves.{Answers, OnlyReads};
-ghost use Rattle.scim_shelf.specs.Stores.{IsStore, AreOf};
+ghost use Rattle.scim_shelf.specs.Shelves.{IsReadFrom, OnlyReads};
+ghost use Rattle.scim_shelf.specs.Stores.{AreOf};
 ghost use Rattle.scim_service.specs.Step as spec;
 
 use crate::changed::plan_changed;
@@ -65,11 +65,10 @@ fn plan_allowed<S: Shelf>(
 ) -> Result<Plan, Failed<ShelfFault>>
     requires rights { access_in rights.now ≡ spec.access_to (viewer_of viewer.now) resource }
     requires kind { patch.now.kind ≡ resource.kind }
-    ensures plan { IfOk result (Answers S.stands S.is_honest shelf.old shelf.new
-        (λ store plan. (base : List ℕ) → IsStore base store
-        → AreOf resource.kind resource.id store.resources
+    ensures plan { IsReadFrom S.stands S.is_honest shelf.old shelf.new result (λ store plan.
+        AreOf resource.kind resource.id store.resources
         → plan ≡ spec.decided_patch_plan (viewer_of viewer.now) turn.now store.resources
-        (patch_of patch.now) wanted.now resource None)) }
+        (patch_of patch.now) wanted.now resource None) }
     ensures read { OnlyReads S.stands S.is_honest S.failures shelf.old shelf.new result }
 {
     match apply(alloc, resource, patch, turn.moment) {
@@ -92,11 +91,10 @@ fn plan_seen<S: Shelf>(
     resource: Resource,
 ) -> Result<Plan, Failed<ShelfFault>>
     requires { access_in rights.now ≡ spec.access_to (viewer_of viewer.now) resource }
-    ensures plan { IfOk result (Answers S.stands S.is_honest shelf.old shelf.new
-        (λ store plan. (base : List ℕ) → IsStore base store
-        → AreOf resource.kind resource.id store.resources
+    ensures plan { IsReadFrom S.stands S.is_honest shelf.old shelf.new result (λ store plan.
+        AreOf resource.kind resource.id store.resources
         → plan ≡ spec.patch_plan (viewer_of viewer.now) turn.now store.resources
-        (patch_of patch.now) wanted.now resource)) }
+        (patch_of patch.now) wanted.now resource) }
     ensures read { OnlyReads S.stands S.is_honest S.failures shelf.old shelf.new result }
 {
     if patch.kind() != resource.kind() {
@@ -117,11 +115,10 @@ pub(crate) fn plan_patch<S: Shelf>(
     patch: &Patch,
     wanted: &Wanted,
 ) -> Result<Plan, Failed<ShelfFault>>
-    ensures plan { IfOk result (Answers S.stands S.is_honest shelf.old shelf.new
-        (λ store plan. (base : List ℕ) → IsStore base store
-        → plan ≡ spec.plan_for_seen (viewer_of viewer.now) turn.now
+    ensures plan { IsReadFrom S.stands S.is_honest shelf.old shelf.new result (λ store plan. plan
+        ≡ spec.plan_for_seen (viewer_of viewer.now) turn.now
         (spec.patch_plan (viewer_of viewer.now) turn.now store.resources
-        (patch_of patch.now) wanted.now) (spec.sought_resource turn.now store.resources))) }
+        (patch_of patch.now) wanted.now) (spec.sought_resource turn.now store.resources)) }
     ensures read { OnlyReads S.stands S.is_honest S.failures shelf.old shelf.new result }
 {
     let reached = reach(alloc, viewer, shelf, turn)?;

@@ -1,5 +1,5 @@
 //! Plans a turn by reads alone, before anything is changed.
-ghost use Rattle.std.specs.Prelude.{◌≡◌, ℕ, List, Some, IfOk};
+ghost use Rattle.std.specs.Prelude.{◌≡◌, List, Some, IfOk};
 ghost use Rattle.scim_schema.specs.declared.Kind.{Kind};
 ghost use Rattle.scim_schema.specs.declared.Leaf.{Leaf};
 ghost use Rattle.scim_cell.specs.Content.{Content};
@@ -9,8 +9,8 @@ ghost use Rattle.scim_view.specs.View as view;
 ghost use Rattle.scim_view.specs.View.{viewer_of};
 ghost use Rattle.scim_view.specs.Listings.{AreListing};
 ghost use Rattle.scim_query.specs.Pages.{IsPage};
-ghost use Rattle.scim_shelf.specs.Shelves.{Answers, OnlyReads};
-ghost use Rattle.scim_shelf.specs.Stores.{IsStore, AreOf};
+ghost use Rattle.scim_shelf.specs.Shelves.{Answers, IsReadFrom, OnlyReads};
+ghost use Rattle.scim_shelf.specs.Stores.{AreOf};
 ghost use Rattle.scim_service.specs.Step as spec;
 
 use crate::creations::plan_create;
@@ -231,10 +231,9 @@ fn seen_text<S: Shelf>(
 ) -> Result<Text, Failed<ShelfFault>>
     requires { (l : Leaf) → decision decisions.now l
         ≡ view.read_decision (viewer_of viewer.now) resource.now l }
-    ensures text { IfOk result (Answers S.stands S.is_honest shelf.old shelf.new
-        (λ store text. (base : List ℕ) → IsStore base store
-        → text ≡ spec.resource_text (viewer_of viewer.now)
-        (of_kind Kind.Group store.resources) wanted.now resource.now)) }
+    ensures text { IsReadFrom S.stands S.is_honest shelf.old shelf.new result (λ store text. text
+        ≡ spec.resource_text (viewer_of viewer.now)
+        (of_kind Kind.Group store.resources) wanted.now resource.now) }
     ensures read { OnlyReads S.stands S.is_honest S.failures shelf.old shelf.new result }
 {
     let groups = groups_beside(alloc, viewer, shelf, resource)?;
@@ -253,10 +252,9 @@ pub(crate) fn kept_text<S: Shelf>(
 ) -> Result<Option<Text>, Failed<ShelfFault>>
     requires { (l : Leaf) → decision decisions.now l
         ≡ view.read_decision (viewer_of viewer.now) resource.now l }
-    ensures text { IfOk result (Answers S.stands S.is_honest shelf.old shelf.new
-        (λ store text. (base : List ℕ) → IsStore base store
-        → AreOf resource.now.kind resource.now.id store.resources
-        → text ≡ spec.kept_text (viewer_of viewer.now) store.resources wanted.now resource.now)) }
+    ensures text { IsReadFrom S.stands S.is_honest shelf.old shelf.new result (λ store text.
+        AreOf resource.now.kind resource.now.id store.resources
+        → text ≡ spec.kept_text (viewer_of viewer.now) store.resources wanted.now resource.now) }
     ensures read { OnlyReads S.stands S.is_honest S.failures shelf.old shelf.new result }
 {
     let seen = decisions.of(Leaf::simple(Attribute::Id));
@@ -277,11 +275,10 @@ fn plan_show<S: Shelf>(
     wanted: &Wanted,
     resource: &Resource,
 ) -> Result<Plan, Failed<ShelfFault>>
-    ensures plan { IfOk result (Answers S.stands S.is_honest shelf.old shelf.new
-        (λ store plan. (base : List ℕ) → IsStore base store
-        → plan ≡ spec.plan_for_seen (viewer_of viewer.now) turn.now
+    ensures plan { IsReadFrom S.stands S.is_honest shelf.old shelf.new result (λ store plan. plan
+        ≡ spec.plan_for_seen (viewer_of viewer.now) turn.now
         (spec.get_plan (viewer_of viewer.now) turn.now store.resources wanted.now)
-        (Some resource.now))) }
+        (Some resource.now)) }
     ensures read { OnlyReads S.stands S.is_honest S.failures shelf.old shelf.new result }
 {
     let decisions = viewer.decisions(alloc, resource)?;
@@ -305,11 +302,10 @@ fn plan_get<S: Shelf>(
     turn: &Turn,
     wanted: &Wanted,
 ) -> Result<Plan, Failed<ShelfFault>>
-    ensures plan { IfOk result (Answers S.stands S.is_honest shelf.old shelf.new
-        (λ store plan. (base : List ℕ) → IsStore base store
-        → plan ≡ spec.plan_for_seen (viewer_of viewer.now) turn.now
+    ensures plan { IsReadFrom S.stands S.is_honest shelf.old shelf.new result (λ store plan. plan
+        ≡ spec.plan_for_seen (viewer_of viewer.now) turn.now
         (spec.get_plan (viewer_of viewer.now) turn.now store.resources wanted.now)
-        (spec.sought_resource turn.now store.resources))) }
+        (spec.sought_resource turn.now store.resources)) }
     ensures read { OnlyReads S.stands S.is_honest S.failures shelf.old shelf.new result }
 {
     let Some(resource) = found(alloc, shelf, turn)? else {
@@ -402,9 +398,8 @@ fn plan_search<S: Shelf>(
     turn: &Turn,
     query: &Query,
 ) -> Result<Plan, Failed<ShelfFault>>
-    ensures plan { IfOk result (Answers S.stands S.is_honest shelf.old shelf.new
-        (λ store plan. (base : List ℕ) → IsStore base store
-        → plan ≡ spec.search_plan (viewer_of viewer.now) turn.now store.resources query.now)) }
+    ensures plan { IsReadFrom S.stands S.is_honest shelf.old shelf.new result (λ store plan. plan
+        ≡ spec.search_plan (viewer_of viewer.now) turn.now store.resources query.now) }
     ensures read { OnlyReads S.stands S.is_honest S.failures shelf.old shelf.new result }
 {
     let found = page_of_query(alloc, viewer, shelf, turn.request.kind, query)?;
@@ -429,10 +424,8 @@ pub(crate) fn planned<S: Shelf>(
     shelf: &mut S,
     turn: &Turn,
 ) -> Result<Plan, Failed<ShelfFault>>
-    ensures plan { IfOk result (Answers S.stands S.is_honest shelf.old shelf.new
-        (λ store plan. (base : List ℕ) → IsStore base store
-        → plan ≡ spec.request_plan
-        (viewer_of viewer.now) turn.now store.resources turn.now.request.ask)) }
+    ensures plan { IsReadFrom S.stands S.is_honest shelf.old shelf.new result (λ store plan. plan
+        ≡ spec.request_plan (viewer_of viewer.now) turn.now store.resources turn.now.request.ask) }
     ensures read { OnlyReads S.stands S.is_honest S.failures shelf.old shelf.new result }
 {
     match &turn.request.ask {

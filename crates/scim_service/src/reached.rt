@@ -1,8 +1,7 @@
 //! Reads the resource that a request names, if its client sees it.
-ghost use Rattle.std.specs.Prelude.{◌≡◌, ℕ, List, IfOk};
+ghost use Rattle.std.specs.Prelude.{◌≡◌, IfOk};
 ghost use Rattle.scim_view.specs.View.{viewer_of};
-ghost use Rattle.scim_shelf.specs.Shelves.{Answers, OnlyReads};
-ghost use Rattle.scim_shelf.specs.Stores.{IsStore};
+ghost use Rattle.scim_shelf.specs.Shelves.{IsReadFrom, OnlyReads};
 ghost use Rattle.scim_service.specs.code.Reached.{HasRights, IsReached};
 
 use crate::plans::{Plan, absent, found, hidden};
@@ -31,9 +30,8 @@ pub(crate) fn reach<S: Shelf>(
     shelf: &mut S,
     turn: &Turn,
 ) -> Result<Reached, Failed<ShelfFault>>
-    ensures answer { IfOk result (Answers S.stands S.is_honest shelf.old shelf.new
-        (λ store it. (base : List ℕ) → IsStore base store
-        → IsReached (viewer_of viewer.now) turn.now store.resources it)) }
+    ensures answer { IsReadFrom S.stands S.is_honest shelf.old shelf.new result (λ store it.
+        IsReached (viewer_of viewer.now) turn.now store.resources it) }
     ensures rights { IfOk result (HasRights (viewer_of viewer.now)) }
     ensures read { OnlyReads S.stands S.is_honest S.failures shelf.old shelf.new result }
 {

@@ -1,11 +1,11 @@
 //! Plans a PUT (RFC 7644 section 3.5.1).
-ghost use Rattle.std.specs.Prelude.{◌≡◌, ℕ, List, filter, None, IfOk};
+ghost use Rattle.std.specs.Prelude.{◌≡◌, filter, None, IfOk};
 ghost use Rattle.std.specs.List.{list_any};
 ghost use Rattle.scim_schema.specs.Units.{units};
 ghost use Rattle.scim_policy.specs.Table.{access_in};
 ghost use Rattle.scim_view.specs.View.{viewer_of, visible};
-ghost use Rattle.scim_shelf.specs.Shelves.{Answers, OnlyReads};
-ghost use Rattle.scim_shelf.specs.Stores.{IsStore, AreOf};
+ghost use Rattle.scim_shelf.specs.Shelves.{IsReadFrom, OnlyReads};
+ghost use Rattle.scim_shelf.specs.Stores.{AreOf};
 ghost use Rattle.scim_service.specs.Step as spec;
 ghost use Rattle.scim_service.specs.code.Questions.{is_in_question};
 
@@ -144,11 +144,10 @@ fn plan_allowed<S: Shelf>(
 ) -> Result<Plan, Failed<ShelfFault>>
     requires rights { access_in rights.now ≡ spec.access_to (viewer_of viewer.now) resource }
     requires kind { draft.now.kind ≡ resource.kind }
-    ensures plan { IfOk result (Answers S.stands S.is_honest shelf.old shelf.new
-        (λ store plan. (base : List ℕ) → IsStore base store
-        → AreOf resource.kind resource.id store.resources
+    ensures plan { IsReadFrom S.stands S.is_honest shelf.old shelf.new result (λ store plan.
+        AreOf resource.kind resource.id store.resources
         → plan ≡ spec.decided_replacement_plan
-        (viewer_of viewer.now) turn.now store.resources draft.now wanted.now resource None)) }
+        (viewer_of viewer.now) turn.now store.resources draft.now wanted.now resource None) }
     ensures read { OnlyReads S.stands S.is_honest S.failures shelf.old shelf.new result }
 {
     let kind = resource.kind();
@@ -173,11 +172,10 @@ fn plan_seen<S: Shelf>(
     resource: Resource,
 ) -> Result<Plan, Failed<ShelfFault>>
     requires { access_in rights.now ≡ spec.access_to (viewer_of viewer.now) resource }
-    ensures plan { IfOk result (Answers S.stands S.is_honest shelf.old shelf.new
-        (λ store plan. (base : List ℕ) → IsStore base store
-        → AreOf resource.kind resource.id store.resources
+    ensures plan { IsReadFrom S.stands S.is_honest shelf.old shelf.new result (λ store plan.
+        AreOf resource.kind resource.id store.resources
         → plan ≡ spec.replacement_plan
-        (viewer_of viewer.now) turn.now store.resources draft.now wanted.now resource)) }
+        (viewer_of viewer.now) turn.now store.resources draft.now wanted.now resource) }
     ensures read { OnlyReads S.stands S.is_honest S.failures shelf.old shelf.new result }
 {
     if draft.kind() != resource.kind() {
@@ -198,11 +196,10 @@ pub(crate) fn plan_replace<S: Shelf>(
     draft: &Draft,
     wanted: &Wanted,
 ) -> Result<Plan, Failed<ShelfFault>>
-    ensures plan { IfOk result (Answers S.stands S.is_honest shelf.old shelf.new
-        (λ store plan. (base : List ℕ) → IsStore base store
-        → plan ≡ spec.plan_for_seen (viewer_of viewer.now) turn.now
+    ensures plan { IsReadFrom S.stands S.is_honest shelf.old shelf.new result (λ store plan. plan
+        ≡ spec.plan_for_seen (viewer_of viewer.now) turn.now
         (spec.replacement_plan (viewer_of viewer.now) turn.now store.resources draft.now wanted.now)
-        (spec.sought_resource turn.now store.resources))) }
+        (spec.sought_resource turn.now store.resources)) }
     ensures read { OnlyReads S.stands S.is_honest S.failures shelf.old shelf.new result }
 {
     let reached = reach(alloc, viewer, shelf, turn)?;
