@@ -56,7 +56,7 @@ fn parted(alloc: Global, rows: Vec<Row>, unit: Unit) -> Result<Apart, NoMemory>
     })
 }
 
-/// The rows with what a change leaves of the values of the unit.
+/// Returns the rows of the resource after a change of its unit.
 ///
 /// Errors: as [`values_after`].
 fn changed_rows(

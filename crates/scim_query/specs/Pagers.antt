@@ -1,6 +1,7 @@
 -- The parts that a pager holds of those that it has taken.
 use Rattle.std.specs.Prelude.{◌≡◌, ℕ, ◌+◌, ◌-◌, Option, None, Some, List, map, length, take, is_some, if◌then◌else◌}
 use Rattle.std.specs.List.Sorted.{IsSorted}
+use denote.Ref.{Bor}
 use Rattle.scim_schema.specs.declared.Leaf.{Leaf}
 use Rattle.scim_cell.specs.Content.{Content}
 use Rattle.scim_cell.specs.Rows.{rows}
@@ -10,6 +11,10 @@ use Rattle.scim_query.specs.declared.kept_parts.KeptPart.{KeptPart}
 use Rattle.scim_query.specs.declared.pagers.Pager.{Pager}
 use Rattle.scim_query.specs.Keys.{key_by}
 use Rattle.scim_query.specs.Pages.{matching, IsInOrder, slice_of}
+
+-- the query of a pager
+abbrev pub query_of : Pager → Bor Query
+query_of pager = pager.query
 
 -- a part with its sort key by the leaf
 abbrev pub keyed : Option Leaf → Content → KeptPart

@@ -11,7 +11,7 @@ use scim_value::Resource;
 use scim_view::Viewer;
 use std::alloc::Global;
 
-/// The page that the client's query asks for of resources of one kind: of those that the client sees, each
+/// Returns the page of the query over the resources of one kind that the client sees, each
 /// as it may see it, with a user's `groups` made from `groups`.
 /// Filter, sort order and total depend on nothing else, so a client learns nothing from them that it may not
 /// read. Each item is projected to what the query wants.

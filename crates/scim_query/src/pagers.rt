@@ -32,7 +32,7 @@ pub struct Pager<'q> {
 impl<'q> Pager<'q> {
     /// Returns a pager without parts, without allocating.
     pub fn new(alloc: Global, query: &'q Query) -> Pager<'q>
-        ensures query { result.query ≡ query.entry }
+        ensures query { spec.query_of result ≡ query.entry }
         ensures taken { spec.HasTaken [] result }
     {
         Pager {
@@ -46,7 +46,7 @@ impl<'q> Pager<'q> {
     /// Takes the next part. If the query has no sort key, parts must come in ascending order of id.
     /// NoMemory also if the number of matches overflows `usize`. After it the pager is unchanged.
     pub fn push(&mut self, part: Part) -> Result<(), NoMemory>
-        ensures query { self.new.query ≡ self.old.query }
+        ensures query { spec.query_of self.new ≡ spec.query_of self.old }
         ensures taken { OnOk result ((parts : List _) → spec.HasTaken parts self.old
             → spec.HasTaken (parts ++ part ∷ []) self.new) }
         ensures refused { OnErr result (spec.IsUnchanged self.old self.new) }
@@ -67,7 +67,7 @@ impl<'q> Pager<'q> {
     /// key is copied, and the rest only if it is held. NoMemory also if the number of matches overflows
     /// `usize`. After it the pager is unchanged.
     pub fn push_where<T: RowTest>(&mut self, part: &Part, test: &T) -> Result<bool, NoMemory>
-        ensures query { self.new.query ≡ self.old.query }
+        ensures query { spec.query_of self.new ≡ spec.query_of self.old }
         ensures taken { OnOk result ((parts : List _) → spec.HasTaken parts self.old
             → spec.HasTaken (parts ++ restricted_part (T.keeps test.now) part.now ∷ []) self.new) }
         ensures refused { OnErr result (spec.IsUnchanged self.old self.new) }
@@ -94,9 +94,10 @@ impl<'q> Pager<'q> {
     /// NoMemory also if the number of matches overflows `usize`. After it the pager is unchanged.
     fn hold(&mut self, place: usize, part: KeptPart) -> Result<(), NoMemory>
         requires { place ≤ length self.old.held.items }
-        ensures query { self.new.query ≡ self.old.query }
+        ensures query { spec.query_of self.new ≡ spec.query_of self.old }
         ensures counted { OnOk result (code.HasCounted
-            (take (spec.most_held self.old.query.now) (insert self.old.held.items place part))
+            (take (spec.most_held (spec.query_of self.old).now)
+            (insert self.old.held.items place part))
             self.old self.new) }
         ensures refused { OnErr result (spec.IsUnchanged self.old self.new) }
     {
@@ -111,7 +112,7 @@ impl<'q> Pager<'q> {
     /// Counts a matching part that isn't held.
     /// NoMemory, with the pager unchanged, if the number of matches overflows `usize`.
     fn pass(&mut self) -> Result<(), NoMemory>
-        ensures query { self.new.query ≡ self.old.query }
+        ensures query { spec.query_of self.new ≡ spec.query_of self.old }
         ensures counted { OnOk result (code.HasCounted self.old.held.items self.old self.new) }
         ensures refused { OnErr result (spec.IsUnchanged self.old self.new) }
     {
@@ -126,7 +127,7 @@ impl<'q> Pager<'q> {
     pub fn held(&self) -> usize
         ensures held { result ≡ length self.now.held.items }
         ensures most { (parts : List _) → spec.HasTaken parts self.now
-            → result ≤ spec.most_held self.now.query.now }
+            → result ≤ spec.most_held (spec.query_of self.now).now }
     {
         self.held.len()
     }
@@ -134,8 +135,8 @@ impl<'q> Pager<'q> {
     /// Returns the page of the parts taken, as [`crate::queries::search`] returns it for a list of them.
     pub fn end(self) -> Result<Page, NoMemory>
         ensures { IfOk result (λ page. (parts : List _) → spec.HasTaken parts self.entry
-            → spec.ComeInOrder self.entry.query.now parts
-            → IsPage parts self.entry.query.now page) }
+            → spec.ComeInOrder (spec.query_of self.entry).now parts
+            → IsPage parts (spec.query_of self.entry).now page) }
     {
         let Pager {
             alloc,

@@ -3,7 +3,7 @@ ghost use Rattle.std.specs.Prelude.{◌≡◌, ◌++◌, [], List, IfOk, IfSome,
 ghost use Rattle.scim_cell.specs.Content.{Content};
 ghost use Rattle.scim_view.specs.View.{Viewer as SpecViewer, read_decision, visible_attributes as seen_attributes, viewer_of};
 ghost use Rattle.scim_view.specs.Groups.{and_those};
-ghost use Rattle.scim_query.specs.Pagers.{HasTaken};
+ghost use Rattle.scim_query.specs.Pagers.{HasTaken, query_of};
 ghost use Rattle.scim_search.specs.ReadDecisions.{AreFor};
 ghost use Rattle.scim_search.specs.ViewBuilders as spec;
 
@@ -81,7 +81,7 @@ impl<'a> ViewBuilder<'a> {
         resource: &Resource,
         pager: &mut Pager<'_>,
     ) -> Result<bool, NoMemory>
-        ensures query { pager.new.query ≡ pager.old.query }
+        ensures query { query_of pager.new ≡ query_of pager.old }
         ensures taken { OnOk result ((groups parts : List Content)
             → spec.IsViewBuilder groups self.now
             → AreFor (viewer_of self.now.viewer.now) resource.now decisions.now
@@ -109,7 +109,7 @@ fn show_named(
     resource: &Resource,
     pager: &mut Pager<'_>,
 ) -> Result<bool, NoMemory>
-    ensures query { pager.new.query ≡ pager.old.query }
+    ensures query { query_of pager.new ≡ query_of pager.old }
     ensures taken { OnOk result ((v : SpecViewer) (parts : List Content)
         → AreFor v resource.now decisions.now → HasTaken parts pager.old
         → HasTaken (parts ++ and_those
@@ -125,7 +125,7 @@ fn show_named(
 
 /// Gives a pager a whole part, if there is one. Always returns false: the decisions aren't needed again.
 fn show_if_seen(part: Option<Part>, pager: &mut Pager<'_>) -> Result<bool, NoMemory>
-    ensures query { pager.new.query ≡ pager.old.query }
+    ensures query { query_of pager.new ≡ query_of pager.old }
     ensures taken { OnOk result ((parts : List Content) → HasTaken parts pager.old
         → HasTaken (parts ++ and_those part []) pager.new) }
 {

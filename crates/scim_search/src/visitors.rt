@@ -5,7 +5,7 @@ ghost use Rattle.scim_cell.specs.Content.{Content};
 ghost use Rattle.scim_view.specs.Indexes.{IsIndexOf};
 ghost use Rattle.scim_view.specs.View.{Viewer as SpecViewer, viewer_of};
 ghost use Rattle.scim_query.specs.Pages.{IsPage};
-ghost use Rattle.scim_query.specs.Pagers.{HasTaken, ComeInOrder};
+ghost use Rattle.scim_query.specs.Pagers.{HasTaken, ComeInOrder, query_of};
 ghost use Rattle.scim_search.specs.ReadDecisions.{AreDecisions};
 ghost use Rattle.scim_view.specs.Listings.{AreListing};
 ghost use Rattle.scim_search.specs.Decided.{Recalls};
@@ -156,7 +156,7 @@ impl<'a> SearchVisitor<'a> {
         query: &'a Query,
     ) -> SearchVisitor<'a>
         ensures builder { result.builder ≡ builder.entry }
-        ensures query { result.pager.query ≡ query.entry }
+        ensures query { query_of result.pager ≡ query.entry }
         ensures taken { HasTaken [] result.pager }
         ensures decided { (v : SpecViewer) (kind : SpecKind) (cs : List Content)
             → Recalls v kind cs result.decided }
@@ -172,8 +172,8 @@ impl<'a> SearchVisitor<'a> {
     pub(crate) fn end(self) -> Result<Found, NoMemory>
         ensures page { IfOk result (λ found. (parts : List Content)
             → HasTaken parts self.entry.pager
-            → ComeInOrder self.entry.pager.query.now parts
-            → IsPage parts self.entry.pager.query.now found.page) }
+            → ComeInOrder (query_of self.entry.pager).now parts
+            → IsPage parts (query_of self.entry.pager).now found.page) }
         ensures decided { IfOk result (λ found. found.decided ≡ self.entry.decided) }
     {
         let page = self.pager.end()?;

@@ -131,7 +131,7 @@ fn refusal_to_make<S: Shelf>(
     Ok(None)
 }
 
-/// What is to be done for a request to make this resource, which the policy allows by the rule.
+/// Plans a create of this resource, which the policy allows by the rule.
 fn plan_if_free<S: Shelf>(
     alloc: Global,
     viewer: &Viewer<'_>,

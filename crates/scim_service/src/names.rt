@@ -49,7 +49,7 @@ fn any_taken<S: Shelf>(
     }
 }
 
-/// Whether a resource, be it seen or not, but for the one of the id has a unique name of this one.
+/// Whether a resource, seen or not, other than the one with the id has a unique name of this one.
 pub(crate) fn has_taken_name<S: Shelf>(
     alloc: Global,
     shelf: &mut S,

@@ -159,7 +159,7 @@ fn plan_allowed<S: Shelf>(
     }
 }
 
-/// What is to be done for a request to replace a resource that the client sees.
+/// Plans a PUT to a resource that the client sees.
 #[tactic(auto, unfolding(crate::specs::Step::replacement_plan))]
 fn plan_seen<S: Shelf>(
     alloc: Global,

@@ -1,5 +1,5 @@
 -- The state of a shelf that caches the resources of another.
-use Rattle.std.specs.Prelude.{List, Option, IfSome, IsSome}
+use Rattle.std.specs.Prelude.{◌≡◌, List, Option, IfSome, IsSome}
 use Rattle.scim_cell.specs.Content.{Content}
 use Rattle.scim_shelf.specs.declared.collections.Collection.{Collection}
 use Rattle.scim_shelf.specs.Stores.{Store, AreKeyed}
@@ -17,3 +17,15 @@ HasKeyed Stands shelf store = Stands shelf store × AreKeyed store.resources
 -- The cache is filled.
 abbrev pub IsFilled : {S : Type 0} → CachedShelf S → Type 0
 IsFilled shelf = IsSome shelf.resources
+
+-- The shelf below the cache.
+abbrev pub lower_of : {S : Type 0} → CachedShelf S → S
+lower_of shelf = shelf.lower
+
+-- The cached shelf over another shelf below.
+abbrev pub with_lower : {S : Type 0} → CachedShelf S → S → CachedShelf S
+with_lower shelf lower = record shelf { lower = lower }
+
+-- The cache is as before.
+abbrev pub KeepsCache : {S : Type 0} → CachedShelf S → CachedShelf S → Type 0
+KeepsCache old new = new.resources ≡ old.resources

@@ -4,7 +4,7 @@ ghost use Rattle.std.specs.Borrow.{Lends, sem};
 ghost use Rattle.scim_shelf.specs.contracts.caches.CachedShelf.{the_row};
 ghost use Rattle.scim_shelf.specs.Stores.{Store, CanKeep, changed};
 ghost use Rattle.scim_shelf.specs.Shelves.{OnlyReads};
-ghost use Rattle.scim_shelf.specs.Caches.{AreThose, HasKeyed, IsFilled};
+ghost use Rattle.scim_shelf.specs.Caches.{AreThose, HasKeyed, IsFilled, KeepsCache, lower_of, with_lower};
 
 use crate::changes::Change;
 use crate::collections::Collection;
@@ -37,7 +37,7 @@ pub struct CachedShelf<S> {
 impl<S: Shelf> CachedShelf<S> {
     /// Returns a shelf over another, with an empty cache.
     pub fn over(lower: S) -> CachedShelf<S>
-        ensures lower { result.lower ≡ lower }
+        ensures lower { lower_of result ≡ lower }
         ensures stands { (store : Store) → S.stands lower store
             → ⟦<CachedShelf<S> as Shelf>⟧.stands result store }
     {
@@ -54,7 +54,7 @@ impl<S: Shelf> CachedShelf<S> {
     /// was empty, reads still go to the shelf below, so a caller may go on after NoMemory.
     pub fn fill(&mut self, alloc: Global) -> Result<(), Failed<ShelfFault>>
         ensures filled { OnOk result (IsFilled self.new) }
-        ensures kept { OnErr result (self.new.resources ≡ self.old.resources) }
+        ensures kept { OnErr result (KeepsCache self.old self.new) }
         ensures read { OnlyReads (HasKeyed ⟦<CachedShelf<S> as Shelf>⟧.stands)
             ⟦<CachedShelf<S> as Shelf>⟧.is_honest ⟦<CachedShelf<S> as Shelf>⟧.failures
             self.old self.new result }
@@ -75,23 +75,22 @@ impl<S: Shelf> CachedShelf<S> {
     /// change that is made through this reference: it counts as a write by others.
     pub fn lower_mut(&mut self) -> &mut S
         ensures* writes_back { sem 𝓛
-            (Lends (the_row S.row) S.row self.entry result (λ lower.
-            record self.old { lower = lower })) }
-        ensures shows { result.now ≡ self.old.lower }
+            (Lends (the_row S.row) S.row self.entry result (λ lower. with_lower self.old lower)) }
+        ensures shows { result.now ≡ lower_of self.old }
     {
         &mut self.lower
     }
 
     /// Returns the shelf below, which has all committed changes.
     pub fn into_lower(self) -> S
-        ensures { result ≡ self.lower }
+        ensures { result ≡ lower_of self }
     {
         let CachedShelf { lower, .. } = self;
         lower
     }
 }
 
-/// The resources in memory after a change; None where memory was wanting for it.
+/// Returns the cache after a change; None if memory ran out for it.
 fn follow(alloc: Global, resources: Option<Collection>, change: Change) -> Option<Collection>
     ensures { (store : Store) → AreThose store.resources resources → CanKeep store change
         → AreThose (changed change store.resources) result }
