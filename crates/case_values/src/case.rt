@@ -24,7 +24,7 @@ impl Case<'_> {
         }
     }
 
-    /// Returns the value of this case as a case.
+    /// Returns a case whose arguments are the members of `value`.
     pub fn inner<'b>(&'b self, value: &'b Argument) -> Case<'b> {
         Case {
             alloc: self.alloc,

@@ -1,7 +1,7 @@
 -- The methods that endpoints allow (RFC 7644 section 3.2).
 use Rattle.std.specs.Prelude.{ℕ, List, codes}
-use Rattle.scim_audit.specs.declared.methods.Methods.{Methods}
-use Rattle.scim_audit.specs.declared.methods.Methods.TheVariants.{Collection, Search, Resource, Discovery}
+use Rattle.scim_audit.specs.declared.allowed_methods.Methods.{Methods}
+use Rattle.scim_audit.specs.declared.allowed_methods.Methods.TheVariants.{Collection, Search, Resource, Discovery}
 
 -- the methods as in the header `Allow` (RFC 9110 section 10.2.1)
 abbrev pub allow_text : Methods → List ℕ

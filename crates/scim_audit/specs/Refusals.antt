@@ -3,7 +3,7 @@ use Rattle.std.specs.Prelude.{ℕ, Bool, true, false, List, [], ◌∷◌, ◌++
 use Rattle.http.specs.StatusCode.{code_digits}
 use Rattle.scim_audit.specs.declared.refusals.Refusal.{Refusal}
 use Rattle.scim_audit.specs.declared.refusals.Refusal.TheVariants.{BadHead, TooLarge, BadFraming, UnknownCoding, NoRoute, NotSupported, BadMethod, NoToken, Syntax, Filter, Path, MessageValue, NotFound, Denied, Mutability, NoTarget, ResultValue, Taken, Widens, IdInUse, Store}
-use Rattle.scim_audit.specs.declared.methods.Methods.TheVariants.{Collection}
+use Rattle.scim_audit.specs.declared.allowed_methods.Methods.TheVariants.{Collection}
 use Rattle.scim_audit.specs.Methods.{allow_text}
 
 -- the number of a refusal, in the order of the checks

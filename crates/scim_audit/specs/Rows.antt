@@ -8,9 +8,9 @@ use Rattle.scim_schema.specs.Names.{attribute_name, sub_attribute_name, op_name,
 use Rattle.scim_text.specs.Moments.{moment_text}
 use Rattle.scim_cell.specs.Ids.{id_text}
 use Rattle.scim_audit.specs.declared.refusals.Refusal.{Refusal}
-use Rattle.scim_audit.specs.declared.rows.Decided.{Decided}
-use Rattle.scim_audit.specs.declared.rows.Decided.TheVariants.{Allow, Deny, Hidden, Absent, Refused}
-use Rattle.scim_audit.specs.declared.rows.AuditRow.{AuditRow}
+use Rattle.scim_audit.specs.declared.audit_rows.Decided.{Decided}
+use Rattle.scim_audit.specs.declared.audit_rows.Decided.TheVariants.{Allow, Deny, Hidden, Absent, Refused}
+use Rattle.scim_audit.specs.declared.audit_rows.AuditRow.{AuditRow}
 use Rattle.scim_audit.specs.Refusals.{number_of}
 
 -- all decisions

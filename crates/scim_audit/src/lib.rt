@@ -2,10 +2,10 @@
 //! lines.
 #![tactic(auto)]
 
-mod methods;
+mod allowed_methods;
+mod audit_rows;
 mod refusals;
-mod rows;
 
-pub use methods::Methods;
+pub use allowed_methods::Methods;
+pub use audit_rows::{AuditRow, Decided, leaf_path, print_row};
 pub use refusals::Refusal;
-pub use rows::{AuditRow, Decided, leaf_path, print_row};

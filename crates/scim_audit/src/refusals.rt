@@ -3,7 +3,7 @@ ghost use Rattle.std.specs.Prelude.{◌≡◌};
 ghost use Rattle.std.specs.Option.{option_copied};
 ghost use Rattle.scim_audit.specs.Refusals as spec;
 
-use crate::methods::Methods;
+use crate::allowed_methods::Methods;
 
 /// The reason why a request is refused. The checks are made in this order.
 #[derive(Clone, Copy, Debug, PartialEq, Eq)]

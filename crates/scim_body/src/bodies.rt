@@ -12,11 +12,11 @@ ghost use Rattle.scim_body.specs.Bodies.{GivesDraft};
 ghost use Rattle.scim_body.specs.Drafts as drafts;
 ghost use Rattle.scim_body.specs.Given.{AreOfBody, with_given, unit_given, units_given, members_or_none};
 
-use crate::clashes::body_clashes;
 use crate::drafts::{Draft, UseFor};
-use crate::members::given_named;
-use crate::reading::NotJson;
-use crate::required::lacks_required;
+use crate::json_reading::NotJson;
+use crate::object_members::given_named;
+use crate::repeated_keys::body_clashes;
+use crate::required_attributes::lacks_required;
 use crate::trees::{Member, Tree};
 use crate::values::{WrongValue, read_atom, read_fields, read_values};
 use json::Scratch;

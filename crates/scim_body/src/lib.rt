@@ -5,20 +5,20 @@
 #![tactic(auto)]
 
 mod bodies;
-mod clashes;
 mod drafts;
-mod members;
-mod numbers;
-mod reading;
-mod required;
+mod json_numbers;
+mod json_reading;
+mod object_members;
+mod repeated_keys;
+mod required_attributes;
 mod trees;
 mod values;
 
 pub use bodies::{BodyFault, UnitGiven, field_given, read_body, read_units};
-pub use clashes::{value_clashes, values_clash};
 pub use drafts::{Draft, UseFor};
-pub use members::{given_named, is_absent, is_twice, value_named};
-pub use reading::NotJson;
-pub use required::lacks_required;
+pub use json_reading::NotJson;
+pub use object_members::{given_named, is_absent, is_twice, value_named};
+pub use repeated_keys::{value_clashes, values_clash};
+pub use required_attributes::lacks_required;
 pub use trees::{Member, Tree};
 pub use values::{WrongValue, read_field, read_fields, read_listed};

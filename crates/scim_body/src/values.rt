@@ -9,7 +9,7 @@ ghost use Rattle.scim_cell.specs.SameValues.{is_nameless};
 ghost use Rattle.scim_body.specs.BodyValues as spec;
 ghost use Rattle.scim_body.specs.Given.{after};
 
-use crate::members::{given_named, is_absent};
+use crate::object_members::{given_named, is_absent};
 use crate::trees::{Member, Tree};
 use scim_cell::{Atom, Field, Row, is_nameless, sub_attributes_by_place, with_values};
 use scim_json::atom_of;

@@ -18,7 +18,7 @@ ghost use Rattle.scim_service.specs.Setting.{service_base, service_policy, servi
 use crate::answers::{refusal_text, reply_text};
 use crate::faults::RunFault;
 use crate::inputs::{InputFault, read_first};
-use crate::services::service_over;
+use crate::memory_services::service_over;
 use crate::writing::write_or_fault;
 use scim_audit::Refusal;
 use scim_cell::{Id, id_of};

@@ -13,9 +13,9 @@ use Rattle.scim_text.specs.Moments.{moment_text}
 use Rattle.scim_cell.specs.Ids.{id_text}
 use Rattle.scim_audit.specs.declared.refusals.Refusal.{Refusal}
 use Rattle.scim_audit.specs.declared.refusals.Refusal.TheVariants.{BadHead, TooLarge, BadFraming, UnknownCoding, NoRoute, NotSupported, BadMethod, NoToken, Syntax, Filter, Path, MessageValue, NotFound, Denied, Mutability, NoTarget, ResultValue, Taken, Widens, IdInUse, Store as NoStore}
-use Rattle.scim_audit.specs.declared.rows.Decided.{Decided}
-use Rattle.scim_audit.specs.declared.rows.Decided.TheVariants.{Allow, Deny, Hidden, Absent, Refused}
-use Rattle.scim_audit.specs.declared.rows.AuditRow.{AuditRow}
+use Rattle.scim_audit.specs.declared.audit_rows.Decided.{Decided}
+use Rattle.scim_audit.specs.declared.audit_rows.Decided.TheVariants.{Allow, Deny, Hidden, Absent, Refused}
+use Rattle.scim_audit.specs.declared.audit_rows.AuditRow.{AuditRow}
 use Rattle.scim_audit.specs.Rows.{decided_name, no_word, leaf_path, refusal_mark, rule_word, refusal_word, row_words, row_line}
 use Rattle.scim_shelf.specs.Stores.{Store}
 use Rattle.scim_store_tables.specs.Audit.{number, last_number}

@@ -1,6 +1,6 @@
 -- The text that `audit` writes for a store.
 use Rattle.std.specs.Prelude.{ℕ, ◌+◌, ◌-◌, max, List, [], ◌∷◌, ◌++◌, take, drop, codes}
-use Rattle.scim_audit.specs.declared.rows.AuditRow.{AuditRow}
+use Rattle.scim_audit.specs.declared.audit_rows.AuditRow.{AuditRow}
 use Rattle.scim_audit.specs.Rows.{row_line}
 
 -- the lines of audit rows, numbered from the given number; each line ends with a line feed

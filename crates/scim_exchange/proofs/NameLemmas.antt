@@ -5,7 +5,7 @@ use Rattle.std.specs.List.{list_any}
 use denote.Ref.{Bor}
 use Rattle.scim_schema.specs.declared.Kind.{Kind}
 use Rattle.scim_schema.specs.declared.Leaf.{Leaf}
-use Rattle.scim_view.specs.declared.names.Names.{Names}
+use Rattle.scim_view.specs.declared.attribute_lists.Names.{Names}
 use Rattle.scim_view.specs.Names.{includes, names_leaf}
 use Rattle.scim_exchange.specs.AttributeLists.{AreNames}
 

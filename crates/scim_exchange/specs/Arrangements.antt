@@ -6,7 +6,7 @@ use Rattle.scim_text.specs.Names.{is_same_name}
 use Rattle.scim_audit.specs.declared.refusals.Refusal.{Refusal}
 use Rattle.scim_audit.specs.declared.refusals.Refusal.TheVariants.{MessageValue}
 use Rattle.scim_query.specs.SortKeys.{sort_leaf}
-use Rattle.scim_exchange.specs.declared.arrangements.Arrangement.{Arrangement}
+use Rattle.scim_exchange.specs.declared.paging.Arrangement.{Arrangement}
 use Rattle.scim_exchange.specs.Refused.{◌>>=◌}
 
 -- whether the order is descending, by `sortOrder` in any ASCII case; ascending if it isn't given (RFC 7644

@@ -6,7 +6,7 @@ use Rattle.scim_schema.specs.declared.Kind.{Kind}
 use Rattle.scim_schema.specs.declared.Leaf.{Leaf}
 use Rattle.scim_audit.specs.declared.refusals.Refusal.{Refusal}
 use Rattle.scim_audit.specs.declared.refusals.Refusal.TheVariants.{MessageValue}
-use Rattle.scim_view.specs.declared.names.Names.{Names}
+use Rattle.scim_view.specs.declared.attribute_lists.Names.{Names}
 use Rattle.scim_view.specs.declared.projection.Wanted.{Wanted}
 use Rattle.scim_view.specs.declared.projection.Wanted.TheVariants.{Default, Only, Without}
 use Rattle.scim_view.specs.Names.{names_leaf, includes}

@@ -6,8 +6,8 @@ use Rattle.scim_schema.specs.declared.Kind.{Kind}
 use Rattle.scim_audit.specs.declared.refusals.Refusal.{Refusal}
 use Rattle.scim_audit.specs.declared.refusals.Refusal.TheVariants.{MessageValue}
 use Rattle.scim_filter_grammar.specs.Literals.{is_integer}
-use Rattle.scim_route.specs.declared.parameters.Parameters.{Parameters}
-use Rattle.scim_exchange.specs.declared.arrangements.Arrangement.{Arrangement}
+use Rattle.scim_route.specs.declared.query_parameters.Parameters.{Parameters}
+use Rattle.scim_exchange.specs.declared.paging.Arrangement.{Arrangement}
 use Rattle.scim_exchange.specs.Refused.{◌>>=◌}
 use Rattle.scim_exchange.specs.AttributeLists.{Lists}
 use Rattle.scim_exchange.specs.Arrangements.{arranged}

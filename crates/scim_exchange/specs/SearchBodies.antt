@@ -10,7 +10,7 @@ use Rattle.scim_audit.specs.declared.refusals.Refusal.{Refusal}
 use Rattle.scim_audit.specs.declared.refusals.Refusal.TheVariants.{Syntax, MessageValue}
 use Rattle.scim_body.specs.BodyNames.{is_twice, listed}
 use Rattle.scim_body.specs.BodyValues.{collected, if_given, given_named, is_absent}
-use Rattle.scim_exchange.specs.declared.arrangements.Arrangement.{Arrangement}
+use Rattle.scim_exchange.specs.declared.paging.Arrangement.{Arrangement}
 use Rattle.scim_exchange.specs.Refused.{◌>>=◌}
 use Rattle.scim_exchange.specs.AttributeLists.{Lists}
 use Rattle.scim_exchange.specs.Arrangements.{arranged}

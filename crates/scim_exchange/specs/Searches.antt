@@ -7,7 +7,7 @@ use Rattle.scim_audit.specs.declared.refusals.Refusal.TheVariants.{Filter}
 use Rattle.scim_filter_grammar.specs.Tree.{Tree, tree_of}
 use Rattle.scim_filter_grammar.specs.Spelled.{filter_in}
 use Rattle.scim_query.specs.declared.queries.Query.{Query}
-use Rattle.scim_exchange.specs.declared.arrangements.Arrangement.{Arrangement}
+use Rattle.scim_exchange.specs.declared.paging.Arrangement.{Arrangement}
 use Rattle.scim_exchange.specs.Refused.{◌>>=◌}
 use Rattle.scim_exchange.specs.AttributeLists.{Lists, one_of, Wants}
 

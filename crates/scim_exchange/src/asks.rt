@@ -38,7 +38,7 @@ fn wanted_of(alloc: Global, kind: Kind, parameters: &Parameters) -> Result<Wante
     wanted_by(alloc, kind, &lists)
 }
 
-/// Returns the attributes that the client wants by the query string's attribute lists.
+/// Returns the attributes that the client asks for in the attribute lists of the query string.
 ///
 /// MessageValue if both lists are given.
 fn wanted_by_query(

@@ -3,10 +3,10 @@
 #![tactic(auto)]
 
 mod answers;
-mod arrangements;
 mod asks;
 mod attribute_lists;
 mod exchanges;
+mod paging;
 mod query_strings;
 mod replies;
 mod search_bodies;

@@ -7,8 +7,8 @@ ghost use Rattle.scim_exchange.specs.Searches.{IsQuery, sought};
 ghost use Rattle.scim_exchange.specs.QueryStrings as spec;
 ghost use Rattle.scim_exchange.specs.code.Views.{texts_in, lists_in, settings_in};
 
-use crate::arrangements::{Arrangement, arranged};
 use crate::attribute_lists::AttributeLists;
+use crate::paging::{Arrangement, arranged};
 use crate::searches::{Settings, filter_of, is_blank, query_of};
 use scim_audit::Refusal;
 use scim_cell::Text;

@@ -13,8 +13,8 @@ ghost use Rattle.scim_exchange.specs.Searches.{IsQuery, sought, sought_of};
 ghost use Rattle.scim_exchange.specs.SearchBodies as spec;
 ghost use Rattle.scim_exchange.specs.code.Views.{texts_in, lists_in, settings_in, IsWrong};
 
-use crate::arrangements::{Arrangement, arranged};
 use crate::attribute_lists::AttributeLists;
+use crate::paging::{Arrangement, arranged};
 use crate::searches::{Settings, filter_of, query_of};
 use json::Scratch;
 use scim_audit::Refusal;

@@ -9,8 +9,8 @@ ghost use Rattle.scim_exchange.specs.Refused.{Tells};
 ghost use Rattle.scim_exchange.specs.Searches as spec;
 ghost use Rattle.scim_exchange.specs.code.Views.{settings_in};
 
-use crate::arrangements::Arrangement;
 use crate::attribute_lists::{AttributeLists, wanted_by};
+use crate::paging::Arrangement;
 use scim_audit::Refusal;
 use scim_filter_grammar::{Filter, read_filter};
 use scim_query::Query;

@@ -5,14 +5,14 @@
 //! Cases: `crates/cases/data/explain.jsonl`.
 #![tactic(auto)]
 
+mod decision_table;
 mod explanations;
-mod idle;
+mod idle_rules;
 mod laws;
-mod tables;
 mod texts;
 
+pub use decision_table::table;
 pub use explanations::{Explanation, explain};
-pub use idle::{IdleRule, idle_rules, print_idle_rules};
+pub use idle_rules::{IdleRule, idle_rules, print_idle_rules};
 pub use laws::{each_earlier_rule_has_its_misfit, idle_rules_never_decide};
-pub use tables::table;
 pub use texts::{effect_word, print, rule_line};

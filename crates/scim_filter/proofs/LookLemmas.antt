@@ -12,8 +12,8 @@ use Rattle.scim_schema.specs.declared.Unit.{Unit as AttributeUnit}
 use Rattle.scim_schema.specs.contracts.Attribute.{the_type as the_attribute}
 use Rattle.scim_cell.specs.declared.rows.Field.{Field}
 use Rattle.scim_cell.specs.Rows.{Row, Test, attribute_rows, is_empty, has_fields, restricted_row, restricted}
-use Rattle.scim_filter.specs.declared.looks.Look.{Look}
-use Rattle.scim_filter.specs.declared.looks.Look.TheVariants.{Everything, Admitted}
+use Rattle.scim_filter.specs.declared.visible_rows.Look.{Look}
+use Rattle.scim_filter.specs.declared.visible_rows.Look.TheVariants.{Everything, Admitted}
 use Rattle.scim_filter.specs.Truth.{some_cell, some_atom}
 use Rattle.scim_filter.specs.code.Looks.{admitted, stays, looked}
 

@@ -4,7 +4,7 @@ use Rattle.std.specs.List.{starts_with, ends_with}
 use Rattle.std.specs.declared.cmp.Ordering.{Ordering}
 use Rattle.std.specs.Ordering.{ordering_then, nat_cmp, int_cmp, bool_cmp, is_eq, is_lt, is_gt, is_le, is_ge}
 use Rattle.std.specs.Cmp.Lexicographic.{slice_cmp}
-use Rattle.scim_text.specs.declared.readings.Reading.{Reading}
+use Rattle.scim_text.specs.declared.moment_readings.Reading.{Reading}
 use Rattle.scim_text.specs.Names.{folded}
 use Rattle.scim_cell.specs.declared.atoms.Atom.{Atom}
 use Rattle.scim_cell.specs.declared.atoms.Atom.TheVariants as atom

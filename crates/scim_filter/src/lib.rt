@@ -3,8 +3,8 @@
 //! Cases: `crates/cases/data/filter_truth.jsonl` and `filter_examples.jsonl`.
 #![tactic(auto)]
 
-mod looks;
-mod relation;
+mod comparisons;
 mod truth;
+mod visible_rows;
 
 pub use truth::{holds, holds_at, holds_of, holds_where};

@@ -10,8 +10,8 @@ ghost use Rattle.scim_filter.specs.Truth as spec;
 ghost use Rattle.scim_filter.specs.code.Cells.{rows_in};
 ghost use Rattle.scim_filter.specs.code.Looks.{admitted, looked};
 
-use crate::looks::{Look, NoTest};
-use crate::relation::atom_stands;
+use crate::comparisons::atom_stands;
+use crate::visible_rows::{Look, NoTest};
 use scim_cell::{Row, RowTest};
 use scim_filter_grammar::{Filter, Literal, Meant, Node, Operator};
 use scim_schema::{Attribute, Leaf, is_case_exact, is_multi_valued};

@@ -7,24 +7,24 @@
 mod attribute_paths;
 mod bytes;
 mod faults;
+mod filter_reading;
 mod laws;
 mod literals;
 mod mentions;
-mod names;
-mod reading;
 mod string_literals;
 mod tokens;
 mod tree;
 mod types;
+mod whole_paths;
 mod written_paths;
 
-pub use attribute_paths::{attribute_path, lone_word};
 pub use faults::FilterFault;
+pub use filter_reading::read_filter;
 pub use laws::{filters_are_spelled, one_path_is_spelled, paths_are_spelled};
 pub use mentions::{Named, knows_names, mentioned_names};
-pub use reading::read_filter;
 pub use string_literals::StringLiteral;
 pub use tokens::{Token, read_tokens};
 pub use tree::{AttributePath, Filter, Literal, Meant, Node, Operator};
 pub use types::truth_of;
+pub use whole_paths::{attribute_path, lone_word};
 pub use written_paths::{WrittenPath, written_path};

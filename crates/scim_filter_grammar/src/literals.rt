@@ -36,7 +36,7 @@ fn integer(word: &[u8]) -> Option<i64>
 
 /// Reads a word as an integer.
 ///
-/// Syntax with `left` if it isn't one.
+/// Fails with `Syntax(left)` if it isn't one; `left` is the number of unread bytes.
 #[tactic(auto, unfolding(crate::specs::Reading::number_of))]
 fn number(word: &[u8], left: usize) -> Result<Literal, Failed<ReadError>>
     ensures { Gives (λ x. x) result (number_of word.now) }
@@ -49,7 +49,7 @@ fn number(word: &[u8], left: usize) -> Result<Literal, Failed<ReadError>>
 
 /// Reads a word as `true`, `false`, `null` or a number.
 ///
-/// Syntax with `left` if it is none of these.
+/// Fails with `Syntax(left)` if it is none of these; `left` is the number of unread bytes.
 #[tactic(auto, unfolding(crate::specs::Reading::word_literal))]
 fn one_word(word: &[u8], left: usize) -> Result<Literal, Failed<ReadError>>
     ensures { Gives (λ x. x) result (word_literal word.now) }
@@ -67,7 +67,7 @@ fn one_word(word: &[u8], left: usize) -> Result<Literal, Failed<ReadError>>
 
 /// Reads a JSON string.
 ///
-/// Syntax with `left` if it isn't one.
+/// Fails with `Syntax(left)` if it isn't one; `left` is the number of unread bytes.
 #[tactic(auto, unfolding(crate::specs::Reading::string_of))]
 fn unquoted(alloc: Global, string: &[u8], left: usize) -> Result<StringLiteral, Failed<ReadError>>
     ensures { Gives (λ t. t) result (string_of string.now) }

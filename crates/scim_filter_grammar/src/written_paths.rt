@@ -6,10 +6,10 @@ ghost use Rattle.scim_filter_grammar.specs.WrittenPaths.{Written, IsWritten, wri
 ghost use Rattle.scim_filter_grammar.specs.Tree.{tree_of};
 ghost use Rattle.scim_filter_grammar.specs.Bytes.{is_space, behind};
 
+use crate::attribute_paths::{name, path};
 use crate::bytes::{skip_spaces, split_word};
 use crate::faults::ReadError;
-use crate::names::{name, path};
-use crate::reading::listed;
+use crate::filter_reading::listed;
 use crate::tree::{AttributePath, Filter, Scope};
 use scim_cell::Text;
 use scim_schema::{Kind, LONGEST_FILTER};

@@ -15,7 +15,7 @@ ghost use Rattle.scim_json.specs.Documents.{AreResourcesBelow, IsDocumentsText, 
 ghost use Rattle.scim_json.specs.code.Taken.{Records};
 ghost use Rattle.scim_json.specs.code.Listed.{ReadsItem, ReadsItems};
 
-use crate::as_written::resource_with;
+use crate::fast_path::resource_with;
 use crate::faults::{Damaged, DamagedItem};
 use crate::reading::{parse, read_document, read_spelled};
 use json::{Error, Reader, Scratch, Token};

@@ -2,9 +2,9 @@
 //! reading (RFC 7643 sections 2.3, 3 and 8, RFC 7644 section 3).
 #![tactic(auto)]
 
-mod as_written;
 mod atoms;
 mod documents;
+mod fast_path;
 mod faults;
 mod laws;
 mod lists;

@@ -15,8 +15,8 @@ ghost use Rattle.scim_json.specs.PartData.{stored_data};
 ghost use Rattle.scim_json.specs.Found as spec;
 ghost use Rattle.scim_json.specs.Stored.{IsDocument, GivesStored};
 
-use crate::as_written::read_as_written;
 use crate::atoms::atom_of;
+use crate::fast_path::read_as_written;
 use crate::faults::Damaged;
 use crate::writing::stored_text;
 use scim_cell::{Atom, Cell, Id, sub_attributes_by_place};

@@ -238,7 +238,7 @@ fn single_atom(own: &[Row], leaf: Leaf) -> Option<&Atom>
     None
 }
 
-/// Writes the member of a simple attribute, if it has a cell.
+/// Writes the member of a simple attribute, if the part has a value of it.
 fn write_simple(
     alloc: Global,
     out: &mut Writer,

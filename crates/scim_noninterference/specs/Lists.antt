@@ -43,13 +43,13 @@ pub record Round : Type 0 where
   pub second : List Turn
   pub own : Turn
 
--- The first list: the first turns of each round, each time with the client's turn after them, and the turns
--- of others at the end.
+-- The first list: for each round its `first` turns, then the client's turn; after all rounds, the turns in
+-- `last`.
 abbrev pub first_list : List Round → List Turn → List Turn
 first_list rounds last = flat_map (λ (r : Round). r.first ++ r.own ∷ []) rounds ++ last
 
--- The second list: the second turns of each round, each time with the client's turn after them, and the turns
--- of others at the end.
+-- The second list: for each round its `second` turns, then the client's turn; after all rounds, the turns in
+-- `last`.
 abbrev pub second_list : List Round → List Turn → List Turn
 second_list rounds last = flat_map (λ (r : Round). r.second ++ r.own ∷ []) rounds ++ last
 

@@ -3,11 +3,11 @@
 
 mod faults;
 mod laws;
+mod message_readings;
 mod messages;
 mod operations;
 mod path_steps;
-mod readings;
-mod targets;
+mod path_targets;
 mod value_steps;
 
 pub use faults::PatchFault;

@@ -11,9 +11,9 @@ ghost use Rattle.scim_patch_message.specs.Readings.{both, joined, each_member};
 ghost use Rattle.scim_patch_message.specs.code.Inside.{read_of, answered};
 
 use crate::faults::PatchFault;
+use crate::message_readings::Reading;
 use crate::operations::Operation;
-use crate::readings::Reading;
-use crate::targets::{is_fixed_path, present, push_target, target_of};
+use crate::path_targets::{is_fixed_path, present, push_target, target_of};
 use json::Scratch;
 use scim_body::{Member, NotJson, Tree, given_named, is_twice, value_named};
 use scim_filter_grammar::{Meant, attribute_path};

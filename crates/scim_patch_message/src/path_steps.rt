@@ -11,8 +11,8 @@ ghost use Rattle.scim_patch_message.specs.Readings.{both, joined};
 ghost use Rattle.scim_patch_message.specs.code.Inside.{read_of};
 
 use crate::faults::PatchFault;
+use crate::message_readings::Reading;
 use crate::operations::Operation;
-use crate::readings::Reading;
 use scim_body::{Tree, WrongValue, read_listed, read_units, values_clash};
 use scim_cell::{Atom, Row, Text};
 use scim_patch_steps::StepChange;

@@ -10,8 +10,8 @@ ghost use Rattle.scim_patch_message.specs.Readings.{both};
 ghost use Rattle.scim_patch_message.specs.code.Inside.{read_of};
 
 use crate::faults::PatchFault;
+use crate::message_readings::Reading;
 use crate::operations::Operation;
-use crate::readings::Reading;
 use scim_body::{Tree, WrongValue, field_given, read_field, read_fields, value_clashes};
 use scim_filter_grammar::Filter;
 use scim_patch_steps::StepChange;

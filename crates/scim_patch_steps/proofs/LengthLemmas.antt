@@ -30,8 +30,8 @@ use Rattle.scim_patch_steps.specs.Steps.{is_forbidden, gives_two_primary, settle
 use Rattle.scim_patch_steps.specs.Patch.{Step, Pathless, Of, Patch, AreGivenValues, MayBeMade, IsStep, IsPatch, units_in, stepped, all_stepped, is_unseen_writing, changes}
 use Rattle.scim_patch_steps.specs.code.Touched.{is_other}
 use Rattle.scim_patch_steps.specs.code.Lengths.{is_told_by_length, unit_told_among}
-use Rattle.scim_patch_steps.specs.declared.touched.Before.{Before}
-use Rattle.scim_patch_steps.specs.declared.touched.Before.TheVariants.{Number, Rows}
+use Rattle.scim_patch_steps.specs.declared.touched_units.Before.{Before}
+use Rattle.scim_patch_steps.specs.declared.touched_units.Before.TheVariants.{Number, Rows}
 use Rattle.scim_patch_steps.specs.code.Before.{IsBefore, tells}
 use Rattle.scim_patch_steps.proofs.ApplyLemmas.{changes_same}
 use Rattle.scim_patch_steps.proofs.Outcomes.{not_refused}

@@ -14,7 +14,7 @@ ghost use Rattle.scim_patch_steps.specs.code.Outcomes.{rows_left};
 use crate::changes::StepChange;
 use crate::patches::{Patch, Step};
 use crate::steps::{StepFault, values_after};
-use crate::touched::{before_of, is_changed};
+use crate::touched_units::{before_of, is_changed};
 use scim_cell::{Row, compare_units};
 use scim_change::{Changed, modified_at};
 use scim_schema::{Kind, Unit};

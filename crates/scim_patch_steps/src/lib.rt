@@ -4,12 +4,12 @@
 mod applying;
 mod changes;
 mod laws;
+mod mutability;
 mod patches;
-mod permission;
-mod settling;
+mod primary_values;
+mod step_effects;
 mod steps;
-mod table;
-mod touched;
+mod touched_units;
 
 pub use applying::apply;
 pub use changes::StepChange;

@@ -6,9 +6,9 @@ ghost use Rattle.scim_patch_steps.specs.Steps as spec;
 ghost use Rattle.scim_patch_steps.specs.Steps.{rows_answered};
 
 use crate::changes::StepChange;
-use crate::permission::is_forbidden;
-use crate::settling::settle;
-use crate::table::row;
+use crate::mutability::is_forbidden;
+use crate::primary_values::settle;
+use crate::step_effects::row;
 use scim_cell::Row;
 use scim_patch_values::given_primary;
 use scim_schema::{Attribute, Kind, Unit};

@@ -5,10 +5,10 @@
 
 mod faults;
 mod laws;
+mod path_reading;
 mod paths;
-mod reading;
 
 pub use faults::PathFault;
 pub use laws::texts_name_one_thing;
+pub use path_reading::{extension_named, read_path};
 pub use paths::{Path, ValuePath};
-pub use reading::{extension_named, read_path};

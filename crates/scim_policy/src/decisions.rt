@@ -10,7 +10,7 @@ ghost use Rattle.scim_policy.specs.Table as table;
 ghost use Rattle.scim_policy.specs.code.Walk as walk;
 ghost use Rattle.scim_policy.specs.declared.rules.PolicyPath.{PolicyPath};
 
-use crate::fits::is_op;
+use crate::rule_fit::is_op;
 use crate::rules::{Decision, Policy, PolicyPath, Rule};
 use scim_schema::{Attribute, Kind, Leaf, Op, SubAttribute};
 use scim_text::{NoMemory, push};

@@ -9,9 +9,9 @@
 
 mod access;
 mod decisions;
-mod fits;
 mod laws;
 mod misfits;
+mod rule_fit;
 mod rules;
 mod rules_about;
 mod shared_decisions;

@@ -2,7 +2,7 @@
 ghost use Rattle.std.specs.Prelude.{◌≡◌, ◌≤◌, ◌-◌, IfOk, Some, length, not, is_some, option_map, slice_get};
 ghost use Rattle.scim_policy.specs.Decide as spec;
 
-use crate::fits::{covers, is_kind, is_named, is_op};
+use crate::rule_fit::{covers, is_kind, is_named, is_op};
 use crate::rules::{Policy, Rule};
 use scim_schema::{Leaf, Op};
 use scim_text::NoMemory;

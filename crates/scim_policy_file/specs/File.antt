@@ -160,7 +160,7 @@ parts_in d =
 unfoldable pub file_parts : Json → Option Parts
 file_parts d = option_and_then parts_in (object_of_only file_keys d)
 
--- the rules of a file, if its version is 1, which JSON spells in one way, and it has at most 1,000 rules
+-- the rules of a file with version 1, spelled `1`, and at most 1,000 rules; otherwise the fault
 abbrev pub rules_or_fault : Parts → Says (List Rule)
 rules_or_fault p =
     if is_same_text p.version (codes "1")

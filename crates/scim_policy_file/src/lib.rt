@@ -3,11 +3,12 @@
 //! Cases: `crates/cases/data/policy.jsonl` and `targets.jsonl`.
 #![tactic(auto)]
 
+mod client_names;
 mod faults;
-mod paths;
-mod reading;
-mod targets;
+mod policy_files;
+mod rule_paths;
+mod rule_targets;
 
+pub use client_names::is_client_name;
 pub use faults::{Cause, PolicyFault};
-pub use paths::is_client_name;
-pub use reading::read_policy;
+pub use policy_files::read_policy;

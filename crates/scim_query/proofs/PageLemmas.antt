@@ -8,7 +8,7 @@ use Rattle.std.proofs.lemmas.List.Sorted.{IsPermutation-map, All-permutation, le
 use Rattle.scim_schema.specs.declared.Leaf.{Leaf}
 use Rattle.scim_cell.specs.Content.{Content}
 use Rattle.scim_cell.specs.Rows.{rows}
-use Rattle.scim_query.specs.declared.entries.Entry.{Entry}
+use Rattle.scim_query.specs.declared.matching_entries.Entry.{Entry}
 use Rattle.scim_query.specs.declared.queries.Query.{Query}
 use Rattle.scim_query.specs.Keys.{key_by}
 use Rattle.scim_query.specs.Order.{rank_of, rank_cmp}

@@ -7,8 +7,8 @@ ghost use Rattle.scim_query.specs.Order.{rank_cmp};
 ghost use Rattle.scim_query.specs.Arranged.{placed};
 ghost use Rattle.scim_query.specs.code.Kept as code;
 
-use crate::keys::compare_ranks;
 use crate::queries::Query;
+use crate::sort_keys::compare_ranks;
 use scim_cell::{Atom, Id};
 use scim_text::NoMemory;
 use scim_value::Part;

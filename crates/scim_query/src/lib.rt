@@ -2,16 +2,16 @@
 #![tactic(auto)]
 
 mod client_searches;
-mod entries;
 mod kept_parts;
-mod keys;
 mod laws;
+mod matching_entries;
 mod named_attributes;
 mod needed_texts;
 mod pagers;
 mod possible_matches;
 mod queries;
 mod shown_pages;
+mod sort_by;
 mod sort_keys;
 
 pub use client_searches::search_view;
@@ -19,4 +19,4 @@ pub use laws::queries_have_one_page;
 pub use pagers::Pager;
 pub use queries::{Page, Query, search};
 pub use shown_pages::shown_page;
-pub use sort_keys::read_sort_by;
+pub use sort_by::read_sort_by;

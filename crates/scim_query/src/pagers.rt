@@ -5,10 +5,10 @@ ghost use Rattle.scim_query.specs.Pages.{IsPage};
 ghost use Rattle.scim_query.specs.Pagers as spec;
 ghost use Rattle.scim_query.specs.code.Kept as code;
 
-use crate::entries::{is_matching, is_matching_where};
 use crate::kept_parts::{KeptPart, parts_from, place_of, put_in_place};
-use crate::keys::{key_by, key_where};
+use crate::matching_entries::{is_matching, is_matching_where};
 use crate::queries::{Page, Query, first_position};
+use crate::sort_keys::{key_by, key_where};
 use scim_cell::RowTest;
 use scim_text::NoMemory;
 use scim_value::Part;

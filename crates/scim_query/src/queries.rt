@@ -2,7 +2,7 @@
 ghost use Rattle.std.specs.Prelude.{◌≡◌, IfOk};
 ghost use Rattle.scim_query.specs.Pages as spec;
 
-use crate::entries::{copy_parts, matching_entries, slice_of, sort_entries};
+use crate::matching_entries::{copy_parts, matching_entries, slice_of, sort_entries};
 use scim_filter_grammar::Filter;
 use scim_schema::Leaf;
 use scim_text::NoMemory;
@@ -14,7 +14,7 @@ use std::alloc::Global;
 pub struct Query {
     /// The filter that parts must match; None matches all.
     pub filter: Option<Filter>,
-    /// The leaf to sort by, as [`crate::sort_keys::read_sort_by`] returns it; None sorts by id.
+    /// The leaf to sort by, as [`crate::sort_by::read_sort_by`] returns it; None sorts by id.
     pub sort_by: Option<Leaf>,
     /// Whether the sort order is descending.
     pub descending: bool,

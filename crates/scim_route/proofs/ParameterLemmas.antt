@@ -3,7 +3,7 @@ use Rattle.std.proofs.Common.{◌≡◌, refl, ℕ, List, ◌∷◌}
 use Rattle.std.specs.Prelude.{codes, Option, None, Some}
 use Rattle.std.specs.Option.{option_or}
 use Rattle.scim_text.specs.Names.{is_same_name}
-use Rattle.scim_route.specs.declared.parameters.Parameters.{Parameters}
+use Rattle.scim_route.specs.declared.query_parameters.Parameters.{Parameters}
 use Rattle.scim_route.specs.Parameters.{first_named}
 use Rattle.scim_route.specs.code.Taken.{taken, with_pair, with_pairs}
 use Rattle.scim_route.proofs.PositionLemmas.{by_bool}

@@ -4,7 +4,7 @@ use Rattle.std.specs.Prelude.{◌↔◌, Option, None, Some, Ok, IsSome, IfSome}
 use Rattle.scim_schema.specs.declared.Kind.{Kind}
 use Rattle.scim_cell.specs.declared.ids.Id.{Id}
 use Rattle.scim_cell.specs.Ids.{IsId, IsIdText, id_text}
-use Rattle.scim_audit.specs.declared.methods.Methods.TheVariants.{Collection, Search, Resource}
+use Rattle.scim_audit.specs.declared.allowed_methods.Methods.TheVariants.{Collection, Search, Resource}
 use Rattle.scim_route.specs.declared.routes.Form.{Form}
 use Rattle.scim_route.specs.declared.routes.Route.{Route}
 use Rattle.scim_route.specs.declared.routes.Found.TheVariants.{Resource as FoundRoute}

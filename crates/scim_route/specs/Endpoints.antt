@@ -51,7 +51,7 @@ at_top name = collection_or (other_at_top name) (kind_below name)
 abbrev pub among : Kind → List ℕ → Place
 among kind text = if is text (codes ".search") then search kind else resource kind text
 
--- the endpoint at `/{name}/{text}` other than below the resources of a kind, or None
+-- the endpoint at `/{name}/{text}` where `name` isn't `Users` or `Groups`, or None
 abbrev pub other_below : List ℕ → List ℕ → Option Place
 other_below name text =
     if is name (codes "Me") then Some unsupported

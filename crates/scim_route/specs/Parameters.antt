@@ -4,7 +4,7 @@ use Rattle.std.specs.List.{find}
 use Rattle.std.specs.Str.Lossy.{utf8_lossy}
 use Rattle.form_urlencoded.specs.Form.{raw_pairs, decode}
 use Rattle.scim_text.specs.Names.{is_same_name}
-use Rattle.scim_route.specs.declared.parameters.Parameters.{Parameters}
+use Rattle.scim_route.specs.declared.query_parameters.Parameters.{Parameters}
 
 -- the decoded text of a name or a value of a form; bytes that aren't UTF-8 become U+FFFD
 abbrev pub decoded_text : List ℕ → List ℕ

@@ -5,8 +5,8 @@ use Rattle.scim_schema.specs.declared.Op.{Op}
 use Rattle.scim_schema.specs.declared.Op.TheVariants.{Read, Create as CreateOp, Modify, Delete}
 use Rattle.scim_cell.specs.declared.ids.Id.{Id}
 use Rattle.scim_cell.specs.Ids.{IsId, IsIdText, id_text}
-use Rattle.scim_audit.specs.declared.methods.Methods.{Methods}
-use Rattle.scim_audit.specs.declared.methods.Methods.TheVariants.{Collection, Search, Resource, Discovery}
+use Rattle.scim_audit.specs.declared.allowed_methods.Methods.{Methods}
+use Rattle.scim_audit.specs.declared.allowed_methods.Methods.TheVariants.{Collection, Search, Resource, Discovery}
 use Rattle.scim_audit.specs.declared.refusals.Refusal.{Refusal}
 use Rattle.scim_audit.specs.declared.refusals.Refusal.TheVariants.{NoRoute, NotSupported, BadMethod}
 use Rattle.scim_route.specs.declared.endpoints.DiscoveryPage.{DiscoveryPage}

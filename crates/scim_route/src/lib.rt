@@ -3,12 +3,12 @@
 #![tactic(auto)]
 
 mod endpoints;
-mod parameters;
+mod query_parameters;
+mod request_targets;
 mod route_table;
 mod routes;
-mod targets;
 
 pub use endpoints::DiscoveryPage;
-pub use parameters::Parameters;
+pub use query_parameters::Parameters;
 pub use route_table::Routes;
 pub use routes::{Form, Found, Route};

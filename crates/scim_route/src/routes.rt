@@ -8,8 +8,8 @@ ghost use Rattle.scim_route.specs.Routes.{IsIdOf, Finds, Says};
 ghost use Rattle.scim_route.specs.code.Places.{place_at};
 
 use crate::endpoints::{DiscoveryPage, Endpoint, endpoint_of};
+use crate::request_targets::{decoded, read_target};
 use crate::route_table::Routes;
-use crate::targets::{decoded, read_target};
 use scim_audit::{Methods, Refusal};
 use scim_cell::Id;
 use scim_schema::{Kind, Op};

@@ -4,16 +4,17 @@
 //! No function of this crate allocates or fails.
 #![tactic(auto)]
 
+mod attribute_lists;
 mod characteristic_names;
 mod characteristics;
 mod json_keys;
 mod limits;
 mod lookup;
 mod names;
-mod places;
 mod schemas;
-mod table;
+mod units;
 
+pub use attribute_lists::{attributes, has_leaf, leaves, sub_attributes, unique_leaves, units};
 pub use characteristics::{
     AttributeType, Characteristics, Mutability, Returned, Uniqueness, attribute_characteristics,
     characteristics_of, is_case_exact, is_multi_valued, is_read_only, is_write_only, mutability_of,
@@ -28,9 +29,8 @@ pub use limits::{
     MOST_VALUES, USUALLY_SHOWN,
 };
 pub use lookup::{attribute_named, attribute_named_in, sub_attribute_named};
-pub use places::unit_of;
 pub use schemas::{Schema, core_schema, extension_of, extensions, schema_of};
-pub use table::{attributes, has_leaf, leaves, sub_attributes, unique_leaves, units};
+pub use units::unit_of;
 
 /// A kind of resource, called resource type in RFC 7643 section 6.
 #[derive(Clone, Copy, Debug, PartialEq, Eq)]

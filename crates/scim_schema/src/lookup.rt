@@ -4,9 +4,9 @@ ghost use Rattle.std.specs.Prelude.{◌≡◌, ◌↔◌, Some};
 ghost use Rattle.scim_schema.specs.Names as names;
 ghost use Rattle.scim_schema.specs.Lookup as lookup;
 
+use crate::attribute_lists::{attributes, sub_attributes};
 use crate::names::is_same_name;
 use crate::schemas::{Schema, schema_of};
-use crate::table::{attributes, sub_attributes};
 use crate::{Attribute, Kind, Op, SubAttribute};
 
 /// Returns the attribute of the kind with this name, or None if the kind has no such attribute. The

@@ -7,7 +7,7 @@ use Rattle.scim_cell.specs.Equality.{is_same_id}
 use Rattle.scim_policy.specs.declared.decisions.Decisions.{Decisions}
 use Rattle.scim_view.specs.View.{Viewer}
 use Rattle.scim_shelf.specs.Stores.{is_at}
-use Rattle.scim_search.specs.declared.decided.Decided.{Decided}
+use Rattle.scim_search.specs.declared.decision_cache.Decided.{Decided}
 use Rattle.scim_search.specs.ReadDecisions.{AreFor}
 
 -- the decisions are those on the viewer's reading of the resource with this kind and id, if there is one

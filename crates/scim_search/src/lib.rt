@@ -2,8 +2,8 @@
 //! groups that make up a resource's `groups` (RFC 7643 section 4.1.2).
 #![tactic(auto)]
 
-mod beside;
-mod decided;
+mod decision_cache;
+mod groups_of_resource;
 mod lookups;
 mod pages;
 mod read_decisions;
@@ -12,5 +12,5 @@ mod visitors;
 mod walks;
 mod whole_items;
 
-pub use beside::groups_beside;
+pub use groups_of_resource::groups_beside;
 pub use pages::page_of_query;

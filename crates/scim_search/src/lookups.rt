@@ -12,7 +12,7 @@ ghost use Rattle.scim_shelf.specs.Shelves.{IsReadFrom, OnlyReads};
 ghost use Rattle.scim_shelf.specs.Stores.{has_name, is_at};
 ghost use Rattle.scim_search.specs.Lookups as spec;
 
-use crate::beside::view_beside;
+use crate::groups_of_resource::view_beside;
 use crate::visitors::ListingVisitor;
 use scim_cell::Id;
 use scim_filter_grammar::StringLiteral;

@@ -11,7 +11,7 @@ ghost use Rattle.scim_shelf.specs.Stores.{is_at};
 ghost use Rattle.scim_search.specs.Decided.{Recalls};
 ghost use Rattle.scim_search.specs.ReadDecisions.{AreDecisions};
 
-use crate::decided::Decided;
+use crate::decision_cache::Decided;
 use scim_policy::{Decisions, RulesAbout};
 use scim_query::Query;
 use scim_schema::{Attribute, Kind, Leaf, Op};

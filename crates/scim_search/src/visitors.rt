@@ -11,7 +11,7 @@ ghost use Rattle.scim_view.specs.Listings.{AreListing};
 ghost use Rattle.scim_search.specs.Decided.{Recalls};
 ghost use Rattle.scim_search.specs.Visits.{TakesGroup, TakesListing, TakesResource, Tells};
 
-use crate::decided::Decided;
+use crate::decision_cache::Decided;
 use crate::read_decisions::ReadDecisions;
 use crate::view_builders::ViewBuilder;
 use scim_query::{Page, Pager, Query};

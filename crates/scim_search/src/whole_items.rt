@@ -10,8 +10,8 @@ ghost use Rattle.scim_shelf.specs.Stores.{IsStore, is_at};
 ghost use Rattle.scim_search.specs.Visits.{Tells};
 ghost use Rattle.scim_search.specs.Walks as spec;
 
-use crate::beside::view_beside;
-use crate::decided::Decided;
+use crate::decision_cache::Decided;
+use crate::groups_of_resource::view_beside;
 use crate::read_decisions::ReadDecisions;
 use crate::visitors::ListingVisitor;
 use scim_schema::Kind;

@@ -8,7 +8,7 @@ use Rattle.std.proofs.lemmas.List.{append-nil, map-append}
 use Rattle.std.proofs.lemmas.Grind.{flat_map-append}
 use Rattle.scim_hub.specs.declared.events.Output.{Output}
 use Rattle.scim_hub.specs.HubStates.{output_of}
-use Rattle.scim_serve.specs.declared.waiting.Waiting.{Waiting}
+use Rattle.scim_serve.specs.declared.pending_bytes.Waiting.{Waiting}
 use Rattle.scim_serve.specs.Serving.{IsFront, text_to}
 use Rattle.scim_serve.specs.code.Waiting.{waiting_for, Becomes}
 use Rattle.scim_serve.specs.code.Levels.{Fits}

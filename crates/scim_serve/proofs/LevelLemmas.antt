@@ -6,7 +6,7 @@ use Rattle.std.proofs.lemmas.List.{append-nil}
 use Rattle.std.proofs.lemmas.Grind.{flat_map-append}
 use Rattle.scim_hub.specs.declared.events.HubFault.{HubFault}
 use Rattle.scim_hub.specs.Events.{HubOutput}
-use Rattle.scim_serve.specs.declared.waiting.Waiting.{Waiting}
+use Rattle.scim_serve.specs.declared.pending_bytes.Waiting.{Waiting}
 use Rattle.scim_serve.specs.Serving.{IsFront, due_for, due}
 use Rattle.scim_serve.specs.code.Waiting.{waiting_for, Becomes}
 use Rattle.scim_serve.specs.code.Levels.{Fits, Keeps, Grows, IsLevel, IsOnlyTo}

@@ -9,7 +9,7 @@ use Rattle.scim_shelf.specs.Stores.{Store}
 use Rattle.scim_hub.specs.declared.events.HubFault.{HubFault}
 use Rattle.scim_hub.specs.declared.events.Stamp.{Stamp}
 use Rattle.scim_hub.specs.Events.{HubEventKind, joining, sending, leaving, HubEvent, Connection, absent, joined, shut, HubState, HubOutput, Becomes, Joins, Leaves, Takes, Meets, Hears}
-use Rattle.scim_serve.specs.declared.waiting.Waiting.{Waiting}
+use Rattle.scim_serve.specs.declared.pending_bytes.Waiting.{Waiting}
 use Rattle.scim_serve.specs.Serving.{due_for, due, leaves_now, leaves, has_left}
 use Rattle.scim_serve.specs.code.Waiting.{waiting_for}
 use Rattle.scim_serve.specs.code.Levels.{Fits, IsLevel}

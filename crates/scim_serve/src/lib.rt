@@ -2,8 +2,8 @@
 #![tactic(auto)]
 
 mod peers;
+mod pending_bytes;
 mod serving;
-mod waiting;
 
 pub use peers::{PeerEvent, Peers, PeersFault};
 pub use serving::serve;

@@ -40,13 +40,13 @@ pub trait Peers {
     /// The events reported so far.
     ghost seen: { Self → List HubEvent };
 
-    /// The bytes that each connection has taken, by number.
+    /// The bytes that each connection has taken, by connection number.
     ghost written: { Self → ℕ → List ℕ };
 
-    /// Whether each connection is known to have taken all of the last offer, by number.
+    /// Whether each connection is known to have taken all of the last offer, by connection number.
     ghost takes_all: { Self → ℕ → Bool };
 
-    /// Whether each connection was closed by `close`, by number.
+    /// Whether each connection was closed by `close`, by connection number.
     ghost is_closed: { Self → ℕ → Bool };
 
     /// Whether the last call of `next` returned `None`.

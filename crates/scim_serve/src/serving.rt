@@ -13,7 +13,7 @@ ghost use Rattle.scim_serve.specs.code.Wholes.{AllTaken, StaysOpen, IsWhole};
 ghost use Rattle.scim_hub.specs.HubSetting.{hub_base, hub_policy, hub_shelf, hub_tokens, KeepsHubSetting};
 
 use crate::peers::{PeerEvent, Peers, PeersFault};
-use crate::waiting::Waiting;
+use crate::pending_bytes::Waiting;
 use scim_hub::{Hub, HubFault, Output, OwnedEvent, OwnedEventKind};
 use scim_shelf::Shelf;
 use scim_text::NoMemory;

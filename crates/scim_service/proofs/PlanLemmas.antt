@@ -7,8 +7,8 @@ use Rattle.scim_schema.specs.declared.Attribute.TheVariants.{Id}
 use Rattle.scim_schema.specs.Units.{simple}
 use Rattle.scim_cell.specs.Content.{Content}
 use Rattle.scim_cell.specs.Kinds.{of_kind}
-use Rattle.scim_audit.specs.declared.rows.AuditRow.{AuditRow}
-use Rattle.scim_audit.specs.declared.rows.Decided.TheVariants as decided
+use Rattle.scim_audit.specs.declared.audit_rows.AuditRow.{AuditRow}
+use Rattle.scim_audit.specs.declared.audit_rows.Decided.TheVariants as decided
 use Rattle.scim_json.specs.PartData.{part_data}
 use Rattle.scim_policy.specs.declared.rules.Decision.{Decision}
 use Rattle.scim_view.specs.declared.projection.Wanted.{Wanted}

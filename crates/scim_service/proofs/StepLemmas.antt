@@ -14,7 +14,7 @@ use Rattle.scim_cell.specs.Content.{Content}
 use Rattle.scim_cell.specs.Rows.{Row, rows, content}
 use Rattle.scim_value.specs.Resource.{IsResource, HasBase}
 use Rattle.scim_audit.specs.declared.refusals.Refusal.{Refusal}
-use Rattle.scim_audit.specs.declared.rows.AuditRow.{AuditRow}
+use Rattle.scim_audit.specs.declared.audit_rows.AuditRow.{AuditRow}
 use Rattle.scim_body.specs.Drafts.{Draft, lacks_required}
 use Rattle.scim_change.specs.Replace.{changes, with_units, modified_at, if_complete, replaced}
 use Rattle.scim_patch_steps.specs.declared.steps.StepFault.{StepFault}

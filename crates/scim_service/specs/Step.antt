@@ -19,9 +19,9 @@ use Rattle.scim_cell.specs.Kinds.{of_kind}
 use Rattle.scim_cell.specs.Rows.{rows}
 use Rattle.scim_audit.specs.declared.refusals.Refusal.{Refusal}
 use Rattle.scim_audit.specs.declared.refusals.Refusal.TheVariants.{MessageValue, NotFound, Denied, Mutability, NoTarget, ResultValue, Taken, Widens, IdInUse}
-use Rattle.scim_audit.specs.declared.rows.Decided.{Decided}
-use Rattle.scim_audit.specs.declared.rows.Decided.TheVariants as decided
-use Rattle.scim_audit.specs.declared.rows.AuditRow.{AuditRow}
+use Rattle.scim_audit.specs.declared.audit_rows.Decided.{Decided}
+use Rattle.scim_audit.specs.declared.audit_rows.Decided.TheVariants as decided
+use Rattle.scim_audit.specs.declared.audit_rows.AuditRow.{AuditRow}
 use Rattle.scim_value.specs.Resource.{location}
 use Rattle.scim_body.specs.declared.drafts.UseFor.TheVariants.{Creating}
 use Rattle.scim_body.specs.contracts.drafts.UseFor.{the_type as the_use_for}

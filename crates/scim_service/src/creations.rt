@@ -12,10 +12,10 @@ ghost use Rattle.scim_shelf.specs.Stores.{IsStore, is_used};
 ghost use Rattle.scim_service.specs.Step as spec;
 ghost use Rattle.scim_service.specs.code.Refusals.{IsRefusalToMake};
 
-use crate::names::has_taken_name;
 use crate::plans::{Finding, Plan, denied, kept_text, refused, row_of};
 use crate::replies::Reply;
 use crate::requests::Turn;
+use crate::taken_names::has_taken_name;
 use scim_audit::{Decided, Refusal};
 use scim_body::{Draft, UseFor};
 use scim_cell::{Id, Text};

@@ -2,16 +2,16 @@
 //! commits the plan, for one request or a list of them (RFC 7644 section 3).
 #![tactic(auto)]
 
-mod changed;
+mod changed_resources;
 mod creations;
-mod names;
 mod patches;
 mod plans;
-mod reached;
 mod replacements;
 mod replies;
 mod requests;
+mod seen_resources;
 mod service;
+mod taken_names;
 
 pub use replies::Reply;
 pub use requests::{Ask, Request, Turn, turn_is_sound};

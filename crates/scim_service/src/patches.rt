@@ -8,10 +8,10 @@ ghost use Rattle.scim_shelf.specs.Shelves.{IsReadFrom, OnlyReads};
 ghost use Rattle.scim_shelf.specs.Stores.{AreOf};
 ghost use Rattle.scim_service.specs.Step as spec;
 
-use crate::changed::plan_changed;
+use crate::changed_resources::plan_changed;
 use crate::plans::{Plan, denied, refused};
-use crate::reached::{Reached, reach};
 use crate::requests::Turn;
+use crate::seen_resources::{Reached, reach};
 use scim_audit::Refusal;
 use scim_patch_steps::{Patch, Step, StepFault, apply};
 use scim_policy::{Decision, Rights};

@@ -9,10 +9,10 @@ ghost use Rattle.scim_shelf.specs.Stores.{AreOf};
 ghost use Rattle.scim_service.specs.Step as spec;
 ghost use Rattle.scim_service.specs.code.Questions.{is_in_question};
 
-use crate::changed::plan_changed;
+use crate::changed_resources::plan_changed;
 use crate::plans::{Plan, denied, refused};
-use crate::reached::{Reached, reach};
 use crate::requests::Turn;
+use crate::seen_resources::{Reached, reach};
 use scim_audit::Refusal;
 use scim_body::Draft;
 use scim_change::{MissingRequired, agrees, replace};

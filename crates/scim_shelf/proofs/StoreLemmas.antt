@@ -14,7 +14,7 @@ use Rattle.scim_cell.specs.Content.{Content}
 use Rattle.scim_cell.specs.Order.{id_cmp}
 use Rattle.scim_value.specs.Resource.{IsResource, HasBase}
 use Rattle.scim_value.specs.Uniqueness.{AreApart}
-use Rattle.scim_audit.specs.declared.rows.AuditRow.{AuditRow}
+use Rattle.scim_audit.specs.declared.audit_rows.AuditRow.{AuditRow}
 use Rattle.scim_shelf.specs.declared.changes.Change.TheVariants.{Keep, Remove}
 use Rattle.scim_schema.specs.declared.Kind.{Kind}
 use Rattle.scim_shelf.specs.Stores.{Store, IsStore, AreKeyed, HasPlace, below, above, keep, without, after}

@@ -30,8 +30,8 @@ pub trait Visitor {
 
 /// A place where resources and audit rows are kept.
 ///
-/// Contracts say which store it stands for. That is a relation, not a function: a shelf whose device can't be
-/// read any more still stands for the store of its last commit.
+/// `stands` relates a shelf to the store that it represents. The store isn't computed by reading, so a shelf
+/// still stands for the store of its last commit if its device can't be read any more.
 pub trait Shelf {
     /// The shelf stands for this store.
     ghost stands: { Self → Store → Type 0 };

@@ -2,13 +2,11 @@
 ghost use Rattle.std.specs.Prelude.{◌≡◌, ◌<◌, ◌≤◌, ◌⊎◌, None, length};
 ghost use Rattle.scim_sockets.specs.Connections.{IsBehind, TakesNothing, IsUnread, FitsIn};
 
+use crate::time_limits::LINGER;
 use mio::net::TcpStream;
 use std::io::{ErrorKind, Read, Write};
 use std::net::Shutdown;
 use std::time::{Duration, Instant};
-
-/// The time in seconds that a client has to close its side after the server has shut the connection.
-const LINGER: u64 = 2;
 
 /// The progress of a connection with the bytes that it was last offered.
 #[derive(Clone, Copy, PartialEq, Eq)]

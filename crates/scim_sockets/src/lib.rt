@@ -4,6 +4,7 @@
 mod connection;
 mod sockets;
 mod stamps;
-mod turns;
+mod time_limits;
+mod turn_queue;
 
 pub use sockets::{CannotListen, Sockets};

@@ -5,7 +5,8 @@ ghost use Rattle.scim_sockets.specs.Connections.{FitsIn, AreAccepted, IsOver};
 
 use crate::connection::{Connection, Turn};
 use crate::stamps::stamp_now;
-use crate::turns::{LISTENER, Place, Turns};
+use crate::time_limits::{IDLE, WAIT, WATCH};
+use crate::turn_queue::{LISTENER, Place, Turns};
 use mio::net::{TcpListener, TcpStream};
 use mio::{Events, Interest, Poll, Token};
 use scim_hub::{OwnedEvent, OwnedEventKind};
@@ -25,15 +26,6 @@ const PIECE: usize = 4096;
 
 /// The maximum number of the system's reports per poll: one for the listener and for each connection.
 const REPORTS: usize = 1025;
-
-/// The time in milliseconds of a poll when no turn is queued.
-const WAIT: u64 = 250;
-
-/// The time in seconds between two searches for late connections.
-const WATCH: u64 = 1;
-
-/// The time in seconds after which an idle connection is closed.
-const IDLE: u64 = 60;
 
 /// The fault that the port can't be bound: another program uses it, or the system refuses it.
 #[derive(Clone, Copy, Debug, PartialEq, Eq, Error)]

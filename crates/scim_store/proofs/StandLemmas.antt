@@ -18,7 +18,7 @@ use Rattle.std.specs.Str.{bytes_eq}
 use Rattle.scim_value.specs.declared.uniqueness.UniqueName.{UniqueName}
 use Rattle.scim_value.specs.Uniqueness.{Name, AreApart, name_of, unique_names}
 use Rattle.scim_value.specs.Members.{lists_value}
-use Rattle.scim_audit.specs.declared.rows.AuditRow.{AuditRow}
+use Rattle.scim_audit.specs.declared.audit_rows.AuditRow.{AuditRow}
 use Rattle.scim_shelf.specs.declared.changes.Change.{Change}
 use Rattle.scim_shelf.specs.declared.changes.Change.TheVariants.{Nothing, Keep, Remove}
 use Rattle.scim_shelf.specs.Stores.{Store, AreKeyed, CanKeep, below, above, after, of_id}

@@ -12,7 +12,7 @@ use Rattle.scim_value.specs.Members.{lists_value}
 use Rattle.scim_value.specs.Resource.{HasBase}
 use Rattle.scim_value.specs.Uniqueness.{Name, name_of, unique_names}
 use Rattle.scim_json.specs.Stored.{IsDocumentText}
-use Rattle.scim_audit.specs.declared.rows.AuditRow.{AuditRow}
+use Rattle.scim_audit.specs.declared.audit_rows.AuditRow.{AuditRow}
 use Rattle.scim_shelf.specs.declared.changes.Change.{Change}
 use Rattle.scim_shelf.specs.declared.changes.Change.TheVariants.{Nothing, Keep, Remove}
 use Rattle.scim_shelf.specs.Stores.{Store, CanKeep, after, is_same_name, of_id}

@@ -31,8 +31,8 @@ use Rattle.scim_schema.specs.declared.Attribute.{Attribute}
 use Rattle.scim_schema.specs.declared.Attribute.TheVariants as attribute
 use Rattle.scim_schema.specs.declared.SubAttribute.{SubAttribute}
 use Rattle.scim_schema.specs.declared.SubAttribute.TheVariants as sub
-use Rattle.scim_audit.specs.declared.rows.Decided.{Decided}
-use Rattle.scim_audit.specs.declared.rows.Decided.TheVariants.{Allow, Deny, Hidden, Absent, Refused}
+use Rattle.scim_audit.specs.declared.audit_rows.Decided.{Decided}
+use Rattle.scim_audit.specs.declared.audit_rows.Decided.TheVariants.{Allow, Deny, Hidden, Absent, Refused}
 use Rattle.scim_audit.specs.declared.refusals.Refusal.{Refusal}
 use Rattle.scim_audit.specs.declared.refusals.Refusal.TheVariants.{BadHead, TooLarge, BadFraming, UnknownCoding, NoRoute, NotSupported, BadMethod, NoToken, Syntax, Filter, Path, MessageValue, NotFound, Denied, Mutability, NoTarget, ResultValue, Taken, Widens, IdInUse, Store}
 use Rattle.scim_store_rows.specs.Audit.{kind_number, op_number, decided_number, refusal_number}

@@ -4,7 +4,7 @@ use Rattle.std.specs.Prelude.{All, None}
 use Rattle.std.proofs.lemmas.List.{take_more, length-take}
 use Rattle.std.proofs.lemmas.List.Elements.{All-head, All-tail}
 use Rattle.sqlite.specs.Order.{Row}
-use Rattle.scim_audit.specs.declared.rows.AuditRow.{AuditRow}
+use Rattle.scim_audit.specs.declared.audit_rows.AuditRow.{AuditRow}
 use Rattle.scim_store_rows.specs.Audit.{audit_row, audit_rows}
 use Rattle.scim_store_rows.specs.AuditBack.{ReadsBack, IsSound}
 

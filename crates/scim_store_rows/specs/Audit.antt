@@ -10,13 +10,13 @@ use Rattle.scim_schema.specs.declared.Op.{Op}
 use Rattle.scim_schema.specs.declared.Op.TheVariants.{Read, Create, Modify, Delete}
 use Rattle.scim_cell.specs.Ids.{id_text}
 use Rattle.scim_audit.specs.declared.refusals.Refusal.{Refusal}
-use Rattle.scim_audit.specs.declared.rows.Decided.{Decided}
-use Rattle.scim_audit.specs.declared.rows.Decided.TheVariants.{Allow, Deny, Hidden, Absent, Refused}
-use Rattle.scim_audit.specs.declared.rows.AuditRow.{AuditRow}
+use Rattle.scim_audit.specs.declared.audit_rows.Decided.{Decided}
+use Rattle.scim_audit.specs.declared.audit_rows.Decided.TheVariants.{Allow, Deny, Hidden, Absent, Refused}
+use Rattle.scim_audit.specs.declared.audit_rows.AuditRow.{AuditRow}
 use Rattle.scim_audit.specs.Refusals.{number_of}
 use Rattle.scim_audit.specs.Rows.{leaf_path}
 use Rattle.scim_store_tables.specs.Audit.{number}
-use Rattle.scim_store_rows.specs.declared.columns.AuditTexts.{AuditTexts}
+use Rattle.scim_store_rows.specs.declared.audit_columns.AuditTexts.{AuditTexts}
 
 -- The number of a kind, counted from 0.
 abbrev pub kind_number : Kind → ℕ

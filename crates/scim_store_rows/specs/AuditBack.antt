@@ -2,7 +2,7 @@
 use Rattle.std.specs.Prelude.{◌≡◌, ◌≢◌, ◌≤◌, ◌<◌, ◌^◌, Option, None, Some, IfSome, IsUtf8, ⊤}
 use Rattle.scim_text.specs.Moments.{last_moment}
 use Rattle.scim_cell.specs.Ids.{IsId}
-use Rattle.scim_audit.specs.declared.rows.AuditRow.{AuditRow}
+use Rattle.scim_audit.specs.declared.audit_rows.AuditRow.{AuditRow}
 
 -- Reading back finds a valid value with the image `y`, or nothing if no valid value has that image.
 abbrev pub ReadsBack : {X Y : Type 0} → (X → Type 0) → (X → Y) → Y → Option X → Type 0

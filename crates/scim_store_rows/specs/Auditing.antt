@@ -1,7 +1,7 @@
 -- The audit rows that a read returns.
 use Rattle.std.specs.Prelude.{◌≡◌, ◌-◌, ℕ, max, List, take, drop}
 use Rattle.sqlite.specs.State.{State, IsUnchanged}
-use Rattle.scim_audit.specs.declared.rows.AuditRow.{AuditRow}
+use Rattle.scim_audit.specs.declared.audit_rows.AuditRow.{AuditRow}
 use Rattle.scim_shelf.specs.Stores.{Store}
 use Rattle.scim_store_rows.specs.Audit.{audit_rows}
 

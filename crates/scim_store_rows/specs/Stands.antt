@@ -10,7 +10,7 @@ use Rattle.scim_cell.specs.Ids.{id_text}
 use Rattle.scim_value.specs.Members.{lists_value}
 use Rattle.scim_value.specs.Uniqueness.{Name, unique_names}
 use Rattle.scim_json.specs.Stored.{IsDocumentText}
-use Rattle.scim_audit.specs.declared.rows.AuditRow.{AuditRow}
+use Rattle.scim_audit.specs.declared.audit_rows.AuditRow.{AuditRow}
 use Rattle.scim_shelf.specs.Stores.{Store, AreKeyed}
 use Rattle.scim_store_tables.specs.Lists.{Lists, Are, resource_values, name_values, member_values}
 use Rattle.scim_store_rows.specs.Audit.{kind_number, audit_rows}

@@ -2,20 +2,20 @@
 //! audit rows. Specs say which store the tables stand for. No read changes anything.
 #![tactic(auto)]
 
-mod auditing;
-mod columns;
-mod fields;
-mod finding;
-mod leaves;
-mod looking;
-mod numbers;
-mod records;
-mod walking;
+mod audit_columns;
+mod audit_fields;
+mod audit_numbers;
+mod audit_reading;
+mod audit_records;
+mod leaf_paths;
+mod look_ups;
+mod old_resources;
+mod walks;
 
-pub use auditing::{LAST_NUMBER, read_audit_rows};
-pub use columns::{AuditTexts, columns_of, kind_number};
-pub use finding::{find_by_id, find_groups_with, find_owner_of_name};
-pub use leaves::leaf_of_path;
-pub use looking::find_old;
-pub use records::{are_audit_rows, read_audit_row};
-pub use walking::walk;
+pub use audit_columns::{AuditTexts, columns_of, kind_number};
+pub use audit_reading::{LAST_NUMBER, read_audit_rows};
+pub use audit_records::{are_audit_rows, read_audit_row};
+pub use leaf_paths::leaf_of_path;
+pub use look_ups::{find_by_id, find_groups_with, find_owner_of_name};
+pub use old_resources::find_old;
+pub use walks::walk;

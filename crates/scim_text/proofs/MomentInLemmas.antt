@@ -8,7 +8,7 @@ use Rattle.std.proofs.lemmas.Bool.{and_parts, and_from, cond-true}
 use Rattle.std.proofs.lemmas.Bool.Decides.{nat_tests, Decides-and, Decides-like}
 use Rattle.std.proofs.lemmas.Slice.Eq.{bytes_eq-Decides}
 use Rattle.jiff_core.proofs.SignedLemmas.{signed_arith}
-use Rattle.scim_text.specs.declared.readings.Reading.{Reading}
+use Rattle.scim_text.specs.declared.moment_readings.Reading.{Reading}
 use Rattle.scim_text.specs.Spelling.{CivilDate, Clock, Zone, absent, utc, ahead, behind, Spelling, spelling_text, IsDate, IsClock, IsFraction, IsZone, IsSpelling}
 use Rattle.scim_text.specs.Readings.{reading_of, IsMomentForm, Spells, HasOneReading}
 use Rattle.scim_text.specs.MomentIn.{spelling_shown, is_date, is_clock, is_zone, is_spelling, moment_in}

@@ -5,7 +5,7 @@ use Rattle.std.specs.declared.cmp.Ordering.TheVariants.{Less, Equal, Greater}
 use Rattle.std.specs.Ordering.{nat_cmp, int_cmp, bool_cmp, ordering_then, MatchOrdering}
 use Rattle.std.specs.Cmp.{IsTotalOrder, ranked, int_ranked, int_cmp_is, on_total, then_total, int_cmp_total, bool_cmp_total, tied_itself}
 use Rattle.jiff_core.proofs.SignedLemmas.{signed_arith}
-use Rattle.scim_text.specs.declared.readings.Reading.{Reading}
+use Rattle.scim_text.specs.declared.moment_readings.Reading.{Reading}
 use Rattle.scim_text.specs.Moments.{moment_text}
 use Rattle.scim_text.specs.Readings.{reading_cmp, ReadingsAreOrdered, PrintedInOrder}
 use Rattle.scim_text.proofs.MomentInLemmas.{one_reading}

@@ -1,7 +1,7 @@
 -- The parts of a moment are read off its text.
 use Rattle.std.proofs.Common.{◌≡◌, ◌+◌, ◌-◌, ◌*◌, ◌/◌, ◌%◌, ℕ, List, [], ◌∷◌, ◌++◌, length, drop, refl, arith}
 use Rattle.std.proofs.Math.Seq.{take-append_seam, drop-append_seam}
-use Rattle.scim_text.specs.declared.readings.Reading.{Reading}
+use Rattle.scim_text.specs.declared.moment_readings.Reading.{Reading}
 use Rattle.scim_text.specs.Spelling.{Zone, absent, utc, ahead, behind, Spelling, date_text, fraction_text, zone_text, spelling_text, IsFraction}
 use Rattle.scim_text.specs.MomentIn.{two_at, fraction_shown, zone_shown, spelling_shown}
 use Rattle.scim_text.proofs.Fractions.{prefix_len-fraction}

@@ -3,7 +3,7 @@ ghost use Rattle.scim_text.specs.Moments.{PrintedIsRead};
 ghost use Rattle.scim_text.specs.MomentIn.{MomentInIsSpelled};
 ghost use Rattle.scim_text.specs.Readings.{HasOneReading, PrintedReadsBack, OrdersReadings, ReadingsAreOrdered, PrintedInOrder};
 
-use crate::readings::Reading;
+use crate::moment_readings::Reading;
 
 /// Lemma: a text has at most one reading. So the reading that [`crate::read_moment`] returns is the
 /// only one of the text.

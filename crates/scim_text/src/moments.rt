@@ -6,7 +6,7 @@ ghost use Rattle.scim_text.specs.Moments.{last_moment, date_of_day, clock_at, mo
 ghost use Rattle.scim_text.specs.Readings.{Spells};
 
 use crate::memory::NoMemory;
-use crate::readings::read_moment;
+use crate::moment_readings::read_moment;
 use jiff::civil::{DateTime, datetime};
 use jiff_core::civil::Date;
 use std::alloc::Global;

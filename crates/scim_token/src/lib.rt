@@ -4,7 +4,7 @@
 
 mod digests;
 mod faults;
-mod lines;
+mod token_lines;
 mod tokens;
 
 pub use faults::{LineFault, TokenFault};

@@ -11,7 +11,7 @@ ghost use Rattle.scim_token.specs.code.Known.{entry_of};
 
 use crate::digests::Digest;
 use crate::faults::{LineFault, TokenFault};
-use crate::lines::{TokenLine, read_line, says_nothing};
+use crate::token_lines::{TokenLine, read_line, says_nothing};
 use scim_cell::Text;
 use scim_schema::MOST_TOKENS;
 use scim_text::Failed;

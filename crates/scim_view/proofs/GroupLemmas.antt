@@ -28,7 +28,7 @@ use Rattle.scim_cell.specs.Rows.{Row, Test, rows, values, put_values, restricted
 use Rattle.scim_cell.proofs.Facts.{sound-AreRising, PartsRise}
 use Rattle.scim_value.proofs.Facts.{sound_part, unit_same, restricted_sound, rows_content}
 use Rattle.scim_policy.specs.declared.rules.Decision.{Decision}
-use Rattle.scim_view.specs.declared.groups.SeenGroup.{SeenGroup}
+use Rattle.scim_view.specs.declared.computed_groups.SeenGroup.{SeenGroup}
 use Rattle.scim_view.specs.View.{may_be_seen, visible_by}
 use Rattle.scim_view.specs.Groups as spec
 use Rattle.scim_cell.specs.Order.{id_cmp}

@@ -11,8 +11,8 @@ use Rattle.std.specs.Slice.{IsItemAt}
 use Rattle.std.proofs.lemmas.Option.{slice_get_past, slice_get-get_or, slice_get_within, get_or_from_slice_get}
 use Rattle.scim_cell.specs.Content.{Content}
 use Rattle.scim_cell.specs.Ids.{IsId}
-use Rattle.scim_view.specs.declared.groups.SeenGroup.{SeenGroup}
-use Rattle.scim_view.specs.declared.index.GroupIndex.{GroupIndex}
+use Rattle.scim_view.specs.declared.computed_groups.SeenGroup.{SeenGroup}
+use Rattle.scim_view.specs.declared.group_index.GroupIndex.{GroupIndex}
 use Rattle.scim_view.specs.View.{Viewer, view}
 use Rattle.scim_value.specs.Members.{lists}
 use Rattle.scim_view.specs.Groups.{and_those, seen}

@@ -17,7 +17,7 @@ use Rattle.scim_cell.specs.Content.{Content, IsPart}
 use Rattle.scim_cell.specs.Rows.{Row}
 use Rattle.scim_value.specs.Members.{lists}
 use Rattle.scim_policy.specs.declared.rules.Decision.{Decision}
-use Rattle.scim_view.specs.declared.groups.SeenGroup.{SeenGroup}
+use Rattle.scim_view.specs.declared.computed_groups.SeenGroup.{SeenGroup}
 use Rattle.scim_view.specs.View.{Viewer, read_decision, visible_by, view_by, view}
 use Rattle.scim_view.specs.Groups.{and_those, seen, membership_of, memberships, visible_with, with_groups}
 use Rattle.scim_view.specs.code.Memberships.{kept_of, shows_members, telling, kept_cmp}

@@ -19,7 +19,7 @@ use Rattle.scim_value.specs.Members.{lists}
 use Rattle.scim_value.specs.Resource.{location}
 use Rattle.scim_cell.specs.Rows.{Row, rows, put_values, restricted, content, cell_at}
 use Rattle.scim_policy.specs.declared.rules.Decision.{Decision}
-use Rattle.scim_view.specs.declared.groups.SeenGroup.{SeenGroup}
+use Rattle.scim_view.specs.declared.computed_groups.SeenGroup.{SeenGroup}
 use Rattle.scim_view.specs.View.{Viewer, read_decision, may_be_seen, sees, view}
 use Rattle.scim_view.specs.Sorted.{sorted_by}
 

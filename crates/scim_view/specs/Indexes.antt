@@ -1,7 +1,7 @@
 -- The index of groups by member, made group by group.
 use Rattle.std.specs.Prelude.{List}
 use Rattle.scim_cell.specs.Content.{Content}
-use Rattle.scim_view.specs.declared.index.GroupIndex.{GroupIndex}
+use Rattle.scim_view.specs.declared.group_index.GroupIndex.{GroupIndex}
 use Rattle.scim_view.specs.View.{Viewer}
 use Rattle.scim_view.specs.Groups.{seen}
 use Rattle.scim_view.specs.code.Index.{IsMadeOf}

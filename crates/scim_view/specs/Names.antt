@@ -12,7 +12,7 @@ use Rattle.scim_filter_grammar.specs.declared.tree.Meant.TheVariants.{Nothing, A
 use Rattle.scim_filter_grammar.specs.declared.tree.AttributePath.{AttributePath}
 use Rattle.scim_filter_grammar.specs.Spelled.{path_in}
 use Rattle.scim_path.specs.Paths.{extension_named}
-use Rattle.scim_view.specs.declared.names.Names.{Names}
+use Rattle.scim_view.specs.declared.attribute_lists.Names.{Names}
 
 -- whether the option has a value and the test holds of it
 abbrev pub is_there : {X : Type 0} → (X → Bool) → Option X → Bool

@@ -61,7 +61,7 @@ view_by decision c = if (decision (simple Id)).allow then Some (visible_by decis
 abbrev pub may_be_seen_of : List Attribute → (Leaf → Decision) → Kind → Test
 may_be_seen_of attributes decision kind r l = list_any (sameb the_attribute r.unit.attribute) attributes && may_be_seen decision kind r l
 
--- the part of these attributes of the resource that the decisions on reading let be seen
+-- the resource cut down to these attributes and, within them, to what the decisions on reading allow
 unfoldable pub visible_attributes : List Attribute → (Leaf → Decision) → Content → Content
 visible_attributes attributes decision c = content c.kind c.id (restricted (may_be_seen_of attributes decision c.kind) (rows c))
 

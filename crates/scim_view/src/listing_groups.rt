@@ -8,7 +8,7 @@ ghost use Rattle.scim_view.specs.View.{Viewer as SpecViewer, read_decision, view
 ghost use Rattle.scim_view.specs.Listings.{AreListing};
 ghost use Rattle.scim_view.specs.code.Memberships.{telling};
 
-use crate::groups::{SeenGroup, lists, seen_group, shows_members};
+use crate::computed_groups::{SeenGroup, lists, seen_group, shows_members};
 use crate::viewers::Viewer;
 use scim_cell::Id;
 use scim_policy::Decisions;

@@ -8,8 +8,8 @@ ghost use Rattle.scim_view.specs.Groups as spec;
 ghost use Rattle.scim_view.specs.Indexes.{IsIndexOf};
 ghost use Rattle.scim_view.specs.code.Index.{Indexes};
 
-use crate::groups::{SeenGroup, put_in_order, visible_with};
-use crate::index::GroupIndex;
+use crate::computed_groups::{SeenGroup, put_in_order, visible_with};
+use crate::group_index::GroupIndex;
 use crate::viewers::Viewer;
 use scim_policy::Decisions;
 use scim_schema::{Attribute, Kind, Leaf};

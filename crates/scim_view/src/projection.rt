@@ -4,7 +4,7 @@ ghost use Rattle.std.specs.List.{list_all};
 ghost use Rattle.scim_cell.specs.Rows.{rows};
 ghost use Rattle.scim_view.specs.Shown as spec;
 
-use crate::names::Names;
+use crate::attribute_lists::Names;
 use scim_cell::{Row, RowTest};
 use scim_schema::{Kind, Leaf, Returned, characteristics_of};
 use scim_text::NoMemory;

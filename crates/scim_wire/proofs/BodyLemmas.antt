@@ -4,8 +4,8 @@ use Rattle.std.proofs.lemmas.List.{length-append, append_assoc}
 use Rattle.scim_audit.specs.declared.refusals.Refusal.{Refusal}
 use Rattle.scim_wire.specs.Chunked.{IsChunkedPart}
 use Rattle.scim_wire.proofs.ChunkLawLemmas as chunked
-use Rattle.scim_wire.specs.declared.framings.Framing.{Framing}
-use Rattle.scim_wire.specs.declared.framings.Framing.TheVariants.{Sized, Chunked}
+use Rattle.scim_wire.specs.declared.body_framing.Framing.{Framing}
+use Rattle.scim_wire.specs.declared.body_framing.Framing.TheVariants.{Sized, Chunked}
 use Rattle.scim_wire.specs.Bodies.{IsBody, IsBodyPart, IsBadBody, refusal_of}
 
 -- fronts of one length of one list are the same

@@ -6,7 +6,7 @@ use Rattle.std.proofs.lemmas.List.Elements.{recursion_from_All}
 use Rattle.httparse.proofs.GrammarLemmas.{request_unique}
 use Rattle.scim_audit.specs.declared.refusals.Refusal.{Refusal}
 use Rattle.scim_wire.proofs.ChunkLawLemmas.{part_of_standing}
-use Rattle.scim_wire.specs.declared.framings.Framing.{Framing}
+use Rattle.scim_wire.specs.declared.body_framing.Framing.{Framing}
 use Rattle.scim_wire.specs.declared.message_heads.MessageHead.{MessageHead}
 use Rattle.scim_wire.specs.declared.messages.Message.{Message}
 use Rattle.scim_wire.specs.declared.messages.Item.{Item}

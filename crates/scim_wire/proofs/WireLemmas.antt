@@ -8,7 +8,7 @@ use Rattle.std.proofs.Math.Seq.{take-add}
 use Rattle.std.proofs.lemmas.List.Concat.{flat_map-append}
 use Rattle.scim_audit.specs.declared.refusals.Refusal.{Refusal}
 use Rattle.scim_audit.specs.declared.refusals.Refusal.TheVariants.{BadHead}
-use Rattle.scim_wire.specs.declared.framings.Framing.{Framing}
+use Rattle.scim_wire.specs.declared.body_framing.Framing.{Framing}
 use Rattle.scim_wire.specs.Chunked.{IsChunked, IsBadChunked}
 use Rattle.scim_wire.specs.declared.chunked.ChunkedPart.{ChunkedPart}
 use Rattle.scim_wire.specs.declared.chunk_faults.BadChunks.{BadChunks}

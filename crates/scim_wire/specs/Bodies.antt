@@ -5,8 +5,8 @@ use Rattle.scim_audit.specs.declared.refusals.Refusal.TheVariants as refusals
 use Rattle.scim_wire.specs.Chunked.{IsChunked, IsChunkedPart, IsBadChunked}
 use Rattle.scim_wire.specs.declared.chunk_faults.BadChunks.{BadChunks}
 use Rattle.scim_wire.specs.declared.chunk_faults.BadChunks.TheVariants.{TooLarge, Malformed}
-use Rattle.scim_wire.specs.declared.framings.Framing.{Framing}
-use Rattle.scim_wire.specs.declared.framings.Framing.TheVariants.{Sized, Chunked}
+use Rattle.scim_wire.specs.declared.body_framing.Framing.{Framing}
+use Rattle.scim_wire.specs.declared.body_framing.Framing.TheVariants.{Sized, Chunked}
 
 -- whether a body follows the head: a chunked one, or one of at least one byte
 abbrev pub has_body : Framing → Bool

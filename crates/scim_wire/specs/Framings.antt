@@ -5,8 +5,8 @@ use Rattle.std.specs.Char.{is_ascii_digit}
 use Rattle.std.specs.Str.Parse.{digits_value}
 use Rattle.scim_audit.specs.declared.refusals.Refusal.{Refusal}
 use Rattle.scim_audit.specs.declared.refusals.Refusal.TheVariants.{TooLarge, BadFraming, UnknownCoding}
-use Rattle.scim_wire.specs.declared.framings.Framing.{Framing}
-use Rattle.scim_wire.specs.declared.framings.Framing.TheVariants.{Sized, Chunked}
+use Rattle.scim_wire.specs.declared.body_framing.Framing.{Framing}
+use Rattle.scim_wire.specs.declared.body_framing.Framing.TheVariants.{Sized, Chunked}
 use Rattle.scim_schema.specs.declared.limits.TheConstants.{MAX_BODY}
 use Rattle.scim_wire.specs.Headers.{same_name, values_named}
 

@@ -4,7 +4,7 @@ use Rattle.httparse.specs.Grammar.{RequestHead}
 use Rattle.httparse.specs.Spans.{name_and_value}
 use Rattle.scim_audit.specs.declared.refusals.Refusal.{Refusal}
 use Rattle.scim_audit.specs.declared.refusals.Refusal.TheVariants.{BadHead}
-use Rattle.scim_wire.specs.declared.framings.Framing.{Framing}
+use Rattle.scim_wire.specs.declared.body_framing.Framing.{Framing}
 use Rattle.scim_wire.specs.declared.message_heads.MessageHead.{MessageHead}
 use Rattle.scim_wire.specs.Framings.{framing}
 use Rattle.scim_wire.specs.Heads.{IsRequestText, SaysNothing}

@@ -4,8 +4,8 @@ ghost use Rattle.httparse.specs.Grammar.{LineEnd, print_blank};
 ghost use Rattle.scim_wire.specs.Parts.{feeds};
 ghost use Rattle.scim_wire.specs.code.Steps.{HoldsHead, StepsTo};
 
-use crate::ends::{ends_head, is_empty_line};
-use crate::parts::{HeadPart, HeadStep};
+use crate::head_ends::{ends_head, is_empty_line};
+use crate::head_parts::{HeadPart, HeadStep};
 use scim_text::NoMemory;
 use std::alloc::Global;
 

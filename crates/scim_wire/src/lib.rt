@@ -2,26 +2,26 @@
 //! stream.
 #![tactic(auto)]
 
+mod bearer_tokens;
+mod body_framing;
 mod chunk_faults;
 mod chunk_laws;
 mod chunk_lines;
 mod chunked;
-mod ends;
-mod framings;
+mod connection_headers;
+mod head_ends;
+mod head_parsing;
+mod head_parts;
 mod head_steps;
+mod head_texts;
 mod headers;
 mod laws;
 mod message_heads;
-mod message_texts;
 mod messages;
 mod octets;
-mod options;
-mod parts;
 mod replies;
 mod state_steps;
 mod states;
-mod texts;
-mod tokens;
 mod trailers;
 mod wires;
 mod writing;

@@ -1,5 +1,5 @@
 //! The contents of a request's head.
-use crate::framings::Framing;
+use crate::body_framing::Framing;
 use crate::octets::Octets;
 
 /// The parts of a request's head that the server uses (RFC 9112 sections 2 to 6).

@@ -6,14 +6,14 @@ ghost use Rattle.scim_wire.specs.Bodies.{refusal_of};
 ghost use Rattle.scim_wire.specs.Messages.{OpensSaying, announced, message_of};
 ghost use Rattle.scim_wire.specs.code.Wires.{StandsAt, Steps};
 
+use crate::body_framing::Framing;
 use crate::chunk_faults::BadChunks;
 use crate::chunked::{ChunkStep, ChunkedPart};
-use crate::framings::Framing;
+use crate::head_parsing::parse_message_head;
+use crate::head_parts::{HeadPart, HeadStep};
 use crate::message_heads::MessageHead;
-use crate::message_texts::parse_message_head;
 use crate::messages::{Item, Message};
 use crate::octets::Octets;
-use crate::parts::{HeadPart, HeadStep};
 use crate::states::{BodyPart, ChunksPart, State, StateStep};
 use scim_audit::Refusal;
 use scim_text::{Failed, NoMemory};

@@ -3,9 +3,9 @@ ghost use Rattle.std.specs.Prelude.{◌≡◌, ◌≤◌, ℕ, List, [], ◌∷�
 ghost use Rattle.scim_wire.specs.code.Wires.{StandsAt, Steps};
 
 use crate::chunked::ChunkedPart;
+use crate::head_parts::HeadPart;
 use crate::message_heads::MessageHead;
 use crate::messages::Item;
-use crate::parts::HeadPart;
 use crate::state_steps::take_in_head;
 use scim_text::NoMemory;
 use std::alloc::Global;

@@ -1,8 +1,8 @@
 -- The fields that a filter may see, as specified.
 use Rattle.std.specs.Prelude.{Bool, true, List}
 use Rattle.scim_cell.specs.Rows.{Row, Test, has_fields, restricted_row, restricted}
-use Rattle.scim_filter.specs.declared.looks.Look.{Look}
-use Rattle.scim_filter.specs.declared.looks.Look.TheVariants as looks
+use Rattle.scim_filter.specs.declared.visible_rows.Look.{Look}
+use Rattle.scim_filter.specs.declared.visible_rows.Look.TheVariants as looks
 
 -- the test for the fields that the filter may see
 unfoldable pub admitted : {T : Type 0} → (T → Test) → Look T → Test

@@ -4,7 +4,7 @@ use Rattle.scim_patch_steps.specs.declared.patches.Step.{Step as KeptStep}
 use Rattle.scim_patch_steps.specs.Patch.{Patch}
 use Rattle.scim_patch_steps.specs.Kept.{Kept, step_of, patch_of}
 use Rattle.scim_patch_message.specs.declared.faults.PatchFault.{PatchFault}
-use Rattle.scim_patch_message.specs.declared.readings.Reading.{Reading}
+use Rattle.scim_patch_message.specs.declared.message_readings.Reading.{Reading}
 use Rattle.scim_patch_message.specs.Readings.{Read}
 
 -- the fault, if there is one, otherwise the steps

@@ -2,8 +2,8 @@
 use Rattle.std.specs.Prelude.{◌≡◌, Bool, not, ◌||◌, ◌==◌, List, length, AllPairs, Some}
 use Rattle.std.specs.List.{list_any}
 use Rattle.scim_cell.specs.Rows.{Row, values, Precedes}
-use Rattle.scim_patch_steps.specs.declared.touched.Before.{Before}
-use Rattle.scim_patch_steps.specs.declared.touched.Before.TheVariants.{Number, Rows}
+use Rattle.scim_patch_steps.specs.declared.touched_units.Before.{Before}
+use Rattle.scim_patch_steps.specs.declared.touched_units.Before.TheVariants.{Number, Rows}
 use Rattle.scim_patch_steps.specs.Patch.{Patch, touched, is_unseen_writing, changes}
 use Rattle.scim_patch_steps.specs.code.Lengths.{unit_told_by_length}
 use Rattle.scim_patch_steps.specs.code.Touched.{rows_about}

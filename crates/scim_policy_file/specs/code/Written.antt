@@ -5,8 +5,8 @@ use Rattle.json.specs.Value.{value_view}
 use denote.Ref.{Bor}
 use Rattle.scim_text.specs.declared.memory.Failed.{Failed}
 use Rattle.scim_text.specs.declared.memory.Failed.TheVariants.{Because, NoMemory}
-use Rattle.scim_policy_file.specs.declared.reading.FileParts.{FileParts}
-use Rattle.scim_policy_file.specs.declared.reading.WrittenRule.{WrittenRule}
+use Rattle.scim_policy_file.specs.declared.policy_files.FileParts.{FileParts}
+use Rattle.scim_policy_file.specs.declared.policy_files.WrittenRule.{WrittenRule}
 use Rattle.scim_policy_file.specs.declared.faults.Cause.{Cause}
 use Rattle.scim_policy_file.specs.File.{Parts, RuleTexts}
 

@@ -4,7 +4,7 @@ use Rattle.std.specs.declared.cmp.Ordering.{Ordering}
 use Rattle.scim_schema.specs.declared.Leaf.{Leaf}
 use Rattle.scim_cell.specs.Content.{Content}
 use Rattle.scim_cell.specs.Rows.{rows}
-use Rattle.scim_query.specs.declared.entries.Entry.{Entry}
+use Rattle.scim_query.specs.declared.matching_entries.Entry.{Entry}
 use Rattle.scim_query.specs.Keys.{key_by}
 use Rattle.scim_query.specs.Order.{Rank, rank_cmp}
 

@@ -2,7 +2,7 @@
 use Rattle.std.specs.Prelude.{ℕ, List, codes, Option, None, Some, if◌then◌else◌}
 use Rattle.std.specs.Option.{option_or}
 use Rattle.scim_text.specs.Names.{is_same_name}
-use Rattle.scim_route.specs.declared.parameters.Parameters.{Parameters}
+use Rattle.scim_route.specs.declared.query_parameters.Parameters.{Parameters}
 use Rattle.scim_route.specs.Parameters.{first_named}
 
 -- the value of a parameter after one more pair; the first value stays

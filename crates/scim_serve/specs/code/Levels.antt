@@ -2,7 +2,7 @@
 use Rattle.std.specs.Prelude.{◌≡◌, ◌≤◌, ℕ, List, [], ◌++◌, Option, None, Some, Result}
 use Rattle.scim_hub.specs.declared.events.HubFault.{HubFault}
 use Rattle.scim_hub.specs.Events.{HubOutput}
-use Rattle.scim_serve.specs.declared.waiting.Waiting.{Waiting}
+use Rattle.scim_serve.specs.declared.pending_bytes.Waiting.{Waiting}
 use Rattle.scim_serve.specs.Serving.{IsFront, due_for}
 use Rattle.scim_serve.specs.code.Waiting.{waiting_for}
 

@@ -2,7 +2,7 @@
 use Rattle.std.specs.Prelude.{◌≡◌, ℕ, ◌==◌, List, Option, if◌then◌else◌}
 use Rattle.std.specs.Ordering.{nat_cmp}
 use Rattle.std.specs.BTreeMap.{get}
-use Rattle.scim_serve.specs.declared.waiting.Waiting.{Waiting}
+use Rattle.scim_serve.specs.declared.pending_bytes.Waiting.{Waiting}
 
 -- the pending bytes of a connection, if it can be written to
 abbrev pub waiting_for : Waiting → ℕ → Option (List ℕ)

@@ -1,7 +1,7 @@
 -- The invariant by which connections that take all offered bytes get all that is due.
 use Rattle.std.specs.Prelude.{◌≡◌, ◌⊎◌, ℕ, Bool, true, false, List, [], Option, None, Some, IsSome}
 use Rattle.scim_hub.specs.Events.{absent, HubEvent, HubState}
-use Rattle.scim_serve.specs.declared.waiting.Waiting.{Waiting}
+use Rattle.scim_serve.specs.declared.pending_bytes.Waiting.{Waiting}
 use Rattle.scim_serve.specs.Serving.{has_left}
 use Rattle.scim_serve.specs.code.Waiting.{waiting_for}
 

@@ -9,7 +9,8 @@ use Rattle.scim_service.specs.declared.requests.Turn.{Turn}
 use Rattle.scim_service.specs.declared.plans.Plan.{Plan}
 use Rattle.scim_service.specs.Step.{access_to, unique_creation_plan, unique_change_plan}
 
--- A plan is that of the create of the resource `c`; without one, its unique names and its id are free.
+-- If there is a plan, it is the plan of creating `c`, whatever attributes are wanted; if there is none, the
+-- unique names and the id of `c` are free.
 abbrev pub IsRefusalToMake : Viewer → Turn → List Content → Content → Option Plan → Type 0
 IsRefusalToMake v turn cs c (Some plan) = (wanted : Wanted) → plan ≡ unique_creation_plan v turn cs wanted c
 IsRefusalToMake v turn cs c None = (is_taken cs c ≡ false) × (is_used cs c.id ≡ false)

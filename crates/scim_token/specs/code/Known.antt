@@ -1,5 +1,5 @@
 -- The entry that the code reads from a line.
-use Rattle.scim_token.specs.declared.lines.TokenLine.{TokenLine}
+use Rattle.scim_token.specs.declared.token_lines.TokenLine.{TokenLine}
 use Rattle.scim_token.specs.TokenFile.{Entry}
 
 -- the entry of a line

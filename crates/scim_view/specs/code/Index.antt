@@ -11,8 +11,8 @@ use Rattle.scim_cell.specs.Equality.{is_same_id}
 use Rattle.scim_cell.specs.Content.{Content}
 use Rattle.scim_cell.specs.Ids.{IsId, id_text}
 use Rattle.scim_cell.specs.Rows.{Row, atom_in}
-use Rattle.scim_view.specs.declared.groups.SeenGroup.{SeenGroup}
-use Rattle.scim_view.specs.declared.index.GroupIndex.{GroupIndex}
+use Rattle.scim_view.specs.declared.computed_groups.SeenGroup.{SeenGroup}
+use Rattle.scim_view.specs.declared.group_index.GroupIndex.{GroupIndex}
 use Rattle.scim_value.specs.Members.{is_text, lists}
 use Rattle.scim_view.specs.Groups.{and_those}
 use Rattle.scim_view.specs.code.Memberships.{kept_of}

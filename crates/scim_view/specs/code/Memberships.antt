@@ -15,7 +15,7 @@ use Rattle.scim_schema.specs.Mutability.{is_write_only}
 use Rattle.scim_cell.specs.declared.rows.Field.{Field}
 use Rattle.scim_cell.specs.Content.{Content}
 use Rattle.scim_policy.specs.declared.rules.Decision.{Decision}
-use Rattle.scim_view.specs.declared.groups.SeenGroup.{SeenGroup}
+use Rattle.scim_view.specs.declared.computed_groups.SeenGroup.{SeenGroup}
 use Rattle.scim_view.specs.Groups.{display_of}
 
 -- those of the fields that the decisions on reading resources of the kind let be seen

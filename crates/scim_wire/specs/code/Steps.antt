@@ -1,8 +1,8 @@
 -- The state of reading a head, and the results of its next byte.
 use Rattle.std.specs.Prelude.{◌≡◌, ℕ, List, []}
-use Rattle.scim_wire.specs.declared.parts.HeadPart.{HeadPart}
-use Rattle.scim_wire.specs.declared.parts.HeadStep.{HeadStep}
-use Rattle.scim_wire.specs.declared.parts.HeadStep.TheVariants as step
+use Rattle.scim_wire.specs.declared.head_parts.HeadPart.{HeadPart}
+use Rattle.scim_wire.specs.declared.head_parts.HeadStep.{HeadStep}
+use Rattle.scim_wire.specs.declared.head_parts.HeadStep.TheVariants as step
 use Rattle.scim_wire.specs.Parts.{IsHeadText, IsOverlong, feeds}
 use Rattle.scim_wire.specs.Streams.{IsOpening, OpensThen}
 

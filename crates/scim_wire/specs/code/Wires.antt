@@ -1,7 +1,7 @@
 -- The state of reading a stream, and the results of its next byte.
 use Rattle.std.specs.Prelude.{◌≡◌, ℕ, ◌+◌, ◌<◌, List, [], ◌∷◌, ◌++◌, length, Option, Some, None, Ok}
 use Rattle.scim_wire.specs.ChunkParts as chunks
-use Rattle.scim_wire.specs.declared.framings.Framing.TheVariants.{Sized, Chunked}
+use Rattle.scim_wire.specs.declared.body_framing.Framing.TheVariants.{Sized, Chunked}
 use Rattle.scim_wire.specs.declared.message_heads.MessageHead.{MessageHead}
 use Rattle.scim_wire.specs.declared.messages.Item.{Item}
 use Rattle.scim_wire.specs.declared.messages.Item.TheVariants.{Continue, Whole, Refused}

@@ -1,6 +1,6 @@
 use Rattle.std.proofs.Common.{◌≡◌, refl, sym, ap}
 use Rattle.std.specs.Prelude.{None, Some, Ok}
-use Rattle.scim_audit.specs.declared.methods.Methods.TheVariants.{Collection, Search, Resource}
+use Rattle.scim_audit.specs.declared.allowed_methods.Methods.TheVariants.{Collection, Search, Resource}
 use Rattle.scim_route.specs.Endpoints.{collection, search, resource}
 use Rattle.scim_route.specs.code.Places.{place_at}
 use Rattle.scim_route.specs.Routes.{asked}

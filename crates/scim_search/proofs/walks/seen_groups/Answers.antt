@@ -3,7 +3,7 @@ use denote.Ref.{Bor}
 use Rattle.scim_schema.specs.declared.Kind.TheVariants.{Group}
 use Rattle.scim_cell.specs.Kinds.{of_kind}
 use Rattle.scim_view.specs.declared.viewers.Viewer.{Viewer as ViewerInCode}
-use Rattle.scim_view.specs.declared.index.GroupIndex.{GroupIndex}
+use Rattle.scim_view.specs.declared.group_index.GroupIndex.{GroupIndex}
 use Rattle.scim_view.specs.View.{viewer_of}
 use Rattle.scim_view.specs.Indexes.{IsIndexOf}
 use Rattle.scim_search.specs.ReadDecisions.{AreDecisions}

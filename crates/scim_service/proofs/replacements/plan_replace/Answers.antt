@@ -1,7 +1,7 @@
 use Rattle.std.proofs.Common.{subst}
 use Rattle.std.proofs.lemmas.Result.{IfOk-weaker}
 use Rattle.scim_view.specs.View.{viewer_of}
-use Rattle.scim_service.specs.declared.reached.Reached.{Reached}
+use Rattle.scim_service.specs.declared.seen_resources.Reached.{Reached}
 use Rattle.scim_service.specs.Step.{replacement_plan}
 use Rattle.scim_service.specs.code.Reached.{HasRights, IsReached}
 use Rattle.scim_service.proofs.ReplaceLemmas.{seen_is}

@@ -1,5 +1,5 @@
 use Rattle.std.proofs.Common.{◌≡◌, sym, ◌∙◌, ap, subst}
-use Rattle.scim_audit.specs.declared.rows.AuditRow.{AuditRow}
+use Rattle.scim_audit.specs.declared.audit_rows.AuditRow.{AuditRow}
 use Rattle.scim_view.specs.View.{viewer_of}
 use Rattle.scim_shelf.specs.declared.changes.Change.{Change}
 use Rattle.scim_service.specs.declared.replies.Reply.{Reply}

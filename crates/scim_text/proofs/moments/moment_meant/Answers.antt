@@ -2,7 +2,7 @@ use Rattle.std.proofs.Common.{◌≡◌, ◌≤◌, ◌≤ℤ◌, ◌↔◌, ℕ
 use Rattle.jiff_core.proofs.SignedLemmas.{signed_arith, signed_casts}
 use Rattle.scim_text.specs.Moments.{last_moment}
 use Rattle.scim_text.specs.Readings.{Spells}
-use Rattle.scim_text.specs.declared.readings.Reading.{Reading}
+use Rattle.scim_text.specs.declared.moment_readings.Reading.{Reading}
 use Rattle.scim_text.proofs.MomentInLemmas.{one_reading}
 use Rattle.scim_text.proofs.moments.moment_meant.Goals as goal
 

@@ -7,7 +7,7 @@ use Rattle.scim_schema.specs.Units.{simple}
 use Rattle.scim_cell.specs.Content.{Content}
 use Rattle.scim_policy.specs.declared.rules.Decision.{Decision}
 use Rattle.scim_policy.specs.Table.{decision}
-use Rattle.scim_view.specs.declared.groups.SeenGroup.{SeenGroup}
+use Rattle.scim_view.specs.declared.computed_groups.SeenGroup.{SeenGroup}
 use Rattle.scim_view.specs.View.{viewer_of}
 use Rattle.scim_view.specs.Groups as spec
 use Rattle.scim_view.proofs.IndexLemmas.{held}

@@ -4,7 +4,7 @@ use Rattle.std.proofs.lemmas.Result.{IfOk-weaker}
 use Rattle.scim_cell.specs.Content.{Content}
 use Rattle.scim_cell.specs.Rows.{Row}
 use Rattle.scim_policy.specs.Table.{decision}
-use Rattle.scim_view.specs.declared.groups.SeenGroup.{SeenGroup}
+use Rattle.scim_view.specs.declared.computed_groups.SeenGroup.{SeenGroup}
 use Rattle.scim_view.specs.View.{read_decision, viewer_of}
 use Rattle.scim_view.specs.Groups as spec
 use Rattle.scim_view.specs.Listings.{AreListing}

@@ -1,0 +1,7 @@
+use Rattle.std.proofs.Common.{◌≡◌}
+use Rattle.scim_cell.specs.SameValues.{with_values}
+use Rattle.scim_cell.proofs.distinct_values.with_few.Given as goal
+
+-- the values so far are those that were there, and those that were yielded, each once
+abbrev pub invariant-loop-value : goal.invariant-loop-value
+invariant-loop-value l = l.values.items ≡ with_values l.attribute l.fn.values.items l.yielded

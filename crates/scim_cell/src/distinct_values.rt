@@ -1,0 +1,121 @@
+//! Appends values to a list, leaving out those that it already has.
+ghost use Rattle.std.specs.Prelude.{◌≡◌, ◌++◌, ◌∷◌, [], IfOk, OnOk, string_bytes};
+ghost use Rattle.std.specs.List.{list_any};
+ghost use Rattle.scim_cell.specs.SameValues as spec;
+ghost use Rattle.scim_cell.specs.code.Keys.{key_of, Covers};
+
+use crate::rows::Row;
+use crate::same_value_keys::key;
+use crate::same_values::{has_same_among, is_same_value};
+use scim_schema::Attribute;
+use scim_text::{NoMemory, push};
+use std::alloc::Global;
+use std::collections::HashMap;
+
+/// Up to this many given values are compared with each value of the list. More are looked up by
+/// keys, which costs a text for each value for the time of the call.
+const FEW: usize = 8;
+
+/// Appends the given values to the list, in order, each unless it is the same as one before it (RFC
+/// 7644 section 3.5.2.1).
+///
+/// The time is nearly linear in the number of all values. No text is copied for a few given values.
+pub fn with_values(
+    alloc: Global,
+    attribute: Attribute,
+    values: Vec<Row>,
+    given: Vec<Row>,
+) -> Result<Vec<Row>, NoMemory>
+    ensures { IfOk result (λ v. v.items ≡ spec.with_values attribute values.items given.items) }
+{
+    if given.len() <= FEW {
+        with_few(attribute, values, given)
+    } else {
+        with_many(alloc, attribute, values, given)
+    }
+}
+
+/// Appends the given values, comparing each with all values before it.
+fn with_few(
+    attribute: Attribute,
+    mut values: Vec<Row>,
+    given: Vec<Row>,
+) -> Result<Vec<Row>, NoMemory>
+    ensures { IfOk result (λ v. v.items ≡ spec.with_values attribute values.items given.items) }
+{
+    for value in given {
+        if !has_same_among(attribute, values.as_slice(), &value) {
+            push(&mut values, value)?;
+        }
+    }
+    Ok(values)
+}
+
+/// Appends the given values, looking up each by its key.
+fn with_many(
+    alloc: Global,
+    attribute: Attribute,
+    mut values: Vec<Row>,
+    given: Vec<Row>,
+) -> Result<Vec<Row>, NoMemory>
+    ensures { IfOk result (λ v. v.items ≡ spec.with_values attribute values.items given.items) }
+{
+    let mut places = places_of(alloc, attribute, values.as_slice(), given.len())?;
+    values.reserve(given.len())?;
+    for value in given {
+        add_value(alloc, attribute, &mut values, &mut places, value)?;
+    }
+    Ok(values)
+}
+
+/// A map from the keys of the values to their indexes, the last one if several values have the same
+/// key. It has room for `more` further keys.
+fn places_of(
+    alloc: Global,
+    attribute: Attribute,
+    values: &[Row],
+    more: usize,
+) -> Result<HashMap<String, usize>, NoMemory>
+    ensures { IfOk result (λ m. Covers m attribute values.now) }
+{
+    let mut places = HashMap::with_capacity(alloc, values.len().saturating_add(more))?;
+    for (place, value) in values.iter().enumerate() {
+        let _ = places.insert(key(alloc, attribute, value)?, place)?;
+    }
+    Ok(places)
+}
+
+/// Whether one of the values is the same as this one. The value at `place` is compared first.
+fn has_same(attribute: Attribute, values: &[Row], place: usize, value: &Row) -> bool
+    ensures { result ≡ list_any (λ other. spec.is_same_value attribute other value.now) values.now }
+{
+    match values.get(place) {
+        Some(other) if is_same_value(attribute, other, value) => true,
+        _ => has_same_among(attribute, values, value),
+    }
+}
+
+/// Appends a value and enters its key, unless the list has the same value. All values are compared
+/// only if another value has the same key.
+fn add_value(
+    alloc: Global,
+    attribute: Attribute,
+    values: &mut Vec<Row>,
+    places: &mut HashMap<String, usize>,
+    value: Row,
+) -> Result<(), NoMemory>
+    requires { Covers places.old attribute values.old.items }
+    ensures items { OnOk result (values.new.items
+        ≡ spec.with_value attribute values.old.items value) }
+    ensures covers { OnOk result (Covers places.new attribute values.new.items) }
+{
+    let key_of_value = key(alloc, attribute, &value)?;
+    match places.get(key_of_value.as_str()).copied() {
+        Some(place) if has_same(attribute, values.as_slice(), place, &value) => {}
+        _ => {
+            places.insert(key_of_value, values.len())?;
+            push(values, value)?;
+        }
+    }
+    Ok(())
+}

@@ -1,8 +1,0 @@
-use Rattle.scim_schema.specs.Lookup.{operation_named}
-use Rattle.scim_policy_file.specs.code.Written.{text_at}
-use Rattle.scim_policy_file.proofs.ListLemmas.{IsMade}
-use Rattle.scim_policy_file.proofs.reading.ops_named.Given as goal
-
--- the operations so far are those that the texts before this one name
-abbrev pub invariant-loop-text : goal.invariant-loop-text
-invariant-loop-text l = IsMade text_at operation_named l.ops.items l.text-index l.texts

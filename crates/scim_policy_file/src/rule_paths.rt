@@ -1,0 +1,93 @@
+//! Reads the paths in a policy file.
+ghost use Rattle.std.specs.Prelude.{◌≡◌, IfOk, map, option_map};
+ghost use Rattle.scim_policy_file.specs.Paths as spec;
+ghost use Rattle.scim_policy_file.specs.code.Written.{text_at};
+
+use scim_filter_grammar::{Meant, attribute_path};
+use scim_policy::{KindPaths, PolicyPath};
+use scim_schema::Kind;
+use scim_text::{NoMemory, push};
+use std::alloc::Global;
+
+/// The path for an attribute or sub-attribute. `None` if nothing is named.
+fn covered_by(meant: Meant) -> Option<PolicyPath>
+    ensures { result ≡ spec.covered_by meant }
+{
+    match meant {
+        Meant::Nothing => None,
+        Meant::Attribute(attribute) => Some(PolicyPath::Attribute(attribute)),
+        Meant::SubAttribute(attribute, sub_attribute) => {
+            Some(PolicyPath::SubAttribute(attribute, sub_attribute))
+        }
+    }
+}
+
+/// Reads an attribute path on resources of a kind. `None` if the kind doesn't have what it names.
+fn path_on(text: &str, kind: Kind) -> Option<PolicyPath>
+    ensures { result ≡ spec.path_on text.now kind }
+{
+    covered_by(attribute_path(kind, text)?)
+}
+
+/// Reads an entry of `paths` on resources of a kind: `*` or an attribute path. `None` if it is neither.
+fn path_named(text: &str, kind: Kind) -> Option<PolicyPath>
+    ensures { result ≡ spec.path_named text.now kind }
+{
+    if text == "*" {
+        Some(PolicyPath::Everything)
+    } else {
+        path_on(text, kind)
+    }
+}
+
+/// Whether one of the kinds has what an entry of `paths` names.
+fn is_path(kinds: &[Kind], text: &str) -> bool
+    ensures { result ≡ spec.is_path kinds.now text.now }
+{
+    kinds.iter().any(|kind| path_named(text, *kind).is_some())
+}
+
+/// Whether for each entry one of the kinds has what it names.
+fn are_paths(kinds: &[Kind], texts: &[&str]) -> bool
+    ensures { result ≡ list_all (spec.is_path kinds.now) (map text_at texts.now) }
+{
+    for text in texts {
+        if !is_path(kinds, text) {
+            return false;
+        }
+    }
+    true
+}
+
+/// The paths of all entries on resources of a kind. Entries that name nothing on that kind are left out.
+fn paths_for(alloc: Global, texts: &[&str], kind: Kind) -> Result<KindPaths, NoMemory>
+    ensures { IfOk result (λ p. p ≡ spec.paths_for (map text_at texts.now) kind) }
+{
+    let mut paths = Vec::new(alloc);
+    for text in texts {
+        if let Some(path) = path_named(text, kind) {
+            push(&mut paths, path)?;
+        }
+    }
+    Ok(KindPaths::new(kind, paths))
+}
+
+/// Reads the entries of `paths` for a rule on these kinds. `None` if none of the kinds has what an entry
+/// names.
+pub(crate) fn paths_named(
+    alloc: Global,
+    kinds: &[Kind],
+    texts: &[&str],
+) -> Result<Option<Vec<KindPaths>>, NoMemory>
+    ensures { IfOk result
+        (λ o. option_map (λ v. v.items) o ≡ spec.paths_named kinds.now (map text_at texts.now)) }
+{
+    if !are_paths(kinds, texts) {
+        return Ok(None);
+    }
+    let mut paths = Vec::new(alloc);
+    for kind in kinds {
+        push(&mut paths, paths_for(alloc, texts, *kind)?)?;
+    }
+    Ok(Some(paths))
+}

@@ -1,0 +1,15 @@
+use Rattle.std.proofs.Common.{rules, tests, ◌≡◌, ◌∙◌, ap, cond, length, ℕ}
+use Rattle.std.specs.Prelude.{nat_lt, Option, None, Some, unwrap_or}
+use Rattle.std.specs.List.{position_or_len}
+use Rattle.std.proofs.lemmas.Iterator.{YieldsList-from_slice}
+use Rattle.std.proofs.lemmas.Iterator.Search.{position_from_yields_List}
+use Rattle.scim_route.specs.Targets.{ends_authority}
+use Rattle.scim_route.proofs.PositionLemmas.{position_or_end}
+use Rattle.scim_route.proofs.request_targets.end_of_authority.Goals as goal
+
+pub returns-clause-place : goal.returns-clause-place
+returns-clause-place c =
+    let bytes = c.args.bytes.now in
+    let found : c.position.result ≡ cond (nat_lt (position_or_len ends_authority bytes) (length bytes)) (Some (position_or_len ends_authority bytes)) None =
+    position_from_yields_List ends_authority _ _ c.position.result c.position.ensures.ran (YieldsList-from_slice _ c.iter.ensures.rest) (λ x b q k. search (rules, tests)) in
+    c.unwrap_or.ensures ∙ ap (λ (o : Option ℕ). unwrap_or o (length bytes)) found ∙ position_or_end ends_authority bytes

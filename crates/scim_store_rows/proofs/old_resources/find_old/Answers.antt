@@ -1,0 +1,17 @@
+use Rattle.std.proofs.Common.{option_map, string_bytes}
+use Rattle.sqlite.specs.Held.{state}
+use Rattle.scim_store_tables.proofs.Facts.{if_then}
+use Rattle.scim_store_rows.proofs.FindLemmas.{finds_old, rests_where}
+use Rattle.scim_store_rows.proofs.old_resources.find_old.Goals as goal
+
+pub returns-clause-found : goal.returns-clause-found
+returns-clause-found g c clean =
+    if_then c.read_document.result _ _ (λ found reads store stands.
+    finds_old c.args.base.now c.args.id (state g.S.Store c.args.conn.now) (state g.S.Store c.find_document.new.conn) (option_map string_bytes c.in_ok-document.document) found c.write.ensures.id
+    (rw (c.write.ensures.value) at (c.in_ok-document.ensures.found clean)) reads store stands) c.read_document.ensures
+
+pub returns-clause-rests : goal.returns-clause-rests
+returns-clause-rests g c clean store stands = rests_where c.args.base.now (state g.S.Store c.args.conn.now) (state g.S.Store c.find_document.new.conn) (c.find_document.ensures.rests clean) store stands
+
+pub returns-in_err-document-clause-rests : goal.returns-in_err-document-clause-rests
+returns-in_err-document-clause-rests g c clean store stands = rests_where c.args.base.now (state g.S.Store c.args.conn.now) (state g.S.Store c.find_document.new.conn) (c.find_document.ensures.rests clean) store stands

@@ -1,0 +1,65 @@
+//! Reads the resource that a change replaces or removes. Nothing is changed, and a crash leaves what it could
+//! leave before.
+
+ghost use Rattle.std.specs.Prelude.{◌≡◌, ◌≢◌, false, filter, option_map, string_bytes, IfOk};
+ghost use Rattle.sqlite.specs.State.{HasCleanDisk, Survives};
+ghost use Rattle.sqlite.specs.Held.{state};
+ghost use Rattle.scim_shelf.specs.Stores.{Store};
+ghost use Rattle.scim_store_tables.specs.Lists.{Lists, has_text};
+ghost use Rattle.scim_store_tables.specs.Reading.{Rests, Holds, Finds};
+ghost use Rattle.scim_store_tables.specs.Tables.{store_schema};
+ghost use Rattle.scim_store_rows.specs.Finding.{StandsIn, FindsOld};
+
+use crate::look_ups::read_document;
+use scim_cell::Id;
+use scim_store_tables::{ask, first_text};
+use scim_value::Resource;
+use sqlite::{Alter, Connection, Error, params};
+use std::alloc::Global;
+
+/// Returns the document of the resource with an id, of either kind; None if there isn't one.
+fn find_document<S: Alter>(conn: &mut Connection<S>, id: &str) -> Result<Option<String>, Error>
+    ensures mode { conn.old.in_transaction ≡ false → conn.new.in_transaction ≡ false }
+    ensures survives { Survives (state S.Store conn.old) (state S.Store conn.new)
+        (λ _. (state S.Store conn.old).now.schema ≢ store_schema) }
+    ensures found { HasCleanDisk (state S.Store conn.new)
+        → IfOk result (λ found. (lists : Lists) → Holds (state S.Store conn.old) lists
+        → Finds 2 (filter (has_text 0 id.now) lists.resources) (state S.Store conn.old)
+        (state S.Store conn.new) (option_map string_bytes found)) }
+    ensures rests { HasCleanDisk (state S.Store conn.new) → (lists : Lists)
+        → Holds (state S.Store conn.old) lists
+        → Rests (state S.Store conn.old) (state S.Store conn.new) }
+{
+    let rows = ask(
+        conn,
+        "SELECT document FROM resource WHERE id = ?1",
+        params![id],
+    )?;
+    first_text(rows.as_slice())
+}
+
+/// Returns the resource with the id, of either kind; None if there isn't one. Its location is below the base
+/// URI.
+///
+/// Fails with the database's error, with out of memory, or with a corrupt database if the document isn't
+/// valid. The connection is then closed, or as before, or as the last commit left it.
+pub fn find_old<S: Alter>(
+    conn: &mut Connection<S>,
+    alloc: Global,
+    base: &str,
+    id: Id,
+) -> Result<Option<Resource>, Error>
+    ensures mode { conn.old.in_transaction ≡ false → conn.new.in_transaction ≡ false }
+    ensures survives { Survives (state S.Store conn.old) (state S.Store conn.new)
+        (λ _. (state S.Store conn.old).now.schema ≢ store_schema) }
+    ensures found { HasCleanDisk (state S.Store conn.new)
+        → IfOk result (λ found. (store : Store) → StandsIn base.now (state S.Store conn.old) store
+        → FindsOld id store (state S.Store conn.old) (state S.Store conn.new) found) }
+    ensures rests { HasCleanDisk (state S.Store conn.new) → (store : Store)
+        → StandsIn base.now (state S.Store conn.old) store
+        → Rests (state S.Store conn.old) (state S.Store conn.new) }
+{
+    let mut buffer = [0; Id::TEXT_LENGTH];
+    let document = find_document(conn, id.write(&mut buffer))?;
+    read_document(alloc, base, document)
+}

@@ -1,0 +1,91 @@
+//! Passes the resources of a kind to a visitor.
+
+ghost use Rattle.std.specs.Prelude.{◌≡◌, ◌≤◌, ◌∷◌, [], false, IfOk, OnOk};
+ghost use Rattle.std.specs.List.{FoldsTo};
+ghost use Rattle.std.specs.Option.{option_to_list};
+ghost use Rattle.sqlite.specs.State.{HasCleanDisk};
+ghost use Rattle.sqlite.specs.View.{doubt};
+ghost use Rattle.sqlite.specs.Held.{state};
+ghost use Rattle.scim_cell.specs.Kinds.{of_kind};
+ghost use Rattle.scim_shelf.specs.Stores.{Store};
+ghost use Rattle.scim_store_tables.specs.Reading.{Rests};
+ghost use Rattle.scim_store_rows.specs.Stands.{Entry, IsEntry, resource_row};
+ghost use Rattle.scim_store_rows.specs.Finding.{StandsIn, Shows};
+
+use crate::audit_columns::kind_number;
+use crate::look_ups::read_document;
+use scim_schema::Kind;
+use scim_shelf::Visitor;
+use scim_value::Resource;
+use sqlite::{Alter, Connection, Error, ErrorCode, Row};
+use std::alloc::Global;
+
+/// Reads the resource of a row, if it is of the kind. Fails with a corrupt database if the document isn't
+/// valid, with the error of a column of another type, or with out of memory.
+fn read_row(alloc: Global, base: &str, kind: Kind, row: &Row) -> Result<Option<Resource>, Error>
+    ensures { IfOk result (λ found. (e : Entry) → IsEntry base.now e → row.now ≡ resource_row e
+        → option_to_list found ≡ of_kind kind (e.content ∷ [])) }
+{
+    let number: u32 = row.get(1)?;
+    if number != kind_number(kind) {
+        return Ok(None);
+    }
+    let document: String = row.get(2)?;
+    read_document(alloc, base, Some(document))
+}
+
+/// Passes the resource of a row to the visitor, if it is of the kind. Fails as `read_row` does, or with out
+/// of memory if the visitor can't allocate.
+fn show_row<V: Visitor>(
+    alloc: Global,
+    base: &str,
+    kind: Kind,
+    row: &Row,
+    visitor: &mut V,
+) -> Result<(), Error>
+    ensures { OnOk result ((e : Entry) → IsEntry base.now e → row.now ≡ resource_row e
+        → FoldsTo V.Visitor.takes visitor.old (of_kind kind (e.content ∷ [])) visitor.new) }
+{
+    let Some(resource) = read_row(alloc, base, kind, row)? else {
+        return Ok(());
+    };
+    match visitor.take(alloc, &resource) {
+        Ok(()) => Ok(()),
+        Err(_) => Err(Error::SqliteFailure(ErrorCode::OutOfMemory)),
+    }
+}
+
+/// Passes the resources of the kind to the visitor, in order of id, each as soon as its row is read. Their
+/// locations are below the base URI.
+///
+/// Fails as [`crate::find_by_id`] does, or with out of memory if the visitor can't allocate. After an error
+/// the visitor is unusable.
+pub fn walk<S: Alter, V: Visitor>(
+    conn: &mut Connection<S>,
+    alloc: Global,
+    base: &str,
+    kind: Kind,
+    visitor: &mut V,
+) -> Result<(), Error>
+    ensures mode { conn.old.in_transaction ≡ false → conn.new.in_transaction ≡ false }
+    ensures clean { doubt (state S.Store conn.old).is_clean
+        ≤ doubt (state S.Store conn.new).is_clean }
+    ensures shown { OnOk result (HasCleanDisk (state S.Store conn.new) → (store : Store)
+        → StandsIn base.now (state S.Store conn.old) store
+        → Shows V.Visitor.takes kind store (state S.Store conn.old)
+        (state S.Store conn.new) visitor.old visitor.new) }
+    ensures rests { HasCleanDisk (state S.Store conn.new) → (store : Store)
+        → StandsIn base.now (state S.Store conn.old) store
+        → Rests (state S.Store conn.old) (state S.Store conn.new) }
+{
+    let mut rows = conn.query("SELECT id, kind, document FROM resource ORDER BY id", &[])?;
+    'rows: for _ in 0..u64::MAX {
+        rows.advance()?;
+        let Some(row) = rows.get() else {
+            return Ok(());
+        };
+        show_row(alloc, base, kind, row, visitor)?;
+    }
+    // No query returns 2^64 - 1 rows.
+    Err(Error::SqliteFailure(ErrorCode::OutOfMemory))
+}

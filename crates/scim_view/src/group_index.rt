@@ -1,0 +1,178 @@
+//! An index of groups by the ids of their members.
+ghost use Rattle.std.specs.Prelude.{◌≡◌, ◌++◌, ◌∷◌, [], ℕ, List, cond, map, vec_len, IfOk, IfSome, OnOk, if◌then◌else◌};
+ghost use Rattle.std.specs.List.{list_any};
+ghost use Rattle.scim_schema.specs.declared.Leaf.{Leaf};
+ghost use Rattle.scim_cell.specs.Content.{Content};
+ghost use Rattle.scim_cell.specs.Equality.{is_same_id};
+ghost use Rattle.scim_cell.specs.Ids.{IsId};
+ghost use Rattle.scim_policy.specs.Table.{decision};
+ghost use Rattle.scim_view.specs.View.{Viewer as SpecViewer, read_decision, viewer_of, visible_by};
+ghost use Rattle.scim_view.specs.code.Index as spec;
+ghost use Rattle.scim_view.specs.Indexes.{IsIndexOf};
+ghost use Rattle.scim_view.specs.code.Index.{IsMadeOf};
+
+use crate::computed_groups::{SeenGroup, seen_group};
+use crate::viewers::Viewer;
+use scim_cell::{Atom, Id, Row};
+use scim_policy::Decisions;
+use scim_schema::{Attribute, Leaf, SubAttribute, Unit};
+use scim_text::{NoMemory, push};
+use scim_value::Resource;
+use std::alloc::Global;
+use std::collections::HashMap;
+
+/// The groups that a client sees, indexed by the members that each shows.
+///
+/// Groups are added one by one, and [`Viewer::view_by_index`] looks up one resource at a time, so a caller
+/// can stream groups and users from a store without holding lists of them.
+#[derive(Drop)]
+pub struct GroupIndex {
+    groups: Vec<SeenGroup>,
+    /// For each member id, the positions in `groups` of the groups that show it, ascending and distinct.
+    by_member: HashMap<Id, Vec<usize>>,
+}
+
+impl GroupIndex {
+    /// Returns an empty index, without allocating.
+    pub fn new(alloc: Global) -> GroupIndex
+        ensures { (v : SpecViewer) → IsIndexOf v [] result }
+    {
+        GroupIndex {
+            groups: Vec::new(alloc),
+            by_member: HashMap::new(alloc),
+        }
+    }
+
+    /// Adds a group, if the viewer sees it.
+    /// `decisions` must come from [`Viewer::decisions`] for the group, or from [`Viewer::decisions_on_all`]
+    /// for groups. After NoMemory the index is unusable.
+    pub fn push(
+        &mut self,
+        alloc: Global,
+        decisions: &Decisions,
+        group: &Resource,
+    ) -> Result<(), NoMemory>
+        ensures { OnOk result ((v : SpecViewer) (groups : List Content)
+            → ((l : Leaf) → decision decisions.now l ≡ read_decision v group.now l)
+            → IsIndexOf v groups self.old → IsIndexOf v (groups ++ group.now ∷ []) self.new) }
+    {
+        if !decisions.of(Leaf::simple(Attribute::Id)).allow {
+            return Ok(());
+        }
+        self.add(alloc, decisions, group)?;
+        Ok(())
+    }
+
+    /// Returns the index of those groups that the viewer sees.
+    pub(crate) fn of(
+        alloc: Global,
+        viewer: &Viewer<'_>,
+        groups: &[Resource],
+    ) -> Result<GroupIndex, NoMemory>
+        ensures { IfOk result (λ index. IsIndexOf (viewer_of viewer.now) groups.now index) }
+    {
+        let mut index = GroupIndex::new(alloc);
+        for group in groups {
+            let decisions = viewer.decisions(alloc, group)?;
+            index.push(alloc, &decisions, group)?;
+        }
+        Ok(index)
+    }
+
+    /// Returns the groups that show `id` as a member, in the order in which they were added.
+    pub(crate) fn groups_of(&self, alloc: Global, id: Id) -> Result<Vec<&SeenGroup>, NoMemory>
+        ensures { IfOk result (λ v. map (λ g. g.now) v.items ≡ spec.groups_of self.now id) }
+    {
+        let mut groups = Vec::new(alloc);
+        for position in self.positions_of(id) {
+            if let Some(group) = self.groups.get(*position) {
+                push(&mut groups, group)?;
+            }
+        }
+        Ok(groups)
+    }
+
+    /// Returns the positions in `groups` of the groups that show `id` as a member.
+    fn positions_of(&self, id: Id) -> &[usize]
+        ensures { result.now ≡ spec.positions_of self.now id }
+    {
+        match self.by_member.get(&id) {
+            Some(positions) => positions.as_slice(),
+            None => &[],
+        }
+    }
+
+    /// Adds a group that the client sees, with the parts that `decisions` let it read.
+    /// After NoMemory the index is unusable.
+    fn add(
+        &mut self,
+        alloc: Global,
+        decisions: &Decisions,
+        group: &Resource,
+    ) -> Result<(), NoMemory>
+        ensures { (gs : List Content) → IsMadeOf gs self.old
+            → OnOk result (IsMadeOf (gs ++ visible_by (decision decisions.now) group.now
+            ∷ []) self.new) }
+    {
+        let seen = seen_group(alloc, decisions, group)?;
+        let members = group.part().values(Unit::whole(Attribute::Members));
+        if decisions
+            .of(Leaf::of(Attribute::Members, SubAttribute::Value))
+            .allow
+        {
+            self.add_members(alloc, members)?;
+        }
+        push(&mut self.groups, seen)?;
+        Ok(())
+    }
+
+    /// Records the next position for each of the members.
+    fn add_members(&mut self, alloc: Global, members: &[Row]) -> Result<(), NoMemory>
+        ensures groups { self.new.groups ≡ self.old.groups }
+        ensures positions { OnOk result ((id : List ℕ) → IsId id → spec.positions_of self.new id
+            ≡ (if list_any (spec.names_member id) members.now
+            then spec.noted (vec_len self.old.groups)
+            (spec.positions_of self.old id) else spec.positions_of self.old id)) }
+    {
+        for member in members {
+            if let Some(id) = member_id(member) {
+                self.add_member(alloc, id)?;
+            }
+        }
+        Ok(())
+    }
+
+    /// Records the next position for one member.
+    fn add_member(&mut self, alloc: Global, id: Id) -> Result<(), NoMemory>
+        ensures groups { self.new.groups ≡ self.old.groups }
+        ensures positions { OnOk result ((other : List ℕ) → spec.positions_of self.new other
+            ≡ cond (is_same_id id other)
+            (spec.noted (vec_len self.old.groups) (spec.positions_of self.old other))
+            (spec.positions_of self.old other)) }
+    {
+        let position = self.groups.len();
+        let positions = self.by_member.entry(id)?.or_insert(Vec::new(alloc));
+        note(positions, position)
+    }
+}
+
+/// Returns the id that a value of `members` names; None if its `value` isn't the text of an id.
+fn member_id(member: &Row) -> Option<Id>
+    ensures id { (id : List ℕ) → IsId id
+        → spec.names_member id member.now ≡ spec.is_found id result }
+{
+    match member.get(Leaf::of(Attribute::Members, SubAttribute::Value)) {
+        Some(Atom::Text(text)) => Id::read(text.as_str()),
+        _ => None,
+    }
+}
+
+/// Appends the position, unless it is already the last one.
+fn note(positions: &mut Vec<usize>, position: usize) -> Result<(), NoMemory>
+    ensures { OnOk result (positions.new.items ≡ spec.noted position positions.old.items) }
+{
+    if positions.last().copied() != Some(position) {
+        push(positions, position)?;
+    }
+    Ok(())
+}

@@ -1,6 +1,0 @@
-use Rattle.std.proofs.Common.{refl}
-use Rattle.scim_wire.proofs.StepLemmas.{opening_start}
-use Rattle.scim_wire.proofs.parts.HeadPart.new.Goals as goal
-
-pub returns : goal.returns
-returns c blank = rw c.new.ensures.items (opening_start blank, refl)
