@@ -13,7 +13,7 @@ use Rattle.scim_cell.specs.Content.{Content}
 use Rattle.scim_policy.specs.declared.rules.Decision.{Decision}
 use Rattle.scim_policy.specs.Rules.{Rule}
 use Rattle.scim_policy.specs.Decide.{fits, first_of, decide}
-use Rattle.scim_explain.specs.declared.idle_rules.IdleRule.{IdleRule}
+use Rattle.scim_explain.specs.declared.never_deciding.IdleRule.{IdleRule}
 use Rattle.scim_explain.specs.Idle.{covers_rule, idle_behind, idle_rules}
 use Rattle.scim_explain.proofs.CoverLemmas.{covering_fits}
 use Rattle.scim_explain.proofs.ListLemmas.{left_out}

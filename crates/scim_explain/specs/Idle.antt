@@ -13,7 +13,7 @@ use Rattle.scim_policy.specs.declared.rules.PolicyPath.{PolicyPath}
 use Rattle.scim_policy.specs.declared.rules.PolicyPath.TheVariants.{Everything, Attribute, SubAttribute}
 use Rattle.scim_policy.specs.Rules.{Rule}
 use Rattle.scim_policy.specs.Decide.{paths_on}
-use Rattle.scim_explain.specs.declared.idle_rules.IdleRule.{IdleRule}
+use Rattle.scim_explain.specs.declared.never_deciding.IdleRule.{IdleRule}
 use Rattle.scim_explain.specs.Texts.{rule_line}
 
 -- whether a client name covers every client that another covers: `*` covers all, and a name covers itself

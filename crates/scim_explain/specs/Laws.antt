@@ -5,7 +5,7 @@ use Rattle.scim_schema.specs.declared.Leaf.{Leaf}
 use Rattle.scim_cell.specs.Content.{Content}
 use Rattle.scim_policy.specs.Rules.{Rule}
 use Rattle.scim_policy.specs.Decide.{fits, misfit_of, decide}
-use Rattle.scim_explain.specs.declared.idle_rules.IdleRule.{IdleRule}
+use Rattle.scim_explain.specs.declared.never_deciding.IdleRule.{IdleRule}
 use Rattle.scim_explain.specs.Explain.{Explanation, explained}
 use Rattle.scim_explain.specs.Idle.{covers_rule, idle_rules}
 

@@ -7,12 +7,12 @@
 
 mod decision_table;
 mod explanations;
-mod idle_rules;
 mod laws;
+mod never_deciding;
 mod texts;
 
 pub use decision_table::table;
 pub use explanations::{Explanation, explain};
-pub use idle_rules::{IdleRule, idle_rules, print_idle_rules};
 pub use laws::{each_earlier_rule_has_its_misfit, idle_rules_never_decide};
+pub use never_deciding::{IdleRule, idle_rules, print_idle_rules};
 pub use texts::{effect_word, print, rule_line};

@@ -8,11 +8,11 @@ mod attribute_lists;
 mod characteristic_names;
 mod characteristics;
 mod json_keys;
+mod leaf_units;
 mod limits;
 mod lookup;
 mod names;
 mod schemas;
-mod units;
 
 pub use attribute_lists::{attributes, has_leaf, leaves, sub_attributes, unique_leaves, units};
 pub use characteristics::{
@@ -24,13 +24,13 @@ pub use json_keys::{
     JsonForm, JsonKey, JsonShape, extension_keys, keys, keys_ascend, keys_have_all_attributes,
     ordered_sub_attributes, shape_of,
 };
+pub use leaf_units::unit_of;
 pub use limits::{
     LONGEST_FILTER, LONGEST_VALUE, MAX_BODY, MOST_OPERATIONS, MOST_RULES, MOST_SHOWN, MOST_TOKENS,
     MOST_VALUES, USUALLY_SHOWN,
 };
 pub use lookup::{attribute_named, attribute_named_in, sub_attribute_named};
 pub use schemas::{Schema, core_schema, extension_of, extensions, schema_of};
-pub use units::unit_of;
 
 /// A kind of resource, called resource type in RFC 7643 section 6.
 #[derive(Clone, Copy, Debug, PartialEq, Eq)]

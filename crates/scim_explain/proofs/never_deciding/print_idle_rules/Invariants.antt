@@ -1,6 +1,6 @@
 use Rattle.std.proofs.Common.{◌≡◌, ◌++◌, drop, string_bytes}
 use Rattle.scim_explain.specs.Idle as spec
-use Rattle.scim_explain.proofs.idle_rules.print_idle_rules.Given as goal
+use Rattle.scim_explain.proofs.never_deciding.print_idle_rules.Given as goal
 
 -- the lines so far, and those of the rules from this one on, are those of all
 abbrev pub invariant-loop-rule : goal.invariant-loop-rule

@@ -1,6 +1,6 @@
 use Rattle.std.proofs.Common.{◌≡◌, ◌≤◌, ◌+◌, ◌++◌, length, drop}
 use Rattle.scim_explain.proofs.IdleLemmas.{idle_from}
-use Rattle.scim_explain.proofs.idle_rules.idle_rules.Given as goal
+use Rattle.scim_explain.proofs.never_deciding.idle_rules.Given as goal
 
 -- the idle rules so far, and those from this one on, are all
 abbrev pub invariant-loop-index : goal.invariant-loop-index
