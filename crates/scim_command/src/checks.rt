@@ -66,13 +66,13 @@ fn policy_text(alloc: Global, policy: &Policy, verbose: bool) -> Result<String, 
     let count = policy.rule_count();
     let idle = idle_rules(alloc, policy)?;
     let idle = print_idle_rules(alloc, idle.as_slice())?;
-    let sentences = sentences_if(alloc, policy, verbose)?;
+    let sentences = verbose_sentences(alloc, policy, verbose)?;
     Ok(format!(in alloc; "ok, {count} rules\n{sentences}{idle}")?)
 }
 
 /// Returns the rules as sentences if `verbose`, else the empty text.
-fn sentences_if(alloc: Global, policy: &Policy, verbose: bool) -> Result<String, NoMemory>
-    ensures { IfOk result (λ text. string_bytes text ≡ spec.sentences_if verbose policy.now) }
+fn verbose_sentences(alloc: Global, policy: &Policy, verbose: bool) -> Result<String, NoMemory>
+    ensures { IfOk result (λ text. string_bytes text ≡ spec.verbose_sentences verbose policy.now) }
 {
     if verbose {
         rule_sentences(alloc, policy)

@@ -15,13 +15,13 @@ made v groups (Named attributes) c = visible_attributes attributes.now (read_dec
 made v groups (Whole index) c = with_groups v groups c
 
 -- the part made of a resource; None if the viewer doesn't see it
-abbrev pub made_if_seen : (Content → Content) → Viewer → Content → Option Content
-made_if_seen make v c = if sees v c then Some (make c) else None
+abbrev pub made_part : (Content → Content) → Viewer → Content → Option Content
+made_part make v c = if sees v c then Some (make c) else None
 
 -- the parts made of those resources that the viewer sees
 abbrev pub made_of_all : (Content → Content) → Viewer → List Content → List Content
 made_of_all make v [] = []
-made_of_all make v (c ∷ cs) = and_those (made_if_seen make v c) (made_of_all make v cs)
+made_of_all make v (c ∷ cs) = and_those (made_part make v c) (made_of_all make v cs)
 
 -- the index, if parts are made whole, is of these groups
 abbrev pub IsIndexed : Viewer → List Content → ViewScope → Type 0
@@ -35,4 +35,4 @@ pub record IsViewBuilder (groups : List Content) (builder : ViewBuilder) : Type 
 
 -- the part that a sight makes of a resource; None if its viewer doesn't see it
 abbrev pub part_of : List Content → ViewBuilder → Content → Option Content
-part_of groups builder c = made_if_seen (made (viewer_of builder.viewer.now) groups builder.scope) (viewer_of builder.viewer.now) c
+part_of groups builder c = made_part (made (viewer_of builder.viewer.now) groups builder.scope) (viewer_of builder.viewer.now) c

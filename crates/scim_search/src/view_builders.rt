@@ -113,7 +113,7 @@ fn show_named(
     ensures taken { OnOk result ((v : SpecViewer) (parts : List Content)
         → AreFor v resource.now decisions.now → HasTaken parts pager.old
         → HasTaken (parts ++ and_those
-        (spec.made_if_seen (λ c. seen_attributes attributes.now (read_decision v c) c) v
+        (spec.made_part (λ c. seen_attributes attributes.now (read_decision v c) c) v
         resource.now) []) pager.new) }
 {
     if !decisions.of(Leaf::simple(Attribute::Id)).allow {

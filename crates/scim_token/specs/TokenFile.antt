@@ -49,13 +49,13 @@ abbrev pub added : List Entry → Entry → Result (List Entry) LineFault
 added known e = if list_any (has_digest e.digest) known then Err Twice else if length known == MOST_TOKENS then Err TooMany else Ok (known ++ e ∷ [])
 
 -- the entries with the entry of a line added, or the fault of the line
-abbrev pub added_if : List Entry → Result Entry LineFault → Result (List Entry) LineFault
-added_if known (Ok e) = added known e
-added_if known (Err fault) = Err fault
+abbrev pub list_with_entry : List Entry → Result Entry LineFault → Result (List Entry) LineFault
+list_with_entry known (Ok e) = added known e
+list_with_entry known (Err fault) = Err fault
 
 -- the entries after one more line
 abbrev pub after_line : List Entry → List ℕ → Result (List Entry) LineFault
-after_line known line = if says_nothing line then Ok known else added_if known (entry_in line)
+after_line known line = if says_nothing line then Ok known else list_with_entry known (entry_in line)
 
 -- the result for the remaining lines, or the fault of line n
 abbrev pub if_well : ℕ → Result (List Entry) LineFault → (List Entry → Result (List Entry) TokenFault) → Result (List Entry) TokenFault

@@ -19,8 +19,8 @@ option_line name None = []
 option_line name (Some value) = line name value
 
 -- a header line if it is due
-abbrev pub line_if : Bool → List ℕ → List ℕ → List ℕ
-line_if due name value = if due then line name value else []
+abbrev pub optional_line : Bool → List ℕ → List ℕ → List ℕ
+optional_line due name value = if due then line name value else []
 
 -- the reason phrase of a status code (RFC 9110 section 15), empty if the code has none
 abbrev pub phrase_of : ℕ → List ℕ
@@ -46,12 +46,12 @@ body_text said = unwrap_or said.body []
 unfoldable pub text_of : Said → Bool → List ℕ
 text_of said close =
     status_line said.status
-    ++ line_if (is_some said.body) (codes "Content-Type") (codes "application/scim+json")
-    ++ line_if (not (said.status == 204)) (codes "Content-Length") (decimal (length (body_text said)))
+    ++ optional_line (is_some said.body) (codes "Content-Type") (codes "application/scim+json")
+    ++ optional_line (not (said.status == 204)) (codes "Content-Length") (decimal (length (body_text said)))
     ++ option_line (codes "Location") said.location
     ++ option_line (codes "Allow") said.allow
-    ++ line_if said.asks_for_token (codes "WWW-Authenticate") (codes "Bearer")
-    ++ line_if close (codes "Connection") (codes "close")
+    ++ optional_line said.asks_for_token (codes "WWW-Authenticate") (codes "Bearer")
+    ++ optional_line close (codes "Connection") (codes "close")
     ++ crlf
     ++ body_text said
 

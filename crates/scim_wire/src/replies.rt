@@ -1,7 +1,7 @@
 //! Prints a reply (RFC 9112 section 4).
 ghost use Rattle.std.specs.Prelude.{◌≡◌, [], ◌++◌, unwrap_or, IfOk, OnOk, string_bytes};
 ghost use Rattle.std.specs.Option.{option_copied};
-ghost use Rattle.scim_wire.specs.Replies.{line, option_line, line_if, phrase_of, status_line, reply_text};
+ghost use Rattle.scim_wire.specs.Replies.{line, option_line, optional_line, phrase_of, status_line, reply_text};
 
 use http::StatusCode;
 use scim_text::NoMemory;
@@ -49,7 +49,7 @@ fn push_option(text: &mut String, name: &str, value: Option<&str>) -> Result<(),
 /// Appends a header line if `due`.
 fn push_if(text: &mut String, due: bool, name: &str, value: &str) -> Result<(), NoMemory>
     ensures { OnOk result (string_bytes text.new ≡ string_bytes text.old
-        ++ line_if due name.now value.now) }
+        ++ optional_line due name.now value.now) }
 {
     if due {
         push_line(text, name, value)
