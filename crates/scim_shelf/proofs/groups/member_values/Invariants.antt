@@ -4,4 +4,4 @@ use Rattle.scim_shelf.proofs.groups.member_values.Given as goal
 
 -- the values of the members so far
 abbrev pub invariant-loop-member : goal.invariant-loop-member
-invariant-loop-member l = (v : List ℕ) → is_in v l.values ≡ is_value_of v (take l.member-index l.member-items)
+invariant-loop-member l = (v : List ℕ) → is_in v l.values ≡ is_value_of v (take l.member-index l.members)

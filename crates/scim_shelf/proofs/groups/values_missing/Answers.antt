@@ -19,13 +19,13 @@ loop-member-preserved c =
     elim c.match-value_of.branch [
       | in-Some+then-not-contains+in_ok-copy_of+in_ok-push w ↦ λ v.
           let u = w.in-Some.value.now in
-          let absent : is_group_with u new ≡ false = sym (c.in_ok-listed.ensures u) ∙ sym w.contains.ensures ∙ w.if-not-contains.true in
+          let absent : is_group_with u new ≡ false = sym (c.noted_members.ensures u) ∙ sym (c.in_ok-listed.ensures u) ∙ sym w.contains.ensures ∙ w.if-not-contains.true in
           ap (λ (xs : List (List ℕ)). is_one_of v xs) ((λ i. (w.gone-is i).items) ∙ w.in_ok-push.ensures.items ∙ ap (λ (t : List ℕ). gone ++ t ∷ []) w.in_ok-copy_of.ensures)
           ∙ taken_more v u gone (is_value_of v (take k members)) listed (c.loop-member.invariant v) absent
           ∙ ap (all v) (sym (value_more v members k member (Some u) inside c.member-item.is (w.in-Some.ensures v)))
       | in-Some+else-not-contains w ↦ λ v.
           let u = w.in-Some.value.now in
-          let present : is_group_with u new ≡ true = sym (c.in_ok-listed.ensures u) ∙ sym w.contains.ensures ∙ w.if-not-contains.false in
+          let present : is_group_with u new ≡ true = sym (c.noted_members.ensures u) ∙ sym (c.in_ok-listed.ensures u) ∙ sym w.contains.ensures ∙ w.if-not-contains.false in
           ap (λ (xs : List (List ℕ)). is_one_of v xs) (λ i. (w.gone-is i).items)
           ∙ taken_same v u gone (is_value_of v (take k members)) listed (c.loop-member.invariant v) present
           ∙ ap (all v) (sym (value_more v members k member (Some u) inside c.member-item.is (w.in-Some.ensures v)))
