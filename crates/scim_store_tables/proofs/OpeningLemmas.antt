@@ -1,9 +1,11 @@
 -- What CREATE TABLE and the first INSERT make of a database.
-use Rattle.std.proofs.Common.{◌≡◌, ℕ, ℤ, pos, codes, ◌≤◌, List, [], ◌∷◌, map, Bool, true, false, cond, length, None, Ok, Err, Result, OnOk, IsErr, IsTrue, refl, sym, ap, subst, ◌∙◌, arith}
+use Rattle.std.proofs.Common.{◌≡◌, ℕ, ℤ, pos, codes, ◌≤◌, List, [], ◌∷◌, map, Bool, true, false, cond, length, None, Ok, Err, Result, OnOk, IsTrue, refl, sym, ap, subst, ◌∙◌, arith}
 use Rattle.std.proofs.lemmas.List.Sorted.{IsPermutation-refl}
 use Rattle.sqlite_trees.proofs.ListLemmas.{IsPermutation-same}
 use Rattle.sqlite.specs.declared.types.Value.TheVariants.{Null, Int, Text}
+use Rattle.sqlite_trees.specs.declared.store.Store.{Ghosts}
 use Rattle.sqlite.specs.declared.error.Error.{Error}
+use Rattle.sqlite.specs.declared.transaction.Transaction.{Transaction}
 use Rattle.sqlite.specs.Order.{Row}
 use Rattle.sqlite.specs.Schema.{Schema}
 use Rattle.sqlite.specs.Table.{Table}
@@ -16,19 +18,18 @@ use Rattle.sqlite.specs.Change.{created, next_tree, KeepsRows}
 use Rattle.sqlite.specs.Does.{Tally, Does, lacks_sequence}
 use Rattle.sqlite.specs.Effect.{Database}
 use Rattle.sqlite.specs.Edit.{next_rowid, IsNoIndex}
-use Rattle.sqlite.specs.State.{State, HasCleanDisk, Writes, mode_of, Executes, ExecutesInside}
+use Rattle.sqlite.specs.State.{State, Writes, mode_of, Executes, ExecutesInside}
 use Rattle.sqlite.specs.Listing.{understood}
 use Rattle.sqlite_tied.specs.Compute.{everything}
 use Rattle.sqlite.proofs.Callers.{IsPlain, command_of, statement_of, runs_as}
 use Rattle.scim_store_tables.specs.Tables.{no_schema, setting_table, resource_table, taken_table, member_table, audit_table, store_schema}
 use Rattle.scim_store_tables.specs.Lists.{IsTableOf, Are, no_rows, pair, entry, version_values}
 use Rattle.scim_store_tables.specs.code.Opening.{schema_1, schema_2, schema_3, schema_4, IsMade, IsBefore, IsBehind, creation}
-use Rattle.scim_store_tables.specs.Steps.{Makes}
+use Rattle.scim_store_tables.specs.Steps.{DoesIn, Makes}
 use Rattle.scim_store_tables.specs.declared.queries.Table.{Table as Name}
 use Rattle.scim_store_tables.specs.declared.queries.Table.TheVariants.{Setting, Resource, Taken, Member, Audit}
 use Rattle.scim_store_tables.proofs.ChangeLemmas.{went, same_value, cast_null, cast_int, puts, inside}
-use Rattle.scim_store_tables.proofs.StepLemmas.{goes_then}
-use Rattle.sqlite.proofs.StateLemmas.{survives_then}
+use Rattle.scim_store_tables.proofs.StepLemmas.{does_then}
 use Rattle.scim_store_tables.proofs.TableLemmas.{no_index_2, no_index_4, no_index_6, no_index_8}
 
 -- ---- what the texts mean
@@ -209,23 +210,7 @@ notes_version old new count was h =
 pub notes_version_inside : (old new : State) (r : Result ℕ Error) → ExecutesInside 0 version_text [] old new r → OnOk r (IsTrue new.in_transaction × (IsMade store_schema (8 ∷ 6 ∷ 4 ∷ 2 ∷ 0 ∷ []) old.now → Are new.now no_rows))
 notes_version_inside old new r = inside version_text [] old new r (λ count h was. notes_version old new count was h)
 
--- ---- steps, one behind another
-
 -- one step behind another
-pub makes_then : {T U : Type 0} (A B C : Database → Type 0) (a b c : State) (x : T) (r : Result U Error) → Makes A B a b (Ok x) → Makes B C b c r → Makes A C a c r
-makes_then A B C a b c x r first second = record {
-  went = λ clean inside. (let one = first.went (earlier clean) inside in goes_then r (λ h. (h.0, λ was. h.1 (one.1 was))) (second.went clean one.0));
-  kept = λ clean.
-      (let one = first.kept (earlier clean) in
-      let two = second.kept clean in
-      record { was_open = λ o. one.was_open (two.was_open o); committed = λ o. two.committed o ∙ one.committed (two.was_open o) });
-  survives = survives_then a b c _ _ _ (λ _ db none. none) (λ _ db none. none) first.survives second.survives;
-}
-  where
-    earlier : HasCleanDisk c → HasCleanDisk b
-    earlier clean = omega (arith, clean, second.survives.clean)
-
--- the error of a step is that of the whole
-pub makes_failed : {T U : Type 0} (A B C : Database → Type 0) (a b : State) (e : Error) (r : Result U Error) → IsErr r → Makes {T = T} A B a b (Err e) → Makes A C a b r
-makes_failed A B C a b e (Ok y) fails made = absurd cc
-makes_failed A B C a b e (Err f) fails made = record { went = λ clean inside. tt; kept = made.kept; survives = made.survives }
+pub makes_then : {S T U : Type 0} (g : Ghosts S) (a b c : Transaction S) (x : T) (r : Result U Error) (A B C : Database → Type 0)
+    → DoesIn {E = Error} g a b (Ok x) (Makes A B) → DoesIn g b c r (Makes B C) → DoesIn g a c r (Makes A C)
+makes_then g a b c x r A B C first second = does_then g a b c x r (Makes A B) (Makes B C) (Makes A C) first second (λ _ _ _ one two was. two (one was))

@@ -1,12 +1,18 @@
 -- Steps inside a transaction, one behind another.
-use Rattle.std.proofs.Common.{◌≡◌, ℕ, List, Bool, true, false, Result, Ok, Err, OnOk, OnErr, IfOk, IfErr, IsTrue, refl, sym, subst, ◌∙◌, arith}
+use Rattle.std.proofs.Common.{◌≡◌, ℕ, List, Bool, true, false, Result, Ok, Err, OnOk, OnErr, IfOk, IfErr, IsErr, IsTrue, refl, sym, ap, subst, ◌∙◌, arith, rules}
+use Rattle.std.specs.Prelude.{⊤}
+use Rattle.sqlite_trees.specs.declared.store.Store.{Ghosts}
 use Rattle.sqlite.specs.declared.error.Error.{Error}
+use Rattle.sqlite.specs.declared.error.Error.TheVariants.{SqliteFailure}
+use Rattle.sqlite.specs.declared.error.ErrorCode.TheVariants.{TransactionState}
+use Rattle.sqlite.specs.declared.transaction.Transaction.{Transaction}
 use Rattle.sqlite.specs.Order.{Row}
 use Rattle.sqlite.specs.Effect.{Database}
 use Rattle.sqlite.specs.State.{State, HasCleanDisk, Survives, KeepsCommit, ExecutesInside}
+use Rattle.sqlite.specs.Held.{state}
 use Rattle.sqlite.proofs.InsideLemmas.{inside_keeps}
 use Rattle.sqlite.proofs.StateLemmas.{survives_then}
-use Rattle.scim_store_tables.specs.Steps.{Loops, Keeps}
+use Rattle.scim_store_tables.specs.Steps.{DoesIn}
 
 pub goes_then : {T E : Type 0} (r : Result T E) {P Q : Type 0} → (P → Q) → OnOk r P → OnOk r Q
 goes_then (Ok x) f h = f h
@@ -24,14 +30,62 @@ keeps_either old new sql params r out runs = go old.in_transaction refl
     go true inside = inside_keeps old new 0 false sql params r (runs inside)
     go false outside = subst (λ (s : State). KeepsCommit old s) (sym (out outside)) (record { was_open = λ o. o; committed = λ _. refl })
 
--- one more step of a loop
-pub loops_more : (old mid new : State) (P Q : Database → Database → Type 0) → Loops old mid P → Keeps mid new → Survives mid new (λ _. ⊥)
-    → (HasCleanDisk new → IsTrue mid.in_transaction → P old.now mid.now → IsTrue new.in_transaction × Q old.now new.now) → Loops old new Q
-loops_more old mid new P Q loops kept survives step = record {
-  went = λ clean inside. (let before = loops.went (omega (arith, clean, survives.clean)) inside in step clean before.0 before.1);
-  kept = λ clean. (let one = loops.kept (omega (arith, clean, survives.clean)) in let two = kept clean in record { was_open = λ o. one.was_open (two.was_open o); committed = λ o. two.committed o ∙ one.committed (two.was_open o) });
-  survives = survives_then old mid new _ _ _ (λ _ db none. none) (λ _ db none. none) loops.survives survives;
+-- what the execution of a statement does
+pub does_execute : {S : Type 0} (g : Ghosts S) (old new : Transaction S) (sql : List ℕ) (params : Row) (r : Result ℕ Error) (P : Database → Database → Type 0)
+    → new.conn.ghost_name ≡ old.conn.ghost_name
+    → ((state g old.conn.now).in_transaction ≡ false → (r ≡ Err (SqliteFailure TransactionState)) × (new.conn.now ≡ old.conn.now))
+    → (HasCleanDisk (state g new.conn.now) → IsTrue (state g old.conn.now).in_transaction → ExecutesInside 0 sql params (state g old.conn.now) (state g new.conn.now) r)
+    → Survives (state g old.conn.now) (state g new.conn.now) (λ _. ⊥)
+    → (ExecutesInside 0 sql params (state g old.conn.now) (state g new.conn.now) r → OnOk r (IsTrue (state g new.conn.now).in_transaction × P (state g old.conn.now).now (state g new.conn.now).now)) → DoesIn g old new r P
+does_execute g old new sql params r P same ended runs survives changed = record {
+  same_reference = same;
+  went = λ clean inside. changed (runs clean inside);
+  kept = λ clean. keeps_either (state g old.conn.now) (state g new.conn.now) sql params r (λ outside. ap (state g) (ended outside).1) (runs clean);
+  survives = survives;
 }
+
+-- what a loop inside a transaction did, up to some iteration
+abbrev pub HasDone : {S : Type 0} (g : Ghosts S) → Transaction S → Transaction S → (Database → Database → Type 0) → Type 0
+HasDone g old new P = DoesIn {T = ⊤} {E = Error} g old new (Ok tt) P
+
+-- no step at all
+pub does_nothing : {S T E : Type 0} (g : Ghosts S) (tx : Transaction S) (x : T) (P : Database → Database → Type 0) → P (state g tx.conn.now).now (state g tx.conn.now).now → DoesIn {E = E} g tx tx (Ok x) P
+does_nothing g tx x P same = record {
+  same_reference = refl;
+  went = λ clean inside. (inside, same);
+  kept = search rules;
+  survives = search rules;
+}
+
+-- a step may be told by less
+pub does_less : {S T U E F : Type 0} (g : Ghosts S) (a b : Transaction S) (x : T) (y : U) (P Q : Database → Database → Type 0) → DoesIn {E = E} g a b (Ok x) P → ((d e : Database) → P d e → Q d e) → DoesIn {E = F} g a b (Ok y) Q
+does_less g a b x y P Q does less = record {
+  same_reference = does.same_reference;
+  went = λ clean inside. (let it = does.went clean inside in (it.0, less _ _ it.1));
+  kept = does.kept;
+  survives = does.survives;
+}
+
+-- one step behind another
+pub does_then : {S T U E F : Type 0} (g : Ghosts S) (a b c : Transaction S) (x : T) (r : Result U F) (P Q R : Database → Database → Type 0)
+    → DoesIn {E = E} g a b (Ok x) P → DoesIn g b c r Q → ((d e f : Database) → P d e → Q e f → R d f) → DoesIn g a c r R
+does_then g a b c x r P Q R first second both = record {
+  same_reference = second.same_reference ∙ first.same_reference;
+  went = λ clean inside. (let one = first.went (earlier clean) inside in goes_then r (λ h. (h.0, both _ _ _ one.1 h.1)) (second.went clean one.0));
+  kept = λ clean.
+      (let one = first.kept (earlier clean) in
+      let two = second.kept clean in
+      record { was_open = λ o. one.was_open (two.was_open o); committed = λ o. two.committed o ∙ one.committed (two.was_open o) });
+  survives = survives_then (state g a.conn.now) (state g b.conn.now) (state g c.conn.now) _ _ _ (λ _ db none. none) (λ _ db none. none) first.survives second.survives;
+}
+  where
+    earlier : HasCleanDisk (state g c.conn.now) → HasCleanDisk (state g b.conn.now)
+    earlier clean = omega (arith, clean, second.survives.clean)
+
+-- the error of a step is that of the whole
+pub does_failed : {S T U E F : Type 0} (g : Ghosts S) (a b : Transaction S) (e : E) (r : Result U F) (P Q : Database → Database → Type 0) → IsErr r → DoesIn {T = T} g a b (Err e) P → DoesIn g a b r Q
+does_failed g a b e (Ok y) P Q fails does = absurd cc
+does_failed g a b e (Err f) P Q fails does = record { same_reference = does.same_reference; went = λ clean inside. tt; kept = does.kept; survives = does.survives }
 
 pub on_ok : {T E : Type 0} (r : Result T E) (P : T → Type 0) (Q : Type 0) → ((x : T) → P x → Q) → IfOk r P → OnOk r Q
 on_ok (Ok x) P Q f h = f x h

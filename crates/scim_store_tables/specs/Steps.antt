@@ -1,8 +1,10 @@
 -- A step inside a transaction, and a whole transaction.
 use Rattle.std.specs.Prelude.{◌≡◌, IsTrue, Result, OnOk, IfOk}
-use Rattle.sqlite.specs.declared.error.Error.{Error}
+use Rattle.sqlite_trees.specs.declared.store.Store.{Ghosts}
+use Rattle.sqlite.specs.declared.transaction.Transaction.{Transaction}
 use Rattle.sqlite.specs.Tree.{Trees}
 use Rattle.sqlite.specs.Effect.{Database}
+use Rattle.sqlite.specs.Held.{state}
 use Rattle.sqlite.specs.State.{State, HasCleanDisk, KeepsCommit, Survives}
 
 -- After Ok the transaction is still open, and its database has changed by P.
@@ -17,19 +19,24 @@ GoesBy old new result P = HasCleanDisk new → IsTrue old.in_transaction → IfO
 abbrev pub Keeps : State → State → Type 0
 Keeps old new = HasCleanDisk new → KeepsCommit old new
 
--- A step inside a transaction: after Ok the transaction is still open, and a database that was `Before` is
--- `Behind`; nothing is committed, and a crash leaves only what it could leave before.
-pub record Makes {T : Type 0} (Before Behind : Database → Type 0) (old new : State) (result : Result T Error) : Type 0 where
-  pub went : Goes old new result (λ before behind. Before before → Behind behind)
-  pub kept : Keeps old new
-  pub survives : Survives old new (λ _. ⊥)
+-- What a step inside a transaction does. It uses the same connection. After Ok the transaction is still open,
+-- and its database has changed by P. Nothing is committed, and a crash leaves only what it could leave before.
+pub record DoesIn {S T E : Type 0} (g : Ghosts S) (old new : Transaction S) (result : Result T E) (P : Database → Database → Type 0) : Type 0 where
+  pub same_reference : new.conn.ghost_name ≡ old.conn.ghost_name
+  pub went : Goes (state g old.conn.now) (state g new.conn.now) result P
+  pub kept : Keeps (state g old.conn.now) (state g new.conn.now)
+  pub survives : Survives (state g old.conn.now) (state g new.conn.now) (λ _. ⊥)
 
--- A loop inside a transaction, up to some iteration: the transaction is open and its database has changed by
--- P, nothing is committed, and a crash leaves only what it could leave before.
-pub record Loops (old new : State) (P : Database → Database → Type 0) : Type 0 where
-  pub went : HasCleanDisk new → IsTrue old.in_transaction → IsTrue new.in_transaction × P old.now new.now
-  pub kept : Keeps old new
-  pub survives : Survives old new (λ _. ⊥)
+-- The same, where the database has changed by P of the result.
+pub record DoesBy {S T E : Type 0} (g : Ghosts S) (old new : Transaction S) (result : Result T E) (P : T → Database → Database → Type 0) : Type 0 where
+  pub same_reference : new.conn.ghost_name ≡ old.conn.ghost_name
+  pub went : GoesBy (state g old.conn.now) (state g new.conn.now) result P
+  pub kept : Keeps (state g old.conn.now) (state g new.conn.now)
+  pub survives : Survives (state g old.conn.now) (state g new.conn.now) (λ _. ⊥)
+
+-- A database that was `Before` becomes one that is `Behind`.
+abbrev pub Makes : (Database → Type 0) → (Database → Type 0) → Database → Database → Type 0
+Makes Before Behind old new = Before old → Behind new
 
 -- A transaction is committed that changed the database by P.
 pub record Became (old new : State) (P : Database → Database → Type 0) : Type 0 where

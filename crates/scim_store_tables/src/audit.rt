@@ -1,11 +1,9 @@
 //! Writes the rows of the audit.
 
 ghost use Rattle.std.specs.Prelude.{◌≡◌, ◌≤◌, ◌∷◌, pos};
-ghost use Rattle.sqlite.specs.State.{Survives};
-ghost use Rattle.sqlite.specs.Held.{state};
 ghost use Rattle.scim_store_tables.specs.Lists.{Lists, Are};
 ghost use Rattle.scim_store_tables.specs.Audit.{last_number, audit_values};
-ghost use Rattle.scim_store_tables.specs.Steps.{Goes, Keeps};
+ghost use Rattle.scim_store_tables.specs.Steps.{DoesIn};
 
 use sqlite::{Alter, Error, Transaction, params};
 
@@ -51,14 +49,9 @@ fn insert_columns<S: Alter>(
 ) -> Result<usize, Error>
     requires number { number ≡ pos columns.now.number }
     requires moment { moment ≡ pos columns.now.moment }
-    ensures same_reference { tx.new.conn.ghost_name ≡ tx.old.conn.ghost_name }
-    ensures went { Goes (state S.Store tx.old.conn.now) (state S.Store tx.new.conn.now) result
-        (λ old new.
-        (lists : Lists) → Are old lists
+    ensures does { DoesIn S.Store tx.old tx.new result
+        (λ old new. (lists : Lists) → Are old lists
         → Are new (record lists { audit = audit_values columns.now ∷ lists.audit })) }
-    ensures kept { Keeps (state S.Store tx.old.conn.now) (state S.Store tx.new.conn.now) }
-    ensures survives { Survives (state S.Store tx.old.conn.now) (state S.Store tx.new.conn.now)
-        (λ _. ⊥) }
 {
     tx.execute(
         "INSERT INTO audit (number, moment, client, op, kind, id, decided, rule, leaf, refusal) VALUES (?1, ?2, ?3, ?4, ?5, ?6, ?7, ?8, ?9, ?10)",
@@ -88,14 +81,9 @@ pub fn insert_audit<S: Alter>(
 ) -> Result<usize, Error>
     requires number { columns.now.number ≤ last_number }
     requires moment { columns.now.moment ≤ last_number }
-    ensures same_reference { tx.new.conn.ghost_name ≡ tx.old.conn.ghost_name }
-    ensures went { Goes (state S.Store tx.old.conn.now) (state S.Store tx.new.conn.now) result
-        (λ old new.
-        (lists : Lists) → Are old lists
+    ensures does { DoesIn S.Store tx.old tx.new result
+        (λ old new. (lists : Lists) → Are old lists
         → Are new (record lists { audit = audit_values columns.now ∷ lists.audit })) }
-    ensures kept { Keeps (state S.Store tx.old.conn.now) (state S.Store tx.new.conn.now) }
-    ensures survives { Survives (state S.Store tx.old.conn.now) (state S.Store tx.new.conn.now)
-        (λ _. ⊥) }
 {
     let number = sql_number(columns.number);
     let moment = sql_number(columns.moment);

@@ -4,8 +4,7 @@ ghost use Rattle.std.specs.Prelude.{◌≡◌, false, OnOk, OnErr};
 ghost use Rattle.sqlite.specs.State.{HasCleanDisk, Survives};
 ghost use Rattle.sqlite.specs.Held.{state};
 ghost use Rattle.scim_store_tables.specs.Lists.{Are, no_rows};
-ghost use Rattle.scim_store_tables.specs.Tables.{no_schema};
-ghost use Rattle.scim_store_tables.specs.Steps.{Makes, Became, Undoes, Leaves};
+ghost use Rattle.scim_store_tables.specs.Steps.{DoesIn, Makes, Became, Undoes, Leaves};
 ghost use Rattle.scim_store_tables.specs.Opening.{MakesTables};
 ghost use Rattle.scim_store_tables.specs.code.Opening as spec;
 ghost use Rattle.scim_store_tables.specs.code.Opening.{IsBefore, IsBehind};
@@ -37,18 +36,15 @@ fn creation(table: Table) -> &'static str
 
 /// Creates a table, after those that come before it in the schema.
 fn create_table<S: Alter>(tx: &mut Transaction<'_, S>, table: Table) -> Result<usize, Error>
-    ensures same_reference { tx.new.conn.ghost_name ≡ tx.old.conn.ghost_name }
-    ensures made { Makes (IsBefore table) (IsBehind table) (state S.Store tx.old.conn.now)
-        (state S.Store tx.new.conn.now) result }
+    ensures does { DoesIn S.Store tx.old tx.new result (Makes (IsBefore table) (IsBehind table)) }
 {
     tx.execute(creation(table), &[])
 }
 
 /// Writes the version of the tables, 1, to `setting`.
 fn insert_version<S: Alter>(tx: &mut Transaction<'_, S>) -> Result<usize, Error>
-    ensures same_reference { tx.new.conn.ghost_name ≡ tx.old.conn.ghost_name }
-    ensures made { Makes (IsBehind Audit) (λ db. Are db no_rows) (state S.Store tx.old.conn.now)
-        (state S.Store tx.new.conn.now) result }
+    ensures does { DoesIn S.Store tx.old tx.new result
+        (Makes (IsBehind Audit) (λ db. Are db no_rows)) }
 {
     tx.execute(
         "INSERT INTO setting (name, number) VALUES ('version', 1)",
@@ -58,9 +54,7 @@ fn insert_version<S: Alter>(tx: &mut Transaction<'_, S>) -> Result<usize, Error>
 
 /// Creates the first three tables: `setting`, `resource` and `taken`.
 fn create_first<S: Alter>(tx: &mut Transaction<'_, S>) -> Result<usize, Error>
-    ensures same_reference { tx.new.conn.ghost_name ≡ tx.old.conn.ghost_name }
-    ensures made { Makes (IsBefore Setting) (IsBehind Taken) (state S.Store tx.old.conn.now)
-        (state S.Store tx.new.conn.now) result }
+    ensures does { DoesIn S.Store tx.old tx.new result (Makes (IsBefore Setting) (IsBehind Taken)) }
 {
     create_table(tx, Table::Setting)?;
     create_table(tx, Table::Resource)?;
@@ -74,9 +68,7 @@ fn create_first<S: Alter>(tx: &mut Transaction<'_, S>) -> Result<usize, Error>
 /// if a table of one of the names exists, or if the disk or the memory failed. Then nothing is committed, but
 /// the transaction may have been rolled back: the caller must drop it.
 pub fn make_tables<S: Alter>(tx: &mut Transaction<'_, S>) -> Result<usize, Error>
-    ensures same_reference { tx.new.conn.ghost_name ≡ tx.old.conn.ghost_name }
-    ensures made { Makes (λ db. db.schema ≡ no_schema) (λ db. Are db no_rows)
-        (state S.Store tx.old.conn.now) (state S.Store tx.new.conn.now) result }
+    ensures does { DoesIn S.Store tx.old tx.new result MakesTables }
 {
     create_first(tx)?;
     create_table(tx, Table::Member)?;

@@ -5,10 +5,8 @@
 //! Then nothing is committed, but the transaction may have been rolled back: the caller must drop it.
 
 ghost use Rattle.std.specs.Prelude.{◌≡◌, ◌∷◌, ◌++◌, length, filter, replicate};
-ghost use Rattle.sqlite.specs.State.{Survives};
-ghost use Rattle.sqlite.specs.Held.{state};
 ghost use Rattle.scim_store_tables.specs.Lists.{Lists, Are, without, has_text, has_texts, resource_values, name_values, member_values};
-ghost use Rattle.scim_store_tables.specs.Steps.{Goes, GoesBy, Keeps};
+ghost use Rattle.scim_store_tables.specs.Steps.{DoesIn, DoesBy};
 
 use sqlite::{Alter, Error, Transaction, params};
 
@@ -20,17 +18,11 @@ pub fn insert_resource<S: Alter>(
     kind: u32,
     document: &str,
 ) -> Result<usize, Error>
-    ensures same_reference { tx.new.conn.ghost_name ≡ tx.old.conn.ghost_name }
-    ensures went { Goes (state S.Store tx.old.conn.now) (state S.Store tx.new.conn.now) result
-        (λ old new.
-        (lists : Lists) → Are old lists
+    ensures does { DoesIn S.Store tx.old tx.new result
+        (λ old new. (lists : Lists) → Are old lists
         → Are new (record lists {
-          resources = resource_values id.now kind document.now
-              ∷ lists.resources;
+          resources = resource_values id.now kind document.now ∷ lists.resources;
         })) }
-    ensures kept { Keeps (state S.Store tx.old.conn.now) (state S.Store tx.new.conn.now) }
-    ensures survives { Survives (state S.Store tx.old.conn.now) (state S.Store tx.new.conn.now)
-        (λ _. ⊥) }
 {
     tx.execute(
         "INSERT INTO resource (id, kind, document) VALUES (?1, ?2, ?3)",
@@ -46,8 +38,7 @@ pub fn update_resource<S: Alter>(
     kind: u32,
     document: &str,
 ) -> Result<usize, Error>
-    ensures same_reference { tx.new.conn.ghost_name ≡ tx.old.conn.ghost_name }
-    ensures went { GoesBy (state S.Store tx.old.conn.now) (state S.Store tx.new.conn.now) result
+    ensures does { DoesBy S.Store tx.old tx.new result
         (λ count old new. (lists : Lists) → Are old lists
         → (count ≡ length (filter (has_text 0 id.now) lists.resources))
         × Are new (record lists {
@@ -55,9 +46,6 @@ pub fn update_resource<S: Alter>(
               (resource_values id.now kind document.now)
               ++ without (has_text 0 id.now) lists.resources;
         })) }
-    ensures kept { Keeps (state S.Store tx.old.conn.now) (state S.Store tx.new.conn.now) }
-    ensures survives { Survives (state S.Store tx.old.conn.now) (state S.Store tx.new.conn.now)
-        (λ _. ⊥) }
 {
     tx.execute(
         "UPDATE resource SET kind = ?2, document = ?3 WHERE id = ?1",
@@ -67,14 +55,9 @@ pub fn update_resource<S: Alter>(
 
 /// Deletes the row of the resource with this id, if any. Fails with the database's error.
 pub fn delete_resource<S: Alter>(tx: &mut Transaction<'_, S>, id: &str) -> Result<usize, Error>
-    ensures same_reference { tx.new.conn.ghost_name ≡ tx.old.conn.ghost_name }
-    ensures went { Goes (state S.Store tx.old.conn.now) (state S.Store tx.new.conn.now) result
-        (λ old new.
-        (lists : Lists) → Are old lists
+    ensures does { DoesIn S.Store tx.old tx.new result
+        (λ old new. (lists : Lists) → Are old lists
         → Are new (record lists { resources = without (has_text 0 id.now) lists.resources })) }
-    ensures kept { Keeps (state S.Store tx.old.conn.now) (state S.Store tx.new.conn.now) }
-    ensures survives { Survives (state S.Store tx.old.conn.now) (state S.Store tx.new.conn.now)
-        (λ _. ⊥) }
 {
     tx.execute("DELETE FROM resource WHERE id = ?1", params![id])
 }
@@ -87,17 +70,11 @@ pub fn insert_name<S: Alter>(
     folded: &str,
     id: &str,
 ) -> Result<usize, Error>
-    ensures same_reference { tx.new.conn.ghost_name ≡ tx.old.conn.ghost_name }
-    ensures went { Goes (state S.Store tx.old.conn.now) (state S.Store tx.new.conn.now) result
-        (λ old new.
-        (lists : Lists) → Are old lists
+    ensures does { DoesIn S.Store tx.old tx.new result
+        (λ old new. (lists : Lists) → Are old lists
         → Are new (record lists {
-          taken = name_values attribute.now folded.now id.now
-              ∷ lists.taken;
+          taken = name_values attribute.now folded.now id.now ∷ lists.taken;
         })) }
-    ensures kept { Keeps (state S.Store tx.old.conn.now) (state S.Store tx.new.conn.now) }
-    ensures survives { Survives (state S.Store tx.old.conn.now) (state S.Store tx.new.conn.now)
-        (λ _. ⊥) }
 {
     tx.execute(
         "INSERT INTO taken (attribute, folded, id) VALUES (?1, ?2, ?3)",
@@ -111,17 +88,11 @@ pub fn delete_name<S: Alter>(
     attribute: &str,
     folded: &str,
 ) -> Result<usize, Error>
-    ensures same_reference { tx.new.conn.ghost_name ≡ tx.old.conn.ghost_name }
-    ensures went { Goes (state S.Store tx.old.conn.now) (state S.Store tx.new.conn.now) result
-        (λ old new.
-        (lists : Lists) → Are old lists
+    ensures does { DoesIn S.Store tx.old tx.new result
+        (λ old new. (lists : Lists) → Are old lists
         → Are new (record lists {
-          taken = without
-              (has_texts attribute.now folded.now) lists.taken;
+          taken = without (has_texts attribute.now folded.now) lists.taken;
         })) }
-    ensures kept { Keeps (state S.Store tx.old.conn.now) (state S.Store tx.new.conn.now) }
-    ensures survives { Survives (state S.Store tx.old.conn.now) (state S.Store tx.new.conn.now)
-        (λ _. ⊥) }
 {
     tx.execute(
         "DELETE FROM taken WHERE attribute = ?1 AND folded = ?2",
@@ -136,14 +107,9 @@ pub fn insert_member<S: Alter>(
     value: &str,
     group_id: &str,
 ) -> Result<usize, Error>
-    ensures same_reference { tx.new.conn.ghost_name ≡ tx.old.conn.ghost_name }
-    ensures went { Goes (state S.Store tx.old.conn.now) (state S.Store tx.new.conn.now) result
-        (λ old new.
-        (lists : Lists) → Are old lists
+    ensures does { DoesIn S.Store tx.old tx.new result
+        (λ old new. (lists : Lists) → Are old lists
         → Are new (record lists { member = member_values value.now group_id.now ∷ lists.member })) }
-    ensures kept { Keeps (state S.Store tx.old.conn.now) (state S.Store tx.new.conn.now) }
-    ensures survives { Survives (state S.Store tx.old.conn.now) (state S.Store tx.new.conn.now)
-        (λ _. ⊥) }
 {
     tx.execute(
         "INSERT INTO member (value, group_id) VALUES (?1, ?2)",
@@ -157,17 +123,11 @@ pub fn delete_member<S: Alter>(
     value: &str,
     group_id: &str,
 ) -> Result<usize, Error>
-    ensures same_reference { tx.new.conn.ghost_name ≡ tx.old.conn.ghost_name }
-    ensures went { Goes (state S.Store tx.old.conn.now) (state S.Store tx.new.conn.now) result
-        (λ old new.
-        (lists : Lists) → Are old lists
+    ensures does { DoesIn S.Store tx.old tx.new result
+        (λ old new. (lists : Lists) → Are old lists
         → Are new (record lists {
-          member = without
-              (has_texts value.now group_id.now) lists.member;
+          member = without (has_texts value.now group_id.now) lists.member;
         })) }
-    ensures kept { Keeps (state S.Store tx.old.conn.now) (state S.Store tx.new.conn.now) }
-    ensures survives { Survives (state S.Store tx.old.conn.now) (state S.Store tx.new.conn.now)
-        (λ _. ⊥) }
 {
     tx.execute(
         "DELETE FROM member WHERE value = ?1 AND group_id = ?2",

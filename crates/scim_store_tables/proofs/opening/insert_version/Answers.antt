@@ -1,15 +1,8 @@
-use Rattle.std.proofs.Common.{ap}
 use Rattle.sqlite.specs.Held.{state}
 use Rattle.scim_store_tables.proofs.OpeningLemmas.{notes_version_inside}
-use Rattle.scim_store_tables.proofs.StepLemmas.{keeps_either}
+use Rattle.scim_store_tables.proofs.StepLemmas.{does_execute}
 use Rattle.scim_store_tables.proofs.opening.insert_version.Goals as goal
 
-pub returns-clause-made : goal.returns-clause-made
-returns-clause-made g c =
-    let old = state g.S.Store c.args.tx.now.conn.now in
-    let new = state g.S.Store c.execute.new.self.conn.now in
-    record {
-      went = λ clean inside. notes_version_inside old new c.execute.result (c.execute.ensures.runs clean inside);
-      kept = λ clean. keeps_either old new _ _ c.execute.result (λ outside. ap (state g.S.Store) (c.execute.ensures.ended outside).1) (λ inside. c.execute.ensures.runs clean inside);
-      survives = c.execute.ensures.survives;
-    }
+pub returns : goal.returns
+returns g c =
+    record { does = does_execute g.S.Store c.args.tx.now c.execute.new.self _ _ c.execute.result _ c.execute.ensures.same_reference c.execute.ensures.ended c.execute.ensures.runs c.execute.ensures.survives (λ runs. notes_version_inside (state g.S.Store c.args.tx.now.conn.now) (state g.S.Store c.execute.new.self.conn.now) c.execute.result runs) }

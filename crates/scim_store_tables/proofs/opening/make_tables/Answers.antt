@@ -1,30 +1,35 @@
-use Rattle.sqlite.specs.Held.{state}
-use Rattle.scim_store_tables.proofs.OpeningLemmas.{makes_then, makes_failed}
+use Rattle.scim_store_tables.proofs.OpeningLemmas.{makes_then}
+use Rattle.scim_store_tables.proofs.StepLemmas.{does_failed}
 use Rattle.scim_store_tables.proofs.opening.make_tables.Goals as goal
 
-pub returns-in_err-create_table-clause-made : goal.returns-in_err-create_table-clause-made
-returns-in_err-create_table-clause-made g c =
-    let old = state g.S.Store c.args.tx.now.conn.now in
-    let a = state g.S.Store c.create_first.new.tx.conn.now in
-    let b = state g.S.Store c.create_table.new.tx.conn.now in
-    makes_failed _ _ _ old b c.in_err-create_table.field-0.0 c.from_residual-in_err-create_table.result c.from_residual-in_err-create_table.ensures.0
-    (makes_then _ _ _ old a b _ _ c.in_ok-create_first.ensures.made c.in_err-create_table.ensures.made)
+pub returns-in_err-create_table : goal.returns-in_err-create_table
+returns-in_err-create_table g c =
+    let a = c.create_first.new.tx in
+    let b = c.create_table.new.tx in
+    record {
+      does = does_failed g.S.Store c.args.tx.now b c.in_err-create_table.field-0.0 c.from_residual-in_err-create_table.result _ _ c.from_residual-in_err-create_table.ensures.0
+          (makes_then g.S.Store c.args.tx.now a b _ _ _ _ _ c.in_ok-create_first.ensures.does c.in_err-create_table.ensures.does);
+    }
 
-pub returns-in_err-create_table-2-clause-made : goal.returns-in_err-create_table-2-clause-made
-returns-in_err-create_table-2-clause-made g c =
-    let old = state g.S.Store c.args.tx.now.conn.now in
-    let a = state g.S.Store c.create_first.new.tx.conn.now in
-    let b = state g.S.Store c.create_table.new.tx.conn.now in
-    let d = state g.S.Store c.create_table-2.new.tx.conn.now in
-    makes_failed _ _ _ old d c.in_err-create_table-2.field-0.0 c.from_residual-in_err-create_table-2.result c.from_residual-in_err-create_table-2.ensures.0
-    (makes_then _ _ _ old a d _ _ c.in_ok-create_first.ensures.made (makes_then _ _ _ a b d _ _ c.in_ok-create_table.ensures.made c.in_err-create_table-2.ensures.made))
+pub returns-in_err-create_table-2 : goal.returns-in_err-create_table-2
+returns-in_err-create_table-2 g c =
+    let a = c.create_first.new.tx in
+    let b = c.create_table.new.tx in
+    let d = c.create_table-2.new.tx in
+    record {
+      does = does_failed g.S.Store c.args.tx.now d c.in_err-create_table-2.field-0.0 c.from_residual-in_err-create_table-2.result _ _ c.from_residual-in_err-create_table-2.ensures.0
+          (makes_then g.S.Store c.args.tx.now a d _ _ _ _ _ c.in_ok-create_first.ensures.does
+          (makes_then g.S.Store a b d _ _ _ _ _ c.in_ok-create_table.ensures.does c.in_err-create_table-2.ensures.does));
+    }
 
-pub returns-clause-made : goal.returns-clause-made
-returns-clause-made g c =
-    let old = state g.S.Store c.args.tx.now.conn.now in
-    let a = state g.S.Store c.create_first.new.tx.conn.now in
-    let b = state g.S.Store c.create_table.new.tx.conn.now in
-    let d = state g.S.Store c.create_table-2.new.tx.conn.now in
-    let new = state g.S.Store c.insert_version.new.tx.conn.now in
-    makes_then _ _ _ old a new _ c.insert_version.result c.in_ok-create_first.ensures.made
-    (makes_then _ _ _ a b new _ c.insert_version.result c.in_ok-create_table.ensures.made (makes_then _ _ _ b d new _ c.insert_version.result c.in_ok-create_table-2.ensures.made c.insert_version.ensures.made))
+pub returns : goal.returns
+returns g c =
+    let a = c.create_first.new.tx in
+    let b = c.create_table.new.tx in
+    let d = c.create_table-2.new.tx in
+    let new = c.insert_version.new.tx in
+    record {
+      does = makes_then g.S.Store c.args.tx.now a new _ c.insert_version.result _ _ _ c.in_ok-create_first.ensures.does
+          (makes_then g.S.Store a b new _ c.insert_version.result _ _ _ c.in_ok-create_table.ensures.does
+          (makes_then g.S.Store b d new _ c.insert_version.result _ _ _ c.in_ok-create_table-2.ensures.does c.insert_version.ensures.does));
+    }
