@@ -87,6 +87,16 @@ pub does_failed : {S T U E F : Type 0} (g : Ghosts S) (a b : Transaction S) (e :
 does_failed g a b e (Ok y) P Q fails does = absurd cc
 does_failed g a b e (Err f) P Q fails does = record { same_reference = does.same_reference; went = λ clean inside. tt; kept = does.kept; survives = does.survives }
 
+-- a step that fails behind another: its error is that of both
+pub fails_then : {S T U V E F G : Type 0} (g : Ghosts S) (a b c : Transaction S) (x : T) (e : F) (r : Result V G) (P Q R : Database → Database → Type 0)
+    → DoesIn {E = E} g a b (Ok x) P → DoesIn {T = U} g b c (Err e) Q → IsErr r → DoesIn g a c r R
+fails_then g a b c x e r P Q R first second fails = does_failed g a c e r (λ _ _. ⊤) R fails (does_then g a b c x (Err e) P Q (λ _ _. ⊤) first second (λ _ _ _ _ _. tt))
+
+-- one more step of a loop
+pub done_more : {S T E : Type 0} (g : Ghosts S) (a b c : Transaction S) (x : T) (P Q R : Database → Database → Type 0)
+    → HasDone g a b P → DoesIn {E = E} g b c (Ok x) Q → ((d e f : Database) → P d e → Q e f → R d f) → HasDone g a c R
+done_more g a b c x P Q R done step both = does_less g a c x tt R R (does_then g a b c tt (Ok x) P Q R done step both) (λ _ _ it. it)
+
 pub on_ok : {T E : Type 0} (r : Result T E) (P : T → Type 0) (Q : Type 0) → ((x : T) → P x → Q) → IfOk r P → OnOk r Q
 on_ok (Ok x) P Q f h = f x h
 on_ok (Err e) P Q f h = tt

@@ -42,8 +42,7 @@ pub fn update_resource<S: Alter>(
         (λ count old new. (lists : Lists) → Are old lists
         → (count ≡ length (filter (has_text 0 id.now) lists.resources))
         × Are new (record lists {
-          resources = replicate count
-              (resource_values id.now kind document.now)
+          resources = replicate count (resource_values id.now kind document.now)
               ++ without (has_text 0 id.now) lists.resources;
         })) }
 {
