@@ -12,7 +12,7 @@ use Rattle.sqlite.specs.State.{State, HasCleanDisk, Survives, KeepsCommit, Execu
 use Rattle.sqlite.specs.Held.{state}
 use Rattle.sqlite.proofs.InsideLemmas.{inside_keeps}
 use Rattle.sqlite.proofs.StateLemmas.{survives_then}
-use Rattle.scim_store_tables.specs.Steps.{DoesIn}
+use Rattle.scim_store_tables.specs.Steps.{DoesIn, DoesBy}
 
 pub goes_then : {T E : Type 0} (r : Result T E) {P Q : Type 0} → (P → Q) → OnOk r P → OnOk r Q
 goes_then (Ok x) f h = f h
@@ -92,10 +92,14 @@ pub fails_then : {S T U V E F G : Type 0} (g : Ghosts S) (a b c : Transaction S)
     → DoesIn {E = E} g a b (Ok x) P → DoesIn {T = U} g b c (Err e) Q → IsErr r → DoesIn g a c r R
 fails_then g a b c x e r P Q R first second fails = does_failed g a c e r (λ _ _. ⊤) R fails (does_then g a b c x (Err e) P Q (λ _ _. ⊤) first second (λ _ _ _ _ _. tt))
 
--- one more step of a loop
-pub done_more : {S T E : Type 0} (g : Ghosts S) (a b c : Transaction S) (x : T) (P Q R : Database → Database → Type 0)
-    → HasDone g a b P → DoesIn {E = E} g b c (Ok x) Q → ((d e f : Database) → P d e → Q e f → R d f) → HasDone g a c R
-done_more g a b c x P Q R done step both = does_less g a c x tt R R (does_then g a b c tt (Ok x) P Q R done step both) (λ _ _ it. it)
+-- two steps that did not fail, with another result
+pub does_both : {S T U V E F G : Type 0} (g : Ghosts S) (a b c : Transaction S) (x : T) (y : U) (z : V) (P Q R : Database → Database → Type 0)
+    → DoesIn {E = E} g a b (Ok x) P → DoesIn {E = F} g b c (Ok y) Q → ((d e f : Database) → P d e → Q e f → R d f) → DoesIn {E = G} g a c (Ok z) R
+does_both g a b c x y z P Q R first second both = does_less g a c y z R R (does_then g a b c x (Ok y) P Q R first second both) (λ _ _ it. it)
+
+-- a step that did not fail, with its result
+pub does_by : {S T E : Type 0} (g : Ghosts S) (a b : Transaction S) (x : T) (P : T → Database → Database → Type 0) → DoesBy {E = E} g a b (Ok x) P → DoesIn {E = E} g a b (Ok x) (P x)
+does_by g a b x P does = record { same_reference = does.same_reference; went = does.went; kept = does.kept; survives = does.survives }
 
 pub on_ok : {T E : Type 0} (r : Result T E) (P : T → Type 0) (Q : Type 0) → ((x : T) → P x → Q) → IfOk r P → OnOk r Q
 on_ok (Ok x) P Q f h = f x h
