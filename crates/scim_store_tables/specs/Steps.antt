@@ -27,7 +27,7 @@ pub record DoesIn {S T E : Type 0} (g : Ghosts S) (old new : Transaction S) (res
   pub kept : Keeps (state g old.conn.now) (state g new.conn.now)
   pub survives : Survives (state g old.conn.now) (state g new.conn.now) (λ _. ⊥)
 
--- The same, where the database has changed by P of the result.
+-- As `DoesIn`, for a step whose change of the database depends on its result: P takes the result first.
 pub record DoesBy {S T E : Type 0} (g : Ghosts S) (old new : Transaction S) (result : Result T E) (P : T → Database → Database → Type 0) : Type 0 where
   pub same_reference : new.conn.ghost_name ≡ old.conn.ghost_name
   pub went : GoesBy (state g old.conn.now) (state g new.conn.now) result P
