@@ -9,7 +9,7 @@ ghost use Rattle.scim_value.specs.Resource.{HasBase};
 ghost use Rattle.scim_shelf.specs.Stores.{Store, IsNewStore};
 ghost use Rattle.scim_store_tables.specs.Lists.{Are, no_rows};
 ghost use Rattle.scim_store_tables.specs.Reading.{Rests};
-ghost use Rattle.scim_store_tables.specs.Steps.{Goes, Keeps, Became, Undoes, Leaves};
+ghost use Rattle.scim_store_tables.specs.Steps.{DoesIn, Became, Undoes, Leaves};
 ghost use Rattle.scim_store_tables.specs.Tables.{no_schema};
 ghost use Rattle.scim_store.specs.declared.importing.ImportFault.{ImportFault};
 ghost use Rattle.scim_store.specs.Committing.{HasStore, AreOf};
@@ -79,14 +79,9 @@ fn insert_rows<S: Alter>(
     alloc: Global,
     resource: &Resource,
 ) -> Result<(), ImportFault>
-    ensures same_reference { tx.new.conn.ghost_name ≡ tx.old.conn.ghost_name }
-    ensures went { Goes (state S.Store tx.old.conn.now) (state S.Store tx.new.conn.now) result
-        (λ old new.
-        (base : List ℕ) (cs : List Content) → HasBase base resource.now → HoldRowsOf base cs old
-        → HoldRowsOf base (resource.now ∷ cs) new) }
-    ensures kept { Keeps (state S.Store tx.old.conn.now) (state S.Store tx.new.conn.now) }
-    ensures survives { Survives (state S.Store tx.old.conn.now) (state S.Store tx.new.conn.now)
-        (λ _. ⊥) }
+    ensures does { DoesIn S.Store tx.old tx.new result
+        (λ old new. (base : List ℕ) (cs : List Content) → HasBase base resource.now
+        → HoldRowsOf base cs old → HoldRowsOf base (resource.now ∷ cs) new) }
     ensures not_empty { result ≢ Err ImportFault.NotEmpty }
     ensures other_base { result ≢ Err ImportFault.OtherBase }
 {
@@ -101,14 +96,9 @@ fn insert_all<S: Alter>(
     alloc: Global,
     resources: &[Resource],
 ) -> Result<(), ImportFault>
-    ensures same_reference { tx.new.conn.ghost_name ≡ tx.old.conn.ghost_name }
-    ensures went { Goes (state S.Store tx.old.conn.now) (state S.Store tx.new.conn.now) result
-        (λ old new.
-        (base : List ℕ) → All (HasBase base) resources.now → Are old no_rows
+    ensures does { DoesIn S.Store tx.old tx.new result
+        (λ old new. (base : List ℕ) → All (HasBase base) resources.now → Are old no_rows
         → HoldRowsOf base resources.now new) }
-    ensures kept { Keeps (state S.Store tx.old.conn.now) (state S.Store tx.new.conn.now) }
-    ensures survives { Survives (state S.Store tx.old.conn.now) (state S.Store tx.new.conn.now)
-        (λ _. ⊥) }
     ensures not_empty { result ≢ Err ImportFault.NotEmpty }
     ensures other_base { result ≢ Err ImportFault.OtherBase }
 {
@@ -124,12 +114,7 @@ fn make_store<S: Alter>(
     alloc: Global,
     resources: &[Resource],
 ) -> Result<(), ImportFault>
-    ensures same_reference { tx.new.conn.ghost_name ≡ tx.old.conn.ghost_name }
-    ensures went { Goes (state S.Store tx.old.conn.now) (state S.Store tx.new.conn.now) result
-        (Fills resources.now) }
-    ensures kept { Keeps (state S.Store tx.old.conn.now) (state S.Store tx.new.conn.now) }
-    ensures survives { Survives (state S.Store tx.old.conn.now) (state S.Store tx.new.conn.now)
-        (λ _. ⊥) }
+    ensures does { DoesIn S.Store tx.old tx.new result (Fills resources.now) }
     ensures not_empty { result ≢ Err ImportFault.NotEmpty }
     ensures other_base { result ≢ Err ImportFault.OtherBase }
 {

@@ -5,7 +5,7 @@ ghost use Rattle.sqlite.specs.State.{HasCleanDisk, Survives};
 ghost use Rattle.sqlite.specs.Held.{state};
 ghost use Rattle.scim_store_tables.specs.Audit.{last_number, audit_values};
 ghost use Rattle.scim_store_tables.specs.Lists.{Lists, Are, without, has_text, resource_values};
-ghost use Rattle.scim_store_tables.specs.Steps.{Goes, Keeps, Became, Undoes, Leaves};
+ghost use Rattle.scim_store_tables.specs.Steps.{DoesIn, Became, Undoes, Leaves};
 ghost use Rattle.scim_store.specs.Edits.{is_name, is_member, rows_of_names, rows_of_members, rows_of_document, edited, edited_by, with_row, Writes};
 
 use crate::edits::Edits;
@@ -20,14 +20,9 @@ use sqlite::{Alter, Connection, Error, ErrorCode, Transaction};
 
 /// Deletes unique names.
 fn delete_names<S: Alter>(tx: &mut Transaction<'_, S>, names: &[UniqueName]) -> Result<(), Error>
-    ensures same_reference { tx.new.conn.ghost_name ≡ tx.old.conn.ghost_name }
-    ensures went { Goes (state S.Store tx.old.conn.now) (state S.Store tx.new.conn.now) result
-        (λ old new.
-        (lists : Lists) → Are old lists
+    ensures does { DoesIn S.Store tx.old tx.new result
+        (λ old new. (lists : Lists) → Are old lists
         → Are new (record lists { taken = without (is_name names.now) lists.taken })) }
-    ensures kept { Keeps (state S.Store tx.old.conn.now) (state S.Store tx.new.conn.now) }
-    ensures survives { Survives (state S.Store tx.old.conn.now) (state S.Store tx.new.conn.now)
-        (λ _. ⊥) }
 {
     for name in names {
         delete_name(tx, name.leaf.attribute.name(), name.text.as_str())?;
@@ -41,14 +36,9 @@ fn insert_names<S: Alter>(
     id: &str,
     names: &[UniqueName],
 ) -> Result<(), Error>
-    ensures same_reference { tx.new.conn.ghost_name ≡ tx.old.conn.ghost_name }
-    ensures went { Goes (state S.Store tx.old.conn.now) (state S.Store tx.new.conn.now) result
-        (λ old new.
-        (lists : Lists) → Are old lists
+    ensures does { DoesIn S.Store tx.old tx.new result
+        (λ old new. (lists : Lists) → Are old lists
         → Are new (record lists { taken = rows_of_names id.now names.now ++ lists.taken })) }
-    ensures kept { Keeps (state S.Store tx.old.conn.now) (state S.Store tx.new.conn.now) }
-    ensures survives { Survives (state S.Store tx.old.conn.now) (state S.Store tx.new.conn.now)
-        (λ _. ⊥) }
 {
     for name in names {
         insert_name(tx, name.leaf.attribute.name(), name.text.as_str(), id)?;
@@ -62,17 +52,11 @@ fn delete_members<S: Alter>(
     group_id: &str,
     values: &[Text],
 ) -> Result<(), Error>
-    ensures same_reference { tx.new.conn.ghost_name ≡ tx.old.conn.ghost_name }
-    ensures went { Goes (state S.Store tx.old.conn.now) (state S.Store tx.new.conn.now) result
-        (λ old new.
-        (lists : Lists) → Are old lists
+    ensures does { DoesIn S.Store tx.old tx.new result
+        (λ old new. (lists : Lists) → Are old lists
         → Are new (record lists {
-          member = without
-              (is_member group_id.now values.now) lists.member;
+          member = without (is_member group_id.now values.now) lists.member;
         })) }
-    ensures kept { Keeps (state S.Store tx.old.conn.now) (state S.Store tx.new.conn.now) }
-    ensures survives { Survives (state S.Store tx.old.conn.now) (state S.Store tx.new.conn.now)
-        (λ _. ⊥) }
 {
     for value in values {
         delete_member(tx, value.as_str(), group_id)?;
@@ -86,17 +70,11 @@ fn insert_members<S: Alter>(
     group_id: &str,
     values: &[Text],
 ) -> Result<(), Error>
-    ensures same_reference { tx.new.conn.ghost_name ≡ tx.old.conn.ghost_name }
-    ensures went { Goes (state S.Store tx.old.conn.now) (state S.Store tx.new.conn.now) result
-        (λ old new.
-        (lists : Lists) → Are old lists
+    ensures does { DoesIn S.Store tx.old tx.new result
+        (λ old new. (lists : Lists) → Are old lists
         → Are new (record lists {
-          member = rows_of_members group_id.now values.now
-              ++ lists.member;
+          member = rows_of_members group_id.now values.now ++ lists.member;
         })) }
-    ensures kept { Keeps (state S.Store tx.old.conn.now) (state S.Store tx.new.conn.now) }
-    ensures survives { Survives (state S.Store tx.old.conn.now) (state S.Store tx.new.conn.now)
-        (λ _. ⊥) }
 {
     for value in values {
         insert_member(tx, value.as_str(), group_id)?;
@@ -106,14 +84,9 @@ fn insert_members<S: Alter>(
 
 /// Inserts the row of the resource, if there is a document.
 fn put_resource<S: Alter>(tx: &mut Transaction<'_, S>, edits: &Edits) -> Result<(), Error>
-    ensures same_reference { tx.new.conn.ghost_name ≡ tx.old.conn.ghost_name }
-    ensures went { Goes (state S.Store tx.old.conn.now) (state S.Store tx.new.conn.now) result
-        (λ old new.
-        (lists : Lists) → Are old lists
+    ensures does { DoesIn S.Store tx.old tx.new result
+        (λ old new. (lists : Lists) → Are old lists
         → Are new (record lists { resources = rows_of_document edits.now ++ lists.resources })) }
-    ensures kept { Keeps (state S.Store tx.old.conn.now) (state S.Store tx.new.conn.now) }
-    ensures survives { Survives (state S.Store tx.old.conn.now) (state S.Store tx.new.conn.now)
-        (λ _. ⊥) }
 {
     match &edits.document {
         Some(document) => {
@@ -137,17 +110,12 @@ fn replace_resource<S: Alter>(
     kind: u32,
     document: &str,
 ) -> Result<(), Error>
-    ensures same_reference { tx.new.conn.ghost_name ≡ tx.old.conn.ghost_name }
-    ensures went { Goes (state S.Store tx.old.conn.now) (state S.Store tx.new.conn.now) result
-        (λ old new.
-        (lists : Lists) → Are old lists
+    ensures does { DoesIn S.Store tx.old tx.new result
+        (λ old new. (lists : Lists) → Are old lists
         → Are new (record lists {
           resources = resource_values id.now kind document.now
               ∷ without (has_text 0 id.now) lists.resources;
         })) }
-    ensures kept { Keeps (state S.Store tx.old.conn.now) (state S.Store tx.new.conn.now) }
-    ensures survives { Survives (state S.Store tx.old.conn.now) (state S.Store tx.new.conn.now)
-        (λ _. ⊥) }
 {
     // An update dirties fewer pages than a deletion and an insertion.
     match update_resource(tx, id, kind, document)? {
@@ -162,17 +130,12 @@ fn replace_resource<S: Alter>(
 
 /// Writes the row of the resource if there is a document, and deletes it otherwise.
 fn edit_resource<S: Alter>(tx: &mut Transaction<'_, S>, edits: &Edits) -> Result<(), Error>
-    ensures same_reference { tx.new.conn.ghost_name ≡ tx.old.conn.ghost_name }
-    ensures went { Goes (state S.Store tx.old.conn.now) (state S.Store tx.new.conn.now) result
-        (λ old new.
-        (lists : Lists) → Are old lists
+    ensures does { DoesIn S.Store tx.old tx.new result
+        (λ old new. (lists : Lists) → Are old lists
         → Are new (record lists {
           resources = rows_of_document edits.now
               ++ without (has_text 0 edits.now.id) lists.resources;
         })) }
-    ensures kept { Keeps (state S.Store tx.old.conn.now) (state S.Store tx.new.conn.now) }
-    ensures survives { Survives (state S.Store tx.old.conn.now) (state S.Store tx.new.conn.now)
-        (λ _. ⊥) }
 {
     match &edits.document {
         Some(document) => replace_resource(
@@ -190,16 +153,11 @@ fn edit_resource<S: Alter>(tx: &mut Transaction<'_, S>, edits: &Edits) -> Result
 
 /// Deletes the names and members that the edits remove.
 fn take_names_and_members<S: Alter>(tx: &mut Transaction<'_, S>, edits: &Edits) -> Result<(), Error>
-    ensures same_reference { tx.new.conn.ghost_name ≡ tx.old.conn.ghost_name }
-    ensures went { Goes (state S.Store tx.old.conn.now) (state S.Store tx.new.conn.now) result
-        (λ old new.
-        (lists : Lists) → Are old lists → Are new (record lists {
+    ensures does { DoesIn S.Store tx.old tx.new result
+        (λ old new. (lists : Lists) → Are old lists → Are new (record lists {
           taken = without (is_name edits.now.names_gone.items) lists.taken;
           member = without (is_member edits.now.id edits.now.members_gone.items) lists.member;
         })) }
-    ensures kept { Keeps (state S.Store tx.old.conn.now) (state S.Store tx.new.conn.now) }
-    ensures survives { Survives (state S.Store tx.old.conn.now) (state S.Store tx.new.conn.now)
-        (λ _. ⊥) }
 {
     delete_names(tx, edits.names_gone.as_slice())?;
     delete_members(tx, edits.id.as_str(), edits.members_gone.as_slice())
@@ -207,16 +165,11 @@ fn take_names_and_members<S: Alter>(tx: &mut Transaction<'_, S>, edits: &Edits) 
 
 /// Inserts the names and members that the edits add.
 fn put_names_and_members<S: Alter>(tx: &mut Transaction<'_, S>, edits: &Edits) -> Result<(), Error>
-    ensures same_reference { tx.new.conn.ghost_name ≡ tx.old.conn.ghost_name }
-    ensures went { Goes (state S.Store tx.old.conn.now) (state S.Store tx.new.conn.now) result
-        (λ old new.
-        (lists : Lists) → Are old lists → Are new (record lists {
+    ensures does { DoesIn S.Store tx.old tx.new result
+        (λ old new. (lists : Lists) → Are old lists → Are new (record lists {
           taken = rows_of_names edits.now.id edits.now.names_come.items ++ lists.taken;
           member = rows_of_members edits.now.id edits.now.members_come.items ++ lists.member;
         })) }
-    ensures kept { Keeps (state S.Store tx.old.conn.now) (state S.Store tx.new.conn.now) }
-    ensures survives { Survives (state S.Store tx.old.conn.now) (state S.Store tx.new.conn.now)
-        (λ _. ⊥) }
 {
     insert_names(tx, edits.id.as_str(), edits.names_come.as_slice())?;
     insert_members(tx, edits.id.as_str(), edits.members_come.as_slice())
@@ -224,17 +177,12 @@ fn put_names_and_members<S: Alter>(tx: &mut Transaction<'_, S>, edits: &Edits) -
 
 /// Inserts all rows that the edits add. The resource must not be stored.
 pub(crate) fn put_rows<S: Alter>(tx: &mut Transaction<'_, S>, edits: &Edits) -> Result<(), Error>
-    ensures same_reference { tx.new.conn.ghost_name ≡ tx.old.conn.ghost_name }
-    ensures went { Goes (state S.Store tx.old.conn.now) (state S.Store tx.new.conn.now) result
-        (λ old new.
-        (lists : Lists) → Are old lists → Are new (record lists {
+    ensures does { DoesIn S.Store tx.old tx.new result
+        (λ old new. (lists : Lists) → Are old lists → Are new (record lists {
           resources = rows_of_document edits.now ++ lists.resources;
           taken = rows_of_names edits.now.id edits.now.names_come.items ++ lists.taken;
           member = rows_of_members edits.now.id edits.now.members_come.items ++ lists.member;
         })) }
-    ensures kept { Keeps (state S.Store tx.old.conn.now) (state S.Store tx.new.conn.now) }
-    ensures survives { Survives (state S.Store tx.old.conn.now) (state S.Store tx.new.conn.now)
-        (λ _. ⊥) }
 {
     put_resource(tx, edits)?;
     put_names_and_members(tx, edits)
@@ -242,13 +190,8 @@ pub(crate) fn put_rows<S: Alter>(tx: &mut Transaction<'_, S>, edits: &Edits) -> 
 
 /// Deletes the rows that the edits remove, and writes those that they add.
 fn edit_rows<S: Alter>(tx: &mut Transaction<'_, S>, edits: &Edits) -> Result<(), Error>
-    ensures same_reference { tx.new.conn.ghost_name ≡ tx.old.conn.ghost_name }
-    ensures went { Goes (state S.Store tx.old.conn.now) (state S.Store tx.new.conn.now) result
-        (λ old new.
-        (lists : Lists) → Are old lists → Are new (edited edits.now lists)) }
-    ensures kept { Keeps (state S.Store tx.old.conn.now) (state S.Store tx.new.conn.now) }
-    ensures survives { Survives (state S.Store tx.old.conn.now) (state S.Store tx.new.conn.now)
-        (λ _. ⊥) }
+    ensures does { DoesIn S.Store tx.old tx.new result
+        (λ old new. (lists : Lists) → Are old lists → Are new (edited edits.now lists)) }
 {
     take_names_and_members(tx, edits)?;
     edit_resource(tx, edits)?;
@@ -257,13 +200,8 @@ fn edit_rows<S: Alter>(tx: &mut Transaction<'_, S>, edits: &Edits) -> Result<(),
 
 /// Makes the edits, if any.
 fn edit_if_any<S: Alter>(tx: &mut Transaction<'_, S>, edits: &Option<Edits>) -> Result<(), Error>
-    ensures same_reference { tx.new.conn.ghost_name ≡ tx.old.conn.ghost_name }
-    ensures went { Goes (state S.Store tx.old.conn.now) (state S.Store tx.new.conn.now) result
-        (λ old new.
-        (lists : Lists) → Are old lists → Are new (edited_by edits.now lists)) }
-    ensures kept { Keeps (state S.Store tx.old.conn.now) (state S.Store tx.new.conn.now) }
-    ensures survives { Survives (state S.Store tx.old.conn.now) (state S.Store tx.new.conn.now)
-        (λ _. ⊥) }
+    ensures does { DoesIn S.Store tx.old tx.new result
+        (λ old new. (lists : Lists) → Are old lists → Are new (edited_by edits.now lists)) }
 {
     match edits {
         Some(edits) => edit_rows(tx, edits),
@@ -279,12 +217,7 @@ fn write_rows<S: Alter>(
 ) -> Result<(), Error>
     requires number { columns.now.number ≤ last_number }
     requires moment { columns.now.moment ≤ last_number }
-    ensures same_reference { tx.new.conn.ghost_name ≡ tx.old.conn.ghost_name }
-    ensures went { Goes (state S.Store tx.old.conn.now) (state S.Store tx.new.conn.now) result
-        (λ old new. Writes edits.now columns.now old new) }
-    ensures kept { Keeps (state S.Store tx.old.conn.now) (state S.Store tx.new.conn.now) }
-    ensures survives { Survives (state S.Store tx.old.conn.now) (state S.Store tx.new.conn.now)
-        (λ _. ⊥) }
+    ensures does { DoesIn S.Store tx.old tx.new result (Writes edits.now columns.now) }
 {
     edit_if_any(tx, edits)?;
     insert_audit(tx, columns)?;

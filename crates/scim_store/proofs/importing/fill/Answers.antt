@@ -12,8 +12,8 @@ returns-in_err-commit-clause-crash g c =
     let last = c.make_store.new.tx.conn.now in
     let end = c.commit.new.self.0 in
     let begun = c.transaction-tx.ensures.begun in
-    let ran = λ (clean : HasCleanDisk (state g.S.Store last)). let inside = (rw begun at c.in_ok-make_store.ensures.went) clean refl in inside.1 in
-    let whole = fill_survives g.S.Store c.args.resources.now old (state g.S.Store last) (state g.S.Store end) (rw begun at c.make_store.ensures.survives) ran c.commit.ensures.survives in
+    let ran = λ (clean : HasCleanDisk (state g.S.Store last)). let inside = (rw begun at c.in_ok-make_store.ensures.does.went) clean refl in inside.1 in
+    let whole = fill_survives g.S.Store c.args.resources.now old (state g.S.Store last) (state g.S.Store end) (rw begun at c.make_store.ensures.does.survives) ran c.commit.ensures.survives in
     let same : end ≡ c.conn-2-1.given.0 = search rules in
     subst (λ h. Survives (state g.S.Store old) (state g.S.Store h) (Leaves (Fills c.args.resources.now) (state g.S.Store old).now)) same whole
 
@@ -23,7 +23,7 @@ returns-clause-crash g c =
     let last = c.make_store.new.tx.conn.now in
     let end = c.commit.new.self.0 in
     let begun = c.transaction-tx.ensures.begun in
-    let ran = λ (clean : HasCleanDisk (state g.S.Store last)). let inside = (rw begun at c.in_ok-make_store.ensures.went) clean refl in inside.1 in
-    let whole = fill_survives g.S.Store c.args.resources.now old (state g.S.Store last) (state g.S.Store end) (rw begun at c.make_store.ensures.survives) ran c.commit.ensures.survives in
+    let ran = λ (clean : HasCleanDisk (state g.S.Store last)). let inside = (rw begun at c.in_ok-make_store.ensures.does.went) clean refl in inside.1 in
+    let whole = fill_survives g.S.Store c.args.resources.now old (state g.S.Store last) (state g.S.Store end) (rw begun at c.make_store.ensures.does.survives) ran c.commit.ensures.survives in
     let same : end ≡ c.conn-2-1.given.0 = search rules in
     subst (λ h. Survives (state g.S.Store old) (state g.S.Store h) (Leaves (Fills c.args.resources.now) (state g.S.Store old).now)) same whole

@@ -1,13 +1,8 @@
-use Rattle.std.proofs.Common.{◌≡◌, take}
-use Rattle.sqlite.specs.Held.{state}
+use Rattle.std.proofs.Common.{take}
 use Rattle.scim_store_tables.specs.Lists.{Lists, Are, without}
-use Rattle.scim_store_tables.specs.Steps.{Loops}
+use Rattle.scim_store_tables.proofs.Facts.{HasDone}
 use Rattle.scim_store.specs.Edits.{is_member}
 use Rattle.scim_store.proofs.writing.delete_members.Given as goal
 
 abbrev pub invariant-loop-value : goal.invariant-loop-value
-invariant-loop-value g l = record {
-  same_reference : l.tx.conn.ghost_name ≡ l.fn.tx.conn.ghost_name;
-  loops : Loops (state g.S.Store l.fn.tx.conn.now) (state g.S.Store l.tx.conn.now) (λ old new.
-      (lists : Lists) → Are old lists → Are new (record lists { member = without (is_member l.group_id (take l.value-index l.values)) lists.member }));
-}
+invariant-loop-value g l = HasDone g.S.Store l.fn.tx l.tx (λ old new. (lists : Lists) → Are old lists → Are new (record lists { member = without (is_member l.group_id (take l.value-index l.values)) lists.member }))

@@ -1,12 +1,24 @@
-use Rattle.std.proofs.Common.{arith}
-use Rattle.sqlite.specs.Held.{state}
-use Rattle.sqlite.specs.State.{HasCleanDisk}
-use Rattle.scim_store_tables.proofs.Facts.{goes_then}
+use Rattle.std.proofs.Common.{◌++◌}
+use Rattle.sqlite.specs.Effect.{Database}
+use Rattle.scim_store_tables.specs.Lists.{Lists, Are, without, has_text}
+use Rattle.scim_store_tables.proofs.Facts.{does_then, fails_then}
+use Rattle.scim_store.specs.Edits.{is_name, is_member, rows_of_document}
 use Rattle.scim_store.proofs.writing.edit_rows.Goals as goal
 
-pub returns-clause-went : goal.returns-clause-went
-returns-clause-went g c clean inside =
-    let two : HasCleanDisk (state g.S.Store c.edit_resource.new.tx.conn.now) = omega (arith, c.put_names_and_members.ensures.survives.clean) in
-    let first = c.in_ok-take_names_and_members.ensures.went (omega (arith, two, c.edit_resource.ensures.survives.clean)) inside in
-    let second = c.in_ok-edit_resource.ensures.went two first.0 in
-    goes_then c.put_names_and_members.result (λ h. (h.0, λ lists are. h.1 _ (second.1 _ (first.1 lists are)))) (c.put_names_and_members.ensures.went clean second.0)
+pub returns-in_err-edit_resource : goal.returns-in_err-edit_resource
+returns-in_err-edit_resource g c = record {
+  does = fails_then g.S.Store c.args.tx.now c.take_names_and_members.new.tx c.edit_resource.new.tx _ _ c.from_residual-in_err-edit_resource.result _ _ _ c.in_ok-take_names_and_members.ensures.does c.in_err-edit_resource.ensures.does c.from_residual-in_err-edit_resource.ensures.0;
+}
+
+pub returns : goal.returns
+returns g c =
+    let e = c.args.edits.now in
+    let a = c.take_names_and_members.new.tx in
+    let b = c.edit_resource.new.tx in
+    let new = c.put_names_and_members.new.tx in
+    let P = λ (old mid : Database). (lists : Lists) → Are old lists → Are mid (record lists { resources = rows_of_document e ++ without (has_text 0 e.id) lists.resources; taken = without (is_name e.names_gone.items) lists.taken; member = without (is_member e.id e.members_gone.items) lists.member }) in
+    record {
+      does = does_then g.S.Store c.args.tx.now b new _ c.put_names_and_members.result P _ _
+          (does_then g.S.Store c.args.tx.now a b _ _ _ _ P c.in_ok-take_names_and_members.ensures.does c.in_ok-edit_resource.ensures.does (λ _ _ _ one two lists are. two _ (one lists are)))
+          c.put_names_and_members.ensures.does (λ _ _ _ one two lists are. two _ (one lists are));
+    }
