@@ -1,6 +1,6 @@
 -- The faults of a command over a database.
-use Rattle.scim_store.specs.declared.shelf.OpenFault.{OpenFault}
-use Rattle.scim_store.specs.declared.shelf.OpenFault.TheVariants as opening
+use Rattle.scim_store.specs.declared.sql_shelf.OpenFault.{OpenFault}
+use Rattle.scim_store.specs.declared.sql_shelf.OpenFault.TheVariants as opening
 use Rattle.scim_store.specs.declared.importing.ImportFault.{ImportFault}
 use Rattle.scim_store.specs.declared.importing.ImportFault.TheVariants as importing
 use Rattle.sqlite.specs.declared.error.Error.TheVariants.{SqliteFailure}

@@ -6,7 +6,7 @@ use Rattle.serde_json.specs.Find.{as_str, as_array, as_object}
 use Rattle.scim_schema.specs.declared.limits.TheConstants.{MOST_OPERATIONS}
 use Rattle.scim_schema.specs.declared.Kind.{Kind}
 use Rattle.scim_text.specs.Names.{is_same_name}
-use Rattle.scim_filter_grammar.specs.declared.tree.AttributePath.{Path as FilterPath}
+use Rattle.scim_filter_grammar.specs.declared.tree.AttributePath.{AttributePath as FilterPath}
 use Rattle.scim_filter_grammar.specs.declared.tree.Meant.{Meant}
 use Rattle.scim_filter_grammar.specs.declared.tree.Meant.TheVariants as meant
 use Rattle.scim_filter_grammar.specs.Spelled.{path_in}

@@ -1,5 +1,6 @@
 //! Reads the paths in a policy file.
 ghost use Rattle.std.specs.Prelude.{◌≡◌, IfOk, map, option_map};
+ghost use Rattle.std.specs.List.{list_all};
 ghost use Rattle.scim_policy_file.specs.Paths as spec;
 ghost use Rattle.scim_policy_file.specs.code.Written.{text_at};
 

@@ -6,8 +6,8 @@ use Rattle.sqlite.specs.State.{State, HasCleanDisk}
 use Rattle.scim_shelf.specs.Stores.{Store}
 use Rattle.scim_store_tables.specs.Tables.{no_schema}
 use Rattle.scim_store.specs.declared.opening.Examined.TheVariants.{WrongVersion as OtherVersion, Damaged as DamagedAt}
-use Rattle.scim_store.specs.declared.shelf.OpenFault.{OpenFault}
-use Rattle.scim_store.specs.declared.shelf.OpenFault.TheVariants.{WrongVersion, Damaged, Store as NoStore, NoMemory}
+use Rattle.scim_store.specs.declared.sql_shelf.OpenFault.{OpenFault}
+use Rattle.scim_store.specs.declared.sql_shelf.OpenFault.TheVariants.{WrongVersion, Damaged, Store as NoStore, NoMemory}
 use Rattle.scim_store.specs.Beginning.{no_store}
 use Rattle.scim_store.specs.Committing.{HasStore}
 use Rattle.scim_store.specs.Opening.{IsFor}

@@ -130,7 +130,7 @@ pub(crate) fn edits_to_keep(
 
 /// Returns the edits of a change; None for `Change::Nothing`. `old` must be the stored resource with the id
 /// of the change, of either kind, if any.
-pub fn edits_of(
+pub(crate) fn edits_of(
     alloc: Global,
     change: &Change,
     old: Option<&Resource>,

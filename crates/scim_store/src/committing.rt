@@ -16,7 +16,7 @@ ghost use Rattle.scim_store.specs.Edits.{KeepsBelow};
 ghost use Rattle.scim_store.specs.Committing.{HasStore, AreOf, IsDue, IsDueOver, Changes, Stays};
 
 use crate::changes::edits_of;
-use crate::writing::write_change;
+use crate::transactions::write_change;
 use scim_audit::AuditRow;
 use scim_cell::Atom;
 use scim_schema::{Attribute, Leaf, SubAttribute};
@@ -29,7 +29,7 @@ use std::alloc::Global;
 
 /// A reason why a change can't be committed.
 #[derive(Clone, Copy, PartialEq, Eq)]
-pub enum CommitFault {
+pub(crate) enum CommitFault {
     /// The database failed with this error.
     Database(Error),
     /// The resource to store has a location below another base URI.
@@ -120,7 +120,7 @@ fn find_old_of<S: Alter>(
 ///
 /// A crash during the call leaves the store as before, or with the change and its row. A crash after Ok
 /// leaves the store with both, if the disk returns what was written.
-pub fn commit_over<S: Alter>(
+pub(crate) fn commit_over<S: Alter>(
     conn: &mut Connection<S>,
     alloc: Global,
     base: &str,
@@ -164,7 +164,7 @@ pub fn commit_over<S: Alter>(
 
 /// As [`commit_over`], but looks up the stored resource with the id of the change. Fails with a corrupt
 /// database if its document isn't valid.
-pub fn commit_change<S: Alter>(
+pub(crate) fn commit_change<S: Alter>(
     conn: &mut Connection<S>,
     alloc: Global,
     base: &str,

@@ -19,7 +19,7 @@ ghost use Rattle.scim_store.specs.Damage as spec;
 ghost use Rattle.scim_store.specs.code.Damage as code;
 
 use crate::changes::values_of;
-use crate::owners::{has_text, have_owners, note_owners, rows_of, value_in};
+use crate::row_owners::{has_text, have_owners, note_owners, rows_of, value_in};
 use scim_cell::{Id, Text};
 use scim_json::read_stored;
 use scim_store_rows::kind_number;
@@ -33,7 +33,7 @@ use std::marker::Model;
 
 /// The result of a test of the rows of resources.
 #[derive(Clone, Copy, PartialEq, Eq)]
-pub enum Judged {
+pub(crate) enum Judged {
     /// The rows are those of resources.
     Sound,
     /// The rows aren't those of resources: this is the least id whose rows are neither empty nor those of one
@@ -46,11 +46,11 @@ pub enum Judged {
 
 /// The document of a resource isn't UTF-8, so it can't be read.
 #[derive(Clone, Copy, PartialEq, Eq)]
-pub struct Unreadable;
+pub(crate) struct Unreadable;
 
 /// The rows of the tables of resources, as `read_tables` of `scim_store_tables` returns them.
 #[derive(Drop)]
-pub struct ResourceRows {
+pub(crate) struct ResourceRows {
     /// Columns id, kind and document of each resource.
     pub resources: Vec<Row>,
     /// Columns owner, attribute and folded text of each unique name.
@@ -392,7 +392,11 @@ fn are_sound(alloc: Global, tables: &ResourceRows) -> Result<bool, NoMemory>
 /// be sorted as they are read.
 ///
 /// Fails with Unreadable if the document of a resource isn't UTF-8.
-pub fn judge(alloc: Global, base: &str, tables: &ResourceRows) -> Result<Judged, Failed<Unreadable>>
+pub(crate) fn judge(
+    alloc: Global,
+    base: &str,
+    tables: &ResourceRows,
+) -> Result<Judged, Failed<Unreadable>>
     ensures judged { spec.AreOrdered tables.now → IfOk result (spec.Judges base.now tables.now) }
 {
     let ids = owners(alloc, tables)?;

@@ -5,7 +5,7 @@ use scim_schema::Kind;
 use scim_value::UniqueName;
 
 /// The rows that the change of one resource removes from the tables and adds to them.
-pub struct Edits {
+pub(crate) struct Edits {
     /// The text of the resource's id.
     pub id: Text,
     /// The resource's kind.

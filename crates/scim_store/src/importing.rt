@@ -17,7 +17,7 @@ ghost use Rattle.scim_store.specs.Importing.{HoldRowsOf, Fills, LeavesImported};
 
 use crate::changes::edits_to_keep;
 use crate::committing::is_below;
-use crate::writing::put_rows;
+use crate::transactions::put_rows;
 use scim_store_tables::{is_empty_database, make_tables};
 use scim_text::NoMemory;
 use scim_value::Resource;

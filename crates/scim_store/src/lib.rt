@@ -2,25 +2,17 @@
 //! whole when a database is opened. Each change is committed in one transaction with its audit row.
 #![tactic(auto)]
 
-mod beginning;
 mod changes;
 mod committing;
+mod creation;
 mod damage;
 mod edits;
 mod importing;
 mod opening;
-mod owners;
-mod shelf;
-mod writing;
+mod row_owners;
+mod sql_shelf;
+mod transactions;
 
-pub use beginning::begin_store;
-pub use changes::edits_of;
-pub use committing::{CommitFault, commit_change, commit_over};
-pub use damage::{
-    Judged, ResourceRows, Unreadable, holding_rows_are_sound, judge, sound_rows_hold,
-};
-pub use edits::Edits;
+pub use damage::{holding_rows_are_sound, sound_rows_hold};
 pub use importing::{ImportFault, import};
-pub use opening::{Examined, examine};
-pub use shelf::{OpenFault, SqlShelf};
-pub use writing::write_change;
+pub use sql_shelf::{OpenFault, SqlShelf};

@@ -21,7 +21,7 @@ use std::alloc::Global;
 
 /// The result of examining a database as a store of resources with locations below a base URI.
 #[derive(Clone, Copy, PartialEq, Eq)]
-pub enum Examined {
+pub(crate) enum Examined {
     /// It has no table, index or view.
     Empty,
     /// Its tables stand for a store, whose audit has this many rows.
@@ -99,7 +99,7 @@ fn examine_rows(alloc: Global, base: &str, rows: TableRows) -> Result<Examined, 
 /// Fails with the database's error, with out of memory, or with a corrupt database if the document of a
 /// resource isn't UTF-8 or a key isn't a number. The connection is then closed, or as before, or as the last
 /// commit left it.
-pub fn examine<S: Alter>(
+pub(crate) fn examine<S: Alter>(
     conn: &mut Connection<S>,
     alloc: Global,
     base: &str,

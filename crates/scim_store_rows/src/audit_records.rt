@@ -43,7 +43,11 @@ fn read_fields(client: Text, row: &Row) -> Option<AuditRow>
 /// Reads the audit row with this number from a row of the table; None if the row isn't valid, or has another
 /// number. Of a refused method, the methods of its endpoint aren't stored: those of a collection are
 /// returned.
-pub fn read_audit_row(alloc: Global, number: u64, row: &Row) -> Result<Option<AuditRow>, NoMemory>
+pub(crate) fn read_audit_row(
+    alloc: Global,
+    number: u64,
+    row: &Row,
+) -> Result<Option<AuditRow>, NoMemory>
     ensures { IfOk result (ReadsBack IsSound (spec.audit_row number) row.now) }
 {
     if row.column_count() != COLUMNS || number_in(row, 0) != Some(number) {

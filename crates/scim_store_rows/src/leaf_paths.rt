@@ -39,7 +39,7 @@ fn sub_attribute_of(name: &str) -> Option<SubAttribute>
 
 /// Returns the leaf with this path, as `userName` or `emails.value`. Reads exactly the paths that
 /// [`scim_audit::leaf_path`] prints, including those of leaves that no kind has.
-pub fn leaf_of_path(path: &str) -> Option<Leaf>
+pub(crate) fn leaf_of_path(path: &str) -> Option<Leaf>
     ensures { ReadsBack Any rows.leaf_path path.now result }
 {
     match path.split_once('.') {

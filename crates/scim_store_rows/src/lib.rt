@@ -14,8 +14,7 @@ mod walks;
 
 pub use audit_columns::{AuditTexts, columns_of, kind_number};
 pub use audit_reading::{LAST_NUMBER, read_audit_rows};
-pub use audit_records::{are_audit_rows, read_audit_row};
-pub use leaf_paths::leaf_of_path;
+pub use audit_records::are_audit_rows;
 pub use look_ups::{find_by_id, find_groups_with, find_owner_of_name};
 pub use old_resources::find_old;
 pub use walks::walk;

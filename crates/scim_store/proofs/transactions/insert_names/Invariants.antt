@@ -1,0 +1,8 @@
+use Rattle.std.proofs.Common.{◌++◌, take}
+use Rattle.scim_store_tables.specs.Lists.{Lists, Are}
+use Rattle.scim_store_tables.proofs.Facts.{HasDone}
+use Rattle.scim_store.specs.Edits.{rows_of_names}
+use Rattle.scim_store.proofs.transactions.insert_names.Given as goal
+
+abbrev pub invariant-loop-name : goal.invariant-loop-name
+invariant-loop-name g l = HasDone g.S.Store l.fn.tx l.tx (λ old new. (lists : Lists) → Are old lists → Are new (record lists { taken = rows_of_names l.id (take l.name-index l.names) ++ lists.taken }))

@@ -1,0 +1,8 @@
+use Rattle.scim_store_tables.proofs.Facts.{does_then}
+use Rattle.scim_store.proofs.transactions.take_names_and_members.Goals as goal
+
+pub returns : goal.returns
+returns g c = record {
+  does = does_then g.S.Store c.args.tx.now c.delete_names.new.tx c.delete_members.new.tx _ c.delete_members.result _ _ _ c.in_ok-delete_names.ensures.does c.delete_members.ensures.does
+      (λ _ _ _ one two lists are. rw (c.as_slice.ensures.value, c.as_slice-2.ensures.value, c.as_str.ensures) at (two _ (one lists are)));
+}

@@ -1,8 +1,0 @@
-use Rattle.std.proofs.Common.{◌++◌, take}
-use Rattle.scim_store_tables.specs.Lists.{Lists, Are}
-use Rattle.scim_store_tables.proofs.Facts.{HasDone}
-use Rattle.scim_store.specs.Edits.{rows_of_members}
-use Rattle.scim_store.proofs.writing.insert_members.Given as goal
-
-abbrev pub invariant-loop-value : goal.invariant-loop-value
-invariant-loop-value g l = HasDone g.S.Store l.fn.tx l.tx (λ old new. (lists : Lists) → Are old lists → Are new (record lists { member = rows_of_members l.group_id (take l.value-index l.values) ++ lists.member }))

@@ -1,0 +1,363 @@
+//! A shelf over the tables of a database.
+
+ghost use Rattle.std.specs.Prelude.{◌≡◌, ◌≢◌, ◌<◌, ◌≤◌, ◌+◌, ◌⊎◌, ℕ, List, Ok, Err, IfOk, IfErr, OnErr, IsErr, IsTrue, length, false};
+ghost use Rattle.sqlite.specs.Effect.{Database};
+ghost use Rattle.sqlite.specs.State.{HasCleanDisk, Survives};
+ghost use Rattle.sqlite.specs.Held.{state};
+ghost use Rattle.scim_text.specs.declared.memory.Failed.{Failed};
+ghost use Rattle.scim_shelf.specs.declared.faults.ShelfFault.{ShelfFault};
+ghost use Rattle.scim_shelf.specs.Shelves.{Counts, Answers, OnlyReads};
+ghost use Rattle.scim_shelf.specs.Stores.{Store, last_number};
+ghost use Rattle.scim_store_rows.specs.Auditing.{AreRowsFrom};
+ghost use Rattle.scim_store.specs.Committing.{HasStore};
+ghost use Rattle.scim_store_tables.specs.Reading.{Rests};
+ghost use Rattle.scim_store_tables.specs.Tables.{no_schema};
+ghost use Rattle.scim_store_tables.specs.Steps.{Leaves};
+ghost use Rattle.scim_store.specs.Beginning.{no_store, Begins};
+ghost use Rattle.scim_store_rows.specs.Finding.{StandsIn};
+ghost use Rattle.scim_store.specs.Shelves.{IsKeptIn, HasOpened, Refuses, LeavesBegun};
+
+use crate::committing::{CommitFault, commit_change, commit_over};
+use crate::creation::begin_store;
+use crate::opening::{Examined, examine};
+use scim_audit::AuditRow;
+use scim_cell::{Id, Text};
+use scim_schema::Kind;
+use scim_shelf::{Change, Shelf, ShelfFault, Visitor, show_all};
+use scim_store_rows::{
+    LAST_NUMBER, find_by_id, find_groups_with, find_owner_of_name, read_audit_rows, walk,
+};
+use scim_text::Failed;
+use scim_value::{Resource, UniqueName};
+use sqlite::{Alter, Connection, Error, ErrorCode};
+use std::alloc::Global;
+
+/// A shelf over the tables of a database, whose resources have locations below one base URI.
+///
+/// It looks up resources by id, by unique name and by member value through the keys of the tables. Committing
+/// a resource with a location below another base fails with Device.
+pub struct SqlShelf<S: Alter> {
+    connection: Connection<S>,
+    base: Text,
+    /// How many rows the audit has.
+    rows: u64,
+    /// How often the device failed, 2^64 - 1 at most.
+    failures: u64,
+    ghost idle: { connection.in_transaction ≡ false },
+    ghost bounded: { rows ≤ last_number },
+}
+
+/// A reason why a database can't be opened.
+#[derive(Clone, Copy, PartialEq, Eq)]
+pub enum OpenFault {
+    /// Its tables are of another version.
+    WrongVersion,
+    /// Its tables don't stand for a store: this is the least id whose rows are neither empty nor those of one
+    /// resource.
+    Damaged(Id),
+    /// It belongs to another program, or its tables don't stand for a store though the rows of each id are
+    /// valid, or it can't be read or written.
+    Store,
+    /// Memory ran out.
+    NoMemory,
+}
+
+/// Returns the fault that an error of the database is when it is opened.
+fn open_fault_of(error: &Error) -> OpenFault
+    ensures { (base : List ℕ) (db : Database) → Refuses base db result }
+{
+    match error {
+        Error::SqliteFailure(ErrorCode::OutOfMemory) => OpenFault::NoMemory,
+        _ => OpenFault::Store,
+    }
+}
+
+impl<S: Alter> SqlShelf<S> {
+    /// Returns a shelf over the tables of a connection, whose audit has `rows` rows. On an error it gives the
+    /// connection back.
+    fn over(
+        alloc: Global,
+        connection: Connection<S>,
+        base: &str,
+        rows: u64,
+    ) -> Result<SqlShelf<S>, (OpenFault, Connection<S>)>
+        requires { connection.in_transaction ≡ false }
+        ensures base { IfOk result (λ shelf. shelf.base ≡ base.now) }
+        ensures same { IfOk result (λ shelf. shelf.connection ≡ connection) }
+        ensures kept { IfOk result (λ shelf. HasCleanDisk (state S.Store shelf.connection)
+            → HasCleanDisk (state S.Store connection)
+            × ((store : Store) → StandsIn base.now (state S.Store connection) store
+            → length store.audit ≡ rows
+            → IsKeptIn base.now (state S.Store shelf.connection) shelf.rows store)) }
+        ensures refused { IfErr result (λ e. (base : List ℕ) (db : Database)
+            → Refuses base db e.0) }
+        ensures given_back { IfErr result (λ e. e.1 ≡ connection) }
+    {
+        if rows > LAST_NUMBER || !connection.is_autocommit() {
+            return Err((OpenFault::Store, connection));
+        }
+        match Text::copy_of(alloc, base) {
+            Ok(base) => Ok(SqlShelf {
+                connection,
+                base,
+                rows,
+                failures: 0,
+            }),
+            Err(_) => Err((OpenFault::NoMemory, connection)),
+        }
+    }
+
+    /// Creates the tables in an empty database, in one transaction, and returns a shelf over them. On an
+    /// error it gives the connection back.
+    fn begin(
+        alloc: Global,
+        connection: Connection<S>,
+        base: &str,
+    ) -> Result<SqlShelf<S>, (OpenFault, Connection<S>)>
+        requires { connection.in_transaction ≡ false }
+        ensures kept { IfOk result (λ shelf. HasCleanDisk (state S.Store shelf.connection)
+            → HasCleanDisk (state S.Store connection) × IsTrue (state S.Store connection).is_open
+            × ((state S.Store connection).now.schema ≡ no_schema
+            → IsKeptIn base.now (state S.Store shelf.connection) shelf.rows no_store)) }
+        ensures base { IfOk result (λ shelf. shelf.base ≡ base.now) }
+        ensures refused { IfErr result (λ e. (base : List ℕ) (db : Database)
+            → Refuses base db e.0) }
+        ensures clean { IfErr result (λ e. HasCleanDisk (state S.Store e.1)
+            → HasCleanDisk (state S.Store connection)) }
+        ensures crash { IfOk result (λ shelf.
+            Survives (state S.Store connection) (state S.Store shelf.connection)
+            (Leaves Begins (state S.Store connection).now)) }
+        ensures crash_at_err { IfErr result (λ e. Survives (state S.Store connection)
+            (state S.Store e.1) (Leaves Begins (state S.Store connection).now)) }
+    {
+        let mut connection = connection;
+        match begin_store(&mut connection) {
+            Ok(()) => SqlShelf::over(alloc, connection, base, 0),
+            Err(error) => Err((open_fault_of(&error), connection)),
+        }
+    }
+
+    /// Opens a database as a store of resources with locations below the base URI. If it is empty, the tables
+    /// are created in one transaction. Otherwise all rows are read and checked, in time nearly linear in
+    /// their number.
+    ///
+    /// Fails with WrongVersion or Damaged if the tables don't stand for a store; with Store if they don't
+    /// either, if the connection is in a transaction, or if the device failed; or with NoMemory. The
+    /// connection is given back with the fault: it is closed, or its database is as before or as the last
+    /// commit left it, except that an empty one may have been given its tables.
+    pub fn open(
+        alloc: Global,
+        connection: Connection<S>,
+        base: &str,
+    ) -> Result<SqlShelf<S>, (OpenFault, Connection<S>)>
+        requires { connection.in_transaction ≡ false }
+        ensures base { IfOk result (λ shelf. shelf.base ≡ base.now) }
+        ensures opened { IfOk result (λ shelf. HasCleanDisk (state S.Store shelf.connection)
+            → (store : Store) × HasOpened base.now (state S.Store connection).now
+            (state S.Store shelf.connection) shelf.rows store) }
+        ensures refused { IfErr result (λ e. HasCleanDisk (state S.Store e.1)
+            → Refuses base.now (state S.Store connection).now e.0) }
+        ensures rests { IfErr result (λ e. HasCleanDisk (state S.Store e.1)
+            → (state S.Store connection).now.schema ≢ no_schema
+            → Rests (state S.Store connection) (state S.Store e.1)) }
+
+        // A crash leaves what it could leave before, or, if the database was empty, the tables of an empty
+        // store.
+        ensures crash { IfOk result (λ shelf.
+            Survives (state S.Store connection) (state S.Store shelf.connection)
+            (LeavesBegun base.now (state S.Store connection))) }
+        ensures crash_at_err { IfErr result (λ e. Survives (state S.Store connection)
+            (state S.Store e.1) (LeavesBegun base.now (state S.Store connection))) }
+    {
+        let mut connection = connection;
+        let examined = match examine(&mut connection, alloc, base) {
+            Ok(examined) => examined,
+            Err(error) => return Err((open_fault_of(&error), connection)),
+        };
+        match examined {
+            Examined::Empty => SqlShelf::begin(alloc, connection, base),
+            Examined::Stands(rows) => SqlShelf::over(alloc, connection, base, rows),
+            Examined::WrongVersion => Err((OpenFault::WrongVersion, connection)),
+            Examined::Damaged(id) => Err((OpenFault::Damaged(id), connection)),
+            Examined::Foreign => Err((OpenFault::Store, connection)),
+        }
+    }
+
+    /// Returns the audit rows from number `from` on, in order, at most `count`. The first row has number 1,
+    /// and 0 counts as 1. Of a refused method, the methods of its endpoint aren't stored: those of a
+    /// collection are returned.
+    ///
+    /// Fails with Device if the device failed. On any error what is stored is unchanged.
+    pub fn audit_rows(
+        &mut self,
+        alloc: Global,
+        from: u64,
+        count: u64,
+    ) -> Result<Vec<AuditRow>, Failed<ShelfFault>>
+        ensures answer { IfOk result (Answers ⟦<SqlShelf<S> as Shelf>⟧.stands
+            ⟦<SqlShelf<S> as Shelf>⟧.is_honest self.old self.new
+            (λ store rows. AreRowsFrom from count store rows.items)) }
+        ensures read { OnlyReads ⟦<SqlShelf<S> as Shelf>⟧.stands
+            ⟦<SqlShelf<S> as Shelf>⟧.is_honest ⟦<SqlShelf<S> as Shelf>⟧.failures
+            self.old self.new result }
+    {
+        let read = read_audit_rows(&mut self.connection, alloc, from, count);
+        told(&mut self.failures, read)
+    }
+
+    /// Returns the connection, with the tables as they are.
+    pub fn into_connection(self) -> Connection<S>
+        ensures idle { result.in_transaction ≡ false }
+        ensures stands { (store : Store) → ⟦<SqlShelf<S> as Shelf>⟧.stands self store
+            → HasCleanDisk (state S.Store result)
+            → HasStore self.base (state S.Store result) store }
+    {
+        let SqlShelf {
+            connection,
+            base: _,
+            rows: _,
+            failures: _,
+        } = self;
+        connection
+    }
+}
+
+/// Returns the shelf's fault for a fault of the database: NoMemory, or Device, which is counted in
+/// `failures`.
+fn fault_of(failures: &mut u64, fault: &CommitFault) -> Failed<ShelfFault>
+    ensures grown { failures.old ≤ failures.new }
+    ensures device { result ≡ Failed.Because ShelfFault.Device → (failures.old < failures.new)
+        ⊎ (failures.old ≡ 18446744073709551615) }
+    ensures not_full { result ≢ Failed.Because ShelfFault.Full }
+{
+    match fault {
+        CommitFault::NoMemory
+        | CommitFault::Database(Error::SqliteFailure(ErrorCode::OutOfMemory)) => {
+            Failed::NoMemory
+        }
+        _ => {
+            *failures = failures.saturating_add(1);
+            Failed::Because(ShelfFault::Device)
+        }
+    }
+}
+
+/// Returns the result of a read as the shelf's, counting a failure of the device.
+fn told<T>(failures: &mut u64, found: Result<T, Error>) -> Result<T, Failed<ShelfFault>>
+    ensures same { IfOk result (λ x. found ≡ Ok x) }
+    ensures counts { Counts failures.old failures.new result }
+    ensures not_full { result ≢ Err (Failed.Because ShelfFault.Full) }
+{
+    match found {
+        Ok(found) => Ok(found),
+        Err(error) => Err(fault_of(failures, &CommitFault::Database(error))),
+    }
+}
+
+/// Returns the result of a commit as the shelf's, counting the new audit row or a failure of the device.
+fn told_commit(
+    failures: &mut u64,
+    rows: &mut u64,
+    done: Result<(), CommitFault>,
+) -> Result<(), Failed<ShelfFault>>
+    requires { rows.old < last_number }
+    ensures ok { IfOk result (λ x. (done ≡ Ok x) × (rows.new ≡ rows.old + 1)) }
+    ensures err { OnErr result (IsErr done × (rows.new ≡ rows.old)) }
+    ensures counts { Counts failures.old failures.new result }
+    ensures not_full { result ≢ Err (Failed.Because ShelfFault.Full) }
+{
+    match done {
+        Ok(()) => {
+            *rows += 1;
+            Ok(())
+        }
+        Err(fault) => Err(fault_of(failures, &fault)),
+    }
+}
+
+impl<S: Alter> Shelf for SqlShelf<S> {
+    ghost stands = { λ shelf store. IsKeptIn shelf.base (state S.Store shelf.connection) shelf.rows store };
+
+    ghost is_honest = { λ shelf. HasCleanDisk (state S.Store shelf.connection) };
+
+    ghost failures = { λ shelf. shelf.failures };
+
+    fn by_id(
+        &mut self,
+        alloc: Global,
+        kind: Kind,
+        id: Id,
+    ) -> Result<Option<Resource>, Failed<ShelfFault>> {
+        let found = find_by_id(&mut self.connection, alloc, self.base.as_str(), kind, id);
+        told(&mut self.failures, found)
+    }
+
+    fn name_owner(
+        &mut self,
+        alloc: Global,
+        name: &UniqueName,
+    ) -> Result<Option<Resource>, Failed<ShelfFault>> {
+        let found = find_owner_of_name(&mut self.connection, alloc, self.base.as_str(), name);
+        told(&mut self.failures, found)
+    }
+
+    fn groups_with<V: Visitor>(
+        &mut self,
+        alloc: Global,
+        value: &str,
+        visitor: &mut V,
+    ) -> Result<(), Failed<ShelfFault>> {
+        let found = find_groups_with(&mut self.connection, alloc, self.base.as_str(), value);
+        let groups = told(&mut self.failures, found)?;
+        Ok(show_all(alloc, groups.as_slice(), visitor)?)
+    }
+
+    fn each<V: Visitor>(
+        &mut self,
+        alloc: Global,
+        kind: Kind,
+        visitor: &mut V,
+    ) -> Result<(), Failed<ShelfFault>> {
+        let shown = walk(
+            &mut self.connection,
+            alloc,
+            self.base.as_str(),
+            kind,
+            visitor,
+        );
+        told(&mut self.failures, shown)
+    }
+
+    fn commit(
+        &mut self,
+        alloc: Global,
+        change: Change,
+        row: AuditRow,
+    ) -> Result<(), Failed<ShelfFault>> {
+        if self.rows >= LAST_NUMBER {
+            return Err(Failed::Because(ShelfFault::Full));
+        }
+        let (connection, base, number) = (&mut self.connection, self.base.as_str(), self.rows + 1);
+        let done = commit_change(connection, alloc, base, &change, &row, number);
+        told_commit(&mut self.failures, &mut self.rows, done)
+    }
+
+    fn commit_over(
+        &mut self,
+        alloc: Global,
+        old: Option<&Resource>,
+        change: Change,
+        row: AuditRow,
+    ) -> Result<(), Failed<ShelfFault>> {
+        if self.rows >= LAST_NUMBER {
+            return Err(Failed::Because(ShelfFault::Full));
+        }
+        let (connection, base, number) = (&mut self.connection, self.base.as_str(), self.rows + 1);
+        let done = commit_over(connection, alloc, base, old, &change, &row, number);
+        told_commit(&mut self.failures, &mut self.rows, done)
+    }
+
+    fn failures(&self) -> u64 {
+        self.failures
+    }
+}
