@@ -4,8 +4,7 @@
 # and mail are shown him: for mail there is no such user either. Then a search, a create, a replace and a patch, each
 # with a refusal, and what the server tells of itself.
 #
-# The two files beside this one are those of the run that `rt ci` compares byte for byte, crates/scimd/data;
-# `.ci/run` compares the files, so that what is shown here is what is checked there.
+# policy.json and users.json also stand in crates/scimd/data, where the run is that `rt ci` compares byte for byte.
 set -eu
 cd "$(dirname "$0")"
 scimd="${1:-../crates/scimd/out/scimd}"

@@ -59,7 +59,7 @@ fn answer<S: Alter>(
     };
     match read_policy(alloc, POLICY) {
         Ok(policy) => {
-            let mut service = Service::new(policy, base, shelf);
+            let mut service = Service::new(policy, shelf, base);
             let told = if are_answered(alloc, &mut service, requests) {
                 Some(String::new(alloc))
             } else {

@@ -7,7 +7,6 @@ mod databases;
 mod files;
 mod once_runs;
 mod request_parts;
-mod scripted_peers;
 mod served;
 mod servers;
 mod stops;

@@ -65,8 +65,9 @@ enum Ending {
     Read,
     /// The write with this number, from 0, fails; each write takes one byte.
     Write(u32),
-    /// There is no stamp for the first piece.
-    Stamp,
+    /// The requests come byte by byte, and there are stamps for the first ones alone. Then this many bytes
+    /// are written.
+    Stamp(u32, usize),
     /// The stream ends after this many empty lines, one at each read.
     Lines(u32),
     /// The stream has this many empty lines, one at each read, which are more reads than are allowed.
@@ -113,16 +114,18 @@ fn is_served_up_to(alloc: Global, ending: Ending) -> bool {
             let writer = Stutter::new(alloc, 1, failing, ErrorKind::Other);
             comes_to(alloc, &mut bytes, writer, 9, told, failing as usize)
         }
-        Ending::Stamp => {
+        Ending::Stamp(stamps, count) => {
+            let told = Err(IoFault::Stamp);
             let writer = Stutter::new(alloc, 7, u32::MAX, ErrorKind::Other);
-            comes_to(alloc, &mut bytes, writer, 0, Err(IoFault::Stamp), 0)
+            let mut reader = Trickle { bytes };
+            comes_to(alloc, &mut reader, writer, stamps, told, count)
         }
         Ending::Lines(left) => are_read(alloc, left, Ok(Served { replies: 0 })),
         Ending::Turns(left) => are_read(alloc, left, Err(IoFault::Turns)),
     }
 }
 
-static ENDINGS: [(&str, Ending); 11] = [
+static ENDINGS: [(&str, Ending); 14] = [
     ("a read fails", Ending::Read),
     ("write 0 fails", Ending::Write(0)),
     ("write 1 fails", Ending::Write(1)),
@@ -130,7 +133,10 @@ static ENDINGS: [(&str, Ending); 11] = [
     ("write 190 fails", Ending::Write(190)),
     ("write 191 fails", Ending::Write(191)),
     ("write 300 fails", Ending::Write(300)),
-    ("there is no stamp", Ending::Stamp),
+    ("stamp 0 fails", Ending::Stamp(0, 0)),
+    ("stamp 19 fails", Ending::Stamp(19, 0)),
+    ("stamp 20 fails", Ending::Stamp(20, 191)),
+    ("stamp 39 fails", Ending::Stamp(39, 191)),
     ("999,999 lines", Ending::Lines(999_999)),
     ("a million lines", Ending::Turns(1_000_000)),
     ("lines without an end", Ending::Turns(u32::MAX)),

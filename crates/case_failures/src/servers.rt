@@ -1,6 +1,6 @@
 //! Runs a server over scripted connections, and over a socket.
-use crate::scripted_peers::ScriptedPeers;
 use crate::served::{REPLIES, REQUESTS, hub};
+use case_peers::ScriptedPeers;
 use case_values::{Case, CaseFault, truth};
 use scim_hub::Hub;
 use scim_serve::serve;
@@ -35,9 +35,10 @@ fn answers_each(alloc: Global, step: usize) -> bool {
         return false;
     };
     serve(alloc, &mut peers, &mut hub).is_ok()
-        && peers.first.as_slice() == REPLIES.as_bytes()
-        && peers.second.as_slice() == REFUSAL.as_bytes()
-        && peers.closed.as_slice() == [1].as_slice()
+        && peers.first.taken.as_slice() == REPLIES.as_bytes()
+        && peers.second.taken.as_slice() == REFUSAL.as_bytes()
+        && !peers.first.is_closed
+        && peers.second.is_closed
 }
 
 /// Whether a client gets its replies over a socket. It sends the two requests and closes its sending side

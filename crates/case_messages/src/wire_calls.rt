@@ -1,6 +1,6 @@
 //! The calls of `scim_wire`.
 use case_values::{Case, CaseFault, between, debugged, push_all};
-use scim_wire::{HttpReply, Item, Message, Octets, Wire, print_reply};
+use scim_wire::{HttpReply, Item, Message, Octets, ReplyForm, Wire, print_reply};
 use std::alloc::Global;
 
 /// Returns the result of the case's call, or None if it isn't a call of `scim_wire`.
@@ -145,5 +145,9 @@ fn print_reply_call(case: &Case<'_>) -> Result<String, CaseFault> {
         allow: case.text("allow").ok(),
         asks_for_token: case.is_true("asks_for_token"),
     };
-    Ok(print_reply(case.alloc, &reply, case.is_true("close"))?)
+    let form = ReplyForm {
+        closes: case.is_true("close"),
+        omits_body: case.is_true("omits_body"),
+    };
+    Ok(print_reply(case.alloc, &reply, form)?)
 }

@@ -80,7 +80,7 @@ fn policy_file(case: &Case<'_>) -> Result<String, CaseFault> {
 
 fn told_of_text(alloc: Global, text: &str) -> Result<String, CaseFault> {
     match read_policy(alloc, text) {
-        Ok(policy) => count_text(alloc, policy.rule_count()),
+        Ok(policy) => count_text(alloc, policy.rules()),
         Err(fault) => shown(alloc, &fault),
     }
 }
@@ -106,7 +106,7 @@ fn rule_of<'p>(case: &Case<'_>, policy: &'p Policy) -> Result<&'p Rule, CaseFaul
     } else {
         1
     };
-    match policy.rules().get(number.wrapping_sub(1)) {
+    match policy.listed().get(number.wrapping_sub(1)) {
         Some(rule) => Ok(rule),
         None => Err(CaseFault::Missing("number")),
     }
@@ -240,7 +240,7 @@ fn misfit_text(case: &Case<'_>, policy: &Policy, resource: &Resource) -> Result<
     let leaf = case.leaf("leaf")?;
     let client = case.text("client")?;
     let number = case.count("number")?;
-    if number < 1 || policy.rule_count() < number {
+    if number < 1 || policy.rules() < number {
         return Err(CaseFault::Missing("number"));
     }
     let misfit = policy.misfit(case.alloc, number, client, case.op(), resource, leaf)?;
@@ -256,7 +256,7 @@ fn misfits_text(
     let leaf = case.leaf("leaf")?;
     let client = case.text("client")?;
     let mut text = String::new(case.alloc);
-    for rule in policy.rules() {
+    for rule in policy.listed() {
         let misfit = rule.misfit(case.alloc, client, case.op(), resource, leaf)?;
         push_misfit(case.alloc, misfit, &mut text)?;
     }

@@ -9,7 +9,7 @@ use scim_service::Service;
 use scim_shelf::Shelf;
 use scim_text::read_printed_moment;
 use scim_token::Tokens;
-use scim_wire::{Item, Message, Wire};
+use scim_wire::{Item, Message, ReplyForm, Wire};
 use std::alloc::Global;
 
 /// The default id of the resource that a request creates.
@@ -74,7 +74,12 @@ fn push_item<S: Shelf>(
             Ok(message.close)
         }
         Item::Refused(refusal) => {
-            push_text(step.alloc, &Answer::Refused(*refusal), true, text)?;
+            push_text(
+                step.alloc,
+                &Answer::Refused(*refusal),
+                ReplyForm::whole(true),
+                text,
+            )?;
             Ok(true)
         }
     }
@@ -105,15 +110,15 @@ fn push_answer<S: Shelf>(
         fresh,
     };
     let answer = answer_message(step.alloc, &routes, service, &arrival, message);
-    push_text(step.alloc, &answer, message.close, text)
+    push_text(step.alloc, &answer, ReplyForm::of(message), text)
 }
 
 fn push_text(
     alloc: Global,
     answer: &Answer,
-    close: bool,
+    form: ReplyForm,
     text: &mut String,
 ) -> Result<(), CaseFault> {
-    let told = answer.text(alloc, close)?;
+    let told = answer.text(alloc, form)?;
     Ok(text.push_str(told.as_str())?)
 }

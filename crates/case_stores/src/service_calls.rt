@@ -7,7 +7,6 @@ use case_values::{Case, CaseFault, named, push_all, push_rows_after, shown};
 use scim_audit::{AuditRow, Refusal};
 use scim_body::{BodyFault, Draft, read_body};
 use scim_cell::{Id, Text};
-use scim_exchange::status_of;
 use scim_service::{Ask, Reply, Request, Service, Turn};
 use scim_shelf::MemoryShelf;
 use scim_text::{Failed, Moment, push};
@@ -34,7 +33,7 @@ fn service_of(case: &Case<'_>) -> Result<Service<MemoryShelf>, CaseFault> {
     let base = Text::copy_of(case.alloc, base_of(case))?;
     let policy = policy(case)?;
     let shelf = shelf_of(case, "users")?;
-    Ok(Service::new(policy, base, shelf))
+    Ok(Service::new(policy, shelf, base))
 }
 
 fn told_of_turns(case: &Case<'_>, service: &mut Service<MemoryShelf>) -> Result<String, CaseFault> {
@@ -104,7 +103,7 @@ fn push_reply_to(
 }
 
 fn push_reply(alloc: Global, reply: &Reply, text: &mut String) -> Result<(), CaseFault> {
-    let status = shown(alloc, &status_of(reply))?;
+    let status = shown(alloc, &reply.status())?;
     text.push_str(status.as_str())?;
     if let Some(location) = reply.location() {
         push_all(text, &[" at ", location])?;

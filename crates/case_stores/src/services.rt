@@ -11,7 +11,7 @@ use scim_service::Service;
 /// Returns a service with the policy of a case over a store. On a fault the store is closed.
 pub fn service_over<S: Audited>(case: &Case<'_>, shelf: S) -> Result<Service<S>, StoreFault> {
     match policy_and_base(case) {
-        Ok((policy, base)) => Ok(Service::new(policy, base, shelf)),
+        Ok((policy, base)) => Ok(Service::new(policy, shelf, base)),
         Err(fault) => {
             shelf.close();
             Err(StoreFault::Case(fault))

@@ -5,13 +5,13 @@ ghost use Rattle.scim_audit.specs.Methods as spec;
 /// A set of HTTP methods, named for the endpoints that allow them.
 #[derive(Clone, Copy, Debug, PartialEq, Eq)]
 pub enum Methods {
-    /// For the resources of a kind, as `/Users`.
+    /// For the resources of a kind, such as `/Users`.
     Collection,
-    /// For a search by POST, as `/Users/.search` (RFC 7644 section 3.4.3).
+    /// For a search by POST, such as `/Users/.search` (RFC 7644 section 3.4.3).
     Search,
-    /// For one resource, as `/Users/{id}`.
+    /// For one resource, such as `/Users/{id}`.
     Resource,
-    /// For a page about the server, as `/Schemas` (RFC 7644 section 4).
+    /// For a page about the server, such as `/Schemas` (RFC 7644 section 4).
     Discovery,
 }
 

@@ -19,8 +19,8 @@ pub enum Refusal {
     UnknownCoding,
     /// There is no such endpoint.
     NoRoute,
-    /// A SCIM endpoint that this server doesn't support, as `/Bulk` and `/Me` (RFC 7644 sections
-    /// 3.7 and 3.11).
+    /// A SCIM endpoint that this server doesn't support, such as `/Bulk` and `/Me` (RFC 7644 sections 3.7 and
+    /// 3.11).
     NotSupported,
     /// The endpoint allows only these methods, which the header `Allow` lists (RFC 9110 section
     /// 15.5.6).
@@ -80,7 +80,8 @@ macro_rules! error_message {
 }
 
 impl Refusal {
-    /// Returns one refusal for each number, in order. [`Refusal::BadMethod`] stands there with the methods of a collection.
+    /// Returns one refusal for each number, in order. [`Refusal::BadMethod`] is listed with the methods of a
+    /// collection.
     #[tactic(auto, unfolding(crate::specs::Refusals::refusals))]
     pub fn all() -> &'static [Refusal]
         ensures { result.now ≡ spec.refusals }

@@ -8,7 +8,7 @@ use Rattle.scim_schema.specs.declared.Kind.{Kind}
 use Rattle.scim_schema.specs.declared.Attribute.{Attribute}
 use Rattle.scim_schema.specs.declared.Attribute.TheVariants.{UserName}
 use Rattle.scim_schema.specs.declared.Unit.{Unit as AttributeUnit}
-use Rattle.scim_schema.specs.declared.schemas.Schema.{Schema}
+use Rattle.scim_schema.specs.declared.schema_urns.Schema.{Schema}
 use Rattle.scim_schema.specs.declared.json_keys.JsonShape.{JsonShape}
 use Rattle.scim_schema.specs.declared.json_keys.JsonShape.TheVariants.{Simple, Complex, MultiValued}
 use Rattle.scim_schema.specs.contracts.Attribute.{the_type as the_attribute}
@@ -105,7 +105,7 @@ abbrev pub judged : UseFor → Draft → Body
 judged Creating d = if lacks_required d.kind d.rows then wrong else drafted d
 judged Replacing d = drafted d
 
--- the outcome for the units that a body gives, or for None, which is a refused value
+-- the outcome for the units that a body gives; None means that a value was refused
 abbrev pub body_with : Kind → UseFor → Option (List Given) → Body
 body_with kind use_for None = wrong
 body_with kind use_for (Some gs) = judged use_for (draft_of kind use_for gs)

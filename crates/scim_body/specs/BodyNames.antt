@@ -7,8 +7,8 @@ use Rattle.serde_json.specs.Data.{Data, Items, no_items, item, Members, no_membe
 use Rattle.serde_json.specs.Find.{as_array, as_object}
 use Rattle.scim_schema.specs.declared.Kind.{Kind}
 use Rattle.scim_schema.specs.declared.Attribute.{Attribute}
-use Rattle.scim_schema.specs.declared.schemas.Schema.{Schema}
-use Rattle.scim_schema.specs.contracts.schemas.Schema.{the_type as the_schema}
+use Rattle.scim_schema.specs.declared.schema_urns.Schema.{Schema}
+use Rattle.scim_schema.specs.contracts.schema_urns.Schema.{the_type as the_schema}
 use Rattle.scim_schema.specs.Names.{attribute_name, sub_attribute_name}
 use Rattle.scim_schema.specs.Schemas.{urn, extensions, extension_of}
 use Rattle.scim_schema.specs.Table.{attributes, sub_attributes}
@@ -27,7 +27,7 @@ abbrev pub first : List Data → Option Data
 first [] = None
 first (d ∷ ds) = Some d
 
--- the value under a name; if two keys are the name, the first
+-- the value under a name; the first one if several keys match the name
 abbrev pub value_named : List ℕ → Members → Option Data
 value_named name ms = first (values_named name ms)
 

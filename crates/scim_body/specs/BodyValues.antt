@@ -1,4 +1,4 @@
--- The values read from a body (RFC 7643 sections 2.3 to 2.5); None stands for a refused value.
+-- The values read from a body (RFC 7643 sections 2.3 to 2.5); None means a refused value.
 use Rattle.std.specs.Prelude.{ℕ, List, [], ◌∷◌, ◌++◌, ◌||◌, Bool, true, false, Option, Some, None, option_map, option_and_then, length, nat_lt, nat_le, if◌then◌else◌, codes}
 use Rattle.std.specs.List.{list_any, count_by}
 use denote.Enum.Bare.{sameb}

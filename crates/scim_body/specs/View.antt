@@ -1,4 +1,4 @@
--- The JSON value that a tree stands for (RFC 8259).
+-- The JSON value that a tree represents (RFC 8259).
 use Rattle.std.specs.Prelude.{ℕ, List, [], ◌∷◌, map}
 use Rattle.std.specs.Borrow.{Bor}
 use Rattle.serde_json.specs.Data.{Data, null, boolean, number, string, array, object, Items, Members, no_members, member}

@@ -12,9 +12,9 @@ ghost use Rattle.scim_body.specs.Bodies.{GivesDraft};
 ghost use Rattle.scim_body.specs.Drafts as drafts;
 ghost use Rattle.scim_body.specs.Given.{AreOfBody, with_given, unit_given, units_given, members_or_none};
 
+use crate::absent_values::given_named;
 use crate::drafts::{Draft, UseFor};
 use crate::json_reading::NotJson;
-use crate::object_members::given_named;
 use crate::repeated_keys::body_clashes;
 use crate::required_attributes::lacks_required;
 use crate::trees::{Member, Tree};
@@ -95,7 +95,7 @@ pub fn read_body(
 
 /// Reads the draft from the members of the body.
 ///
-/// WrongValue if a value is refused, or if a create lacks a required attribute.
+/// Fails with WrongValue if a value is refused, or if a create lacks a required attribute.
 fn read_draft(
     alloc: Global,
     members: &[Member<'_>],
@@ -115,7 +115,7 @@ fn read_draft(
 
 /// Reads all units that the body gives, in the order of the attribute table.
 ///
-/// Errors: as `read_attributes`.
+/// Errors: those of `read_attributes`.
 #[tactic(auto, unfolding(crate::specs::Bodies::all_given))]
 fn read_all(
     alloc: Global,
@@ -133,7 +133,7 @@ fn read_all(
 
 /// Appends the units that the body gives for `attributes` to `given`.
 ///
-/// WrongValue if a value is refused. On an error `given` keeps the units read before it.
+/// Fails with WrongValue if a value is refused. On an error `given` keeps the units read before it.
 fn read_attributes(
     alloc: Global,
     members: &[Member<'_>],
@@ -157,7 +157,7 @@ fn read_attributes(
 /// Appends the units that the body gives for one attribute, from the body itself or from the object of its
 /// extension.
 ///
-/// Errors: as `read_attributes`.
+/// Errors: those of `read_attributes`.
 fn read_given(
     alloc: Global,
     members: &[Member<'_>],
@@ -180,7 +180,7 @@ fn read_given(
 /// The object that holds the attributes of `schema`: the body itself for the core schema (`None`), else the
 /// object under the extension's URN.
 ///
-/// `None` if the body doesn't give the extension. WrongValue if its value isn't an object.
+/// `None` if the body doesn't give the extension. Fails with WrongValue if its value isn't an object.
 fn schema_members<'a, 'b>(
     members: &'a [Member<'b>],
     schema: Option<Schema>,
@@ -203,7 +203,7 @@ fn schema_members<'a, 'b>(
 
 /// Appends the units that an object gives for `attribute`, which is ignored if it is readOnly.
 ///
-/// Errors: as `read_attributes`.
+/// Errors: those of `read_attributes`.
 fn read_attribute(
     alloc: Global,
     members: &[Member<'_>],
@@ -228,7 +228,7 @@ fn read_attribute(
 
 /// Appends the units that a value of `attribute` gives, by the attribute's shape.
 ///
-/// Errors: as `read_attributes`.
+/// Errors: those of `read_attributes`.
 fn read_shaped(
     alloc: Global,
     value: &Tree<'_>,
@@ -256,7 +256,7 @@ fn read_shaped(
 /// readOnly, and a multi-valued one a unit with all its values, if it has any. It isn't checked whether
 /// `attribute` itself is readOnly.
 ///
-/// WrongValue if the value is refused, for the reasons that `read_body` lists as Value.
+/// Fails with WrongValue if the value is refused, for the reasons that `read_body` lists as Value.
 pub fn read_units(
     alloc: Global,
     value: &Tree<'_>,
@@ -276,7 +276,7 @@ pub fn read_units(
 
 /// Appends the unit of a simple attribute. An empty `userName` is refused.
 ///
-/// Errors: as `read_attributes`.
+/// Errors: those of `read_attributes`.
 fn read_simple(
     alloc: Global,
     value: &Tree<'_>,
@@ -325,7 +325,7 @@ pub fn field_given(alloc: Global, kind: Kind, field: Field) -> Result<UnitGiven,
 
 /// Appends a unit for each sub-attribute of a complex attribute.
 ///
-/// Errors: as `read_attributes`.
+/// Errors: those of `read_attributes`.
 fn read_complex(
     alloc: Global,
     value: &Tree<'_>,
@@ -361,7 +361,7 @@ fn push_fields(
 
 /// Appends the unit of a multi-valued attribute, unless no value is left.
 ///
-/// Errors: as `read_attributes`.
+/// Errors: those of `read_attributes`.
 fn read_multi_valued(
     alloc: Global,
     value: &Tree<'_>,
@@ -385,7 +385,7 @@ fn read_multi_valued(
 
 /// The draft of the given units.
 ///
-/// WrongValue if the draft is for `Creating` and lacks a required attribute.
+/// Fails with WrongValue if the draft is for `Creating` and lacks a required attribute.
 fn draft_of(
     alloc: Global,
     kind: Kind,
@@ -406,7 +406,7 @@ fn draft_of(
     Ok(Draft::new(kind, use_for, units, rows))
 }
 
-/// Splits what is given into its units and the rows of all their values.
+/// Splits the given units into two lists: the units themselves, and the rows of all their values.
 fn parts_of(alloc: Global, given: Vec<UnitGiven>) -> Result<(Vec<Unit>, Vec<Row>), NoMemory>
     ensures units { IfOk result (λ parts. parts.0.items
         ≡ map (λ g. g.unit) (units_given given.items)) }

@@ -26,7 +26,7 @@ pub struct NotJson;
 impl<'a> Tree<'a> {
     /// Reads the JSON value of a text (RFC 8259).
     ///
-    /// NotJson if it has none.
+    /// Fails with NotJson if it has none.
     pub fn read(
         alloc: Global,
         text: &'a str,
@@ -48,7 +48,7 @@ impl<'a> Tree<'a> {
 
 /// Reads the value that begins at the next token, with at most `depth` more levels of nesting.
 ///
-/// NotJson if there is none.
+/// Fails with NotJson if there is none.
 #[cycle(read_value)]
 fn read_value<'a>(
     alloc: Global,
@@ -89,7 +89,7 @@ fn read_value<'a>(
 
 /// Reads the items of an array, after its opening bracket.
 ///
-/// Errors: as `read_value`.
+/// Errors: those of `read_value`.
 #[cycle(read_value)]
 fn read_items<'a>(
     alloc: Global,
@@ -113,7 +113,7 @@ fn read_items<'a>(
 
 /// Reads the members of an object, after its opening brace, keyed by name.
 ///
-/// Errors: as `read_value`.
+/// Errors: those of `read_value`.
 #[cycle(read_value)]
 fn read_members<'a>(
     alloc: Global,
@@ -139,7 +139,7 @@ fn read_members<'a>(
 
 /// Reads the next key, or `None` after the last member.
 ///
-/// NotJson if there is neither.
+/// Fails with NotJson if there is neither.
 fn next_key<'a>(reader: &mut Reader<'a>) -> Result<Option<&'a str>, Failed<NotJson>>
     ensures key { IfOk result (λ k. read_key reader.old
         ≡ Some (option_map (λ s. s.now) k, reader.new)) }

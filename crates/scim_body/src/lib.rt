@@ -4,6 +4,7 @@
 //! Cases: `crates/cases/data/bodies.jsonl`.
 #![tactic(auto)]
 
+mod absent_values;
 mod bodies;
 mod drafts;
 mod json_numbers;
@@ -14,10 +15,11 @@ mod required_attributes;
 mod trees;
 mod values;
 
+pub use absent_values::{given_named, is_absent};
 pub use bodies::{BodyFault, UnitGiven, field_given, read_body, read_units};
 pub use drafts::{Draft, UseFor};
 pub use json_reading::NotJson;
-pub use object_members::{given_named, is_absent, is_twice, value_named};
+pub use object_members::{is_twice, value_named};
 pub use repeated_keys::{value_clashes, values_clash};
 pub use required_attributes::lacks_required;
 pub use trees::{Member, Tree};

@@ -2,7 +2,6 @@
 ghost use Rattle.std.specs.Prelude.{◌≡◌, option_map};
 ghost use Rattle.scim_body.specs.View.{view, members_view};
 ghost use Rattle.scim_body.specs.BodyNames as spec;
-ghost use Rattle.scim_body.specs.BodyValues as values;
 
 use crate::trees::{Member, Tree};
 use scim_text::same_name;
@@ -39,26 +38,4 @@ pub fn is_twice(members: &[Member<'_>], name: &str) -> bool
         }
     }
     false
-}
-
-/// Whether a value counts as absent: null and `[]` do (RFC 7643 section 2.5).
-pub fn is_absent(value: &Tree<'_>) -> bool
-    ensures { result ≡ values.is_absent (view value.now) }
-{
-    match value {
-        Tree::Null => true,
-        Tree::Array(items) => items.is_empty(),
-        _ => false,
-    }
-}
-
-/// The value that an object gives under `name`. `None` if there is none, or if it counts as absent.
-pub fn given_named<'a, 'b>(members: &'a [Member<'b>], name: &str) -> Option<&'a Tree<'b>>
-    ensures { option_map (λ v. view v.now) result
-        ≡ values.given_named name.now (members_view members.now) }
-{
-    match value_named(members, name) {
-        Some(value) => { if is_absent(value) { None } else { Some(value) } }
-        None => None,
-    }
 }

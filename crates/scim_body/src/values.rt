@@ -9,7 +9,7 @@ ghost use Rattle.scim_cell.specs.SameValues.{is_nameless};
 ghost use Rattle.scim_body.specs.BodyValues as spec;
 ghost use Rattle.scim_body.specs.Given.{after};
 
-use crate::object_members::{given_named, is_absent};
+use crate::absent_values::{given_named, is_absent};
 use crate::trees::{Member, Tree};
 use scim_cell::{Atom, Field, Row, is_nameless, sub_attributes_by_place, with_values};
 use scim_json::atom_of;
@@ -54,7 +54,7 @@ fn is_short(atom: &Atom) -> bool
 
 /// Reads a value as an atom of the given type.
 ///
-/// WrongValue if it isn't one, or is a text over 65,536 bytes.
+/// Fails with WrongValue if it isn't one, or is a text over 65,536 bytes.
 pub(crate) fn read_atom(
     alloc: Global,
     value: &Tree<'_>,
@@ -81,7 +81,7 @@ pub(crate) fn read_atom(
 
 /// Reads the field of `sub_attribute` from its value.
 ///
-/// Errors: as `read_atom`.
+/// Errors: those of `read_atom`.
 pub fn read_field(
     alloc: Global,
     value: &Tree<'_>,
@@ -101,7 +101,7 @@ pub fn read_field(
 
 /// Appends the field that an object gives for `sub_attribute`, which is ignored if it is readOnly.
 ///
-/// Errors: as `read_atom`; `fields` is unchanged then.
+/// Errors: those of `read_atom`; `fields` is unchanged then.
 fn read_sub_attribute(
     alloc: Global,
     members: &[Member<'_>],
@@ -130,7 +130,7 @@ fn read_sub_attribute(
 
 /// Reads the fields that an object gives, in order of place. Unknown keys are ignored.
 ///
-/// Errors: as `read_atom`.
+/// Errors: those of `read_atom`.
 fn read_object(
     alloc: Global,
     members: &[Member<'_>],
@@ -163,7 +163,7 @@ fn has_value(attribute: Attribute) -> bool
 
 /// Reads a value that isn't an object as the sub-attribute `value`.
 ///
-/// Errors: as `read_atom`; also WrongValue if the attribute has no such sub-attribute.
+/// Errors: those of `read_atom`; also WrongValue if the attribute has no such sub-attribute.
 fn read_alone(
     alloc: Global,
     value: &Tree<'_>,
@@ -185,7 +185,8 @@ fn read_alone(
 
 /// Reads the fields of a value of a complex attribute, in order of place.
 ///
-/// WrongValue if the value or one of its fields has the wrong type, or a text is over 65,536 bytes.
+/// Fails with WrongValue if the value or one of its fields has the wrong type, or a text is over 65,536
+/// bytes.
 pub fn read_fields(
     alloc: Global,
     value: &Tree<'_>,
@@ -205,7 +206,7 @@ pub fn read_fields(
 /// Appends the value that an item of a list gives, unless it counts as absent or has no known
 /// sub-attribute.
 ///
-/// Errors: as `read_fields`; `values` is unchanged then.
+/// Errors: those of `read_fields`; `values` is unchanged then.
 fn read_value(
     alloc: Global,
     value: &Tree<'_>,
@@ -234,7 +235,7 @@ fn read_value(
 ///
 /// null, `[]` and values without known sub-attributes are left out; repeated values are kept.
 ///
-/// WrongValue if a value has the wrong type, or a text is over 65,536 bytes.
+/// Fails with WrongValue if a value has the wrong type, or a text is over 65,536 bytes.
 pub fn read_listed(
     alloc: Global,
     value: &Tree<'_>,
@@ -253,7 +254,7 @@ pub fn read_listed(
 
 /// Reads the values that the items of a list give.
 ///
-/// Errors: as `read_fields`.
+/// Errors: those of `read_fields`.
 fn read_items(
     alloc: Global,
     items: &[Tree<'_>],
@@ -302,8 +303,8 @@ fn any_nameless(attribute: Attribute, values: &[Row]) -> bool
 
 /// Reads the values of a multi-valued attribute from a list or a single value, without repeated ones.
 ///
-/// WrongValue if a value has the wrong type, a text is over 65,536 bytes, two values are primary, there are
-/// more than 10,000, or a member has no `value`.
+/// Fails with WrongValue if a value has the wrong type, a text is over 65,536 bytes, two values are primary,
+/// there are more than 10,000, or a member has no `value`.
 pub(crate) fn read_values(
     alloc: Global,
     value: &Tree<'_>,

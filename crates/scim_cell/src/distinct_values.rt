@@ -95,8 +95,8 @@ fn has_same(attribute: Attribute, values: &[Row], place: usize, value: &Row) -> 
     }
 }
 
-/// Appends a value and enters its key, unless the list has the same value. All values are compared
-/// only if another value has the same key.
+/// Appends a value and adds its key to `places`, unless the list already has the same value.
+/// Compares the value with the whole list only if another value has the same key.
 fn add_value(
     alloc: Global,
     attribute: Attribute,

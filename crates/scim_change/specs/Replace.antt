@@ -34,7 +34,7 @@ modified_at moment rs = put_values (unit_of (leaf_at Meta LastModified)) (meta_r
 abbrev pub if_complete : ℕ → Content → List Row → Option Content
 if_complete moment c rs = if lacks_required c.kind rs then None else Some (content c.kind c.id (modified_at moment rs))
 
--- the resource with its values of these units replaced by the draft's at the moment, or unchanged if nothing
--- differs; None if a required attribute would be missing
+-- the resource with the draft's values of these units, modified at `moment`; the same resource if the draft changes
+-- nothing; None if a required attribute would be missing
 unfoldable pub replaced : Draft → List AttributeUnit → ℕ → Content → Option Content
 replaced d us moment c = if changes d us (rows c) then if_complete moment c (with_units d us (rows c)) else Some c

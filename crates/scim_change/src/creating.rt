@@ -16,8 +16,8 @@ use std::alloc::Global;
 
 /// Returns the resource that a draft creates: the draft's values, `id` and `meta` (RFC 7643 section 3.1).
 /// `meta` says that the resource was created and last modified at `moment`, and that its location is below
-/// `base`, as `http://127.0.0.1:8080`. The draft must have been read for `UseFor::Creating`. Its values are
-/// copied once.
+/// `base`, such as `http://127.0.0.1:8080`. The draft must have been read for `UseFor::Creating`. Its values
+/// are copied once.
 pub fn create(
     alloc: Global,
     draft: &Draft,

@@ -35,8 +35,9 @@ pub struct MissingRequired;
 /// `moment`. If the draft has the values that the resource has already, and gives no writeOnly unit, the
 /// resource is returned unchanged, including `meta.lastModified`.
 ///
-/// The draft must be of the resource's kind, and none of the units may be readOnly. MissingRequired if an
-/// attribute that the kind requires would be missing. On an error the resource is dropped.
+/// The draft must be of the resource's kind, and none of the units may be readOnly. Fails with
+/// MissingRequired if an attribute that the kind requires would be missing. On an error the resource is
+/// dropped.
 pub fn replace(
     alloc: Global,
     resource: Resource,

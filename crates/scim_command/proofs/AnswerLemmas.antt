@@ -28,8 +28,8 @@ use Rattle.scim_command.specs.code.Exits.{text_or_store}
 answered_weaker : (policy : List Rule) (base : List ℕ) (Cause : Failed ShelfFault → Type 0) (turn : Turn) (store : Store) (reply : Reply) (next : Store)
     → Answered policy base Cause turn store reply next → Answered policy base (λ _. ⊤) turn store reply next
 answered_weaker policy base Cause turn store reply next (inl untold) = inl untold
-answered_weaker policy base Cause turn store reply next (inr (inl done)) = inr (inl done)
-answered_weaker policy base Cause turn store reply next (inr (inr (fault, said, cause, kept))) = inr (inr (fault, said, tt, kept))
+answered_weaker policy base Cause turn store reply next (inr (told, inl done)) = inr (told, inl done)
+answered_weaker policy base Cause turn store reply next (inr (told, inr (fault, said, cause, kept))) = inr (told, inr (fault, said, tt, kept))
 
 served_weaker : (client : Option (List ℕ)) (policy : List Rule) (base : List ℕ) (Cause : Failed ShelfFault → Type 0) (arrival : Arrival) (route : Route)
     (message : Message) (store : Store) (answer : Answer) (next : Store)

@@ -1,12 +1,12 @@
 -- Lines that tell events.
-use Rattle.std.proofs.Common.{◌≡◌, ◌∙◌, refl, sym, ap, subst, ℕ, ◌+◌, ◌<◌, List, [], ◌∷◌, ◌++◌, length, get_or, take, drop, map, Bor, arith}
+use Rattle.std.proofs.Common.{◌≡◌, ◌==◌, ◌∙◌, true, false, refl, sym, ap, subst, ℕ, zero, suc, ◌+◌, ◌<◌, List, [], ◌∷◌, ◌++◌, length, get_or, take, drop, map, Bor, arith}
 use Rattle.std.specs.Prelude.{codes, Option, None, Some}
 use Rattle.std.proofs.lemmas.List.{take_more, drop_more, take-append-drop, map-append, length-map, length-take-le}
 use Rattle.scim_hub.specs.declared.owned_events.OwnedEvent.{OwnedEvent}
 use Rattle.scim_hub.specs.HubStates.{owned_event_of}
 use Rattle.scim_hub.specs.Events.{HubEventKind, joining, sending, leaving, HubEvent}
 use Rattle.scim_command.specs.declared.event_lines.ToldEvent.{ToldEvent}
-use Rattle.scim_command.specs.EventFiles.{IsNumberText, Tells, IsEventLine, AreEventLines, IsFaultyAt}
+use Rattle.scim_command.specs.EventFiles.{IsNumberText, Tells, IsEventLine, AreEventLines, IsFaultyAt, without_empty_last}
 use Rattle.scim_command.specs.code.Findings.{Finds, IsToldBy, IsAlone, told_event_of}
 
 joined_only : (name text : List ℕ) (n : ℕ) (h : HubEventKind) → name ≡ codes "joined" → Tells name text n h → (h ≡ joining) × IsNumberText text n
@@ -64,3 +64,19 @@ faulty_at ls i d events inside are none = record {
   told = are;
   faulty = none;
 }
+
+-- an empty last line is left out
+pub empty_last : (ls : List (Bor (List ℕ))) (i : ℕ) (d : Bor (List ℕ)) → length ls ≡ suc i → (length (get_or ls i d).now == 0) ≡ true → map text_of (take i ls) ≡ without_empty_last (map text_of ls)
+empty_last [] i d n empty = absurd (omega (arith, n))
+empty_last (l ∷ []) zero d n empty = rw empty refl
+empty_last (l ∷ []) (suc i) d n empty = absurd (omega (arith, n))
+empty_last (l ∷ k ∷ ls) zero d n empty = absurd (omega (arith, n))
+empty_last (l ∷ k ∷ ls) (suc i) d n empty = ap (λ texts. l.now ∷ texts) (empty_last (k ∷ ls) i d (omega (arith, n)) empty)
+
+-- and any other stays
+pub with_last : (ls : List (Bor (List ℕ))) (i : ℕ) (d : Bor (List ℕ)) → length ls ≡ suc i → (length (get_or ls i d).now == 0) ≡ false → map text_of ls ≡ without_empty_last (map text_of ls)
+with_last [] i d n some = absurd (omega (arith, n))
+with_last (l ∷ []) zero d n some = rw some refl
+with_last (l ∷ []) (suc i) d n some = absurd (omega (arith, n))
+with_last (l ∷ k ∷ ls) zero d n some = absurd (omega (arith, n))
+with_last (l ∷ k ∷ ls) (suc i) d n some = ap (λ texts. l.now ∷ texts) (with_last (k ∷ ls) i d (omega (arith, n)) some)

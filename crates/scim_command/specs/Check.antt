@@ -6,14 +6,13 @@ use Rattle.scim_policy_sentences.specs.Sentences.{rule_sentences}
 use Rattle.scim_command.specs.declared.faults.RunFault.{RunFault}
 use Rattle.scim_command.specs.declared.faults.RunFault.TheVariants.{Policy, Output, NoMemory}
 
--- the rules as sentences, if they are asked for
-abbrev pub verbose_sentences : Bool → List Rule → List ℕ
-verbose_sentences verbose rules = if verbose then rule_sentences rules else []
+-- the description of the rules, if it is asked for: each as a sentence, then those that can never decide
+abbrev pub description : Bool → List Rule → List ℕ
+description verbose rules = if verbose then rule_sentences rules ++ idle_lines (idle_rules rules) else []
 
--- the text of `check`: the number of rules, the rules as sentences if they are asked for, and the rules that
--- can never decide
+-- the text of `check`: the number of rules, and their description if it is asked for
 abbrev pub check_text : Bool → List Rule → List ℕ
-check_text verbose rules = codes "ok, " ++ decimal (length rules) ++ codes " rules\n" ++ verbose_sentences verbose rules ++ idle_lines (idle_rules rules)
+check_text verbose rules = codes "ok, " ++ decimal (length rules) ++ codes " rules\n" ++ description verbose rules
 
 -- the faults of `check`: an invalid policy file, a failed write, or failed allocation
 abbrev pub IsCheckFault : RunFault → Type 0

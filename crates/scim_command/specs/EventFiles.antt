@@ -1,11 +1,11 @@
 -- The syntax of events files, which have one event of a connection per line.
-use Rattle.std.specs.Prelude.{◌≡◌, ◌≢◌, ℕ, ◌+◌, ◌^◌, ◌<◌, ◌==◌, Bool, List, [], ◌∷◌, ◌++◌, length, codes, Some, Ok}
-use Rattle.std.specs.List.{before_first, after_first}
-use Rattle.std.specs.Str.Lines.{lines}
+use Rattle.std.specs.Prelude.{◌≡◌, ◌≢◌, ℕ, ◌+◌, ◌^◌, ◌<◌, ◌==◌, Bool, List, [], ◌∷◌, ◌++◌, length, codes, Some, Ok, if◌then◌else◌}
+use Rattle.std.specs.List.{before_first, after_first, slice_split}
 use Rattle.std.specs.Str.Parse.{IsNumeral, digits_value}
 use Rattle.hex.specs.Hex.{decode_of}
 use Rattle.scim_text.specs.Moments.{moment_of}
 use Rattle.scim_cell.specs.Ids.{IsId, id_text}
+use Rattle.scim_token.specs.TokenFile.{is_line_feed}
 use Rattle.scim_hub.specs.Events.{HubEventKind, joining, sending, leaving, HubEvent}
 
 -- whether a byte is a space
@@ -57,9 +57,19 @@ abbrev pub AreEventLines : List (List ℕ) → List HubEvent → Type 0
 AreEventLines [] events = events ≡ []
 AreEventLines (line ∷ ls) events = (event : HubEvent) × (rest : List HubEvent) × (events ≡ event ∷ rest) × IsEventLine line event × AreEventLines ls rest
 
+-- these lines without the last one, if it is empty
+abbrev pub without_empty_last : List (List ℕ) → List (List ℕ)
+without_empty_last [] = []
+without_empty_last (line ∷ []) = if length line == 0 then [] else line ∷ []
+without_empty_last (line ∷ next ∷ more) = line ∷ without_empty_last (next ∷ more)
+
+-- the lines of a file; each ends at a line feed, the last perhaps at the end; a CR before it is part of the line
+abbrev pub file_lines : List ℕ → List (List ℕ)
+file_lines text = without_empty_last (slice_split is_line_feed text)
+
 -- the text is a file of these events
 abbrev pub IsEventFile : List ℕ → List HubEvent → Type 0
-IsEventFile text events = AreEventLines (lines text) events
+IsEventFile text events = AreEventLines (file_lines text) events
 
 -- the line with this number, from 1, is the first that writes no event
 pub record IsFaultyAt (ls : List (List ℕ)) (n : ℕ) : Type 0 where

@@ -8,6 +8,7 @@ use Rattle.scim_policy.specs.Rules.{Rule}
 use Rattle.scim_policy_file.specs.File.{policy_of}
 use Rattle.scim_shelf.specs.Stores.{Store, IsNewStore}
 use Rattle.scim_wire.specs.declared.messages.Message.{Message}
+use Rattle.scim_wire.specs.Replies.{whole_form, form_of}
 use Rattle.scim_exchange.specs.declared.answers.Answer.{Answer}
 use Rattle.scim_exchange.specs.declared.exchanges.Arrival.{Arrival}
 use Rattle.scim_exchange.specs.Replies.{refusal_text, answer_text}
@@ -32,19 +33,19 @@ abbrev pub IsReplyTo : List Rule → List ℕ → Arrival → Store → Message 
 IsReplyTo policy base arrival store message text =
     (answer : Answer) × (next : Store)
     × Exchanged policy base (λ _. ⊤) arrival message store answer next
-    × (text ≡ answer_text answer message.close)
+    × (text ≡ answer_text answer (form_of message))
 
 -- the text is the reply to the input's first message, or the refusal
 abbrev pub IsReplyToFirst : List Rule → List ℕ → Arrival → Store → Result Message Refusal → List ℕ → Type 0
 IsReplyToFirst policy base arrival store (Ok message) text = IsReplyTo policy base arrival store message text
-IsReplyToFirst policy base arrival store (Err refusal) text = text ≡ refusal_text refusal true
+IsReplyToFirst policy base arrival store (Err refusal) text = text ≡ refusal_text refusal (whole_form true)
 
--- the text is the answer to the input: the reply to its first message or refusal, or the refusal `Store` if
--- memory runs out
+-- the text is the answer to the input: the reply to its first message or refusal, or the refusal `Store`, with
+-- its body, if memory runs out
 abbrev pub IsAnswer : List Rule → List ℕ → Arrival → Store → List ℕ → List ℕ → Type 0
 IsAnswer policy base arrival store input text =
     ((first : Result Message Refusal) × OpensWith input first × IsReplyToFirst policy base arrival store first text)
-    ⊎ (text ≡ refusal_text NoStore false)
+    ⊎ (text ≡ refusal_text NoStore (whole_form false))
 
 -- both files of the setting are valid: the policy file, and the users file of resources below the base
 pub record AreSound (s : Setting) : Type 0 where

@@ -1,10 +1,9 @@
 -- The text that `replay` writes for a recording.
-use Rattle.std.specs.Prelude.{◌≡◌, ℕ, List, [], Result, Ok}
-use Rattle.std.specs.Str.Lines.{lines}
+use Rattle.std.specs.Prelude.{◌≡◌, ℕ, List, Result, Ok}
 use Rattle.scim_policy.specs.Rules.{Rule}
 use Rattle.scim_policy_file.specs.File.{policy_of}
 use Rattle.scim_shelf.specs.Stores.{Store}
-use Rattle.scim_token.specs.TokenFile.{Entry, entries_from}
+use Rattle.scim_token.specs.TokenFile.{Entry, entries_in}
 use Rattle.scim_hub.specs.declared.events.HubFault.{HubFault}
 use Rattle.scim_hub.specs.Events.{HubEvent, HubOutput, HubState, none_joined, Runs}
 use Rattle.scim_command.specs.Once.{IsStoreOf}
@@ -28,7 +27,7 @@ pub record Replays (r : Recording) (text : List ℕ) : Type 0 where
   pub store : Store
   pub holds : IsStoreOf r.base.now r.users.now store
   pub entries : List Entry
-  pub knows : entries_from 1 [] (lines r.tokens.now) ≡ Ok entries
+  pub knows : entries_in r.tokens.now ≡ Ok entries
   pub events : List HubEvent
   pub tells : IsEventFile r.events.now events
   pub answers : AreResultsOf policy r.base.now entries (none_joined store) events text

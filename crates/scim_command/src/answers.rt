@@ -12,7 +12,7 @@ use scim_route::Routes;
 use scim_service::Service;
 use scim_shelf::{MemoryShelf, Shelf};
 use scim_text::NoMemory;
-use scim_wire::Message;
+use scim_wire::{Message, ReplyForm};
 use std::alloc::Global;
 
 /// Returns the text of the service's reply to a message.
@@ -31,13 +31,17 @@ pub(crate) fn reply_text(
         (string_bytes t)) }
 {
     let answer = answer(alloc, routes, service, arrival, message);
-    answer.text(alloc, message.close)
+    answer.text(alloc, ReplyForm::of(message))
 }
 
-/// Returns the text of a refusal, with `Connection: close` if `close` or if the refusal closes the
+/// Returns the text of a refusal in a form, with `Connection: close` also if the refusal closes the
 /// connection.
-pub(crate) fn refusal_text(alloc: Global, refusal: Refusal, close: bool) -> Result<String, NoMemory>
-    ensures { IfOk result (λ t. string_bytes t ≡ replies.refusal_text refusal close) }
+pub(crate) fn refusal_text(
+    alloc: Global,
+    refusal: Refusal,
+    form: ReplyForm,
+) -> Result<String, NoMemory>
+    ensures { IfOk result (λ t. string_bytes t ≡ replies.refusal_text refusal form) }
 {
-    Answer::Refused(refusal).text(alloc, close)
+    Answer::Refused(refusal).text(alloc, form)
 }

@@ -1,4 +1,4 @@
-//! The command `check`: validates a policy file and describes its rules.
+//! The command `check`: validates a policy file and, on demand, describes its rules.
 ghost use Rattle.std.specs.Prelude.{◌≡◌, ◌≢◌, ℕ, List, Ok, Err, IfOk, IfErr, OnOk, string_bytes};
 ghost use Rattle.std.specs.Io.KnownBytes.{Appends};
 ghost use Rattle.scim_policy_file.specs.File.{policy_of};
@@ -19,11 +19,11 @@ use scim_text::NoMemory;
 use std::alloc::Global;
 use std::io::Write;
 
-/// Validates a policy file, and writes lines with the number of rules and the rules that can never decide.
+/// Validates a policy file, and writes a line with the number of rules. With `verbose`, lines with each rule
+/// as a sentence and with the rules that can never decide follow.
 ///
-/// With `verbose` it writes each rule as a sentence between the two. Policy if the file is invalid. Output if
-/// a write fails; a prefix of the lines has been written then, perhaps empty or whole, and nothing else.
-/// After any other error nothing is written.
+/// Fails with Policy if the file is invalid. Fails with Output if a write fails; a prefix of the lines has been
+/// written then, perhaps empty or whole, and nothing else. After any other error nothing is written.
 pub fn check<W: Write>(
     alloc: Global,
     policy: &str,
@@ -47,7 +47,7 @@ pub fn check<W: Write>(
 
 /// Returns the text that `check` writes for a policy file.
 ///
-/// Policy if the file is invalid.
+/// Fails with Policy if the file is invalid.
 fn check_text(alloc: Global, policy: &str, verbose: bool) -> Result<String, RunFault>
     ensures text { IfOk result (λ text. (rules : List Rule) × (policy_of policy.now ≡ Ok rules)
         × (string_bytes text ≡ spec.check_text verbose rules)) }
@@ -63,20 +63,20 @@ fn check_text(alloc: Global, policy: &str, verbose: bool) -> Result<String, RunF
 fn policy_text(alloc: Global, policy: &Policy, verbose: bool) -> Result<String, NoMemory>
     ensures { IfOk result (λ text. string_bytes text ≡ spec.check_text verbose policy.now) }
 {
-    let count = policy.rule_count();
-    let idle = idle_rules(alloc, policy)?;
-    let idle = print_idle_rules(alloc, idle.as_slice())?;
-    let sentences = verbose_sentences(alloc, policy, verbose)?;
-    Ok(format!(in alloc; "ok, {count} rules\n{sentences}{idle}")?)
+    let count = policy.rules();
+    let description = description(alloc, policy, verbose)?;
+    Ok(format!(in alloc; "ok, {count} rules\n{description}")?)
 }
 
-/// Returns the rules as sentences if `verbose`, else the empty text.
-fn verbose_sentences(alloc: Global, policy: &Policy, verbose: bool) -> Result<String, NoMemory>
-    ensures { IfOk result (λ text. string_bytes text ≡ spec.verbose_sentences verbose policy.now) }
+/// Returns each rule as a sentence, then the rules that can never decide, if `verbose`; else the empty text.
+fn description(alloc: Global, policy: &Policy, verbose: bool) -> Result<String, NoMemory>
+    ensures { IfOk result (λ text. string_bytes text ≡ spec.description verbose policy.now) }
 {
-    if verbose {
-        rule_sentences(alloc, policy)
-    } else {
-        Ok(String::new(alloc))
+    if !verbose {
+        return Ok(String::new(alloc));
     }
+    let sentences = rule_sentences(alloc, policy)?;
+    let idle = idle_rules(alloc, policy)?;
+    let idle = print_idle_rules(alloc, idle.as_slice())?;
+    Ok(format!(in alloc; "{sentences}{idle}")?)
 }

@@ -1,9 +1,9 @@
 //! The command line: the commands and their options.
+use crate::option_defaults::{
+    DEFAULT_AT, DEFAULT_BASE, DEFAULT_COUNT, DEFAULT_FIRST, DEFAULT_FROM, DEFAULT_PORT,
+};
 use clap::{Arg, ArgAction, Command};
 use std::alloc::{AllocError, Global};
-
-/// The default base: the URL below which the resources have their locations.
-pub const DEFAULT_BASE: &str = "http://127.0.0.1:8080";
 
 /// The version of the program.
 const VERSION: &str = "0.1.0";
@@ -119,12 +119,12 @@ const COMMANDS: [CommandText; 8] = [
             BASE,
             OptionText {
                 name: "at",
-                form: OptionForm::WithDefault("MOMENT", "1970-01-01T00:00:00Z"),
+                form: OptionForm::WithDefault("MOMENT", DEFAULT_AT),
                 help: "Time of the request",
             },
             OptionText {
                 name: "first",
-                form: OptionForm::WithDefault("UUID", "00000000-0000-0000-0000-000000000000"),
+                form: OptionForm::WithDefault("UUID", DEFAULT_FIRST),
                 help: "Id of the resource that the request creates",
             },
         ],
@@ -132,13 +132,13 @@ const COMMANDS: [CommandText; 8] = [
     CommandText {
         command: CommandName::Check,
         name: "check",
-        about: "Check a policy file and list the rules that can never decide",
+        about: "Check a policy file",
         options: &[
             POLICY,
             OptionText {
                 name: "verbose",
                 form: OptionForm::Flag,
-                help: "Also print each rule as a sentence",
+                help: "Also print each rule as a sentence, and the rules that can never decide",
             },
         ],
     },
@@ -152,7 +152,7 @@ const COMMANDS: [CommandText; 8] = [
             DATABASE,
             OptionText {
                 name: "port",
-                form: OptionForm::WithDefault("N", "8080"),
+                form: OptionForm::WithDefault("N", DEFAULT_PORT),
                 help: "Port to listen on; 0 picks a free port",
             },
             BASE,
@@ -234,12 +234,12 @@ const COMMANDS: [CommandText; 8] = [
             DATABASE,
             OptionText {
                 name: "from",
-                form: OptionForm::WithDefault("N", "1"),
+                form: OptionForm::WithDefault("N", DEFAULT_FROM),
                 help: "Number of the first row to print",
             },
             OptionText {
                 name: "count",
-                form: OptionForm::WithDefault("N", "100"),
+                form: OptionForm::WithDefault("N", DEFAULT_COUNT),
                 help: "Maximum number of rows to print",
             },
         ],

@@ -1,8 +1,7 @@
 //! Reads events files, which have one event of a connection per line.
-ghost use Rattle.std.specs.Prelude.{IfOk, map};
-ghost use Rattle.std.specs.Str.Lines.{lines};
+ghost use Rattle.std.specs.Prelude.{◌≡◌, IfOk, map};
 ghost use Rattle.scim_text.specs.Failures.{IfFault};
-ghost use Rattle.scim_command.specs.EventFiles.{IsEventFile, IsFaultyAt, AreEventLines};
+ghost use Rattle.scim_command.specs.EventFiles.{IsEventFile, IsFaultyAt, AreEventLines, file_lines, without_empty_last};
 ghost use Rattle.scim_hub.specs.HubStates.{owned_event_of};
 
 use crate::event_lines::read_line;
@@ -24,16 +23,32 @@ pub struct FaultyLine(pub usize);
 ///
 /// with one space between two words: the time, as the server prints it; the id for the resource that the
 /// event's first whole message creates; the connection's number, in digits and at most 64 bits; and the bytes
-/// of a piece, at least one, in hex digits of either case.
+/// of a piece, at least one, in hex digits of either case. Lines end in LF, the last perhaps without one; a
+/// CR before it belongs to the line, and makes it invalid.
 ///
 /// Fails with the first invalid line.
 pub fn read_events(alloc: Global, text: &str) -> Result<Vec<OwnedEvent>, Failed<FaultyLine>>
     ensures events { IfOk result (λ events.
         IsEventFile text.now (map owned_event_of events.items)) }
-    ensures faulty { IfFault result (λ fault. IsFaultyAt (lines text.now) fault.0) }
+    ensures faulty { IfFault result (λ fault. IsFaultyAt (file_lines text.now) fault.0) }
 {
-    let lines = text.lines().collect::<Vec<&str>>(alloc)?;
-    events_of_lines(alloc, lines.as_slice())
+    let lines = text.split('\n').collect::<Vec<&str>>(alloc)?;
+    events_of_lines(alloc, before_empty_last(lines.as_slice()))
+}
+
+/// Returns the lines without the last one, if it is empty.
+fn before_empty_last<'a, 'b>(lines: &'a [&'b str]) -> &'a [&'b str]
+    ensures { map (λ l. l.now) result.now ≡ without_empty_last (map (λ l. l.now) lines.now) }
+{
+    let count = lines.len();
+    if count == 0 {
+        return lines;
+    }
+    if lines[count - 1].is_empty() {
+        &lines[..count - 1]
+    } else {
+        lines
+    }
 }
 
 /// Reads the events of the lines. Fails with the first invalid line.

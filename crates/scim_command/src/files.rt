@@ -36,7 +36,8 @@ fn not_text(kind: FileKind) -> CommandFault {
 
 /// Returns the text of the file at a path.
 ///
-/// CannotRead if the file can't be read. If it isn't UTF-8, the fault of its kind for the whole file.
+/// Fails with CannotRead if the file can't be read. If it isn't UTF-8, fails with the fault of this kind of
+/// file for the file as a whole, such as `Users(0)`.
 pub fn read_file(
     rt: &(impl Files + AllocGlobal),
     kind: FileKind,
@@ -51,7 +52,7 @@ pub fn read_file(
     }
 }
 
-/// Checks that a file exists. CannotRead if it doesn't or if the check fails.
+/// Checks that a file exists. Fails with CannotRead if it doesn't or if the check fails.
 pub fn find_file(rt: &(impl Files + AllocGlobal), path: &str) -> Result<(), CommandFault> {
     match fs::exists(rt, path) {
         Ok(true) => Ok(()),

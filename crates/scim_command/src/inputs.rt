@@ -52,8 +52,8 @@ pub(crate) fn read_first<R: Read>(
     first_through(alloc, &mut wire, reader)
 }
 
-/// As [`read_first`], through a borrowed wire that has read no bytes: its exits drop nothing, which keeps the
-/// proof short.
+/// Like [`read_first`], through a borrowed wire that has read no bytes: its exits drop nothing, which keeps
+/// the proof short.
 fn first_through<R: Read>(
     alloc: Global,
     wire: &mut Wire,

@@ -17,7 +17,7 @@ use std::alloc::Global;
 
 /// Returns a service with the policy over the resources of a users file, below the base.
 ///
-/// Users if the users file is invalid.
+/// Fails with Users if the users file is invalid.
 pub fn service_over(
     alloc: Global,
     policy: Policy,
@@ -34,12 +34,12 @@ pub fn service_over(
 {
     let shelf = read_shelf(alloc, base, users)?;
     let base = Text::copy_of(alloc, base)?;
-    Ok(Service::new(policy, base, shelf))
+    Ok(Service::new(policy, shelf, base))
 }
 
 /// Returns a shelf with the resources of a users file.
 ///
-/// Users if the users file is invalid.
+/// Fails with Users if the users file is invalid.
 fn read_shelf(alloc: Global, base: &str, text: &str) -> Result<MemoryShelf, RunFault>
     ensures shelf { IfOk result (λ shelf. (store : Store)
         × IsStoreOf base.now text.now store × ⟦<MemoryShelf as Shelf>⟧.stands shelf store) }

@@ -1,18 +1,17 @@
 //! The command `replay`: answers the events of a file by a hub over a users file in memory.
-ghost use Rattle.std.specs.Prelude.{◌≡◌, ◌≢◌, ℕ, List, [], Ok, Err, IfOk, IfErr, OnOk, map, string_bytes};
+ghost use Rattle.std.specs.Prelude.{◌≡◌, ◌≢◌, ℕ, List, Ok, Err, IfOk, IfErr, OnOk, map, string_bytes};
 ghost use Rattle.std.specs.Io.KnownBytes.{Appends};
-ghost use Rattle.std.specs.Str.Lines.{lines};
 ghost use Rattle.scim_json.specs.Documents.{IsDamagedAt};
 ghost use Rattle.scim_policy_file.specs.File.{policy_of};
 ghost use Rattle.scim_policy_file.specs.declared.faults.Cause.{Cause};
-ghost use Rattle.scim_token.specs.TokenFile.{Entry, entries_from};
+ghost use Rattle.scim_token.specs.TokenFile.{Entry, entries_in};
 ghost use Rattle.scim_token.specs.Tokens.{Knows};
 ghost use Rattle.scim_token.specs.declared.faults.LineFault.{LineFault};
 ghost use Rattle.scim_wire.specs.Streams.{AppendsFront};
 ghost use Rattle.scim_command.specs.declared.faults.RunFault.{RunFault};
 ghost use Rattle.scim_hub.specs.Events.{HubState};
 ghost use Rattle.scim_hub.specs.HubStates.{IsHubState, owned_event_of};
-ghost use Rattle.scim_command.specs.EventFiles.{IsEventFile, IsFaultyAt};
+ghost use Rattle.scim_command.specs.EventFiles.{IsEventFile, IsFaultyAt, file_lines};
 ghost use Rattle.scim_command.specs.Replays.{Replays, AreResultsOf};
 ghost use Rattle.scim_command.specs.code.ReplayExits.{IsHubOver, IsOfFiles, IsOfEvents, IsReplayFault};
 ghost use Rattle.scim_hub.specs.HubSetting.{hub_base, hub_policy, hub_tokens};
@@ -51,8 +50,8 @@ pub struct Recording<'a> {
 /// or `fault N` with the reason.
 ///
 /// The fault of the first invalid file, in this order: Policy, Tokens, Users, Events. After these and
-/// `NoMemory` nothing is written. Output if a write fails; a prefix of the lines has been written then,
-/// perhaps empty or whole, and nothing else.
+/// `NoMemory` nothing is written. Fails with Output if a write fails; a prefix of the lines has been written
+/// then, perhaps empty or whole, and nothing else.
 pub fn replay<W: Write>(
     alloc: Global,
     recording: &Recording<'_>,
@@ -67,17 +66,16 @@ pub fn replay<W: Write>(
     ensures users { (n : ℕ) → result ≡ Err (RunFault.Users n)
         → IsDamagedAt recording.now.base.now recording.now.users.now n }
     ensures tokens { (n : ℕ) → result ≡ Err (RunFault.Tokens n) → (cause : LineFault)
-        × (entries_from 1 [] (lines recording.now.tokens.now)
-        ≡ Err (record { line = n; cause = cause })) }
+        × (entries_in recording.now.tokens.now ≡ Err (record { line = n; cause = cause })) }
     ensures events { (n : ℕ) → result ≡ Err (RunFault.Events n)
-        → IsFaultyAt (lines recording.now.events.now) n }
+        → IsFaultyAt (file_lines recording.now.events.now) n }
     ensures silent { IfErr result (λ f. f ≢ RunFault.Output → writer.new ≡ writer.old) }
 {
     let text = replayed(alloc, recording)?;
     write_or_fault(text.as_str(), writer)
 }
 
-/// Returns the lines for the events. Errors: as [`replay`], except Output.
+/// Returns the lines for the events. Errors: those of [`replay`], except Output.
 fn replayed(alloc: Global, recording: &Recording<'_>) -> Result<String, RunFault>
     ensures told { IfOk result (λ text. Replays recording.now (string_bytes text)) }
     ensures policy { (rule : ℕ) (cause : Cause) → result ≡ Err (RunFault.Policy rule cause)
@@ -85,10 +83,9 @@ fn replayed(alloc: Global, recording: &Recording<'_>) -> Result<String, RunFault
     ensures users { (n : ℕ) → result ≡ Err (RunFault.Users n)
         → IsDamagedAt recording.now.base.now recording.now.users.now n }
     ensures tokens { (n : ℕ) → result ≡ Err (RunFault.Tokens n) → (cause : LineFault)
-        × (entries_from 1 [] (lines recording.now.tokens.now)
-        ≡ Err (record { line = n; cause = cause })) }
+        × (entries_in recording.now.tokens.now ≡ Err (record { line = n; cause = cause })) }
     ensures events { (n : ℕ) → result ≡ Err (RunFault.Events n)
-        → IsFaultyAt (lines recording.now.events.now) n }
+        → IsFaultyAt (file_lines recording.now.events.now) n }
     ensures fault { IfErr result IsReplayFault }
 {
     let mut hub = hub_over(alloc, recording)?;
@@ -106,8 +103,7 @@ fn hub_over(alloc: Global, recording: &Recording<'_>) -> Result<Hub<MemoryShelf>
     ensures users { (n : ℕ) → result ≡ Err (RunFault.Users n)
         → IsDamagedAt recording.now.base.now recording.now.users.now n }
     ensures tokens { (n : ℕ) → result ≡ Err (RunFault.Tokens n) → (cause : LineFault)
-        × (entries_from 1 [] (lines recording.now.tokens.now)
-        ≡ Err (record { line = n; cause = cause })) }
+        × (entries_in recording.now.tokens.now ≡ Err (record { line = n; cause = cause })) }
     ensures fault { IfErr result IsOfFiles }
 {
     let policy = read_policy(alloc, recording.policy)?;
@@ -117,11 +113,11 @@ fn hub_over(alloc: Global, recording: &Recording<'_>) -> Result<Hub<MemoryShelf>
     Ok(Hub::new(alloc, routes, service, tokens))
 }
 
-/// Returns the events of a file. Events if a line is invalid.
+/// Returns the events of a file. Fails with Events if a line is invalid.
 fn owned_events_in(alloc: Global, text: &str) -> Result<Vec<OwnedEvent>, RunFault>
     ensures events { IfOk result (λ events.
         IsEventFile text.now (map owned_event_of events.items)) }
-    ensures faulty { (n : ℕ) → result ≡ Err (RunFault.Events n) → IsFaultyAt (lines text.now) n }
+    ensures faulty { (n : ℕ) → result ≡ Err (RunFault.Events n) → IsFaultyAt (file_lines text.now) n }
     ensures fault { IfErr result IsOfEvents }
 {
     match read_events(alloc, text) {

@@ -5,6 +5,7 @@ ghost use Rattle.scim_json.specs.Documents.{IsDamagedAt};
 ghost use Rattle.scim_policy_file.specs.File.{policy_of};
 ghost use Rattle.scim_policy_file.specs.declared.faults.Cause.{Cause};
 ghost use Rattle.scim_shelf.specs.Stores.{Store, IsStore};
+ghost use Rattle.scim_wire.specs.Replies.{whole_form};
 ghost use Rattle.scim_wire.specs.Streams.{AppendsFront};
 ghost use Rattle.scim_command.specs.declared.faults.RunFault.{RunFault};
 ghost use Rattle.scim_audit.specs.declared.refusals.Refusal.{Refusal};
@@ -28,6 +29,7 @@ use scim_route::Routes;
 use scim_service::Service;
 use scim_shelf::{MemoryShelf, Shelf};
 use scim_text::{Failed, Moment, NoMemory};
+use scim_wire::ReplyForm;
 use std::alloc::Global;
 use std::io::{Read, Write};
 use uuid::Uuid;
@@ -79,7 +81,7 @@ fn first_moment() -> Moment
 ///
 /// The message counts as the client's, whatever token it has, and is answered by [`scim_exchange::answer`].
 /// Bytes that aren't a message are answered by a refusal with `Connection: close`. No 100 (Continue) is
-/// written. If memory runs out while the message is read or answered, the reply is 500.
+/// written. If memory runs out while the message is read or answered, the reply is 500, with its body.
 ///
 /// - Policy: the policy file is invalid.
 /// - Users: the policy file is valid, and the users file isn't.
@@ -116,7 +118,7 @@ pub fn once<R: Read, W: Write>(
         × AppendsFront (W.contents writer.old) (W.contents writer.new) output) }
     ensures silent { IfErr result (λ f. f ≢ RunFault.Output → writer.new ≡ writer.old) }
 {
-    let store = refusal_text(alloc, Refusal::Store, false)?;
+    let store = refusal_text(alloc, Refusal::Store, ReplyForm::whole(false))?;
     let routes = Routes::new(alloc)?;
     let mut service = service_by(alloc, setting)?;
     let arrival = Arrival {
@@ -130,7 +132,7 @@ pub fn once<R: Read, W: Write>(
 
 /// Returns a service with the policy and the resources of the files.
 ///
-/// Policy if the policy file is invalid; otherwise Users if the users file is invalid.
+/// Fails with Policy if the policy file is invalid; otherwise Users if the users file is invalid.
 fn service_by(alloc: Global, setting: &Setting<'_>) -> Result<Service<MemoryShelf>, RunFault>
     ensures service { IfOk result (λ service. (store : Store)
         × IsStoreOf setting.now.base.now setting.now.users.now store
@@ -148,9 +150,9 @@ fn service_by(alloc: Global, setting: &Setting<'_>) -> Result<Service<MemoryShel
     service_over(alloc, policy, setting.users, setting.base)
 }
 
-/// Returns the reply to the first message of the reader; the inner `NoMemory` stands for the reply 500.
+/// Returns the reply to the first message of the reader; the inner `NoMemory` means the reply 500.
 ///
-/// InputEnded if the input ends before the message does, and InputFailed if a read fails.
+/// Fails with InputEnded if the input ends before the message does, and InputFailed if a read fails.
 fn reply_to<R: Read>(
     alloc: Global,
     routes: &Routes,
@@ -169,7 +171,7 @@ fn reply_to<R: Read>(
 {
     match read_first(alloc, reader) {
         Ok(Ok(message)) => Ok(reply_text(alloc, routes, service, arrival, &message)),
-        Ok(Err(refusal)) => Ok(refusal_text(alloc, refusal, true)),
+        Ok(Err(refusal)) => Ok(refusal_text(alloc, refusal, ReplyForm::whole(true))),
         Err(Failed::NoMemory) => Ok(Err(NoMemory)),
         Err(Failed::Because(InputFault::Ended)) => Err(RunFault::InputEnded),
         Err(Failed::Because(InputFault::ReadFailed)) => Err(RunFault::InputFailed),
@@ -178,16 +180,16 @@ fn reply_to<R: Read>(
 
 /// Writes the reply; or `store`, the refusal [`Refusal::Store`], if memory ran out.
 ///
-/// Output if a write fails; a prefix of the text has been written then, and nothing else.
+/// Fails with Output if a write fails; a prefix of the text has been written then, and nothing else.
 fn write_reply<W: Write>(
     reply: Result<String, NoMemory>,
     store: &str,
     writer: &mut W,
 ) -> Result<(), RunFault>
-    ensures whole { store.now ≡ replies.refusal_text Refusal.Store false
+    ensures whole { store.now ≡ replies.refusal_text Refusal.Store (whole_form false)
         → OnOk result (Appends (W.contents writer.old) (W.contents writer.new)
         (text_or_store reply)) }
-    ensures front { store.now ≡ replies.refusal_text Refusal.Store false
+    ensures front { store.now ≡ replies.refusal_text Refusal.Store (whole_form false)
         → OnErr result (AppendsFront (W.contents writer.old) (W.contents writer.new)
         (text_or_store reply)) }
     ensures fault { IfErr result (λ f. f ≡ RunFault.Output) }

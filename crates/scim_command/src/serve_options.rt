@@ -24,8 +24,8 @@ pub struct ServeOptions<'a> {
 }
 
 impl<'a> ServeOptions<'a> {
-    /// Reads the options of `serve`. BadOption if a number isn't digits, exceeds 64 bits, or is a port above
-    /// 65,535.
+    /// Reads the options of `serve`. Fails with BadOption if a number isn't digits, exceeds 64 bits, or is a
+    /// port above 65,535.
     pub fn of(matches: &ArgMatches<'a>) -> Result<ServeOptions<'a>, CommandFault> {
         Ok(ServeOptions {
             policy: text_of(matches, "policy")?,
@@ -39,7 +39,7 @@ impl<'a> ServeOptions<'a> {
     }
 }
 
-/// Parses a port. BadOption if the text isn't digits or the number exceeds 65,535.
+/// Parses a port. Fails with BadOption if the text isn't digits or the number exceeds 65,535.
 fn port_of(text: &str) -> Result<u16, CommandFault> {
     match u16::try_from(number_of(text)?) {
         Ok(port) => Ok(port),

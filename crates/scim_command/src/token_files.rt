@@ -1,7 +1,6 @@
 //! Reads token files for a command.
-ghost use Rattle.std.specs.Prelude.{◌≡◌, ℕ, List, [], Ok, Err, IfOk, IfErr};
-ghost use Rattle.std.specs.Str.Lines.{lines};
-ghost use Rattle.scim_token.specs.TokenFile.{Entry, entries_from};
+ghost use Rattle.std.specs.Prelude.{◌≡◌, ℕ, List, Ok, Err, IfOk, IfErr};
+ghost use Rattle.scim_token.specs.TokenFile.{Entry, entries_in};
 ghost use Rattle.scim_token.specs.Tokens.{Knows};
 ghost use Rattle.scim_token.specs.declared.faults.LineFault.{LineFault};
 ghost use Rattle.scim_command.specs.declared.faults.RunFault.{RunFault};
@@ -14,12 +13,12 @@ use std::alloc::Global;
 
 /// Reads the tokens of a file.
 ///
-/// Tokens with the first invalid line.
+/// Fails with Tokens, which has the first invalid line.
 pub(crate) fn read_tokens(alloc: Global, text: &str) -> Result<Tokens, RunFault>
     ensures tokens { IfOk result (λ tokens. (entries : List Entry)
-        × (entries_from 1 [] (lines text.now) ≡ Ok entries) × Knows entries tokens) }
+        × (entries_in text.now ≡ Ok entries) × Knows entries tokens) }
     ensures faulty { (n : ℕ) → result ≡ Err (RunFault.Tokens n) → (cause : LineFault)
-        × (entries_from 1 [] (lines text.now) ≡ Err (record { line = n; cause = cause })) }
+        × (entries_in text.now ≡ Err (record { line = n; cause = cause })) }
     ensures fault { IfErr result IsOfTokens }
 {
     match Tokens::read(alloc, text) {

@@ -20,9 +20,9 @@ use std::io::Write;
 
 /// Writes at most `count` rows of the audit, one per line, from the row with number `from` on.
 ///
-/// Rows are numbered from 1, and 0 counts as 1. Database if the store can't be read. Output if a write fails;
-/// a prefix of the lines has been written then, perhaps empty or whole, and nothing else. After any other
-/// error nothing is written.
+/// Rows are numbered from 1, and 0 counts as 1. Fails with Database if the store can't be read. Fails with
+/// Output if a write fails; a prefix of the lines has been written then, perhaps empty or whole, and nothing
+/// else. After any other error nothing is written.
 pub fn print_audit<S: Alter, W: Write>(
     alloc: Global,
     shelf: &mut SqlShelf<S>,
@@ -49,9 +49,9 @@ pub fn print_audit<S: Alter, W: Write>(
     write_or_fault(text.as_str(), writer)
 }
 
-/// Returns the lines of at most `count` rows from the row with number `from` on.
+/// Returns the lines of at most `count` rows, starting with row number `from`.
 ///
-/// Database if the store can't be read.
+/// Fails with Database if the store can't be read.
 fn audit_text<S: Alter>(
     alloc: Global,
     shelf: &mut SqlShelf<S>,

@@ -28,7 +28,7 @@ struct Documents {
 }
 
 impl Documents {
-    /// Returns the beginning of a list.
+    /// Returns a visitor that has collected no documents; its text is the opening bracket of the list.
     fn new(alloc: Global) -> Result<Documents, NoMemory>
         ensures { IfOk result (λ new. (string_bytes new.text ≡ codes "[")
             × (new.separator.now ≡ codes "")) }
@@ -68,8 +68,8 @@ impl Visitor for Documents {
 
 /// Writes the users file of a store, which `import` reads back: its users, then its groups, each by id.
 ///
-/// Database if the store can't be read. Output if a write fails; a prefix of the file has been written then,
-/// perhaps empty or whole, and nothing else. After any other error nothing is written.
+/// Fails with Database if the store can't be read. Fails with Output if a write fails; a prefix of the file
+/// has been written then, perhaps empty or whole, and nothing else. After any other error nothing is written.
 pub fn export<H: Shelf, W: Write>(
     alloc: Global,
     shelf: &mut H,
@@ -91,7 +91,7 @@ pub fn export<H: Shelf, W: Write>(
     write_or_fault(text.as_str(), writer)
 }
 
-/// Returns the text of the users file of a store. Database if it can't be read.
+/// Returns the text of the users file of a store. Fails with Database if it can't be read.
 fn export_text<H: Shelf>(alloc: Global, shelf: &mut H) -> Result<String, RunFault>
     ensures text { IfOk result (Answers H.stands H.is_honest shelf.old shelf.new (λ store text.
         string_bytes text ≡ spec.export_text store.resources)) }
@@ -104,7 +104,7 @@ fn export_text<H: Shelf>(alloc: Global, shelf: &mut H) -> Result<String, RunFaul
     Ok(documents.finish()?)
 }
 
-/// Shows the visitor all users and then all groups. Errors: as [`Shelf::each`].
+/// Shows the visitor all users and then all groups. Errors: those of [`Shelf::each`].
 fn show_all<H: Shelf, V: Visitor>(
     alloc: Global,
     shelf: &mut H,

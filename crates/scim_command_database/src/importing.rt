@@ -23,9 +23,9 @@ use std::alloc::Global;
 /// Stores the resources of a users file in an empty database, in one transaction. The audit has no rows
 /// afterwards.
 ///
-/// Users if the file is invalid; the database isn't read then. Database with NotEmpty if the database has a
-/// table, an index or a view, and with Unusable if it can't be read or written. After an error the database
-/// is as before or as the last commit left it, or the connection is closed.
+/// Fails with Users if the file is invalid; the database isn't read then. Fails with NotEmpty
+/// if the database has a table, an index or a view, and with Unusable if it can't be read or written. After
+/// an error the database is as before or as the last commit left it, or the connection is closed.
 ///
 /// A crash during the call leaves what was there before, or the tables with all resources of the file.
 pub fn import<S: Alter>(

@@ -3,7 +3,7 @@ use Rattle.std.specs.Prelude.{false, List, [], ◌∷◌, codes, map, Option, No
 use Rattle.serde_json.specs.Data.{Data, boolean, string, array, object, no_items, item, Members, no_members, member}
 use Rattle.serde_json.specs.View.{items_of}
 use Rattle.scim_schema.specs.declared.Kind.{Kind}
-use Rattle.scim_schema.specs.declared.schemas.Schema.{Schema}
+use Rattle.scim_schema.specs.declared.schema_urns.Schema.{Schema}
 use Rattle.scim_schema.specs.Names.{kind_name, endpoint}
 use Rattle.scim_schema.specs.Schemas.{urn, core_schema, extensions}
 use Rattle.scim_discovery.specs.Members.{with_member}

@@ -5,8 +5,8 @@ use Rattle.serde_json.specs.View.{items_of}
 use Rattle.scim_schema.specs.declared.Kind.{Kind}
 use Rattle.scim_schema.specs.declared.Kind.TheVariants.{User, Group}
 use Rattle.scim_schema.specs.declared.Attribute.{Attribute}
-use Rattle.scim_schema.specs.declared.schemas.Schema.{Schema}
-use Rattle.scim_schema.specs.declared.schemas.Schema.TheVariants.{User as UserSchema, Group as GroupSchema, EnterpriseUser}
+use Rattle.scim_schema.specs.declared.schema_urns.Schema.{Schema}
+use Rattle.scim_schema.specs.declared.schema_urns.Schema.TheVariants.{User as UserSchema, Group as GroupSchema, EnterpriseUser}
 use Rattle.scim_schema.specs.Schemas.{urn}
 use Rattle.scim_schema.specs.Table.{single_user_attributes, multi_valued_user_attributes, group_attributes, enterprise_attributes}
 use Rattle.scim_discovery.specs.Attributes.{attribute_data}

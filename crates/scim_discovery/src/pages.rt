@@ -63,8 +63,8 @@ fn page_text(alloc: Global, page: DiscoveryPage) -> Result<Text, NoMemory>
 /// `query` is the query string of the request's target, if it has one. The body is JSON without spaces, and
 /// the keys of each object are in byte order.
 ///
-/// Denied if the query string has a filter. The first parameter with that name, in any ASCII case, counts;
-/// one that is empty or only spaces counts as no filter.
+/// Fails with Denied if the query string has a filter. The first parameter with that name, in any ASCII case,
+/// counts; one that is empty or only spaces counts as no filter.
 pub fn page_reply(
     alloc: Global,
     page: DiscoveryPage,

@@ -1,4 +1,4 @@
--- What a routed request asks, or its refusal (RFC 7644 sections 3.3 to 3.6).
+-- The operation that a routed request asks for, or its refusal (RFC 7644 sections 3.3 to 3.6).
 use Rattle.std.specs.Prelude.{◌≡◌, ℕ, List, Option, option_copied, Result, Ok, Err, ⊤, if◌then◌else◌}
 use Rattle.std.specs.Str.{is_utf8}
 use Rattle.serde_json.specs.Read.{read}
@@ -27,8 +27,8 @@ use Rattle.scim_exchange.specs.Searches.{Sought, sought, sought_of, IsQuery}
 use Rattle.scim_exchange.specs.QueryStrings.{lists_of, search_of}
 use Rattle.scim_exchange.specs.SearchBodies.{search_of_body}
 
--- what a request asks: to show a resource, search, create one from a draft, replace one by a draft, patch
--- one, or remove one
+-- what a request asks for: to show a resource, search, create one from a draft, replace one by a draft, patch one, or
+-- remove one
 pub data Asked : Type 0 where
   showing : Lists → Asked
   searching : Sought → Asked
@@ -70,8 +70,8 @@ patch_in_text kind text = as_patch (patch_in kind (read text))
 unfoldable pub patch_asked : Kind → List ℕ → Result Patch Refusal
 patch_asked kind body = if is_utf8 body then patch_in_text kind body else Err Syntax
 
--- what a request of this form asks, by its query string and body: the query string gives the attribute lists,
--- and the whole search of a list; the body gives a draft, a patch, or the whole of a posted search
+-- what a request of this form asks for, by its query string and body: the query string gives the attribute lists, and
+-- the whole search of a list; the body gives a draft, a patch, or the whole of a posted search
 abbrev pub asked : Form → Kind → Option (List ℕ) → List ℕ → Result Asked Refusal
 asked form.Get kind query body = lists_asked query >>= λ lists. Ok (showing lists)
 asked form.ListGet kind query body = sought kind (search_of kind (parameters_of query)) >>= λ s. Ok (searching s)
@@ -91,6 +91,6 @@ IsAsk kind (patching patch lists) (to.Patch p wanted) = (patch_of p ≡ patch) �
 IsAsk kind removing Remove = ⊤
 IsAsk kind _ _ = ⊥
 
--- the result for a route and a body is what they ask, or the refusal
+-- the result for a route and a body is what they ask for, or the refusal
 abbrev pub Asks : Route → List ℕ → Result Ask Refusal → Type 0
 Asks route body result = Tells (IsAsk route.kind) (asked route.form route.kind (option_copied route.query) body) result

@@ -7,6 +7,7 @@ use scim_audit::Refusal;
 use scim_cell::Text;
 use scim_service::Reply;
 use scim_text::NoMemory;
+use scim_wire::ReplyForm;
 use std::alloc::Global;
 
 /// The answer to a message.
@@ -30,17 +31,16 @@ impl Drop for Answer {
 }
 
 impl Answer {
-    /// Returns the text of the reply (RFC 9112 section 4).
+    /// Returns the text of the reply in a form (RFC 9112 section 4).
     ///
-    /// It has the header `Connection: close` if `close` or if the answer is a refusal that closes the
-    /// connection.
-    pub fn text(&self, alloc: Global, close: bool) -> Result<String, NoMemory>
-        ensures { IfOk result (λ t. string_bytes t ≡ spec.answer_text self.now close) }
+    /// It has the header `Connection: close` also if the answer is a refusal that closes the connection.
+    pub fn text(&self, alloc: Global, form: ReplyForm) -> Result<String, NoMemory>
+        ensures { IfOk result (λ t. string_bytes t ≡ spec.answer_text self.now form) }
     {
         match self {
-            Answer::Refused(refusal) => refusal_text(alloc, *refusal, close),
-            Answer::Page(page) => page_text(alloc, page.as_str(), close),
-            Answer::Served(reply) => reply_text(alloc, reply, close),
+            Answer::Refused(refusal) => refusal_text(alloc, *refusal, form),
+            Answer::Page(page) => page_text(alloc, page.as_str(), form),
+            Answer::Served(reply) => reply_text(alloc, reply, form),
         }
     }
 }

@@ -1,4 +1,4 @@
-//! Reads what a routed request asks from its query string and body (RFC 7644 sections 3.3 to 3.6).
+//! Reads what a routed request asks for from its query string and body (RFC 7644 sections 3.3 to 3.6).
 ghost use Rattle.std.specs.Prelude.{◌≡◌};
 ghost use Rattle.std.specs.Option.{option_copied};
 ghost use Rattle.scim_text.specs.Failures.{UnlessMemory};
@@ -30,7 +30,7 @@ use std::str;
 
 /// Returns the attributes that the client wants by the parameters' attribute lists.
 ///
-/// MessageValue if both lists are given.
+/// Fails with MessageValue if both lists are given.
 fn wanted_of(alloc: Global, kind: Kind, parameters: &Parameters) -> Result<Wanted, Failed<Refusal>>
     ensures { UnlessMemory (Tells (Wants kind) (one_of (lists_of parameters.now))) result }
 {
@@ -40,7 +40,7 @@ fn wanted_of(alloc: Global, kind: Kind, parameters: &Parameters) -> Result<Wante
 
 /// Returns the attributes that the client asks for in the attribute lists of the query string.
 ///
-/// MessageValue if both lists are given.
+/// Fails with MessageValue if both lists are given.
 fn wanted_by_query(
     alloc: Global,
     kind: Kind,
@@ -55,7 +55,7 @@ fn wanted_by_query(
 
 /// Returns the query that a query string asks for.
 ///
-/// Errors: as `search_by`.
+/// Errors: those of `search_by`.
 fn listed(alloc: Global, kind: Kind, query: Option<&[u8]>) -> Result<Query, Failed<Refusal>>
     ensures { UnlessMemory (Tells (IsQuery kind)
         (sought kind (search_of kind (parameters_of (option_copied query.entry))))) result }
@@ -66,7 +66,7 @@ fn listed(alloc: Global, kind: Kind, query: Option<&[u8]>) -> Result<Query, Fail
 
 /// Reads the draft of a resource from a JSON text.
 ///
-/// Syntax and MessageValue for the faults Syntax and Value of [`read_body`].
+/// Fails with Syntax and MessageValue for the faults Syntax and Value of [`read_body`].
 #[tactic(auto, unfolding(crate::specs::Asks::draft_in))]
 fn draft_in(
     alloc: Global,
@@ -84,7 +84,9 @@ fn draft_in(
     }
 }
 
-/// Reads the draft of a resource from a body. Syntax also if the body isn't UTF-8.
+/// Reads the draft of a resource from a body.
+///
+/// Errors: Syntax if the body isn't UTF-8; otherwise those of `draft_in`.
 fn draft_of(
     alloc: Global,
     use_for: UseFor,
@@ -149,7 +151,9 @@ fn patch_in_text(alloc: Global, kind: Kind, text: &str) -> Result<Patch, Failed<
     }
 }
 
-/// Reads a patch from a body. Syntax also if the body isn't UTF-8.
+/// Reads a patch from a body.
+///
+/// Errors: Syntax if the body isn't UTF-8; otherwise those of `patch_in_text`.
 fn patch_by(alloc: Global, kind: Kind, body: &[u8]) -> Result<Patch, Failed<Refusal>>
     ensures { UnlessMemory (Tells (λ due p. patch_of p ≡ due) (spec.patch_asked kind body.now))
         result }
@@ -176,7 +180,7 @@ fn change(
     Ok(Ask::Patch(patch, wanted_by_query(alloc, kind, query)?))
 }
 
-/// Reads what a request asks, from its route's query string and its body.
+/// Reads what a request asks for, from its route's query string and its body.
 ///
 /// Requests for one resource, and those that create, replace, patch or remove one, use only the attribute
 /// lists of the query string (RFC 7644 section 3.9). A GET of a list uses all of it (section 3.4.2). A posted

@@ -27,7 +27,7 @@ fn names_of(alloc: Global, kind: Kind, texts: &Vec<&str>) -> Result<Names, NoMem
 
 /// Returns the attributes that the client wants by the lists.
 ///
-/// MessageValue if both lists are given.
+/// Fails with MessageValue if both lists are given.
 pub(crate) fn wanted_by(
     alloc: Global,
     kind: Kind,

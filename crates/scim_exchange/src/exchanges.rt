@@ -1,4 +1,4 @@
-//! Answers one message: finds its endpoint, reads what it asks, and calls the service.
+//! Answers one message: finds its endpoint, reads what it asks for, and calls the service.
 ghost use Rattle.std.specs.Prelude.{◌≡◌, ◌≤◌, ◌⊎◌, IfOk};
 ghost use Rattle.std.specs.Option.{option_copied};
 ghost use Rattle.scim_audit.specs.declared.refusals.Refusal.{Refusal};
@@ -36,7 +36,7 @@ pub struct Arrival<'a> {
     pub fresh: Id,
 }
 
-/// Returns what the route and the body ask, or the refusal.
+/// Returns what the route and the body ask for, or the refusal.
 fn asked(alloc: Global, route: &Route<'_>, body: &[u8]) -> Result<Result<Ask, Refusal>, NoMemory>
     ensures { IfOk result (Asks route.now body.now) }
 {

@@ -1,5 +1,5 @@
-//! Answers one message of a client (RFC 7644 section 3): its endpoint, the client's token, what it asks, and
-//! then the policy and the store.
+//! Answers one message of a client (RFC 7644 section 3): its endpoint, the client's token, what it asks for,
+//! and then the policy and the store.
 #![tactic(auto)]
 
 mod answers;
@@ -11,9 +11,7 @@ mod query_strings;
 mod replies;
 mod search_bodies;
 mod searches;
-mod statuses;
 
 pub use answers::Answer;
 pub use asks::ask;
 pub use exchanges::{Arrival, answer};
-pub use statuses::status_of;

@@ -18,8 +18,8 @@ pub(crate) struct Arrangement {
     pub(crate) count: usize,
 }
 
-/// Whether `sortOrder` is `descending`, in any ASCII case; false for `None`. MessageValue if it names no
-/// order.
+/// Whether `sortOrder` is `descending`, in any ASCII case; false for `None`. Fails with MessageValue if it
+/// names no order.
 fn is_descending(sort_order: Option<&str>) -> Result<bool, Refusal>
     ensures { result ≡ spec.is_descending (option_copied sort_order.entry) }
 {
@@ -55,7 +55,8 @@ fn most_shown(count: Option<i64>) -> usize
     }
 }
 
-/// Returns the arrangement of a search by its parameters. MessageValue if `sort_order` names no order.
+/// Returns the arrangement of a search by its parameters. Fails with MessageValue if `sort_order` names no
+/// order.
 pub(crate) fn arranged(
     kind: Kind,
     sort_by: Option<&str>,

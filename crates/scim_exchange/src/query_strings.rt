@@ -84,7 +84,7 @@ fn integer_in(text: &str) -> Option<i64>
     }
 }
 
-/// Parses the number of a parameter, if given. MessageValue if it isn't a signed 64-bit number.
+/// Parses the number of a parameter, if given. Fails with MessageValue if it isn't a signed 64-bit number.
 #[tactic(auto, unfolding(crate::specs::QueryStrings::integer_of))]
 fn integer_of(text: Option<&str>) -> Result<Option<i64>, Refusal>
     ensures { result ≡ spec.integer_of (option_copied text.entry) }
@@ -98,8 +98,8 @@ fn integer_of(text: Option<&str>) -> Result<Option<i64>, Refusal>
     }
 }
 
-/// Returns the arrangement that the parameters ask for. MessageValue if a value isn't allowed for its
-/// parameter.
+/// Returns the arrangement that the parameters ask for. Fails with MessageValue if a value isn't allowed for
+/// its parameter.
 #[tactic(auto, unfolding(crate::specs::QueryStrings::arrangement_of))]
 fn arrangement_of(kind: Kind, parameters: &Parameters) -> Result<Arrangement, Refusal>
     ensures { result ≡ spec.arrangement_of kind parameters.now }
@@ -113,7 +113,7 @@ fn arrangement_of(kind: Kind, parameters: &Parameters) -> Result<Arrangement, Re
 
 /// Returns the settings of the search: everything but the filter.
 ///
-/// MessageValue if a value isn't allowed for its parameter.
+/// Fails with MessageValue if a value isn't allowed for its parameter.
 #[tactic(auto, unfolding(crate::specs::QueryStrings::settings_of))]
 fn settings_of(
     alloc: Global,
@@ -134,8 +134,8 @@ fn settings_of(
 
 /// Returns the query that the parameters ask for.
 ///
-/// Filter if the filter is invalid. Otherwise MessageValue if another value isn't allowed for its parameter,
-/// or if both attribute lists are given.
+/// Fails with Filter if the filter is invalid. Otherwise fails with MessageValue if another value isn't
+/// allowed for its parameter, or if both attribute lists are given.
 pub(crate) fn search_by(
     alloc: Global,
     kind: Kind,

@@ -2,19 +2,21 @@
 ghost use Rattle.std.specs.Prelude.{◌≡◌, IfOk, string_bytes};
 ghost use Rattle.scim_exchange.specs.Replies as spec;
 
-use crate::statuses::status_of;
 use scim_audit::Refusal;
 use scim_service::Reply;
 use scim_text::NoMemory;
-use scim_wire::{HttpReply, print_reply};
+use scim_wire::{HttpReply, ReplyForm, print_reply};
 use std::alloc::Global;
 
-/// Returns the text of a refusal.
-///
-/// It has the header `Connection: close` if `close` or if the refusal closes the connection.
+/// Returns the text of a refusal in a form, with `Connection: close` also if the refusal closes the
+/// connection.
 #[tactic(auto, unfolding(crate::specs::Replies::refusal_text))]
-pub(crate) fn refusal_text(alloc: Global, refusal: Refusal, close: bool) -> Result<String, NoMemory>
-    ensures { IfOk result (λ t. string_bytes t ≡ spec.refusal_text refusal close) }
+pub(crate) fn refusal_text(
+    alloc: Global,
+    refusal: Refusal,
+    form: ReplyForm,
+) -> Result<String, NoMemory>
+    ensures { IfOk result (λ t. string_bytes t ≡ spec.refusal_text refusal form) }
 {
     let reply = HttpReply {
         status: refusal.status(),
@@ -23,38 +25,42 @@ pub(crate) fn refusal_text(alloc: Global, refusal: Refusal, close: bool) -> Resu
         allow: refusal.allow(),
         asks_for_token: refusal.asks_for_token(),
     };
-    print_reply(alloc, &reply, refusal.closes() || close)
+    let form = ReplyForm {
+        closes: refusal.closes() || form.closes,
+        omits_body: form.omits_body,
+    };
+    print_reply(alloc, &reply, form)
 }
 
-/// Returns the text of a reply of the service.
-pub(crate) fn reply_text(alloc: Global, reply: &Reply, close: bool) -> Result<String, NoMemory>
-    ensures { IfOk result (λ t. string_bytes t ≡ spec.reply_text reply.now close) }
+/// Returns the text of a reply of the service in a form.
+pub(crate) fn reply_text(alloc: Global, reply: &Reply, form: ReplyForm) -> Result<String, NoMemory>
+    ensures { IfOk result (λ t. string_bytes t ≡ spec.reply_text reply.now form) }
 {
     match reply.refusal() {
-        Some(refusal) => refusal_text(alloc, refusal, close),
-        None => success_text(alloc, reply, close),
+        Some(refusal) => refusal_text(alloc, refusal, form),
+        None => success_text(alloc, reply, form),
     }
 }
 
-/// Returns the text of a successful reply.
+/// Returns the text of a successful reply in a form.
 #[tactic(auto, unfolding(crate::specs::Replies::success_text))]
-fn success_text(alloc: Global, reply: &Reply, close: bool) -> Result<String, NoMemory>
-    ensures { IfOk result (λ t. string_bytes t ≡ spec.success_text reply.now close) }
+fn success_text(alloc: Global, reply: &Reply, form: ReplyForm) -> Result<String, NoMemory>
+    ensures { IfOk result (λ t. string_bytes t ≡ spec.success_text reply.now form) }
 {
     let reply = HttpReply {
-        status: status_of(reply),
+        status: reply.status(),
         body: reply.body(),
         location: reply.location(),
         allow: None,
         asks_for_token: false,
     };
-    print_reply(alloc, &reply, close)
+    print_reply(alloc, &reply, form)
 }
 
-/// Returns the text of a reply with a discovery page.
+/// Returns the text of a reply with a discovery page in a form.
 #[tactic(auto, unfolding(crate::specs::Replies::page_text))]
-pub(crate) fn page_text(alloc: Global, page: &str, close: bool) -> Result<String, NoMemory>
-    ensures { IfOk result (λ t. string_bytes t ≡ spec.page_text page.now close) }
+pub(crate) fn page_text(alloc: Global, page: &str, form: ReplyForm) -> Result<String, NoMemory>
+    ensures { IfOk result (λ t. string_bytes t ≡ spec.page_text page.now form) }
 {
     let reply = HttpReply {
         status: 200,
@@ -63,5 +69,5 @@ pub(crate) fn page_text(alloc: Global, page: &str, close: bool) -> Result<String
         allow: None,
         asks_for_token: false,
     };
-    print_reply(alloc, &reply, close)
+    print_reply(alloc, &reply, form)
 }

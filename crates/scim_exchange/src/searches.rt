@@ -69,7 +69,7 @@ pub(crate) fn filter_of(
 
 /// Returns the query with this filter and these settings.
 ///
-/// MessageValue if both attribute lists are given.
+/// Fails with MessageValue if both attribute lists are given.
 pub(crate) fn query_of(
     alloc: Global,
     kind: Kind,

@@ -13,8 +13,8 @@ use std::alloc::Global;
 
 /// Prints the policy's decisions on the client's operation on the resource.
 ///
-/// It has a line for each leaf of the resource's kind, in order: the path as in policy files, the number of
-/// the deciding rule or 0, and `allow` or `deny`, as `userName rule 3 allow`. The decision table is
+/// Prints a line for each leaf of the resource's kind, in order: the path as in policy files, the number of
+/// the deciding rule or 0, and `allow` or `deny`, such as `userName rule 3 allow`. The decision table is
 /// computed once.
 pub fn table(
     alloc: Global,

@@ -11,7 +11,7 @@ use std::marker::Model;
 
 /// A decision with its reason: for each rule before the one that decided, the first part that doesn't fit.
 ///
-/// If no rule decided, there is a misfit for every rule. Its contracts speak of the list and the decision.
+/// If no rule decided, there is a misfit for every rule. Contracts see the list and the decision.
 #[derive(Drop)]
 pub struct Explanation {
     misfits: Vec<Misfit>,
@@ -62,7 +62,7 @@ pub fn explain(
 {
     let mut misfits = Vec::new(alloc);
     let mut number = 0;
-    for rule in policy.rules() {
+    for rule in policy.listed() {
         number += 1;
         match rule.misfit(alloc, client, op, resource, leaf)? {
             Some(misfit) => push(&mut misfits, misfit)?,

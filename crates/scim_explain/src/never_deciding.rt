@@ -31,7 +31,7 @@ pub struct IdleRule {
 pub fn idle_rules(alloc: Global, policy: &Policy) -> Result<Vec<IdleRule>, NoMemory>
     ensures { IfOk result (λ idle. idle.items ≡ spec.idle_rules policy.now) }
 {
-    let rules = policy.rules();
+    let rules = policy.listed();
     let mut idle = Vec::new(alloc);
     for (index, rule) in rules.iter().enumerate() {
         if let Some(found) = idle_behind(&rules[..index], rule) {

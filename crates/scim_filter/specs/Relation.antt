@@ -1,4 +1,4 @@
--- When a cell's atom meets a comparison operator with a literal (RFC 7644 section 3.4.2.2, table 3).
+-- When a cell's atom satisfies a comparison operator with a literal (RFC 7644 section 3.4.2.2, table 3).
 use Rattle.std.specs.Prelude.{ℕ, pos, Bool, true, false, not, ◌||◌, nat_eq, List, [], ◌∷◌, Option, Some, None}
 use Rattle.std.specs.List.{starts_with, ends_with}
 use Rattle.std.specs.declared.cmp.Ordering.{Ordering}
@@ -20,7 +20,7 @@ abbrev pub contains_text : List ℕ → List ℕ → Bool
 contains_text [] part = starts_with nat_eq [] part
 contains_text (b ∷ bs) part = starts_with nat_eq (b ∷ bs) part || contains_text bs part
 
--- whether two values in this order meet the operator; false for `co`, `sw` and `ew`
+-- whether two values in this order satisfy the operator; false for `co`, `sw` and `ew`
 abbrev pub is_ordered : Operator → Ordering → Bool
 is_ordered Eq order = is_eq order
 is_ordered Ne order = not (is_eq order)
@@ -30,7 +30,7 @@ is_ordered Lt order = is_lt order
 is_ordered Le order = is_le order
 is_ordered _ order = false
 
--- whether two texts meet the operator, compared by their bytes
+-- whether two texts satisfy the operator, compared by their bytes
 abbrev pub text_stands : Operator → List ℕ → List ℕ → Bool
 text_stands Co a b = contains_text a b
 text_stands Sw a b = starts_with nat_eq a b
@@ -57,13 +57,13 @@ truth_stands _ _ _ = false
 abbrev pub moment_cmp : ℕ → Reading → Ordering
 moment_cmp m r = ordering_then (int_cmp (pos m) r.second) (bool_cmp false r.later)
 
--- whether a moment meets the operator with a reading; false if there is no reading
+-- whether a moment satisfies the operator with a reading; false if there is no reading
 abbrev pub moment_stands : Operator → ℕ → Option Reading → Bool
 moment_stands op m (Some r) = is_ordered op (moment_cmp m r)
 moment_stands op m None = false
 
--- whether an atom meets the operator with a literal, with regard to case if `exact`; false if the literal
--- doesn't suit the atom's type
+-- whether an atom satisfies the operator with a literal, with regard to case if `exact`; false if the literal doesn't
+-- suit the atom's type
 abbrev pub stands : Bool → Operator → Atom → Literal → Bool
 stands exact op (atom.Text a) (literal.Text b) = text_stands op (cased exact a) (cased exact b)
 stands exact op (atom.Truth a) (literal.Truth b) = truth_stands op a (Some b)

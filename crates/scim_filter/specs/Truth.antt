@@ -1,4 +1,4 @@
--- When a filter holds of the cells of a part (RFC 7644 section 3.4.2.2).
+-- When a filter matches the cells of a part (RFC 7644 section 3.4.2.2).
 use Rattle.std.specs.Prelude.{ℕ, Bool, true, false, not, ◌&&◌, ◌||◌, ◌==◌, List, [], ◌∷◌, take, drop, Option, Some, None, if◌then◌else◌}
 use Rattle.std.specs.List.{list_any}
 use Rattle.scim_schema.specs.declared.Attribute.{Attribute}
@@ -38,7 +38,7 @@ abbrev pub is_unlike : Operator → Bool → Bool
 is_unlike Ne present = not present
 is_unlike _ present = false
 
--- whether a cell of the leaf meets the operator, or there is none and the operator is `ne`
+-- whether the comparison holds for a cell of the leaf, or the leaf has no cell and the operator is `ne`
 abbrev pub leaf_compares : Option Leaf → Operator → Literal → List Row → Bool
 leaf_compares None op x rs = is_unlike op false
 leaf_compares (Some leaf) op x rs = is_unlike op (some_atom (λ a. true) leaf rs) || some_atom (λ a. stands (is_case_exact leaf) op a x) leaf rs
@@ -54,7 +54,7 @@ abbrev pub some_position : (List Row → Bool) → Meant → List Row → Bool
 some_position holds (meant.Attribute a) rs = if is_multi_valued a then list_any (λ (r : Row). holds (r ∷ [])) (attribute_rows a rs) else holds (attribute_rows a rs)
 some_position holds _ rs = false
 
--- whether a filter holds of rows
+-- whether a filter matches rows
 abbrev pub truth : Tree → List Row → Bool
 truth (Or a b) rs = truth a rs || truth b rs
 truth (And a b) rs = truth a rs && truth b rs
@@ -73,7 +73,7 @@ abbrev pub truth_at : Tree → ℕ → List Row → Bool
 truth_at (Values path inner) k rs = truth inner (rows_at path.meant k rs)
 truth_at _ k rs = false
 
--- whether the filter in the brackets of a value path holds of one value; false for any other filter
+-- whether the filter in the brackets of a value path matches one value; false for any other filter
 abbrev pub truth_in_value : Tree → Row → Bool
 truth_in_value (Values path inner) r = truth inner (r ∷ [])
 truth_in_value _ r = false

@@ -15,7 +15,7 @@ fn contains(text: &str, part: &str) -> bool
     text.contains(part)
 }
 
-/// Whether two values in this order meet the operator. False for `co`, `sw` and `ew`.
+/// Whether two values in this order satisfy the operator. False for `co`, `sw` and `ew`.
 fn is_ordered(op: Operator, order: Ordering) -> bool
     ensures { result ≡ spec.is_ordered op order }
 {
@@ -30,7 +30,7 @@ fn is_ordered(op: Operator, order: Ordering) -> bool
     }
 }
 
-/// Whether two texts meet the operator, compared by their bytes.
+/// Whether two texts satisfy the operator, compared by their bytes.
 fn texts_stand(op: Operator, a: &str, b: &str) -> bool
     ensures { result ≡ spec.text_stands op a.now b.now }
 {
@@ -42,7 +42,8 @@ fn texts_stand(op: Operator, a: &str, b: &str) -> bool
     }
 }
 
-/// Whether a cell's text meets the operator with a literal: compared as it is if `exact`, else folded.
+/// Whether the comparison of a cell's text with a literal holds. The texts are compared as they are if
+/// `exact`, else case-folded.
 fn text_stands(
     alloc: Global,
     exact: bool,
@@ -60,7 +61,7 @@ fn text_stands(
     Ok(texts_stand(op, folded.as_str(), literal.folded()))
 }
 
-/// Whether two booleans meet the operator. Only `eq` and `ne` compare booleans.
+/// Whether two booleans satisfy the operator. Only `eq` and `ne` compare booleans.
 fn truths_stand(op: Operator, a: bool, b: Option<bool>) -> bool
     ensures { result ≡ spec.truth_stands op a b }
 {
@@ -80,7 +81,7 @@ fn compare_moments(moment: Moment, reading: Reading) -> Ordering
         .then(false.cmp(&reading.later))
 }
 
-/// Whether a moment meets the operator with the literal's. False if the literal isn't a moment.
+/// Whether a moment satisfies the operator with the literal's. False if the literal isn't a moment.
 fn moments_stand(op: Operator, moment: Moment, reading: Option<Reading>) -> bool
     ensures { result ≡ spec.moment_stands op moment reading }
 {
@@ -90,7 +91,7 @@ fn moments_stand(op: Operator, moment: Moment, reading: Option<Reading>) -> bool
     }
 }
 
-/// Whether a cell's atom meets the operator with a literal.
+/// Whether a cell's atom satisfies the operator with a literal.
 ///
 /// Texts are compared as they are if `exact`, else in full case folding. False if the literal doesn't suit
 /// the atom's type.

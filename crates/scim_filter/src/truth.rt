@@ -98,7 +98,7 @@ fn is_present<T: RowTest>(look: &Look<'_, T>, meant: Meant, cells: Cells<'_>) ->
     }
 }
 
-/// Whether a cell of the leaf that the filter sees in the row meets the operator.
+/// Whether a cell of the leaf that the filter sees in the row satisfies the operator.
 fn fields_stand<T: RowTest>(
     alloc: Global,
     look: &Look<'_, T>,
@@ -123,7 +123,7 @@ fn fields_stand<T: RowTest>(
     Ok(false)
 }
 
-/// Whether a cell of the leaf that the filter sees in the rows meets the operator.
+/// Whether a cell of the leaf that the filter sees in the rows satisfies the operator.
 fn leaf_stands<T: RowTest>(
     alloc: Global,
     look: &Look<'_, T>,
@@ -155,7 +155,7 @@ fn is_unlike<T: RowTest>(look: &Look<'_, T>, op: Operator, leaf: Leaf, rows: &[R
     op == Operator::Ne && !has_leaf(look, leaf, rows)
 }
 
-/// Whether a cell of the leaf meets the operator, or there is none and the operator is `ne`.
+/// Whether a cell of the leaf satisfies the operator, or there is none and the operator is `ne`.
 fn leaf_compares<T: RowTest>(
     alloc: Global,
     look: &Look<'_, T>,
@@ -196,9 +196,9 @@ fn compares<T: RowTest>(
     }
 }
 
-/// Whether the filter holds of one of the attribute's values on its own.
+/// Whether the filter matches one of the attribute's values on its own.
 ///
-/// A value without a visible field is skipped, since a `not` would hold of it.
+/// A value without a visible field is skipped, since a `not` would match it.
 #[cycle(truth)]
 fn some_value_holds<T: RowTest>(
     alloc: Global,
@@ -227,7 +227,7 @@ fn some_value_holds<T: RowTest>(
     Ok(false)
 }
 
-/// Whether the filter in the brackets of a value path holds of a value of the attribute before them.
+/// Whether the filter in the brackets of a value path matches a value of the attribute before them.
 #[cycle(truth)]
 fn some_position_holds<T: RowTest>(
     alloc: Global,
@@ -305,7 +305,7 @@ fn rows_at(part: &Part, attribute: Attribute, position: usize) -> &[Row]
     }
 }
 
-/// Whether a filter holds of the cells of a part (RFC 7644 section 3.4.2.2).
+/// Whether a filter matches the cells of a part (RFC 7644 section 3.4.2.2).
 ///
 /// Each term looks its attribute up, and goes through the rows of that attribute only; in a value path,
 /// through those of one value.
@@ -321,10 +321,10 @@ pub fn holds(alloc: Global, filter: &Filter, part: &Part) -> Result<bool, NoMemo
     )
 }
 
-/// Whether a filter holds of a part restricted to the fields that the test admits, as by
-/// [`Part::restrict`].
+/// Whether a filter matches a part when only the fields that the test admits are kept, as [`Part::restrict`]
+/// does.
 ///
-/// Values without an admitted field are left out, and positions close up. Nothing is copied.
+/// Values without an admitted field are left out, and the positions after them move down. Nothing is copied.
 #[tactic(auto, unfolding(crate::specs::code::Looks::looked))]
 pub fn holds_where<T: RowTest>(
     alloc: Global,
@@ -343,7 +343,7 @@ pub fn holds_where<T: RowTest>(
     )
 }
 
-/// Whether the filter in the brackets of a value path holds of one value of its attribute (RFC 7644 section
+/// Whether the filter in the brackets of a value path matches one value of its attribute (RFC 7644 section
 /// 3.5.2).
 ///
 /// False if `filter` isn't a value path.

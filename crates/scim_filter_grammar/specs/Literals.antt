@@ -14,7 +14,7 @@ use Rattle.scim_filter_grammar.specs.Bytes.{is_word, past_quote}
 abbrev pub IsWord : List ℕ → List ℕ → Type 0
 IsWord keyword text = is_word keyword text ≡ true
 
--- the text is a JSON string, with its quotes, that stands for the value
+-- the text is a JSON string, with its quotes, that encodes the value
 pub record IsString (text value : List ℕ) : Type 0 where
   pub body : List ℕ
   pub whole : text ≡ 34 ∷ body

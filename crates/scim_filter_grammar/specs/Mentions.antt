@@ -28,6 +28,6 @@ mentioned_names (Present path) = named path ∷ []
 mentioned_names (Compare path op x) = named path ∷ []
 mentioned_names (Values path inner) = named path ∷ mentioned_names inner
 
--- whether the kind has what is named
+-- whether the kind has the named attribute or sub-attribute
 abbrev pub is_known : Named → Bool
 is_known n = is_some n.attribute

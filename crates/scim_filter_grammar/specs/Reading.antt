@@ -109,7 +109,7 @@ word_literal w =
     if is_word (codes "false") w then Ok (literal.Truth false) else
     if is_word (codes "null") w then Ok literal.Null else number_of w
 
--- the text that a JSON string stands for
+-- the text that a JSON string encodes
 unfoldable pub string_of : List ℕ → Result (List ℕ) Fault
 string_of text = if is_utf8 text then ok_or (option_and_then as_str (read text)) Syntax else Err Syntax
 
@@ -146,7 +146,7 @@ relation_at path bytes =
       x ← literal_at rest
       Ok (Compare path op x.0, x.1)
 
--- the result of reading, with its tree made part of another tree
+-- the result of reading, with the function applied to its tree
 abbrev pub mapped : (Tree → Tree) → Read Tree → Read Tree
 mapped f read = read >>= λ x. Ok (f x.0, x.1)
 

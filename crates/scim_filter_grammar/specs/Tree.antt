@@ -15,7 +15,7 @@ pub data Tree : Type 0 where
   Compare : AttributePath → Operator → Literal → Tree
   Values : AttributePath → Tree → Tree
 
--- the tree that a node stands for
+-- the tree that a node represents
 abbrev pub view : Node → Tree
 view (node.Or' p a q b) = Or (view a) (view b)
 view (node.And' p a q b) = And (view a) (view b)

@@ -76,8 +76,8 @@ abbrev pub suits_leaf : Option Leaf → Operator → Literal → Bool
 suits_leaf None op x = false
 suits_leaf (Some leaf) op x = suits (type_of leaf) op x
 
--- whether a comparison suits the type of what is named: null may only be tested with `eq` and `ne`, and a
--- name that the kind doesn't have may be compared with any other value
+-- whether a comparison suits the type of the named attribute or sub-attribute: null may only be tested with `eq` and
+-- `ne`, and a name that the kind doesn't have may be compared with any other value
 abbrev pub fits_comparison : Meant → Operator → Literal → Bool
 fits_comparison m op literal.Null = is_equality op
 fits_comparison meant.Nothing op x = true
@@ -88,7 +88,8 @@ abbrev pub is_empty : List SubAttribute → Bool
 is_empty [] = true
 is_empty (b ∷ bs) = false
 
--- whether a value path may be on what is named: a simple attribute or a sub-attribute has no sub-attributes
+-- whether a value path may be on the named attribute or sub-attribute: a simple attribute or a sub-attribute has no
+-- sub-attributes
 abbrev pub may_have_values : Meant → Bool
 may_have_values meant.Nothing = true
 may_have_values (meant.Attribute a) = not (is_empty (sub_attributes a))

@@ -1,8 +1,8 @@
 //! Reads filters by recursive descent, with a function for each rule of the grammar (RFC 7644 section
 //! 3.4.2.2).
 //!
-//! Each takes the bytes left, and returns a tree with the bytes after it. `depth` limits how many more
-//! brackets may be opened.
+//! Each function takes the remaining bytes, and returns a tree with the bytes after it. `depth` limits how
+//! many more brackets may be opened.
 ghost use Rattle.std.specs.Prelude.{◌≡◌, ◌⊎◌, Some, None, Ok, ℕ, IsErrOf, MatchResult, ◌<◌, ◌≤◌, true, false, length, IfOk};
 ghost use Rattle.scim_text.specs.Failures.{IfFault};
 ghost use Rattle.scim_text.specs.declared.memory.Failed.{Failed};
@@ -99,7 +99,7 @@ fn enclosed(
 
 /// Reads the filter in the brackets of a value path, after the opening bracket.
 ///
-/// Syntax within another value path, since brackets of value paths don't nest.
+/// Fails with Syntax within another value path, since brackets of value paths don't nest.
 #[cycle(filter)]
 #[tactic(auto, unfolding(crate::specs::Reading::listed_at))]
 pub(crate) fn listed(
@@ -251,7 +251,7 @@ fn disjunction(
 
 /// Reads a filter, with fewer than `depth` brackets open at one place.
 ///
-/// TooDeep if `depth` or more are open.
+/// Fails with TooDeep if `depth` or more are open.
 #[cycle(filter)]
 fn filter(
     alloc: Global,
@@ -283,9 +283,10 @@ fn all(alloc: Global, scope: Scope, bytes: &[u8]) -> Result<Node, Failed<ReadErr
 /// Reads the filter that a text spells on resources of `kind`, within 4,096 bytes and 32 open brackets (RFC
 /// 7644 section 3.4.2.2).
 ///
-/// Syntax if the text isn't a filter at any depth; the byte hints at where reading stopped and is at most
-/// the length of the text. WrongType if a comparison doesn't suit the type of its attribute, or a value
-/// path is on an attribute without sub-attributes. TooDeep and TooLong beyond the limits.
+/// Fails with Syntax if the text isn't a filter at any depth; the byte hints at where reading stopped and is
+/// at most the length of the text. Fails with WrongType if a comparison doesn't suit the type of its
+/// attribute, or a value path is on an attribute without sub-attributes. Fails with TooDeep or TooLong
+/// beyond the limits.
 #[tactic(auto, using(crate::proofs::NestingLemmas::all_deep))]
 pub fn read_filter(alloc: Global, kind: Kind, text: &str) -> Result<Filter, Failed<FilterFault>>
     // The text spells the tree returned, which has the right types.

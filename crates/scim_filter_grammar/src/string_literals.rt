@@ -58,7 +58,7 @@ impl StringLiteral {
         })
     }
 
-    /// The text that the string stands for.
+    /// The decoded text of the string.
     pub fn as_str(&self) -> &str
         ensures { result.now ≡ self.now }
     {

@@ -37,7 +37,7 @@ fn skip_token(first: u8, others: &[u8]) -> Option<&[u8]>
 
 /// Cuts a text into its tokens, in order: brackets, JSON strings, and runs of other bytes without spaces.
 ///
-/// Syntax with the byte where an unclosed string begins. TooLong above 4,096 bytes.
+/// Fails with Syntax, at the byte where an unclosed string begins. TooLong above 4,096 bytes.
 pub fn read_tokens<'a>(alloc: Global, text: &'a str) -> Result<Vec<Token<'a>>, Failed<FilterFault>>
     // The tokens returned are all tokens of the text, in order, each with the text of its span.
     ensures found { IfOk result (λ v. (length text.now ≤ LONGEST_FILTER)

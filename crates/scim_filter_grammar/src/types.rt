@@ -104,8 +104,8 @@ fn suits_leaf(leaf: Option<Leaf>, operator: Operator, literal: &Literal) -> bool
     }
 }
 
-/// Whether a comparison suits the type of what is named. A name that the kind doesn't have may be compared
-/// with anything.
+/// Whether a comparison suits the type of the named attribute or sub-attribute. A name that the kind doesn't
+/// have may be compared with anything.
 fn fits_comparison(meant: Meant, operator: Operator, literal: &Literal) -> bool
     ensures { result ≡ spec.fits_comparison meant operator literal.now }
 {
@@ -119,7 +119,8 @@ fn fits_comparison(meant: Meant, operator: Operator, literal: &Literal) -> bool
     }
 }
 
-/// Whether a value path may be on what is named: a simple attribute has no sub-attributes.
+/// Whether a value path may be on the named attribute or sub-attribute: a simple attribute has no
+/// sub-attributes.
 fn may_have_values(meant: Meant) -> bool
     ensures { result ≡ spec.may_have_values meant }
 {

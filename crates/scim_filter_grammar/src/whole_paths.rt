@@ -20,7 +20,7 @@ pub fn lone_word(text: &str) -> Option<&[u8]>
     skip_spaces(rest).is_empty().then_some(word)
 }
 
-/// Returns what an attribute path names in the attribute table of `kind`, as `name.familyName`, with or
+/// Returns what an attribute path names in the attribute table of `kind`, such as `name.familyName`, with or
 /// without a URN before it and spaces around it.
 ///
 /// `None` if the text isn't a path, or has more than 4,096 bytes.

@@ -27,7 +27,7 @@ pub enum WrittenPath {
 
 /// Returns the path if only spaces are left.
 ///
-/// Syntax if not.
+/// Fails with Syntax if anything else is left.
 #[tactic(auto, unfolding(crate::specs::PathReading::ended_at))]
 fn ended(path: WrittenPath, bytes: &[u8]) -> Result<WrittenPath, Failed<ReadError>>
     ensures { Gives written_of result (ended_at (written_of path) bytes.now) }

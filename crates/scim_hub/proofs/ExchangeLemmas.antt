@@ -22,8 +22,8 @@ module _ (policy : List Rule) (base : List ℕ) (Cause : Failed ShelfFault → T
   answered_weaker : (turn : Turn) (store : Store) (reply : Reply) (next : Store)
       → Answered policy base Cause turn store reply next → Answered policy base (λ _. ⊤) turn store reply next
   answered_weaker turn store reply next (inl untold) = inl untold
-  answered_weaker turn store reply next (inr (inl done)) = inr (inl done)
-  answered_weaker turn store reply next (inr (inr (fault, said, cause, kept))) = inr (inr (fault, said, tt, kept))
+  answered_weaker turn store reply next (inr (told, inl done)) = inr (told, inl done)
+  answered_weaker turn store reply next (inr (told, inr (fault, said, cause, kept))) = inr (told, inr (fault, said, tt, kept))
 
   served_weaker : (client : Option (List ℕ)) (arrival : Arrival) (route : Route) (message : Message) (store : Store) (answer : Answer) (next : Store)
       → IsServedTo client policy base Cause arrival route message store answer next → IsServedTo client policy base (λ _. ⊤) arrival route message store answer next

@@ -10,7 +10,7 @@ use Rattle.scim_shelf.specs.Stores.{Store}
 use Rattle.scim_wire.specs.declared.messages.Message.{Message}
 use Rattle.scim_wire.specs.declared.messages.Item.{Item}
 use Rattle.scim_wire.specs.declared.messages.Item.TheVariants as item
-use Rattle.scim_wire.specs.Replies.{crlf}
+use Rattle.scim_wire.specs.Replies.{crlf, whole_form, form_of}
 use Rattle.scim_token.specs.TokenFile.{Entry, client_with}
 use Rattle.scim_service.specs.Replies.{refusal_of}
 use Rattle.scim_exchange.specs.declared.answers.Answer.{Answer}
@@ -57,7 +57,7 @@ pub record IsReplied (policy : List Rule) (base : List ℕ) (arrival : Arrival) 
     (next : Store) : Type 0 where
   pub answer : Answer
   pub exchanged : Exchanged policy base (λ _. ⊤) arrival message store answer next
-  pub text_is : text ≡ answer_text answer message.close
+  pub text_is : text ≡ answer_text answer (form_of message)
   pub closing_is : closing ≡ (message.close || closes_by_itself answer)
 
 -- the number of whole messages in an item: 1 or 0
@@ -70,7 +70,7 @@ module _ (policy : List Rule) (base : List ℕ) (entries : List Entry) (stamp : 
   -- leaves this store
   abbrev pub IsAnswered : ℕ → Item → Store → List ℕ → Bool → Store → Type 0
   IsAnswered k item.Continue store text closing next = (text ≡ continue_text) × (closing ≡ false) × (next ≡ store)
-  IsAnswered k (item.Refused refusal) store text closing next = (text ≡ refusal_text refusal true) × (closing ≡ true) × (next ≡ store)
+  IsAnswered k (item.Refused refusal) store text closing next = (text ≡ refusal_text refusal (whole_form true)) × (closing ≡ true) × (next ≡ store)
   IsAnswered k (item.Whole message) store text closing next =
       (arrival : Arrival) × Arrives entries stamp k message arrival × IsReplied policy base arrival message store text closing next
 

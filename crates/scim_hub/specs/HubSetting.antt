@@ -2,7 +2,7 @@
 use Rattle.std.specs.Prelude.{◌≡◌, ℕ, List}
 use Rattle.scim_policy.specs.Rules.{Rule}
 use Rattle.scim_service.specs.Setting.{service_policy, service_base, service_shelf}
-use Rattle.scim_token.specs.declared.tokens.Tokens.{Tokens}
+use Rattle.scim_token.specs.declared.token_table.Tokens.{Tokens}
 use Rattle.scim_hub.specs.declared.hubs.Hub.{Hub}
 
 -- The rules of the policy by which a hub answers.

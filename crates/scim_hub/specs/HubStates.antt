@@ -38,7 +38,7 @@ pub record IsHubState {H : Type 0} (Stands : H → Store → Type 0) (hub : Hub 
   pub is_store : IsStore hub.service.base state.store
   pub connections : AreConnections hub.connections state.connections
 
--- what occurs on a connection, with the bytes of a piece
+-- the kind of an event, as a value of the definitions; a piece has its bytes
 abbrev pub event_kind_of : EventKind → HubEventKind
 event_kind_of Joined = joining
 event_kind_of (Piece bytes) = sending bytes.now

@@ -1,5 +1,5 @@
 -- Serving one stream: the pieces that were read of it, and the text that was written.
-use Rattle.std.specs.Prelude.{◌≡◌, ◌⊎◌, ⊤, ℕ, ◌+◌, ◌-◌, ◌^◌, min, Bool, false, true, not, List, [], ◌∷◌, ◌++◌, map, Option, None, Some, Result, Ok, Err, All, IfOk, OnOk, MatchResult, count_by}
+use Rattle.std.specs.Prelude.{◌≡◌, ◌≢◌, ◌<◌, ◌⊎◌, ⊤, ℕ, ◌+◌, ◌-◌, ◌^◌, min, Bool, false, true, not, List, [], ◌∷◌, ◌++◌, length, map, Option, None, Some, Result, Ok, Err, All, IsOk, IfOk, MatchResult, count_by}
 use Rattle.std.specs.List.{FoldsTo, flat_map, list_any}
 use Rattle.std.specs.Str.{bytes_eq}
 use Rattle.std.specs.Io.KnownBytes.{Appends, Consumes, IsAtEnd}
@@ -9,7 +9,7 @@ use Rattle.scim_token.specs.TokenFile.{Entry}
 use Rattle.scim_hub.specs.declared.events.HubFault.{HubFault}
 use Rattle.scim_hub.specs.declared.events.Stamp.{Stamp}
 use Rattle.scim_hub.specs.declared.io_faults.IoFault.{IoFault}
-use Rattle.scim_hub.specs.declared.io_faults.IoFault.TheVariants.{Hub}
+use Rattle.scim_hub.specs.declared.io_faults.IoFault.TheVariants.{Write, Turns, Stamp as NoStamp, Hub}
 use Rattle.scim_hub.specs.declared.streams.Served.{Served}
 use Rattle.scim_hub.specs.Answering.{continue_text}
 use Rattle.scim_hub.specs.Events.{HubEventKind, sending, HubEvent, HubState, HubOutput, writing, shutting, Joins, Leaves, Hears}
@@ -25,7 +25,7 @@ pub record AnsweredEvent : Type 0 where
   pub event : HubEvent
   pub done : Result (List HubOutput) HubFault
 
--- the bytes of a piece, empty for other occurrences
+-- the bytes of a piece; empty for other events
 abbrev pub bytes_in : HubEventKind → List ℕ
 bytes_in (sending bytes) = bytes
 bytes_in _ = []
@@ -73,28 +73,67 @@ abbrev pub shuts : Result (List HubOutput) HubFault → Bool
 shuts (Ok hub_outputs) = list_any is_shutting hub_outputs
 shuts (Err fault) = false
 
--- whether any turn shuts the connection
-abbrev pub is_shut : List AnsweredEvent → Bool
-is_shut turns = list_any (λ t. shuts t.done) turns
-
--- the occurrence is the next piece of the stream
+-- the occurrence is the next piece of the stream, of at least one byte
 abbrev pub IsPiece : HubEventKind → Type 0
-IsPiece (sending bytes) = ⊤
+IsPiece (sending bytes) = bytes ≢ []
 IsPiece _ = ⊥
 
 -- the turn is for a piece of this connection's stream
 abbrev pub IsPieceOf : ℕ → AnsweredEvent → Type 0
 IsPieceOf n turn = (turn.event.connection ≡ n) × IsPiece turn.event.kind
 
--- the whole text was written if the result is a success, else a prefix of it
-abbrev pub IsWritten : {T : Type 0} → Option (List ℕ) → Option (List ℕ) → List ℕ → Result T IoFault → Type 0
-IsWritten old new text result = MatchResult result (λ _. Appends old new text) (λ _. AppendsFront old new text)
+-- after this fault the whole text was written, or a prefix of it if a write failed
+abbrev pub IsWrittenAt : IoFault → Option (List ℕ) → Option (List ℕ) → List ℕ → Type 0
+IsWrittenAt Write old new text = AppendsFront old new text
+IsWrittenAt _ old new text = Appends old new text
 
--- the bytes are those of the turns; after a fault further bytes may have been read that no turn handled
+-- the whole text was written, or a prefix of it if a write failed
+abbrev pub IsWritten : {T : Type 0} → Option (List ℕ) → Option (List ℕ) → List ℕ → Result T IoFault → Type 0
+IsWritten old new text result = MatchResult result (λ _. Appends old new text) (λ fault. IsWrittenAt fault old new text)
+
+-- at this fault these bytes were read and not handled: those for which there was no stamp, or none
+abbrev pub IsLostAt : IoFault → List ℕ → Type 0
+IsLostAt NoStamp lost = lost ≢ []
+IsLostAt _ lost = lost ≡ []
+
+-- the bytes are those of the turns and the lost ones
 pub record AreBytesOf {T : Type 0} (turns : List AnsweredEvent) (bytes : List ℕ) (result : Result T IoFault) : Type 0 where
   pub lost : List ℕ
   pub split : bytes ≡ bytes_of turns ++ lost
-  pub none : OnOk result (lost ≡ [])
+  pub is_lost : MatchResult result (λ _. lost ≡ []) (λ fault. IsLostAt fault lost)
+
+-- the maximum number of reads of a stream
+abbrev pub most_reads : ℕ
+most_reads = 1000000
+
+-- the hub answered the turn without a fault, and the connection stays open
+abbrev pub StaysOpen : AnsweredEvent → Type 0
+StaysOpen turn = IsOk turn.done × (shuts turn.done ≡ false)
+
+-- after these turns, each by a read, the connection is open and is read once more
+pub record AreReadOn (turns : List AnsweredEvent) : Type 0 where
+  pub stay : All StaysOpen turns
+  pub few : length turns < most_reads
+
+-- the connection was open up to a last turn, which has this result
+pub record EndWith (turns : List AnsweredEvent) (IsLast : Result (List HubOutput) HubFault → Type 0) : Type 0 where
+  pub earlier : List AnsweredEvent
+  pub last : AnsweredEvent
+  pub split : turns ≡ earlier ++ last ∷ []
+  pub read_on : AreReadOn earlier
+  pub is_last : IsLast last.done
+
+-- the turns before a fault: the hub's fault is that of the last turn, a write fails in the last turn, and no
+-- turn before another fault has a fault or shuts the connection
+abbrev pub EndAt : IoFault → List AnsweredEvent → Type 0
+EndAt (Hub fault) turns = EndWith turns (λ done. done ≡ Err fault)
+EndAt Write turns = EndWith turns IsOk
+EndAt Turns turns = All StaysOpen turns × (length turns ≡ most_reads)
+EndAt _ turns = AreReadOn turns
+
+-- the turns before a success: the connection was open to the stream's end, or the last turn shut it
+abbrev pub EndWell : Option (List ℕ) → List AnsweredEvent → Type 0
+EndWell remaining turns = (IsAtEnd remaining × AreReadOn turns) ⊎ EndWith turns (λ done. shuts done ≡ true)
 
 module _ (policy : List Rule) (base : List ℕ) (entries : List Entry) (n : ℕ) where
   -- the turns of the connection's pieces lead from one state of the hub to the next, with these bytes, stamps
@@ -107,14 +146,15 @@ module _ (policy : List Rule) (base : List ℕ) (entries : List Entry) (n : ℕ)
     pub stamps : Grows given given_then (map (λ t. t.event.stamp) turns)
     pub written : IsWritten contents contents_then (text_of turns) result
 
-  -- the stream is read and served to its end, until the connection is shut, or up to a fault
+  -- the stream is read and served to its end, until the connection is shut, or up to a fault, in at most
+  -- `most_reads` reads
   pub record IsStreamServed (state next : HubState) (remaining remaining_then : Option (List ℕ)) (given given_then : Option (List Stamp)) (contents contents_then : Option (List ℕ))
       (result : Result Served IoFault) : Type 0 where
     pub turns : List AnsweredEvent
     pub bytes : List ℕ
     pub consumed : Consumes remaining remaining_then bytes
     pub served : AreServed state next turns bytes given given_then contents contents_then result
-    pub ended : OnOk result (IsAtEnd remaining_then ⊎ (is_shut turns ≡ true))
+    pub ended : MatchResult result (λ _. EndWell remaining_then turns) (λ fault. EndAt fault turns)
     pub replies : IfOk result (λ s. s.replies ≡ min (2 ^ 64 - 1) (replies_of turns))
 
   -- the connection can't join, and nothing is read, stamped or written

@@ -18,7 +18,7 @@ use scim_service::Service;
 use scim_shelf::Shelf;
 use scim_text::{NoMemory, push};
 use scim_token::Tokens;
-use scim_wire::{Item, Message};
+use scim_wire::{Item, Message, ReplyForm};
 use std::alloc::Global;
 use uuid::Uuid;
 
@@ -88,13 +88,13 @@ fn closes_by_itself(answer: &Answer) -> bool
     }
 }
 
-/// Returns the reply for an answer. The connection closes after it if `close` or if the answer requires it.
-fn reply_with(alloc: Global, answer: &Answer, close: bool) -> Result<Reply, NoMemory>
-    ensures { Says result (answer_text answer.now close) (close
+/// Returns the reply for an answer in a form. The connection closes after it also if the answer requires it.
+fn reply_with(alloc: Global, answer: &Answer, form: ReplyForm) -> Result<Reply, NoMemory>
+    ensures { Says result (answer_text answer.now form) (form.closes
         || spec.closes_by_itself answer.now) }
 {
-    let text = answer.text(alloc, close)?;
-    let closes = close || closes_by_itself(answer);
+    let text = answer.text(alloc, form)?;
+    let closes = form.closes || closes_by_itself(answer);
     Ok(Reply { text, closes })
 }
 
@@ -130,7 +130,7 @@ fn answer_message<S: Shelf>(
         → S.is_honest (service_shelf service.old) }
 {
     let answer = answer(alloc, routes, service, arrival, message);
-    reply_with(alloc, &answer, message.close)
+    reply_with(alloc, &answer, ReplyForm::of(message))
 }
 
 /// Answers an item that follows `count` whole messages of its event.
@@ -163,7 +163,9 @@ fn answer_item<S: Shelf>(
             let arrival = arrival_of(tokens, stamp, count, message);
             answer_message(alloc, routes, service, &arrival, message)
         }
-        Item::Refused(refusal) => reply_with(alloc, &Answer::Refused(*refusal), true),
+        Item::Refused(refusal) => {
+            reply_with(alloc, &Answer::Refused(*refusal), ReplyForm::whole(true))
+        }
     }
 }
 

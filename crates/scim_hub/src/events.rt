@@ -1,8 +1,9 @@
 //! Events of connections, and the hub's outputs for them.
-use scim_cell::Id;
+use scim_cell::{Id, id_of};
 use scim_text::{Moment, NoMemory};
 use std::alloc::AllocFailed;
 use thiserror::Error;
+use uuid::Uuid;
 
 /// The time of an event, and the id for the first resource that it creates.
 #[derive(Clone, Copy)]
@@ -12,6 +13,16 @@ pub struct Stamp {
     /// The id for the resource that the event's first whole message creates, if any. Each further whole
     /// message of the event has the next number as its id, whether used or not.
     pub first: Id,
+}
+
+impl Stamp {
+    /// Returns a stamp for joining and leaving, which don't use it: the first moment and the nil id.
+    pub fn unused() -> Stamp {
+        Stamp {
+            moment: Moment::new(0).unwrap(),
+            first: id_of(Uuid::nil()),
+        }
+    }
 }
 
 /// What occurred on a connection.

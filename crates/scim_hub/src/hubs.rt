@@ -61,12 +61,12 @@ impl<S: Shelf> Hub<S> {
 
     /// Handles an event, and returns the outputs for its connection, in order.
     ///
-    /// - Joined: adds the connection, with nothing read of its stream. AlreadyJoined if the number is in
-    ///   use.
-    /// - Piece: answers the items that the piece completes, in order, up to the first whose reply closes
-    ///   the connection. Then the connection is shut, and further items are dropped. Unknown if no connection
-    ///   has the number, and Closed if it is shut.
-    /// - Left: removes the connection. Unknown if no connection has the number.
+    /// - Joined: adds the connection, with nothing read of its stream. Fails with AlreadyJoined if the number
+    ///   is in use.
+    /// - Piece: answers the items that the piece completes, in order, up to the first whose reply closes the
+    ///   connection. Then the connection is shut, and further items are dropped. Fails with Unknown if no
+    ///   connection has the number, and Closed if it is shut.
+    /// - Left: removes the connection. Fails with Unknown if no connection has the number.
     ///
     /// After these faults nothing has changed. After `NoMemory` a joining connection hasn't joined; a
     /// connection whose piece was read is shut and its outputs are lost, while the changes of its requests
@@ -96,8 +96,8 @@ impl<S: Shelf> Hub<S> {
 
     /// Handles the next piece of a connection's stream.
     ///
-    /// Unknown if no connection has the number, and Closed if it is shut; then nothing has changed. After
-    /// `NoMemory` the connection is shut, while the changes of its requests remain committed.
+    /// Fails with Unknown if no connection has the number, and Closed if it is shut; then nothing has
+    /// changed. After `NoMemory` the connection is shut, while the changes of its requests remain committed.
     fn take(
         &mut self,
         alloc: Global,
@@ -143,7 +143,8 @@ impl<S: Shelf> Hub<S> {
 
     /// Handles events one after another, and returns the result of each.
     ///
-    /// `NoMemory` if the list of results can't be allocated: no event is handled and the hub is unchanged.
+    /// Fails with `NoMemory` if the list of results can't be allocated: no event is handled and the hub is
+    /// unchanged.
     pub fn run(
         &mut self,
         alloc: Global,

@@ -18,7 +18,7 @@ pub trait Stamps {
 
     /// Returns the stamp for the next event.
     ///
-    /// [`NoStamp`] if none is available; then no stamp is given.
+    /// Fails with [`NoStamp`] if none is available; then no stamp is given.
     fn next(&mut self) -> Result<Stamp, NoStamp>
         ensures given { IfOk result (λ stamp.
             Grows (given self.old) (given self.new) (stamp ∷ [])) }

@@ -1,5 +1,5 @@
 //! Serves one stream by a hub.
-ghost use Rattle.std.specs.Prelude.{◌≡◌, List};
+ghost use Rattle.std.specs.Prelude.{◌≡◌, ◌≢◌, List, []};
 ghost use Rattle.scim_token.specs.TokenFile.{Entry};
 ghost use Rattle.scim_token.specs.Tokens.{Knows};
 ghost use Rattle.scim_hub.specs.Events.{HubState};
@@ -13,12 +13,9 @@ use crate::hubs::Hub;
 use crate::io_faults::IoFault;
 use crate::stamps::Stamps;
 use crate::writing::{is_any_shutting, reply_count, write_outputs};
-use scim_cell::id_of;
 use scim_shelf::Shelf;
-use scim_text::Moment;
 use std::alloc::Global;
 use std::io::{Read, Write};
-use uuid::Uuid;
 
 /// The maximum number of reads of a stream.
 const MOST_READS: u64 = 1_000_000;
@@ -38,14 +35,6 @@ struct Written {
     shut: bool,
 }
 
-/// Returns a stamp for joining and leaving, which don't use it.
-fn idle_stamp() -> Stamp {
-    Stamp {
-        moment: Moment::new(0).unwrap(),
-        first: id_of(Uuid::nil()),
-    }
-}
-
 /// Handles the next piece of a connection's stream, and writes the outputs.
 ///
 /// Stamp if no stamp is available; the hub hasn't handled the piece then. Hub for a fault of the hub. Write
@@ -60,7 +49,7 @@ fn serve_piece<W: Write, S: Shelf, T: Stamps>(
 ) -> Result<Written, IoFault>
     ensures keeps { KeepsHubSetting hub.old hub.new }
     ensures served { (entries : List Entry) (state : HubState) → Knows entries (hub_tokens hub.old)
-        → IsHubState S.stands hub.old state → S.is_honest (hub_shelf hub.new)
+        → IsHubState S.stands hub.old state → S.is_honest (hub_shelf hub.new) → piece.now ≢ []
         → (next : HubState) × IsHubState S.stands hub.new next
         × IsPieceServed (hub_policy hub.old) (hub_base hub.old) entries connection state next
         piece.now
@@ -85,7 +74,7 @@ fn serve_piece<W: Write, S: Shelf, T: Stamps>(
 /// Reads the stream of a connection in pieces and serves each, until the stream ends or the connection is
 /// shut.
 ///
-/// Read if a read fails, and Turns after a million reads; other errors as [`serve_piece`].
+/// Read if a read fails, and Turns after a million reads that gave bytes; other errors as [`serve_piece`].
 fn serve_pieces<R: Read, W: Write, S: Shelf, T: Stamps>(
     alloc: Global,
     reader: &mut R,
@@ -125,15 +114,16 @@ fn serve_pieces<R: Read, W: Write, S: Shelf, T: Stamps>(
 /// Serves one stream by a hub: the connection joins, each piece of its stream is answered at once, and it
 /// leaves.
 ///
-/// Stops when the stream ends or the connection is shut. Doesn't flush the writer.
+/// Stops when the stream ends, right after the piece that shuts the connection, or at a fault. Doesn't flush
+/// the writer.
 ///
 /// - Hub: a fault of the hub, as [`Hub::event`]. If the connection can't join, nothing is read or written.
 /// - Read, Write: a read or a write failed; an interrupted read counts as failed.
-/// - Stamp: no stamp is available.
-/// - Turns: the stream was read a million times.
+/// - Stamp: no stamp is available for a piece, which is lost.
+/// - Turns: a million reads gave bytes.
 ///
-/// After a fault of a connection that had joined, it has left, and a prefix of the replies' text has been
-/// written; after Write the last reply may be incomplete.
+/// After a fault of a connection that had joined, it has left, and the replies to all that was read have been
+/// written, but for the piece that the hub or a missing stamp failed; after Write a prefix of their text.
 pub fn serve_stream<R: Read, W: Write, S: Shelf, T: Stamps>(
     alloc: Global,
     reader: &mut R,
@@ -154,14 +144,14 @@ pub fn serve_stream<R: Read, W: Write, S: Shelf, T: Stamps>(
 {
     let joining = Event {
         connection,
-        stamp: idle_stamp(),
+        stamp: Stamp::unused(),
         kind: EventKind::Joined,
     };
     hub.event(alloc, &joining)?;
     let served = serve_pieces(alloc, reader, writer, hub, connection, stamps);
     let leaving = Event {
         connection,
-        stamp: idle_stamp(),
+        stamp: Stamp::unused(),
         kind: EventKind::Left,
     };
     // The connection has joined, so this doesn't fail.

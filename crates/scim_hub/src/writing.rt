@@ -3,7 +3,8 @@ ghost use Rattle.std.specs.Prelude.{◌≡◌, count_by, map};
 ghost use Rattle.std.specs.List.{list_any, flat_map};
 ghost use Rattle.scim_hub.specs.HubStates.{output_of};
 ghost use Rattle.scim_hub.specs.Streams as spec;
-ghost use Rattle.scim_hub.specs.Streams.{IsWritten, text_in};
+ghost use Rattle.scim_hub.specs.Streams.{text_in};
+ghost use Rattle.scim_hub.specs.code.Servings.{IsWrittenOut};
 
 use crate::answering::CONTINUE;
 use crate::events::Output;
@@ -13,7 +14,7 @@ use std::io::Write;
 
 /// Writes the text of an output, if any. Write if a write fails; a prefix of the text has been written then.
 fn write_output<W: Write>(output: &Output, writer: &mut W) -> Result<(), IoFault>
-    ensures { IsWritten (W.contents writer.old) (W.contents writer.new)
+    ensures { IsWrittenOut (W.contents writer.old) (W.contents writer.new)
         (text_in (output_of output.now)) result }
 {
     match output {
@@ -29,7 +30,7 @@ fn write_output<W: Write>(output: &Output, writer: &mut W) -> Result<(), IoFault
 ///
 /// Write if a write fails; a prefix of the texts together has been written then.
 pub(crate) fn write_outputs<W: Write>(outputs: &[Output], writer: &mut W) -> Result<(), IoFault>
-    ensures { IsWritten (W.contents writer.old) (W.contents writer.new)
+    ensures { IsWrittenOut (W.contents writer.old) (W.contents writer.new)
         (flat_map text_in (map output_of outputs.now)) result }
 {
     for output in outputs {

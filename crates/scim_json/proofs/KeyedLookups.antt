@@ -12,9 +12,9 @@ use Rattle.scim_schema.specs.declared.Kind.TheVariants.{User, Group}
 use Rattle.scim_schema.specs.declared.Attribute.{Attribute}
 use Rattle.scim_schema.specs.declared.Attribute.TheVariants.{Id, Groups, Meta}
 use Rattle.scim_schema.specs.declared.SubAttribute.TheVariants.{Location}
-use Rattle.scim_schema.specs.declared.schemas.Schema.{Schema}
+use Rattle.scim_schema.specs.declared.schema_urns.Schema.{Schema}
 use Rattle.scim_schema.specs.contracts.Attribute.{the_type as the_attribute}
-use Rattle.scim_schema.specs.contracts.schemas.Schema.{the_type as the_schema}
+use Rattle.scim_schema.specs.contracts.schema_urns.Schema.{the_type as the_schema}
 use Rattle.scim_schema.specs.Names.{attribute_name, sub_attribute_name}
 use Rattle.scim_schema.specs.Schemas.{urn, extension_of}
 use Rattle.scim_schema.specs.Table.{attributes}

@@ -14,7 +14,7 @@ use Rattle.scim_schema.proofs.Facts.{is_same_leaf-Decides}
 use Rattle.scim_value.specs.declared.uniqueness.UniqueName.{UniqueName}
 use Rattle.scim_cell.specs.Content.{Content}
 use Rattle.scim_value.specs.Uniqueness.{Name, unique_names, AreApart, name_of}
-use Rattle.scim_json.specs.declared.documents.Taken.{Taken}
+use Rattle.scim_json.specs.declared.users_files.Taken.{Taken}
 use Rattle.scim_cell.specs.Equality.{is_same_id}
 use Rattle.scim_json.specs.code.Taken.{is_same_unique_name, Records}
 

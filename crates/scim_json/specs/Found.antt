@@ -10,7 +10,7 @@ use Rattle.scim_schema.specs.declared.Attribute.TheVariants as attribute
 use Rattle.scim_schema.specs.declared.SubAttribute.{SubAttribute}
 use Rattle.scim_schema.specs.declared.SubAttribute.TheVariants as sub_attribute
 use Rattle.scim_schema.specs.declared.Leaf.{Leaf}
-use Rattle.scim_schema.specs.declared.schemas.Schema.{Schema}
+use Rattle.scim_schema.specs.declared.schema_urns.Schema.{Schema}
 use Rattle.scim_schema.specs.declared.characteristics.AttributeType.{AttributeType}
 use Rattle.scim_schema.specs.declared.characteristics.AttributeType.TheVariants.{String, Boolean, DateTime, Reference, Binary, Complex as ComplexType}
 use Rattle.scim_schema.specs.Names.{attribute_name, sub_attribute_name}
@@ -38,8 +38,7 @@ atom_from Reference truth text = option_map Text text
 atom_from Binary truth text = option_map Text text
 atom_from ComplexType truth text = None
 
--- the atom of a type that a JSON value stands for, or None if the value isn't of the type (RFC 7643 section
--- 2.3)
+-- the atom of a type that a JSON value represents, or None if the value isn't of the type (RFC 7643 section 2.3)
 abbrev pub atom_of : AttributeType → Data → Option Atom
 atom_of t d = atom_from t (as_bool d) (as_str d)
 
@@ -71,8 +70,8 @@ found_shaped kind a Simple d = found_value kind (simple a) 0 d
 found_shaped kind a Complex d = found_object kind a 0 d
 found_shaped kind a MultiValued d = if_there (found_items kind a 0) (as_array d)
 
--- the object with the attributes of a schema: the whole one for a core schema, that at its URN for an
--- extension (RFC 7643 section 3.3)
+-- the object that has the attributes of a schema: the resource's own object for a core schema (None), and the object
+-- under the schema's URN for an extension (RFC 7643 section 3.3)
 abbrev pub object_with : Option Schema → Data → Option Data
 object_with None d = Some d
 object_with (Some s) d = get (urn s) d

@@ -17,7 +17,7 @@ PartsAreShownWhole = (c : Content) → IsPart c → found_cells c.kind (part_dat
 abbrev pub KeptReadsBack : Type 0
 KeptReadsBack = (c : Content) → read (compact_text (stored_data c)) ≡ Some (stored_data c)
 
--- a result of reading the stored text of a resource below the base can only be that resource
+-- reading the stored text of a resource whose location is below the base can only return that resource
 abbrev pub StoredResourcesReadBack : Type 0
 StoredResourcesReadBack =
     (base : List ℕ) (c : Content) (answer : Result Content Damaged)

@@ -7,8 +7,8 @@ use Rattle.serde_json.specs.Data.{Data, string, boolean, array, object, Items, n
 use Rattle.scim_text.specs.Moments.{moment_text}
 use Rattle.scim_schema.specs.declared.Attribute.{Attribute}
 use Rattle.scim_schema.specs.declared.SubAttribute.{SubAttribute}
-use Rattle.scim_schema.specs.declared.schemas.Schema.{Schema}
-use Rattle.scim_schema.specs.contracts.schemas.Schema.{the_type as the_schema}
+use Rattle.scim_schema.specs.declared.schema_urns.Schema.{Schema}
+use Rattle.scim_schema.specs.contracts.schema_urns.Schema.{the_type as the_schema}
 use Rattle.scim_schema.specs.Names.{attribute_name, sub_attribute_name}
 use Rattle.scim_schema.specs.Schemas.{urn, core_schema, extensions, extension_of}
 use Rattle.scim_cell.specs.declared.atoms.Atom.{Atom}

@@ -2,7 +2,7 @@
 //!
 //! The cells are guessed from a JSON tree that borrows from the text. The guess is accepted only if
 //! it is stored as the given text, so the guessing needs no contract. It takes half the time of the
-//! general reading in `reading`.
+//! general reading in `stored_documents`.
 ghost use Rattle.std.specs.Prelude.{◌≡◌, IfOk, IfSome, IsTrue, Some};
 ghost use Rattle.serde_json.specs.Read.{read};
 ghost use Rattle.scim_value.specs.Resource.{HasBase};

@@ -3,20 +3,20 @@
 #![tactic(auto)]
 
 mod atoms;
-mod documents;
 mod fast_path;
 mod faults;
 mod laws;
-mod lists;
-mod reading;
+mod list_responses;
+mod stored_documents;
+mod users_files;
 mod writing;
 
 pub use atoms::atom_of;
-pub use documents::read_documents;
 pub use faults::{Damaged, DamagedItem};
 pub use laws::{
     documents_are_apart, documents_read_back, parts_are_shown_whole, stored_resources_read_back,
 };
-pub use lists::to_list_json;
-pub use reading::read_stored;
+pub use list_responses::to_list_json;
+pub use stored_documents::read_stored;
+pub use users_files::read_documents;
 pub use writing::{stored_text, to_json};

@@ -129,7 +129,7 @@ fn write_schemas(
     write_urns(out, part, core, extensions)
 }
 
-/// Writes the array of the URN of the core schema and those of the extensions that have cells.
+/// Writes the array of schema URNs: that of the core schema, then that of each extension that has cells.
 fn write_urns(
     out: &mut Writer,
     part: &Part,
@@ -252,7 +252,7 @@ fn write_simple(
     write_member(alloc, out, attribute.name(), atom)
 }
 
-/// Writes the member of a single complex attribute, if one of these sub-attributes has a cell.
+/// Writes the member of a single-valued complex attribute, if one of these sub-attributes has a cell.
 fn write_complex(
     alloc: Global,
     out: &mut Writer,

@@ -23,12 +23,14 @@ use Rattle.scim_cell.specs.Place.{unit_cmp}
 use Rattle.scim_cell.specs.Rows.{Row, rows, values, has_fields, restricted, IsSoundField, IsSoundRow}
 use Rattle.scim_value.specs.Resource.{IsResource, MayBeKept}
 use Rattle.scim_value.proofs.Facts.{sound_part, unit_same}
+use Rattle.scim_policy.specs.Rules.{Rule}
 use Rattle.scim_policy.specs.Access.{Access, access, forbidding, widening}
 use Rattle.scim_policy.specs.Control.{control, is_named_in, is_unique}
 use Rattle.scim_policy.specs.Decide.{decide}
 use Rattle.scim_policy.proofs.Facts.{decide_same}
 use Rattle.scim_view.specs.View.{Viewer, may_be_seen, read_decision}
 use Rattle.scim_change.specs.Laws.{AgreeAt, IsLeft}
+use Rattle.scim_noninterference.specs.Names.{ControlRestsOnUnits}
 use Rattle.scim_noninterference.proofs.RowLemmas.{OfEach, Narrows, by_leaf, values_restricted, restricted_kept, restricted_twice}
 use Rattle.scim_view.proofs.Facts.{passing, readable_leaf, not_wider}
 use Rattle.scim_noninterference.proofs.UnitLemmas.{attributes_same, kept_same}
@@ -48,6 +50,29 @@ kept_open kind f kept = elim (cases_Bool (is_write_only kind f.leaf)) [
   | inl secret ↦ absurd (kept.shown (same_true the_mutability tt (characteristics_of kind f.leaf).mutability WriteOnly secret))
   | inr open' ↦ open'
 ]
+
+-- ---- what decides after a change
+
+-- decisions and uniqueness rest on these values
+abbrev decides_by : List Rule → Kind → Attribute → Bool
+decides_by policy kind at = is_named_in policy at || is_unique kind at
+
+-- they are the same of two resources afterwards, where they were the same before
+pub control_rests : ControlRestsOnUnits
+unfolding control
+control_rests policy us changed moment a b x y one two three four kinds same agree first second =
+    sym (attributes_same (decides_by policy x.kind) x three)
+    ∙ kept_same us changed moment a b x y agree first second three four kinds_after (λ l. decides_by policy x.kind l.attribute) before
+    ∙ attributes_same (decides_by policy x.kind) y four ∙ (λ i. filter (λ (r : Row). decides_by policy (kinds_after i) r.unit.attribute) (rows y))
+  where
+    kinds_after : x.kind ≡ y.kind
+    kinds_after = first.kind ∙ kinds ∙ sym second.kind
+
+    before : restricted (by_leaf (λ l. decides_by policy x.kind l.attribute)) (rows a) ≡ restricted (by_leaf (λ l. decides_by policy x.kind l.attribute)) (rows b)
+    before =
+        attributes_same (decides_by policy x.kind) a one ∙ (λ i. filter (λ (r : Row). decides_by policy (first.kind i) r.unit.attribute) (rows a))
+        ∙ same
+        ∙ (λ i. filter (λ (r : Row). decides_by policy (sym (first.kind ∙ kinds) i) r.unit.attribute) (rows b)) ∙ sym (attributes_same (decides_by policy x.kind) b two)
 
 module _ (v : Viewer) where
   -- ---- a unit that may be written is seen
@@ -99,23 +124,9 @@ module _ (v : Viewer) where
     pub ids_after : x.id ≡ y.id
     ids_after = first.id ∙ ap (λ (t : Traits). t.id) same ∙ sym second.id
 
-    -- decisions rest on the same values
-    abbrev decides_by : Kind → Attribute → Bool
-    decides_by kind at = is_named_in v.policy at || is_unique kind at
-
-    control_before : restricted (by_leaf (λ l. decides_by x.kind l.attribute)) (rows a) ≡ restricted (by_leaf (λ l. decides_by x.kind l.attribute)) (rows b)
-    unfolding control
-    control_before =
-        attributes_same (decides_by x.kind) a one ∙ (λ i. filter (λ (r : Row). decides_by (first.kind i) r.unit.attribute) (rows a))
-        ∙ ap (λ (t : Traits). t.control) same
-        ∙ (λ i. filter (λ (r : Row). decides_by (sym (first.kind ∙ kinds_before) i) r.unit.attribute) (rows b)) ∙ sym (attributes_same (decides_by x.kind) b two)
-
     pub control_after : control v.policy x ≡ control v.policy y
-    unfolding control
     control_after =
-        sym (attributes_same (decides_by x.kind) x three)
-        ∙ kept_same us changed moment a b x y agree first second three four kinds_after (λ l. decides_by x.kind l.attribute) control_before
-        ∙ attributes_same (decides_by x.kind) y four ∙ (λ i. filter (λ (r : Row). decides_by (kinds_after i) r.unit.attribute) (rows y))
+        control_rests v.policy us changed moment a b x y one two three four kinds_before (ap (λ (t : Traits). t.control) same) agree first second
 
     pub access_after : access_of v x ≡ access_of v y
     access_after =

@@ -3,6 +3,7 @@ pub mod UnitLemmas
 pub mod StoreLemmas
 pub mod NameLemmas
 pub mod ChangeLemmas
+pub mod ViewLemmas
 pub mod RequestLemmas
 pub mod LawLemmas
 pub mod ListLemmas

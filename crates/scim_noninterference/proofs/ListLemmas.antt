@@ -16,7 +16,7 @@ use Rattle.scim_cell.specs.Order.{id_cmp}
 use Rattle.scim_cell.specs.Rows.{rows}
 use Rattle.scim_value.specs.Resource.{IsResource, HasBase}
 use Rattle.scim_policy.specs.Control.{control}
-use Rattle.scim_view.specs.View.{Viewer, sees, visible}
+use Rattle.scim_view.specs.View.{Viewer, sees}
 use Rattle.scim_shelf.specs.Stores.{Store, IsStore, below, above, keep, without}
 use Rattle.scim_service.specs.declared.requests.Turn.{Turn}
 use Rattle.scim_service.specs.declared.replies.Reply.{Reply}
@@ -24,7 +24,7 @@ use Rattle.scim_service.specs.Step.{viewer_at, plan, next_store}
 use Rattle.scim_noninterference.specs.Alike.{IsAlike, is_in_use}
 use Rattle.scim_noninterference.specs.Lists.{is_of, run, replies_to, AreTurns, Round, first_list, second_list, AreOthers, IsRound, LeadAlike, IsUnseen, IsHidden, IsQuiet, AreQuiet}
 use Rattle.scim_noninterference.specs.Laws.{TwoLists, QuietOthers}
-use Rattle.scim_noninterference.proofs.StoreLemmas.{traits, seen_traits, seen_map, seen_same, controls_same, rows_visible, traits_keep}
+use Rattle.scim_noninterference.proofs.StoreLemmas.{traits, seen_traits, whole_same, controls_same, rows_visible, traits_keep}
 use Rattle.scim_noninterference.proofs.NameLemmas.{names_same, in_use_keep_same}
 use Rattle.scim_noninterference.proofs.LawLemmas.{one_request}
 use Rattle.scim_service.proofs.Facts.{next_is_store}
@@ -95,7 +95,7 @@ module _ (v : Viewer) where
       let same : filter (sees v) s ≡ filter (sees v) t
       = sym (seen_without v unseen.id s one unseen.unseen_before) ∙ ap (filter (sees v)) unseen.others ∙ seen_without v unseen.id t two unseen.unseen_after in
       record {
-        same_view = seen_map v s ∙ ap (map (visible v)) same ∙ sym (seen_map v t);
+        same_view = whole_same v s t (ap (map (traits v)) same);
         same_control = ap (map (control v.policy)) same;
         same_names = unseen.names;
       }
@@ -119,7 +119,7 @@ module _ (v : Viewer) where
       let all : seen_traits v (keep a cs) ≡ seen_traits v (keep b cs) = traits_keep v a b same cs cs refl in
       let names = names_same v.policy a b own other hidden.same_kind hidden.same_control in
       subst₂ (IsAlike v) again hidden.kept (record {
-        same_view = seen_same v (keep a cs) (keep b cs) all;
+        same_view = whole_same v (keep a cs) (keep b cs) all;
         same_control = controls_same v (keep a cs) (keep b cs) all;
         same_names = λ name. in_use_keep_same a b cs cs names name (ap (λ id. is_in_use (without id cs) name) hidden.same_id);
       })

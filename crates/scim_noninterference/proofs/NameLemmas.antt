@@ -1,6 +1,6 @@
 -- The unique names that are in use.
 use Rattle.std.proofs.Common.{◌≡◌, ◌≢◌, refl, sym, ◌∙◌, ap, ap₂, subst, ℕ, suc, zero, Bool, true, false, ◌||◌, List, [], ◌∷◌, ◌++◌, inl, inr, get_or, arith}
-use Rattle.std.specs.Prelude.{All, AllPairs, Some, find}
+use Rattle.std.specs.Prelude.{All, AllPairs, Option, None, Some, find, not, ◌&&◌}
 use Rattle.std.specs.List.{list_any, flat_map}
 use Rattle.std.specs.Ordering.{nat_cmp, is_eq}
 use Rattle.std.specs.declared.cmp.Ordering.TheVariants.{Less, Equal, Greater}
@@ -28,8 +28,12 @@ use Rattle.scim_value.specs.Uniqueness.{Name, name_at, unique_names, AreApart}
 use Rattle.scim_value.proofs.Facts.{get_cell, sound_part, unit_same}
 use Rattle.scim_policy.specs.Rules.{Rule}
 use Rattle.scim_policy.specs.Control.{is_named_in, is_unique, control}
-use Rattle.scim_shelf.specs.Stores.{AreKeyed, is_at, is_same_name, has_name, is_taken, is_used, below, above, keep, without}
+use Rattle.scim_shelf.specs.declared.changes.Change.{Change}
+use Rattle.scim_shelf.specs.declared.changes.Change.TheVariants.{Nothing, Keep, Remove}
+use Rattle.scim_shelf.specs.Stores.{AreKeyed, IsOld, is_at, is_same_name, has_name, is_taken, is_used, of_id, below, above, keep, without, changed}
+use Rattle.scim_service.specs.Step.{plan}
 use Rattle.scim_noninterference.specs.Alike.{is_in_use}
+use Rattle.scim_noninterference.specs.Names.{has_name_if, in_use_after, NamesAfterTurns, NamesRestOnControl}
 use Rattle.scim_noninterference.proofs.RowLemmas.{filter_implied}
 use Rattle.scim_search.proofs.Facts.{not_both}
 
@@ -123,6 +127,53 @@ pub in_use_split : (kind : Kind) (id : List ℕ) (cs : List Content) (a : Conten
     → (is_in_use cs name ≡ (has_name name a || is_in_use (without a.id cs) name)) × (has_name name a ≡ true → is_in_use (without a.id cs) name ≡ false)
 in_use_split kind id cs a name keyed found = apart_splits (is_at kind id) cs a name keyed.apart found
 
+-- ---- after a change
+
+-- what is found passes, and where none is found none passes
+found_passes : (test : Content → Bool) (cs : List Content) (c : Content) → find test cs ≡ Some c → test c ≡ true
+found_passes test [] c found = cc
+found_passes test (d ∷ ds) c found = elim (cases_Bool (test d)) [
+  | inl here ↦ let same : Some d ≡ Some c = rw here at found in let one : d ≡ c = cc in subst (λ (e : Content). test e ≡ true) one here
+  | inr other ↦ found_passes test ds c (rw other at found)
+]
+
+none_passes : (test : Content → Bool) (cs : List Content) → find test cs ≡ None → list_any test cs ≡ false
+none_passes test [] none = refl
+none_passes test (d ∷ ds) none = elim (cases_Bool (test d)) [
+  | inl here ↦ (let found : Some d ≡ None = rw here at none in cc)
+  | inr other ↦ rw other (none_passes test ds (rw other at none))
+]
+
+and_true : (b : Bool) → b ≡ (b && true)
+and_true true = refl
+and_true false = refl
+
+-- what is left of all, where one has none of what the others have
+left_over : (all has others : Bool) → all ≡ (has || others) → (has ≡ true → others ≡ false) → others ≡ (all && not has)
+left_over all true others split none = none refl ∙ sym (ap (λ b. b && false) split)
+left_over all false others split none = and_true others ∙ sym (ap (λ b. b && true) split)
+
+in_use_without : (id : List ℕ) (cs : List Content) (old : Option Content) (name : Name) → AreKeyed cs → of_id id cs ≡ old
+    → is_in_use (without id cs) name ≡ (is_in_use cs name && not (has_name_if name old))
+in_use_without id cs None name keyed found = in_use_absent id cs name (none_passes (λ d. is_same_id id d.id) cs found) ∙ and_true (is_in_use cs name)
+in_use_without id cs (Some a) name keyed found =
+    let test = λ (c : Content). is_same_id id c.id in
+    let split = apart_splits test cs a name keyed.apart found in
+    let own : id ≡ a.id = (bytes_eq-Decides id a.id).0 (found_passes test cs a found) in
+    subst (λ (i : List ℕ). is_in_use (without i cs) name ≡ (is_in_use cs name && not (has_name name a))) (sym own)
+    (left_over (is_in_use cs name) (has_name name a) (is_in_use (without a.id cs) name) split.0 split.1)
+
+in_use_changed : (change : Change) (cs : List Content) (old : Option Content) (name : Name) → AreKeyed cs → IsOld cs change old
+    → is_in_use (changed change cs) name ≡ in_use_after change old name (is_in_use cs name)
+in_use_changed Nothing cs old name keyed found = refl
+in_use_changed (Keep c) cs old name keyed found = in_use_keep c cs name ∙ ap (λ b. has_name name c || b) (in_use_without c.id cs old name keyed found)
+in_use_changed (Remove kind id) cs old name keyed found = in_use_without id cs old name keyed found
+
+pub names_after_turns : NamesAfterTurns
+names_after_turns policy base turn store old name is found = in_use_changed (plan policy base turn store).change store.resources old name is.keyed found
+
+-- ---- by control
+
 -- the unique names of a resource rest on control: they stand in its rows, so resources of one kind with the same rows there have the same ones
 control_values : (policy : List Rule) (c : Content) (u : AttributeUnit) → is_unique c.kind u.attribute ≡ true → values u (control policy c) ≡ values u (rows c)
 unfolding control
@@ -149,7 +200,7 @@ names_by_control policy c part =
     flat_map_same (λ l. name_at c.kind l (first_at l c)) (λ l. name_at c.kind l (cell_at l 0 (control policy c))) (unique_leaves c.kind)
     (All-weaker (λ (l : Leaf). is_unique c.kind l.attribute ≡ true) _ (λ l unique. ap (name_at c.kind l) (first_in_control policy c part l unique)) (unique_leaves c.kind) (unique_own c.kind))
 
-pub names_same : (policy : List Rule) (a b : Content) → IsResource a → IsResource b → a.kind ≡ b.kind → control policy a ≡ control policy b → unique_names a ≡ unique_names b
+pub names_same : NamesRestOnControl
 names_same policy a b is_a is_b same_kind same =
     names_by_control policy a is_a.part ∙ ap₂ names_in same_kind same ∙ sym (names_by_control policy b is_b.part)
 

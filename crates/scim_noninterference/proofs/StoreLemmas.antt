@@ -34,6 +34,7 @@ use Rattle.scim_view.specs.View.{Viewer, read_decision, may_be_seen, sees, visib
 use Rattle.scim_view.specs.Groups.{seen, memberships, visible_with, with_groups, views}
 use Rattle.scim_shelf.specs.Stores.{AreKeyed, is_at, below, above, keep, without}
 use Rattle.scim_search.proofs.Facts.{filter_swap, none_at, made_map, made_views}
+use Rattle.scim_noninterference.specs.Alike.{whole_view}
 use Rattle.scim_noninterference.proofs.RowLemmas.{restricted_put}
 
 -- of a resource: its kind and id, the rows of what may be seen of it, and what the policy decides by
@@ -273,6 +274,12 @@ module _ (v : Viewer) where
       ∙ map_same (traits v) (with_groups v (of_kind Group s)) (with_groups v (of_kind Group t)) (with_groups_same s t h)
       (filter (sees v) (of_kind kind s)) (filter (sees v) (of_kind kind t)) (kind_traits kind s t h)
       ∙ sym (views_map (of_kind Group t) (of_kind kind t))
+
+  pub whole_same : (s t : List Content) → seen_traits v s ≡ seen_traits v t → whole_view v s ≡ whole_view v t
+  whole_same s t h =
+      views_map (of_kind Group s) s
+      ∙ map_same (traits v) (with_groups v (of_kind Group s)) (with_groups v (of_kind Group t)) (with_groups_same s t h) (filter (sees v) s) (filter (sees v) t) h
+      ∙ sym (views_map (of_kind Group t) t)
 
   -- the rows of what is visible of a resource are those of its traits
   pub rows_visible : (c : Content) → IsResource c → rows (visible v c) ≡ restricted (may_see v c) (rows c)

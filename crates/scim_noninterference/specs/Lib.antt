@@ -1,4 +1,5 @@
 pub mod Alike
 pub mod Lists
 pub mod Cells
+pub mod Names
 pub mod Laws

@@ -37,7 +37,8 @@ AreTurns policy base client store (turn ∷ more) =
 
 -- ---- two lists with the same turns of a client
 
--- A turn of the client, with the turns of others before it in the first list and in the second.
+-- One turn of the client, `own`, and the turns of other clients just before it: `first` in the first list, `second` in
+-- the second list.
 pub record Round : Type 0 where
   pub first : List Turn
   pub second : List Turn
@@ -63,8 +64,8 @@ pub record IsRound (client : List ℕ) (r : Round) : Type 0 where
   pub first : AreOthers client r.first
   pub second : AreOthers client r.second
 
--- At each point where others come, their turns in the two lists take stores that are alike for the viewer to
--- alike ones.
+-- The turns of other clients keep the two stores alike for the viewer: at each point where others have turns, if the
+-- stores of the two lists are alike before these turns, they are alike after them.
 abbrev pub LeadAlike : Viewer → Store → Store → List Round → List Turn → List Turn → Type 0
 LeadAlike v s t [] first second = IsAlike v s.resources t.resources → IsAlike v (run v.policy v.base s first).resources (run v.policy v.base t second).resources
 LeadAlike v s t (r ∷ rounds) first second =

@@ -1,6 +1,5 @@
 -- Reading one part after another.
-use Rattle.std.proofs.Common.{◌≡◌, ◌<◌, ◌+◌, ℕ, zero, suc, List, [], ◌∷◌, ◌++◌, append_assoc, append-nil, map, drop, get_or, length, Result, Ok, Err, refl, sym, ap, subst, ◌∙◌, arith}
-use Rattle.scim_patch_steps.specs.Patch.{Step}
+use Rattle.std.proofs.Common.{◌≡◌, ◌<◌, ◌+◌, ℕ, zero, suc, List, [], ◌∷◌, append_assoc, append-nil, map, drop, get_or, length, Ok, Err, refl, sym, ap, subst, ◌∙◌, arith}
 use Rattle.scim_patch_message.specs.declared.faults.PatchFault.{PatchFault}
 use Rattle.scim_patch_message.specs.declared.faults.PatchFault.TheVariants.{Syntax, Path, Value}
 use Rattle.scim_patch_message.specs.Readings.{Read, first_of, both, joined}

@@ -1,6 +1,6 @@
 pub mod TargetLemmas
 pub mod BothLemmas
-pub mod EmptiedLemmas
+pub mod ClearedLemmas
 pub mod ListLemmas
 pub mod KnownLemmas
 pub mod SoundLemmas

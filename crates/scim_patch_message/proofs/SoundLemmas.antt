@@ -1,41 +1,33 @@
 -- The steps that are read may be made of a resource of the kind.
-use Rattle.std.proofs.Common.{◌≡◌, ◌<◌, ◌≤◌, ◌∙◌, ℕ, zero, suc, Bool, true, false, ◌&&◌, ◌||◌, List, [], ◌∷◌, ◌++◌, map, length, get_or, Option, None, Some, option_map, Result, Ok, Err, refl, sym, ap, subst, arith, true≢false, inl, inr}
-use Rattle.std.specs.Prelude.{All, AllPairs, Contains, not, if◌then◌else◌}
-use Rattle.std.specs.List.{flat_map, list_all, list_any}
+use Rattle.std.proofs.Common.{◌≡◌, ◌∙◌, ℕ, zero, Bool, true, false, ◌&&◌, ◌||◌, List, [], ◌∷◌, map, Option, None, Some, Ok, Err, refl, sym, ap, subst, arith, true≢false, inl, inr}
+use Rattle.std.specs.Prelude.{All, Contains, not, if◌then◌else◌}
+use Rattle.std.specs.List.{list_all, list_any}
 use Rattle.std.proofs.lemmas.Bool.{cases_Bool}
-use Rattle.std.proofs.lemmas.List.Elements.{All-nil, All-cons, All-head, All-tail, All-append, All-map, All-weaker, All-contains, All-contains_itself}
+use Rattle.std.proofs.lemmas.List.Elements.{All-nil, All-cons, All-head, All-tail, All-append, All-weaker, All-contains, All-contains_itself}
 use Rattle.std.proofs.lemmas.List.Folds.{Any-from_list_any}
 use Rattle.std.proofs.lemmas.List.Sums.{AllPass-from_list_all}
 use Rattle.serde_json.specs.Data.{Data, Members, no_members, member}
-use Rattle.serde_json.specs.Find.{as_object}
 use Rattle.scim_schema.specs.declared.Kind.{Kind}
 use Rattle.scim_schema.specs.declared.Kind.TheVariants.{User, Group}
 use Rattle.scim_schema.specs.declared.Attribute.{Attribute}
 use Rattle.scim_schema.specs.declared.SubAttribute.{SubAttribute}
 use Rattle.scim_schema.specs.declared.Leaf.{Leaf}
 use Rattle.scim_schema.specs.declared.Unit.{Unit as AttributeUnit}
-use Rattle.scim_schema.specs.declared.json_keys.JsonShape.{JsonShape}
-use Rattle.scim_schema.specs.declared.json_keys.JsonShape.TheVariants.{Simple, Complex, MultiValued}
-use Rattle.scim_schema.specs.Characteristics.{characteristics_of, is_multi_valued}
-use Rattle.scim_schema.specs.JsonKeys.{shape_of}
-use Rattle.scim_schema.specs.Mutability.{is_read_only, is_write_only, is_fixed}
+use Rattle.scim_schema.specs.Characteristics.{is_multi_valued}
+use Rattle.scim_schema.specs.Mutability.{is_write_only, is_fixed}
 use Rattle.scim_schema.specs.Table.{attributes, sub_attributes, leaves, leaves_with, HasLeaf}
-use Rattle.scim_schema.specs.Units.{simple, leaf_at, whole, unit_of, is_same_unit, units_of, units}
+use Rattle.scim_schema.specs.Units.{leaf_at, whole, unit_of, is_same_unit, units_of, units}
 use Rattle.scim_schema.proofs.Facts.{is_same_unit-Decides}
 use Rattle.scim_cell.specs.declared.rows.Field.{Field}
-use Rattle.scim_cell.specs.Rows.{Row, IsSoundField, IsValue, AreValues}
-use Rattle.scim_filter_grammar.specs.Tree.{Tree}
+use Rattle.scim_cell.specs.Rows.{Row, IsSoundField, IsValue}
 use Rattle.scim_body.specs.Bodies.{field_given}
 use Rattle.scim_body.specs.Drafts.{MayBeGiven}
 use Rattle.scim_body.proofs.Facts.{contains_joined, many_unit, one_pair, single_row, sub_attribute_leaf, AreFields, IsOf, IsSingle, IsValueOf, Rises, row_with}
-use Rattle.scim_patch_steps.specs.Changes.{StepChange, Keep, Clear, KeepSubAttribute, ClearEverywhere, Replace as ReplaceAll}
+use Rattle.scim_patch_steps.specs.Changes.{StepChange, Clear}
 use Rattle.scim_patch_steps.specs.Steps.{is_required}
 use Rattle.scim_patch_steps.specs.Patch.{Step, Of, AreGivenFields, AreGivenValues, MayBeMade, IsStep}
-use Rattle.scim_patch_message.specs.declared.operations.Operation.{Operation}
-use Rattle.scim_patch_message.specs.declared.operations.Operation.TheVariants.{Add, Replace, Remove}
-use Rattle.scim_patch_message.specs.declared.faults.PatchFault.TheVariants as fault
 use Rattle.scim_patch_message.specs.Readings.{Read, both, joined, each_member, value_read}
-use Rattle.scim_patch_message.specs.PathSteps.{one, nothing_given, unit_emptied, emptied, fixed_steps, set_to}
+use Rattle.scim_patch_message.specs.PathSteps.{one, unit_cleared, cleared, set_to}
 
 -- ---- what is read one after another
 
@@ -125,23 +117,18 @@ many_free kind a c many needed =
 pub sub_leaf : (kind : Kind) (a : Attribute) (b : SubAttribute) → Contains (attributes kind) a → Contains (sub_attributes a) b → HasLeaf kind (leaf_at a b)
 sub_leaf kind a b c d = contains_joined (λ e. leaves_with e (sub_attributes e)) (attributes kind) a (leaf_at a b) c.0 c.1 c.2 (sub_attribute_leaf a (sub_attributes a) b d)
 
--- ---- without a value
+-- ---- what is cleared
 
-nothing_sound : (kind : Kind) (op : Operation) (u : AttributeUnit) → MayBeMade kind u (nothing_given op)
-nothing_sound kind Add u = tt
-nothing_sound kind Replace u = tt
-nothing_sound kind Remove u = tt
-
-unit_emptied_sound : (kind : Kind) (op : Operation) (u : AttributeUnit) → Contains (units kind) u → Sound kind (unit_emptied kind op u)
-unit_emptied_sound kind op u there = elim (cases_Bool (is_fixed kind u)) [
+unit_cleared_sound : (kind : Kind) (u : AttributeUnit) → Contains (units kind) u → Sound kind (unit_cleared kind u)
+unit_cleared_sound kind u there = elim (cases_Bool (is_fixed kind u)) [
   | inl t ↦ rw t (All-nil (IsStep kind))
-  | inr f ↦ rw f (one_sound kind u (nothing_given op) there (nothing_sound kind op u))
+  | inr f ↦ rw f (one_sound kind u Clear there tt)
 ]
 
-pub emptied_sound : (kind : Kind) (op : Operation) (a : Attribute) → Contains (attributes kind) a → Sound kind (emptied kind op a)
-emptied_sound kind op a c =
-    joined_sound kind (unit_emptied kind op) (units_of a)
-    (All-weaker (Contains (units_of a)) (λ u. Sound kind (unit_emptied kind op u)) (λ u d. unit_emptied_sound kind op u (unit_there kind a u c d)) (units_of a) (All-contains_itself (units_of a)))
+pub all_cleared_sound : (kind : Kind) (a : Attribute) → Contains (attributes kind) a → Sound kind (cleared kind a)
+all_cleared_sound kind a c =
+    joined_sound kind (unit_cleared kind) (units_of a)
+    (All-weaker (Contains (units_of a)) (λ u. Sound kind (unit_cleared kind u)) (λ u d. unit_cleared_sound kind u (unit_there kind a u c d)) (units_of a) (All-contains_itself (units_of a)))
 
 -- ---- given values
 

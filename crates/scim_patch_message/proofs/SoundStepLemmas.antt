@@ -1,7 +1,6 @@
 -- So may the steps of each path, and of the whole message.
-use Rattle.std.proofs.Common.{◌≡◌, ◌<◌, ◌∙◌, ℕ, Bool, true, false, ◌&&◌, List, [], ◌∷◌, map, length, get_or, Option, None, Some, option_map, Result, Ok, Err, refl, sym, ap, subst, arith, true≢false, inl, inr}
+use Rattle.std.proofs.Common.{◌≡◌, ◌∙◌, ℕ, Bool, true, false, ◌&&◌, List, [], ◌∷◌, map, length, get_or, Option, None, Some, option_map, Result, Ok, Err, refl, sym, ap, subst, true≢false, inl, inr}
 use Rattle.std.specs.Prelude.{All, Contains, nat_lt, codes, option_and_then, if◌then◌else◌}
-use Rattle.std.specs.List.{flat_map}
 use Rattle.std.proofs.lemmas.Bool.{cases_Bool}
 use Rattle.std.proofs.lemmas.List.Elements.{All-nil, All-cons, All-map, All-weaker, All-contains_itself}
 use denote.Enum.Bare.{sameb}
@@ -12,8 +11,7 @@ use Rattle.scim_schema.specs.declared.Attribute.{Attribute}
 use Rattle.scim_schema.specs.declared.Attribute.TheVariants.{UserName}
 use Rattle.scim_schema.specs.declared.SubAttribute.{SubAttribute}
 use Rattle.scim_schema.specs.declared.Leaf.{Leaf}
-use Rattle.scim_schema.specs.declared.Unit.{Unit as AttributeUnit}
-use Rattle.scim_schema.specs.declared.schemas.Schema.{Schema}
+use Rattle.scim_schema.specs.declared.schema_urns.Schema.{Schema}
 use Rattle.scim_schema.specs.declared.json_keys.JsonShape.{JsonShape}
 use Rattle.scim_schema.specs.declared.json_keys.JsonShape.TheVariants.{Simple, Complex, MultiValued}
 use Rattle.scim_schema.specs.contracts.Attribute.{the_type as the_attribute}
@@ -32,19 +30,19 @@ use Rattle.scim_body.specs.BodyNames.{value_named, is_twice, items_list, value_c
 use Rattle.scim_body.specs.BodyValues.{present, given_named, given_atom, field_with, fields_of, listed_values}
 use Rattle.scim_body.specs.Bodies.{Given, field_given, named_given, simple_given, complex_given, shaped_given}
 use Rattle.scim_body.specs.Drafts.{is_empty}
-use Rattle.scim_body.proofs.Facts.{atom_given, chained, filled, fields_given, fits_complex, fits_simple, has_simple, mapped, not_refused, simple_no_moment, table_fits, values_listed, with_one, IsOf, IsSingle}
+use Rattle.scim_body.proofs.Facts.{atom_given, chained, filled, fields_given, fits_simple, has_simple, mapped, not_refused, simple_no_moment, table_fits, values_listed, with_one, IsOf, IsSingle}
 use Rattle.scim_path.specs.declared.faults.PathFault.{PathFault}
 use Rattle.scim_path.specs.Paths.{PathTarget, OfExtension, OfAttribute, OfSubAttribute, OfValues}
-use Rattle.scim_patch_steps.specs.Changes.{StepChange, Keep, Clear, KeepMatches, RemoveMatches, KeepSubAttribute, ClearAtMatches, ClearEverywhere, SetEverywhere}
+use Rattle.scim_patch_steps.specs.Changes.{StepChange, Keep, KeepMatches, RemoveMatches, KeepSubAttribute, ClearAtMatches}
 use Rattle.scim_patch_steps.specs.Patch.{Step, Pathless, Of, AreGivenFields, AreGivenValues, MayBeMade, IsStep}
 use Rattle.scim_patch_message.specs.declared.operations.Operation.{Operation}
 use Rattle.scim_patch_message.specs.declared.operations.Operation.TheVariants.{Add, Replace, Remove}
 use Rattle.scim_patch_message.specs.Targets.{target_in}
-use Rattle.scim_patch_message.specs.Readings.{Read, joined, each_member, value_read}
-use Rattle.scim_patch_message.specs.PathSteps.{one, emptied, fixed_steps, set_to, set_units, listed_change, listed_steps, single_steps, given_steps, writable_steps, attribute_steps, sub_attribute_kept, sub_attribute_cleared, sub_attribute_set, sub_attribute_emptied, sub_attribute_given, writable_sub_attribute_steps, sub_attribute_steps, matches_emptied, matches_change, matches_set, matches_given, writable_matches_steps, matches_steps, at_matches_emptied, at_matches_change, at_matches_set, at_matches_given, writable_at_matches_steps, at_matches_steps, own_emptied, extension_emptied, attribute_or_none, own_member, extension_object, extension_given, extension_steps, values_steps, target_steps, is_fixed_target}
+use Rattle.scim_patch_message.specs.Readings.{Read, joined, value_read}
+use Rattle.scim_patch_message.specs.PathSteps.{one, emptied, kept_steps, set_to, set_units, listed_change, listed_steps, single_steps, given_steps, writable_steps, attribute_steps, sub_attribute_kept, sub_attribute_cleared, sub_attribute_set, sub_attribute_emptied, sub_attribute_given, writable_sub_attribute_steps, sub_attribute_steps, matches_emptied, matches_change, matches_set, matches_given, writable_matches_steps, matches_steps, at_matches_emptied, at_matches_change, at_matches_given, writable_at_matches_steps, at_matches_steps, own_removed, extension_removed, extension_emptied, attribute_or_none, own_member, extension_object, extension_given, extension_steps, target_steps, is_fixed_target}
 use Rattle.scim_patch_message.specs.Messages.{names_nothing, key_steps, member_steps, object_steps, pathless_steps, valued_steps, pathed_steps, text_steps, path_steps, named_steps, keys_clash, member_operation, object_operation, operation_steps, if_few, list_steps, items_steps, object_message, message_steps}
 use Rattle.scim_patch_message.proofs.KnownLemmas.{found_in, IsTarget, IsKnown, target_known}
-use Rattle.scim_patch_message.proofs.SoundLemmas.{Sound, both_sound, joined_sound, each_sound, value_sound, one_sound, whole_there, leaf_there, many_free, sub_leaf, emptied_sound, set_sound, values_sound, fields_sound, field_sound}
+use Rattle.scim_patch_message.proofs.SoundLemmas.{Sound, both_sound, joined_sound, each_sound, value_sound, one_sound, whole_there, leaf_there, many_free, sub_leaf, all_cleared_sound, set_sound, values_sound, fields_sound, field_sound}
 
 -- what is read either way is sound
 either : (kind : Kind) (b : Bool) (r s : Read) → (b ≡ true → Sound kind r) → (b ≡ false → Sound kind s) → Sound kind (if b then r else s)
@@ -61,12 +59,17 @@ module _ (kind : Kind) (a : Attribute) (c : Contains (attributes kind) a) where
     | inr f ↦ rw f refl
   ]
 
-  fixed_sound : (shape : JsonShape) → fits shape (is_multi_valued a) (sub_attributes a) ≡ true → All (IsStep kind) (fixed_steps a shape)
-  fixed_sound Simple h =
+  all_kept_sound : (shape : JsonShape) → fits shape (is_multi_valued a) (sub_attributes a) ≡ true → All (IsStep kind) (kept_steps a shape)
+  all_kept_sound Simple h =
       let f = fits_simple (is_multi_valued a) (sub_attributes a) h in
       one_sound kind (whole a) Keep (subst (λ u. Contains (units kind) u) whole_is (leaf_there kind (simple a) (has_simple kind a c f.1))) tt
-  fixed_sound Complex h = All-nil (IsStep kind)
-  fixed_sound MultiValued h = one_sound kind (whole a) Keep (whole_there kind a c h) tt
+  all_kept_sound Complex h = All-nil (IsStep kind)
+  all_kept_sound MultiValued h = one_sound kind (whole a) Keep (whole_there kind a c h) tt
+
+  emptied_sound : (op : Operation) → Sound kind (emptied kind op a)
+  emptied_sound Add = all_kept_sound (shape_of a) (table_fits a)
+  emptied_sound Replace = all_cleared_sound kind a c
+  emptied_sound Remove = all_cleared_sound kind a c
 
   -- what is given of it, where it has one value
   module _ (writable : is_read_only kind (simple a) ≡ false) where
@@ -125,18 +128,18 @@ module _ (kind : Kind) (a : Attribute) (c : Contains (attributes kind) a) where
     single_sound : (op : Operation) (d : Data) → is_multi_valued a ≡ false → Sound kind (single_steps kind op a d)
     single_sound Add d single = units_set d single
     single_sound Replace d single = units_set d single
-    single_sound Remove d single = emptied_sound kind Remove a c
+    single_sound Remove d single = all_cleared_sound kind a c
 
     given_sound : (op : Operation) (d : Data) → Sound kind (given_steps kind op a d)
     given_sound op d = either kind (is_multi_valued a) _ _ (λ many. listed_set op d many) (λ single. single_sound op d single)
 
     writable_sound : (op : Operation) (v : Option Data) → Sound kind (writable_steps kind op a v)
-    writable_sound op None = emptied_sound kind op a c
+    writable_sound op None = emptied_sound op
     writable_sound op (Some d) = given_sound op d
 
   pub attribute_sound : (op : Operation) (v : Option Data) → Sound kind (attribute_steps kind op a v)
   unfolding attribute_steps
-  attribute_sound op v = either kind (is_read_only kind (simple a)) _ _ (λ fixed. fixed_sound (shape_of a) (table_fits a)) (λ writable. writable_sound writable op v)
+  attribute_sound op v = either kind (is_read_only kind (simple a)) _ _ (λ fixed. all_kept_sound (shape_of a) (table_fits a)) (λ writable. writable_sound writable op v)
 
 -- ---- a sub-attribute
 
@@ -263,13 +266,18 @@ module _ (kind : Kind) (a : Attribute) (c : Contains (attributes kind) a) (many 
 
 -- ---- whatever a path names
 
-own_emptied_sound : (kind : Kind) (op : Operation) (s : Schema) (a : Attribute) → Contains (attributes kind) a → Sound kind (own_emptied kind op s a)
-own_emptied_sound kind op s a c = either kind (is_same_schema (schema_of kind a) s) _ _ (λ own. attribute_sound kind a c op None) (λ other. All-nil (IsStep kind))
+own_removed_sound : (kind : Kind) (s : Schema) (a : Attribute) → Contains (attributes kind) a → Sound kind (own_removed kind s a)
+own_removed_sound kind s a c = either kind (is_same_schema (schema_of kind a) s) _ _ (λ own. attribute_sound kind a c Remove None) (λ other. All-nil (IsStep kind))
+
+extension_removed_sound : (kind : Kind) (s : Schema) → Sound kind (extension_removed kind s)
+extension_removed_sound kind s =
+    joined_sound kind (own_removed kind s) (attributes kind)
+    (All-weaker (Contains (attributes kind)) (λ a. Sound kind (own_removed kind s a)) (λ a c. own_removed_sound kind s a c) (attributes kind) (All-contains_itself (attributes kind)))
 
 extension_emptied_sound : (kind : Kind) (op : Operation) (s : Schema) → Sound kind (extension_emptied kind op s)
-extension_emptied_sound kind op s =
-    joined_sound kind (own_emptied kind op s) (attributes kind)
-    (All-weaker (Contains (attributes kind)) (λ a. Sound kind (own_emptied kind op s a)) (λ a c. own_emptied_sound kind op s a c) (attributes kind) (All-contains_itself (attributes kind)))
+extension_emptied_sound kind Add s = All-nil (IsStep kind)
+extension_emptied_sound kind Replace s = extension_removed_sound kind s
+extension_emptied_sound kind Remove s = extension_removed_sound kind s
 
 own_member_sound : (kind : Kind) (op : Operation) (s : Schema) (key : List ℕ) (d : Data) → Sound kind (own_member kind op s key d)
 own_member_sound kind op s key d = named (attribute_named_in kind s key) (λ a e. found_in _ (attributes kind) a e)
@@ -285,7 +293,7 @@ extension_object_sound kind op s (Some ms) = each_sound kind (own_member kind op
 extension_given_sound : (kind : Kind) (op : Operation) (s : Schema) (d : Data) → Sound kind (extension_given kind op s d)
 extension_given_sound kind Add s d = extension_object_sound kind Add s (as_object d)
 extension_given_sound kind Replace s d = extension_object_sound kind Replace s (as_object d)
-extension_given_sound kind Remove s d = extension_emptied_sound kind Remove s
+extension_given_sound kind Remove s d = extension_removed_sound kind s
 
 extension_sound : (kind : Kind) (op : Operation) (s : Schema) (v : Option Data) → Sound kind (extension_steps kind op s v)
 unfolding extension_steps

@@ -1,13 +1,13 @@
 -- What a text names, as a function of it, is what the grammar says, and it is all that the grammar lets it name.
-use Rattle.std.proofs.Common.{◌≡◌, ◌≤◌, ℕ, Bool, true, false, List, length, Option, None, Some, Result, Ok, Err, refl, sym, ap, subst, ◌∙◌, inl, inr, arith}
-use Rattle.std.specs.Prelude.{nat_le, MatchOption, if◌then◌else◌}
+use Rattle.std.proofs.Common.{◌≡◌, ◌≤◌, ℕ, List, length, Option, None, Some, Result, Ok, Err, refl, inl, inr, arith}
+use Rattle.std.specs.Prelude.{nat_le, MatchOption}
 use Rattle.std.specs.Result.{result_ok}
 use Rattle.std.proofs.lemmas.Bool.{cases_Bool, leb-true, leb-false}
 use Rattle.scim_schema.specs.declared.Kind.{Kind}
-use Rattle.scim_schema.specs.declared.schemas.Schema.{Schema}
+use Rattle.scim_schema.specs.declared.schema_urns.Schema.{Schema}
 use Rattle.scim_schema.specs.declared.limits.TheConstants.{LONGEST_FILTER}
 use Rattle.scim_filter_grammar.specs.Bytes.{is_space, behind}
-use Rattle.scim_filter_grammar.specs.WrittenPaths.{Written, IsWritten}
+use Rattle.scim_filter_grammar.specs.WrittenPaths.{Written}
 use Rattle.scim_filter_grammar.specs.Reading.{Fault}
 use Rattle.scim_filter_grammar.specs.PathReading.{written_at}
 use Rattle.scim_filter_grammar.proofs.Facts.{whole_takes, not_written}
@@ -17,7 +17,6 @@ use Rattle.scim_text.specs.Failures.{UnlessMemory}
 use Rattle.scim_path.specs.declared.paths.Path.{Path}
 use Rattle.scim_path.specs.Results.{target_read}
 use Rattle.scim_path.specs.declared.faults.PathFault.{PathFault}
-use Rattle.scim_path.specs.declared.faults.PathFault.TheVariants.{Syntax}
 use Rattle.scim_path.specs.Paths.{PathTarget, OfExtension, extension_named, Reads, spelled, unspelled, Names, TextsNameOneThing}
 use Rattle.scim_patch_message.specs.Targets.{written_in, spelled_target, target_with, target_in, TargetsAreNamed}
 

@@ -14,7 +14,7 @@ use Rattle.scim_path.specs.declared.faults.PathFault.{PathFault}
 use Rattle.scim_path.specs.Paths.{PathTarget}
 use Rattle.scim_body.specs.BodyNames.{value_named, is_twice, items_list}
 use Rattle.scim_body.specs.BodyValues.{present, given_named}
-use Rattle.scim_patch_steps.specs.Patch.{Step, Pathless, Patch}
+use Rattle.scim_patch_steps.specs.Patch.{Pathless, Patch}
 use Rattle.scim_patch_message.specs.declared.operations.Operation.{Operation}
 use Rattle.scim_patch_message.specs.declared.operations.Operation.TheVariants.{Add, Replace, Remove}
 use Rattle.scim_patch_message.specs.declared.faults.PatchFault.{PatchFault}

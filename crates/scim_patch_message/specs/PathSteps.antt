@@ -1,5 +1,5 @@
 -- The steps of an operation at the target of its path (RFC 7644 section 3.5.2).
-use Rattle.std.specs.Prelude.{ℕ, Bool, true, false, List, [], ◌∷◌, map, Option, None, Some, option_map, Result, Ok, Err, if◌then◌else◌}
+use Rattle.std.specs.Prelude.{ℕ, Bool, true, false, List, [], ◌∷◌, map, Option, None, Some, option_map, Ok, Err, if◌then◌else◌}
 use Rattle.std.specs.List.{flat_map}
 use Rattle.serde_json.specs.Data.{Data, Members}
 use Rattle.serde_json.specs.Find.{as_object}
@@ -8,7 +8,7 @@ use Rattle.scim_schema.specs.declared.Attribute.{Attribute}
 use Rattle.scim_schema.specs.declared.SubAttribute.{SubAttribute}
 use Rattle.scim_schema.specs.declared.SubAttribute.TheVariants as sub_attribute
 use Rattle.scim_schema.specs.declared.Unit.{Unit as AttributeUnit}
-use Rattle.scim_schema.specs.declared.schemas.Schema.{Schema}
+use Rattle.scim_schema.specs.declared.schema_urns.Schema.{Schema}
 use Rattle.scim_schema.specs.declared.json_keys.JsonShape.{JsonShape}
 use Rattle.scim_schema.specs.declared.json_keys.JsonShape.TheVariants.{Simple, Complex, MultiValued}
 use Rattle.scim_schema.specs.Characteristics.{is_multi_valued}
@@ -35,7 +35,8 @@ use Rattle.scim_patch_message.specs.declared.faults.PatchFault.TheVariants.{Valu
 use Rattle.scim_patch_message.specs.Readings.{Read, joined, each_member, value_read}
 
 -- Throughout this file a value is None if it is missing, null or `[]` (RFC 7643 section 2.5).
--- A replace without a value is a remove, and an add without a value changes nothing.
+-- A replace without a value is a remove. An add without a value changes nothing: at one unit it is a step that
+-- keeps it; at a complex attribute or an extension it gives no sub-attribute and no attribute, so it is no step.
 
 -- the list of one step
 abbrev pub one : AttributeUnit → StepChange → List Step
@@ -43,30 +44,29 @@ one u change = Of u change ∷ []
 
 -- ---- a whole attribute
 
--- the change of an operation without a value at a unit: an add keeps it, others clear it
-abbrev pub nothing_given : Operation → StepChange
-nothing_given Add = Keep
-nothing_given Replace = Clear
-nothing_given Remove = Clear
+-- the steps that keep an attribute of a shape as it is: one at its unit, or none if it is complex
+abbrev pub kept_steps : Attribute → JsonShape → List Step
+kept_steps a Simple = one (whole a) Keep
+kept_steps a Complex = []
+kept_steps a MultiValued = one (whole a) Keep
 
--- the steps of an operation without a value at a unit; none if it is readOnly
-abbrev pub unit_emptied : Kind → Operation → AttributeUnit → Read
-unit_emptied kind op u = if is_fixed kind u then Ok [] else Ok (one u (nothing_given op))
+-- the steps that clear a unit; none if it is readOnly
+abbrev pub unit_cleared : Kind → AttributeUnit → Read
+unit_cleared kind u = if is_fixed kind u then Ok [] else Ok (one u Clear)
 
--- the steps of an operation without a value at a sub-attribute
-abbrev pub sub_attribute_emptied_at : Kind → Operation → Attribute → SubAttribute → Read
-sub_attribute_emptied_at kind op a b = unit_emptied kind op (unit_of (leaf_at a b))
+-- the steps that clear a sub-attribute
+abbrev pub sub_attribute_cleared_at : Kind → Attribute → SubAttribute → Read
+sub_attribute_cleared_at kind a b = unit_cleared kind (unit_of (leaf_at a b))
 
--- the steps of an operation without a value at each unit of an attribute, in the order of the schema
+-- the steps that clear each unit of an attribute, in the order of the schema
+abbrev pub cleared : Kind → Attribute → Read
+cleared kind a = joined (map (unit_cleared kind) (units_of a))
+
+-- the steps of an operation without a value at an attribute
 abbrev pub emptied : Kind → Operation → Attribute → Read
-emptied kind op a = joined (map (unit_emptied kind op) (units_of a))
-
--- the steps at a readOnly attribute, whose value isn't read: one that is refused when applied, or none if
--- complex
-abbrev pub fixed_steps : Attribute → JsonShape → List Step
-fixed_steps a Simple = one (whole a) Keep
-fixed_steps a Complex = []
-fixed_steps a MultiValued = one (whole a) Keep
+emptied kind Add a = Ok (kept_steps a (shape_of a))
+emptied kind Replace a = cleared kind a
+emptied kind Remove a = cleared kind a
 
 -- the step that sets a unit to the values given for it
 abbrev pub set_to : Given → Step
@@ -102,7 +102,7 @@ listed_steps kind op a d = option_map (λ vs. one (whole a) (listed_change op a 
 
 -- the steps of an operation with a value at a single-valued attribute, where a remove ignores the value
 abbrev pub single_steps : Kind → Operation → Attribute → Data → Read
-single_steps kind Remove a d = emptied kind Remove a
+single_steps kind Remove a d = cleared kind a
 single_steps kind Add a d = value_read_of a d (set_units kind a d)
 single_steps kind Replace a d = value_read_of a d (set_units kind a d)
 
@@ -115,9 +115,10 @@ abbrev pub writable_steps : Kind → Operation → Attribute → Option Data →
 writable_steps kind op a None = emptied kind op a
 writable_steps kind op a (Some d) = given_steps kind op a d
 
--- the steps of an operation at an attribute
+-- the steps of an operation at an attribute; the value for a readOnly one isn't read, and its step is refused
+-- when applied
 unfoldable pub attribute_steps : Kind → Operation → Attribute → Option Data → Read
-attribute_steps kind op a v = if is_read_only kind (simple a) then Ok (fixed_steps a (shape_of a)) else writable_steps kind op a v
+attribute_steps kind op a v = if is_read_only kind (simple a) then Ok (kept_steps a (shape_of a)) else writable_steps kind op a v
 
 -- ---- a sub-attribute, of one value or of each
 
@@ -221,13 +222,19 @@ at_matches_steps kind op a t b v = if is_read_only kind (leaf_at a b) then Ok (o
 
 -- ---- an extension
 
--- the steps of an operation without a value at an attribute, if it belongs to the extension
-abbrev pub own_emptied : Kind → Operation → Schema → Attribute → Read
-own_emptied kind op s a = if is_same_schema (schema_of kind a) s then attribute_steps kind op a None else Ok []
+-- the steps that remove an attribute, if it belongs to the extension
+abbrev pub own_removed : Kind → Schema → Attribute → Read
+own_removed kind s a = if is_same_schema (schema_of kind a) s then attribute_steps kind Remove a None else Ok []
 
--- the steps of an operation without a value at each attribute of the extension, in the order of the schema
+-- the steps that remove each attribute of the extension, in the order of the schema
+abbrev pub extension_removed : Kind → Schema → Read
+extension_removed kind s = joined (map (own_removed kind s) (attributes kind))
+
+-- the steps of an operation without a value at an extension
 abbrev pub extension_emptied : Kind → Operation → Schema → Read
-extension_emptied kind op s = joined (map (own_emptied kind op s) (attributes kind))
+extension_emptied kind Add s = Ok []
+extension_emptied kind Replace s = extension_removed kind s
+extension_emptied kind Remove s = extension_removed kind s
 
 -- the steps at the attribute that a key of an extension's object names; none if it names none
 abbrev pub attribute_or_none : Kind → Operation → Option Attribute → Data → Read
@@ -245,7 +252,7 @@ extension_object kind op s (Some ms) = each_member (own_member kind op s) ms
 
 -- the steps of an operation with a value at an extension, where a remove ignores the value
 abbrev pub extension_given : Kind → Operation → Schema → Data → Read
-extension_given kind Remove s d = extension_emptied kind Remove s
+extension_given kind Remove s d = extension_removed kind s
 extension_given kind Add s d = extension_object kind Add s (as_object d)
 extension_given kind Replace s d = extension_object kind Replace s (as_object d)
 

@@ -3,12 +3,13 @@
 
 mod faults;
 mod laws;
+mod match_steps;
 mod message_readings;
 mod messages;
 mod operations;
 mod path_steps;
 mod path_targets;
-mod value_steps;
+mod pathless_steps;
 
 pub use faults::PatchFault;
 pub use laws::targets_are_named;

@@ -7,101 +7,21 @@ ghost use Rattle.scim_text.specs.Failures.{UnlessMemory};
 ghost use Rattle.scim_body.specs.BodyNames.{items_list};
 ghost use Rattle.scim_path.specs.Paths.{path_target};
 ghost use Rattle.scim_patch_message.specs.Messages as spec;
-ghost use Rattle.scim_patch_message.specs.Readings.{both, joined, each_member};
+ghost use Rattle.scim_patch_message.specs.Readings.{both, joined};
 ghost use Rattle.scim_patch_message.specs.code.Inside.{read_of, answered};
 
 use crate::faults::PatchFault;
 use crate::message_readings::Reading;
 use crate::operations::Operation;
-use crate::path_targets::{is_fixed_path, present, push_target, target_of};
+use crate::path_targets::{present, push_target, target_of};
+use crate::pathless_steps::push_pathless;
 use json::Scratch;
 use scim_body::{Member, NotJson, Tree, given_named, is_twice, value_named};
-use scim_filter_grammar::{Meant, attribute_path};
 use scim_patch_steps::Patch;
 use scim_path::Path;
 use scim_schema::{Kind, MOST_OPERATIONS};
 use scim_text::{Failed, NoMemory};
 use std::alloc::Global;
-
-/// Whether a key is the path of an attribute that the kind lacks.
-fn names_nothing(kind: Kind, key: &str) -> bool
-    ensures { result ≡ spec.names_nothing kind key.now }
-{
-    match attribute_path(kind, key) {
-        Some(Meant::Nothing) => true,
-        _ => false,
-    }
-}
-
-/// Appends the steps of an operation without a path at one key of its value.
-/// The key is a path. A readOnly target is ignored, and so is an attribute that the kind lacks.
-fn push_member(
-    alloc: Global,
-    kind: Kind,
-    operation: Operation,
-    key: &str,
-    value: &Tree<'_>,
-    reading: &mut Reading,
-) -> Result<(), NoMemory>
-    ensures { OnOk result (read_of reading.new ≡ both (read_of reading.old)
-        (spec.member_steps kind operation key.now (view value.now))) }
-{
-    match target_of(alloc, kind, key) {
-        Ok(path) => {
-            if is_fixed_path(kind, &path) {
-                return Ok(());
-            }
-            push_target(alloc, kind, operation, path, present(value), reading)
-        }
-        Err(Failed::Because(_)) => {
-            if !names_nothing(kind, key) {
-                reading.refuse(PatchFault::Path);
-            }
-            Ok(())
-        }
-        Err(Failed::NoMemory) => Err(NoMemory),
-    }
-}
-
-/// Appends the steps of an operation without a path at each key of its value, in byte order of the keys.
-fn push_members(
-    alloc: Global,
-    kind: Kind,
-    operation: Operation,
-    members: &[Member<'_>],
-    reading: &mut Reading,
-) -> Result<(), NoMemory>
-    ensures { OnOk result (read_of reading.new ≡ both (read_of reading.old)
-        (each_member (spec.member_steps kind operation) (members_view members.now))) }
-{
-    for member in members {
-        push_member(alloc, kind, operation, member.0, &member.1, reading)?;
-    }
-    Ok(())
-}
-
-/// Appends the steps of an operation without a path.
-fn push_pathless(
-    alloc: Global,
-    kind: Kind,
-    operation: Operation,
-    value: Option<&Tree<'_>>,
-    reading: &mut Reading,
-) -> Result<(), NoMemory>
-    ensures { OnOk result (read_of reading.new ≡ both (read_of reading.old)
-        (spec.pathless_steps kind operation (option_map (λ v. view v.now) value.entry))) }
-{
-    if operation == Operation::Remove {
-        return reading.push_pathless();
-    }
-    match value.and_then(Tree::as_object) {
-        Some(members) => push_members(alloc, kind, operation, members, reading),
-        None => {
-            reading.refuse(PatchFault::Value);
-            Ok(())
-        }
-    }
-}
 
 /// Appends the steps of an operation at the target of a path. An add or replace without a value is a fault.
 fn push_valued(
@@ -324,18 +244,22 @@ fn reading_of(alloc: Global, kind: Kind, text: &str) -> Result<Reading, NoMemory
 
 /// Reads the patch of a PATCH message for resources of the kind (RFC 7644 section 3.5.2).
 /// Its steps are those of the operations, in their order. Keys of the message and of its operations, and the
-/// value of `op`, are read in any ASCII case; other values are read as `read_body` reads them. An operation
-/// without a path stands for the steps at each key of its value, each key being a path; keys with a readOnly
-/// target or of an attribute that the kind lacks are ignored. The URN of an extension stands for each
-/// attribute in the value, a single-valued complex attribute for each of its sub-attributes. A replace by
-/// null or `[]` is a remove, and an add of them changes nothing. The value for a readOnly target isn't read,
-/// and its step is refused when the patch is applied.
+/// value of `op`, match in any ASCII case; other values are read as `read_body` reads them. In an operation
+/// without a path each key of the value is a path, and the operation has steps at each of them; keys with a
+/// readOnly target, and keys of attributes that the kind lacks, are ignored. An operation at the URN of an
+/// extension applies to each attribute in the value, and one at a single-valued complex attribute to each
+/// sub-attribute in the value; a remove applies to all of them. A replace by null or `[]` is a remove. An add
+/// of null or `[]` changes nothing: it has no step at an extension or a single-valued complex attribute, and
+/// otherwise a step that touches its unit. The value for a readOnly target isn't read, and its step is refused
+/// when the patch is applied.
 ///
-/// Faults are looked for in the whole message. Syntax if it isn't a JSON object with a list of operations
-/// that isn't empty, if an operation isn't an object with a known `op`, or if two keys of one object spell
-/// the same name differently. Otherwise Path if a path isn't valid or names an attribute that the kind lacks.
-/// Otherwise Value if a value is missing, of another type, over a limit or an empty `userName`, or if there
-/// are over 1,000 operations.
+/// The whole message is checked. Of several faults, the first in this list is returned:
+///
+/// - Syntax: the message isn't a JSON object with a non-empty list of operations, an operation isn't an object
+///   with a known `op`, or two keys of one object spell the same name differently;
+/// - Path: a path isn't valid or names an attribute that the kind lacks;
+/// - Value: a value is missing, of another type, over a limit or an empty `userName`, or there are over 1,000
+///   operations.
 pub fn read_patch(alloc: Global, kind: Kind, text: &str) -> Result<Patch, Failed<PatchFault>>
     ensures { UnlessMemory (λ r. answered r ≡ spec.patch_in kind (read text.now)) result }
 {

@@ -23,50 +23,62 @@ use scim_schema::{
 use scim_text::{Failed, NoMemory, push};
 use std::alloc::Global;
 
-/// Appends the step of an operation without a value at a unit: an add keeps it, others clear it.
-/// A readOnly unit is left out.
-fn push_unit_emptied(
-    kind: Kind,
-    operation: Operation,
-    unit: Unit,
-    reading: &mut Reading,
-) -> Result<(), NoMemory>
+/// Appends the step that keeps an attribute as it is. A complex attribute has none.
+fn push_kept(attribute: Attribute, reading: &mut Reading) -> Result<(), NoMemory>
     ensures { OnOk result (read_of reading.new
-        ≡ both (read_of reading.old) (spec.unit_emptied kind operation unit)) }
+        ≡ both (read_of reading.old) (Ok (spec.kept_steps attribute (shape_in attribute)))) }
+{
+    match shape_of(attribute) {
+        JsonShape::Complex => Ok(()),
+        JsonShape::Simple | JsonShape::MultiValued => {
+            reading.push(Unit::whole(attribute), StepChange::Keep)
+        }
+    }
+}
+
+/// Appends the step that clears a unit, unless it is readOnly.
+fn push_unit_cleared(kind: Kind, unit: Unit, reading: &mut Reading) -> Result<(), NoMemory>
+    ensures { OnOk result (read_of reading.new
+        ≡ both (read_of reading.old) (spec.unit_cleared kind unit)) }
 {
     if mutability_of(kind, unit) == Mutability::ReadOnly {
         return Ok(());
     }
-    match operation {
-        Operation::Add => reading.push(unit, StepChange::Keep),
-        Operation::Replace | Operation::Remove => reading.push(unit, StepChange::Clear),
-    }
+    reading.push(unit, StepChange::Clear)
 }
 
-/// Appends the steps of an operation without a value at these sub-attributes of a single-valued attribute.
-fn push_sub_attributes_emptied(
+/// Appends the steps that clear these sub-attributes of a single-valued attribute.
+fn push_sub_attributes_cleared(
     kind: Kind,
-    operation: Operation,
     attribute: Attribute,
     sub_attributes: &[SubAttribute],
     reading: &mut Reading,
 ) -> Result<(), NoMemory>
     ensures { OnOk result (read_of reading.new ≡ both (read_of reading.old)
-        (joined (map (spec.sub_attribute_emptied_at kind operation attribute)
-        sub_attributes.now))) }
+        (joined (map (spec.sub_attribute_cleared_at kind attribute) sub_attributes.now))) }
 {
     for sub_attribute in sub_attributes {
-        push_unit_emptied(
-            kind,
-            operation,
-            unit_of(Leaf::of(attribute, *sub_attribute)),
-            reading,
-        )?;
+        push_unit_cleared(kind, unit_of(Leaf::of(attribute, *sub_attribute)), reading)?;
     }
     Ok(())
 }
 
-/// Appends the steps of an operation without a value at each unit of an attribute, in schema order.
+/// Appends the steps that clear each unit of an attribute, in schema order.
+fn push_cleared(kind: Kind, attribute: Attribute, reading: &mut Reading) -> Result<(), NoMemory>
+    ensures { OnOk result (read_of reading.new
+        ≡ both (read_of reading.old) (spec.cleared kind attribute)) }
+{
+    if is_multi_valued(attribute) {
+        return push_unit_cleared(kind, Unit::whole(attribute), reading);
+    }
+    let own = sub_attributes(attribute);
+    if own.is_empty() {
+        return push_unit_cleared(kind, unit_of(Leaf::simple(attribute)), reading);
+    }
+    push_sub_attributes_cleared(kind, attribute, own, reading)
+}
+
+/// Appends the steps of an operation without a value at an attribute.
 fn push_emptied(
     kind: Kind,
     operation: Operation,
@@ -76,27 +88,9 @@ fn push_emptied(
     ensures { OnOk result (read_of reading.new
         ≡ both (read_of reading.old) (spec.emptied kind operation attribute)) }
 {
-    if is_multi_valued(attribute) {
-        return push_unit_emptied(kind, operation, Unit::whole(attribute), reading);
-    }
-    let own = sub_attributes(attribute);
-    if own.is_empty() {
-        return push_unit_emptied(kind, operation, unit_of(Leaf::simple(attribute)), reading);
-    }
-    push_sub_attributes_emptied(kind, operation, attribute, own, reading)
-}
-
-/// Appends the step of an operation at a readOnly attribute, which is refused when the patch is applied.
-/// A complex attribute has no step, since readOnly sub-attributes are left out.
-fn push_fixed(attribute: Attribute, reading: &mut Reading) -> Result<(), NoMemory>
-    ensures { OnOk result (read_of reading.new
-        ≡ both (read_of reading.old) (Ok (spec.fixed_steps attribute (shape_in attribute)))) }
-{
-    match shape_of(attribute) {
-        JsonShape::Complex => Ok(()),
-        JsonShape::Simple | JsonShape::MultiValued => {
-            reading.push(Unit::whole(attribute), StepChange::Keep)
-        }
+    match operation {
+        Operation::Add => push_kept(attribute, reading),
+        Operation::Replace | Operation::Remove => push_cleared(kind, attribute, reading),
     }
 }
 
@@ -126,7 +120,7 @@ fn push_set(
     }
 }
 
-/// Returns the texts at `value` in the values, in their order.
+/// Returns the texts of the sub-attribute `value` in these values, in their order.
 fn value_texts(alloc: Global, attribute: Attribute, values: &[Row]) -> Result<Vec<Text>, NoMemory>
     ensures { IfOk result (λ v. v.items ≡ flat_map (spec.value_text attribute) values.now) }
 {
@@ -204,12 +198,13 @@ fn push_given(
         return push_listed(alloc, kind, operation, attribute, value, reading);
     }
     match operation {
-        Operation::Remove => push_emptied(kind, operation, attribute, reading),
+        Operation::Remove => push_cleared(kind, attribute, reading),
         Operation::Add | Operation::Replace => push_set(alloc, kind, attribute, value, reading),
     }
 }
 
 /// Appends the steps of an operation at an attribute.
+/// The step at a readOnly attribute is refused when the patch is applied.
 #[tactic(auto, unfolding(crate::specs::PathSteps::attribute_steps))]
 pub(crate) fn push_attribute(
     alloc: Global,
@@ -224,7 +219,7 @@ pub(crate) fn push_attribute(
         (option_map (λ v. view v.now) value.entry))) }
 {
     if is_read_only(kind, Leaf::simple(attribute)) {
-        return push_fixed(attribute, reading);
+        return push_kept(attribute, reading);
     }
     match value {
         Some(value) => push_given(alloc, kind, operation, attribute, value, reading),

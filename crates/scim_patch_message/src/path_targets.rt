@@ -11,10 +11,10 @@ ghost use Rattle.scim_patch_message.specs.Targets.{target_in};
 ghost use Rattle.scim_patch_message.specs.code.Inside.{read_of};
 
 use crate::faults::PatchFault;
+use crate::match_steps::{push_at_matches, push_matches, push_sub_attribute};
 use crate::message_readings::Reading;
 use crate::operations::Operation;
 use crate::path_steps::push_attribute;
-use crate::value_steps::{push_at_matches, push_matches, push_sub_attribute};
 use scim_body::{Member, Tree, is_absent};
 use scim_path::{Path, PathFault, ValuePath, read_path, texts_name_one_thing};
 use scim_schema::{
@@ -32,7 +32,7 @@ pub(crate) fn present<'a, 'b>(value: &'a Tree<'b>) -> Option<&'a Tree<'b>>
 
 /// Reads the path of a text, for a kind.
 ///
-/// Errors: as [`read_path`].
+/// Errors: those of [`read_path`].
 pub(crate) fn target_of(alloc: Global, kind: Kind, text: &str) -> Result<Path, Failed<PathFault>>
     ensures { UnlessMemory (λ r. target_in kind text.now ≡ target_read r) result }
 {
@@ -54,38 +54,36 @@ pub(crate) fn is_fixed_path(kind: Kind, path: &Path) -> bool
     }
 }
 
-/// Appends the steps of an operation without a value at an attribute, if it belongs to the extension.
+/// Appends the steps that remove an attribute, if it belongs to the extension.
 fn push_own(
     alloc: Global,
     kind: Kind,
-    operation: Operation,
     schema: Schema,
     attribute: Attribute,
     reading: &mut Reading,
 ) -> Result<(), NoMemory>
     ensures { OnOk result (read_of reading.new
-        ≡ both (read_of reading.old) (spec.own_emptied kind operation schema attribute)) }
+        ≡ both (read_of reading.old) (spec.own_removed kind schema attribute)) }
 {
     if schema_of(kind, attribute) != schema {
         return Ok(());
     }
-    push_attribute(alloc, kind, operation, attribute, None, reading)
+    push_attribute(alloc, kind, Operation::Remove, attribute, None, reading)
 }
 
-/// Appends the steps of an operation without a value at those attributes that belong to the extension.
+/// Appends the steps that remove those attributes that belong to the extension.
 fn push_all_own(
     alloc: Global,
     kind: Kind,
-    operation: Operation,
     schema: Schema,
     attributes: &[Attribute],
     reading: &mut Reading,
 ) -> Result<(), NoMemory>
     ensures { OnOk result (read_of reading.new ≡ both (read_of reading.old)
-        (joined (map (spec.own_emptied kind operation schema) attributes.now))) }
+        (joined (map (spec.own_removed kind schema) attributes.now))) }
 {
     for attribute in attributes {
-        push_own(alloc, kind, operation, schema, *attribute, reading)?;
+        push_own(alloc, kind, schema, *attribute, reading)?;
     }
     Ok(())
 }
@@ -151,7 +149,10 @@ fn push_extension(
                 Ok(())
             }
         },
-        _ => push_all_own(alloc, kind, operation, schema, attributes(kind), reading),
+        (Operation::Add, None) => Ok(()),
+        (Operation::Remove, _) | (Operation::Replace, None) => {
+            push_all_own(alloc, kind, schema, attributes(kind), reading)
+        }
     }
 }
 

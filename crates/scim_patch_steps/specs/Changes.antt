@@ -26,7 +26,7 @@ pub data StepChange : Type 0 where
   SetEverywhere : Field → StepChange
   ClearEverywhere : SubAttribute → StepChange
 
--- the change that a value in code stands for
+-- the change that a value in code represents
 abbrev pub change_of : KeptChange → StepChange
 change_of kept.Keep = Keep
 change_of (kept.KeepMatches filter) = KeepMatches (tree_of filter)

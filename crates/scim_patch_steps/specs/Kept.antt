@@ -1,4 +1,4 @@
--- The patches and outcomes that values in code stand for.
+-- The patches and outcomes that values in code represent.
 use Rattle.std.specs.Prelude.{Bool, List, map, Result, Ok, Err}
 use Rattle.scim_schema.specs.declared.Kind.{Kind}
 use Rattle.scim_cell.specs.Content.{Content}
@@ -14,16 +14,16 @@ pub record Kept : Type 0 where
   pub kind : Kind
   pub steps : List KeptStep
 
--- the step that a value in code stands for
+-- the step that a value in code represents
 abbrev pub step_of : KeptStep → Step
 step_of kept.Pathless = Pathless
 step_of (kept.Of u change) = Of u (change_of change)
 
--- the patch that a value in code stands for
+-- the patch that a value in code represents
 abbrev pub patch_of : Kept → Patch
 patch_of p = record { kind = p.kind; steps = map step_of p.steps }
 
--- the resource and whether it changed, or the fault, that a result in code stands for
+-- the resource and whether it changed, or the fault, that a result in code represents
 abbrev pub outcome : Result Changed StepFault → Result (Content × Bool) StepFault
 outcome (Ok c) = Ok (c.resource, c.changed)
 outcome (Err e) = Err e

@@ -69,8 +69,8 @@ gives_two_primary a (Append given) = are_two_primary a given
 gives_two_primary a (Replace given) = are_two_primary a given
 gives_two_primary a _ = false
 
--- whether the values after a step are refused: two chosen as primary, a member without `value`, or over
--- 10,000
+-- whether the values after a step are refused: two are chosen as primary, a member has no `value`, or there are more
+-- than 10,000 values
 abbrev pub are_refused : Attribute → List Position → Bool
 are_refused a ps =
     nat_lt 1 (count_by (λ (p : Position). p.chosen) ps) || list_any (λ (p : Position). is_nameless a p.value) ps || nat_lt MOST_VALUES (length ps)
@@ -104,7 +104,7 @@ judged a change found = if gives_two_primary a change then Err fault.Value else 
 abbrev pub after : Kind → AttributeUnit → StepChange → List Row → Result (List Row) StepFault
 after kind u change values = if is_forbidden kind u change values then Err fault.Mutability else judged u.attribute change (row u change values)
 
--- the values or the fault that a result in code stands for
+-- the values or the fault that a result in code represents
 abbrev pub rows_answered : Result (Vec Row) StepFault → Result (List Row) StepFault
 rows_answered (Ok values) = Ok values.items
 rows_answered (Err e) = Err e

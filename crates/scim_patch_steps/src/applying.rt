@@ -58,7 +58,7 @@ fn parted(alloc: Global, rows: Vec<Row>, unit: Unit) -> Result<Apart, NoMemory>
 
 /// Returns the rows of the resource after a change of its unit.
 ///
-/// Errors: as [`values_after`].
+/// Errors: those of [`values_after`].
 fn changed_rows(
     alloc: Global,
     kind: Kind,
@@ -83,7 +83,7 @@ fn changed_rows(
 
 /// Returns the resource after one step.
 ///
-/// Errors: as [`apply`].
+/// Errors: those of [`apply`].
 fn stepped(alloc: Global, resource: Resource, step: &Step) -> Result<Resource, Failed<StepFault>>
     requires { spec.IsStep resource.kind (step_of step.now) }
     ensures rows { UnlessMemory (λ r. rows_left r
@@ -102,7 +102,7 @@ fn stepped(alloc: Global, resource: Resource, step: &Step) -> Result<Resource, F
 
 /// Returns the resource after the steps, applied one after another.
 ///
-/// Errors: as [`apply`].
+/// Errors: those of [`apply`].
 fn all_stepped(
     alloc: Global,
     resource: Resource,

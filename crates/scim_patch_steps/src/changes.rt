@@ -10,9 +10,9 @@ pub enum StepChange {
     /// add of null or of an empty list: nothing changes.
     /// The step is still refused if its path forbids an add.
     Keep,
-    /// As [`StepChange::Keep`], with a path to the matches.
+    /// Like [`StepChange::Keep`], with a path to the matches.
     KeepMatches(Filter),
-    /// As [`StepChange::Keep`], with a path to a sub-attribute of a multi-valued attribute.
+    /// Like [`StepChange::Keep`], with a path to a sub-attribute of a multi-valued attribute.
     KeepSubAttribute(SubAttribute),
     /// add to a multi-valued attribute: appends each value that isn't there already.
     Append(Vec<Row>),
@@ -27,14 +27,15 @@ pub enum StepChange {
     /// describes none.
     AddToMatches(Filter, Vec<Field>),
     /// replace of the matches: each becomes the value of these sub-attributes, and duplicates are dropped.
-    /// NoTarget if there is no match.
+    /// Fails with NoTarget if there is no match.
     ReplaceMatches(Filter, Vec<Field>),
     /// remove of the matches.
     RemoveMatches(Filter),
     /// add to a sub-attribute of the matches: sets it in each match.
     /// If there is no match, as [`StepChange::AddToMatches`].
     AddAtMatches(Filter, Field),
-    /// replace of a sub-attribute of the matches: sets it in each match. NoTarget if there is no match.
+    /// replace of a sub-attribute of the matches: sets it in each match. Fails with NoTarget if there is no
+    /// match.
     SetAtMatches(Filter, Field),
     /// remove of a sub-attribute of the matches.
     ClearAtMatches(Filter, SubAttribute),

@@ -35,7 +35,7 @@ fn is_required(kind: Kind, unit: Unit) -> bool
 }
 
 /// Whether the filter matches an existing member, which is immutable as a whole (RFC 7643 section 4.2).
-/// Always false for other attributes than `members`.
+/// Always false for attributes other than `members`.
 fn changes_member(
     alloc: Global,
     unit: Unit,

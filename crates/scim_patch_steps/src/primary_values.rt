@@ -96,7 +96,7 @@ fn values_of(alloc: Global, positions: Vec<Position>) -> Result<Vec<Row>, NoMemo
 
 /// Returns the values with fields after a step, checked, and with no other primary if the step chose one.
 ///
-/// Value if two are chosen as primary, a member has no `value`, or there are too many.
+/// Fails with Value if two are chosen as primary, a member has no `value`, or there are too many.
 pub(crate) fn settle(
     alloc: Global,
     attribute: Attribute,

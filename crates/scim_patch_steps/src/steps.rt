@@ -48,10 +48,11 @@ fn gives_two_primary(
 
 /// Returns the values of a unit after a step, from those before it (RFC 7644 section 3.5.2).
 ///
-/// Mutability if the unit is readOnly, if a required unit would be cleared, if the path ends in an immutable
-/// or readOnly sub-attribute, or if something would be added to an existing member. Otherwise NoTarget if the
-/// path has no target. Otherwise Value if the step marks two values as primary, if a member has no `value`,
-/// or if there are over 10,000 values. On an error the values are dropped.
+/// Fails with Mutability if the unit is readOnly, if a required unit would be cleared, if the path ends in an
+/// immutable or readOnly sub-attribute, or if something would be added to an existing member. Otherwise fails
+/// with NoTarget if the path has no target. Otherwise fails with Value if the step marks two values as
+/// primary, if a member has no `value`, or if there are over 10,000 values. On an error the values are
+/// dropped.
 ///
 /// If the step marks one value as primary, no other is primary afterwards. The time is nearly linear in the
 /// number of existing and given values.

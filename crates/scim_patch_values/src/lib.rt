@@ -2,7 +2,7 @@
 //! those whose `value` is listed, or to all.
 #![tactic(auto)]
 
-mod described;
+mod described_values;
 mod everywhere;
 mod fields;
 mod listed;

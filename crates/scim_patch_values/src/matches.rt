@@ -5,7 +5,7 @@ ghost use Rattle.scim_filter.specs.Truth.{truth_in_value};
 ghost use Rattle.scim_patch_values.specs.Found.{Is};
 ghost use Rattle.scim_patch_values.specs.Matches as spec;
 
-use crate::described::described;
+use crate::described_values::described;
 use crate::everywhere::{made, set_over};
 use crate::fields::{over, row_without};
 use crate::positions::{Position, keep};
@@ -93,7 +93,7 @@ pub fn remove_matches(
     Ok(left)
 }
 
-/// Removes a sub-attribute from each match. A match without other fields stays, without fields.
+/// Removes a sub-attribute from each match. A match that has no other fields is kept as a value without fields.
 pub fn clear_at_matches(
     alloc: Global,
     matching: &Filter,

@@ -4,7 +4,7 @@ use Rattle.std.specs.List.{list_all}
 use Rattle.scim_schema.specs.declared.Kind.{Kind}
 use Rattle.scim_schema.specs.declared.Attribute.{Attribute}
 use Rattle.scim_schema.specs.declared.SubAttribute.{SubAttribute}
-use Rattle.scim_schema.specs.declared.schemas.Schema.{Schema}
+use Rattle.scim_schema.specs.declared.schema_urns.Schema.{Schema}
 use Rattle.scim_schema.specs.Characteristics.{is_multi_valued}
 use Rattle.scim_schema.specs.Schemas.{urn, extensions}
 use Rattle.scim_schema.specs.Lookup.{sub_attribute_named}

@@ -37,7 +37,7 @@ pub fn extension_named(kind: Kind, text: &str) -> Option<Schema>
 
 /// The target of a path without a filter.
 ///
-/// Unknown if the path names nothing.
+/// Fails with Unknown if the path names nothing.
 fn path_of_names(meant: Meant) -> Result<Path, PathFault>
     ensures { target_read result ≡ spec.names_target meant }
 {
@@ -52,7 +52,7 @@ fn path_of_names(meant: Meant) -> Result<Path, PathFault>
 
 /// The sub-attribute named after the brackets, if there is a name.
 ///
-/// Unknown if `attribute` doesn't have it.
+/// Fails with Unknown if `attribute` doesn't have it.
 fn chosen(attribute: Attribute, sub_name: Option<&Text>) -> Result<Option<SubAttribute>, PathFault>
     ensures { (tree : Tree) → values_read tree attribute result
         ≡ spec.chosen attribute tree (option_map (λ t. t.now) sub_name.entry) }
@@ -68,8 +68,8 @@ fn chosen(attribute: Attribute, sub_name: Option<&Text>) -> Result<Option<SubAtt
 
 /// The attribute before the brackets, checked for a filter on its values.
 ///
-/// Unknown if the kind lacks an attribute or sub-attribute named. Syntax if the attribute isn't
-/// multi-valued, or a comparison in the filter doesn't suit its attribute's type.
+/// Fails with Unknown if the kind lacks an attribute or sub-attribute named. Fails with Syntax if the
+/// attribute isn't multi-valued, or a comparison in the filter doesn't suit its attribute's type.
 fn filtered_attribute(meant: Meant, filter: &Filter) -> Result<Attribute, PathFault>
     ensures { (sub : Option (List ℕ))
         → chosen_read (tree_of filter.now) sub result
@@ -89,7 +89,8 @@ fn filtered_attribute(meant: Meant, filter: &Filter) -> Result<Attribute, PathFa
     Ok(attribute)
 }
 
-/// What the path before the brackets names. `None` if the filter isn't a value path.
+/// The attribute or sub-attribute that the path before the brackets names. `None` if the filter isn't a value
+/// path.
 fn meant_before(filter: &Filter) -> Option<Meant>
     ensures { (sub : Option (List ℕ))
         → filtered_read (tree_of filter.now) sub result
@@ -148,7 +149,8 @@ fn written(path: WrittenPath) -> Result<Path, PathFault>
 /// Spaces around it are allowed, and names match in any ASCII case. Only a multi-valued attribute may have
 /// a filter.
 ///
-/// Syntax if the text isn't such a path. Unknown if it names what the kind doesn't have.
+/// Fails with Syntax if the text isn't such a path. Fails with Unknown if it names what the kind doesn't
+/// have.
 pub fn read_path(alloc: Global, kind: Kind, text: &str) -> Result<Path, Failed<PathFault>>
     ensures { UnlessMemory (λ r. spec.Names kind text.now (target_read r)) result }
 {

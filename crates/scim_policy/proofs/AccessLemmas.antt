@@ -17,7 +17,7 @@ use Rattle.scim_schema.specs.contracts.Op.{the_type as the_op}
 use Rattle.scim_cell.specs.Content.{Content}
 use Rattle.scim_policy.specs.declared.rules.Decision.{Decision}
 use Rattle.scim_policy.specs.declared.decisions.Decisions.{Decisions}
-use Rattle.scim_policy.specs.declared.access.Rights.{Rights}
+use Rattle.scim_policy.specs.declared.access_rights.Rights.{Rights}
 use Rattle.scim_policy.specs.Rules.{Rule}
 use Rattle.scim_policy.specs.Decide.{names, is_target_met, speaks_of, paths_on, decide}
 use Rattle.scim_policy.specs.Table.{or_else, decided, decision, access_in}

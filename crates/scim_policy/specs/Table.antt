@@ -9,7 +9,7 @@ use Rattle.scim_schema.specs.contracts.SubAttribute.{the_type as the_sub_attribu
 use Rattle.scim_policy.specs.declared.rules.Decision.{Decision}
 use Rattle.scim_policy.specs.declared.decisions.AttributeDecisions.{AttributeDecisions}
 use Rattle.scim_policy.specs.declared.decisions.Decisions.{Decisions}
-use Rattle.scim_policy.specs.declared.access.Rights.{Rights}
+use Rattle.scim_policy.specs.declared.access_rights.Rights.{Rights}
 use Rattle.scim_policy.specs.Access.{Access}
 
 -- the first of two optional values that is present

@@ -57,7 +57,7 @@ impl Policy {
             → table.decision ds l ≡ spec.decide self.now client.now op resource.now l) }
     {
         let mut decisions = Decisions::none(alloc);
-        decisions.add_rules(alloc, client, op, resource, self.rules())?;
+        decisions.add_rules(alloc, client, op, resource, self.listed())?;
         Ok(decisions)
     }
 

@@ -7,7 +7,7 @@
 //! Cases: `crates/cases/data/policy.jsonl`.
 #![tactic(auto)]
 
-mod access;
+mod access_rights;
 mod decisions;
 mod laws;
 mod misfits;
@@ -16,7 +16,7 @@ mod rules;
 mod rules_about;
 mod shared_decisions;
 
-pub use access::Rights;
+pub use access_rights::Rights;
 pub use decisions::Decisions;
 pub use laws::decisions_rest_on_control;
 pub use misfits::Misfit;

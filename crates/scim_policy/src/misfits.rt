@@ -43,7 +43,7 @@ impl Policy {
             ≡ option_map (spec.misfit_of client.now op resource.now leaf)
             (slice_get self.now (rule - 1))) }
     {
-        self.rules()[rule - 1].misfit(alloc, client, op, resource, leaf)
+        self.listed()[rule - 1].misfit(alloc, client, op, resource, leaf)
     }
 }
 

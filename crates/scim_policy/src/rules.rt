@@ -47,8 +47,8 @@ pub struct Target {
     filter: Filter,
 }
 
-/// The leaves that a rule covers on resources of one kind. Paths that name nothing on that kind are left
-/// out. Its contracts speak of the kind and the paths.
+/// The leaves that a rule covers on resources of one kind. Paths that name nothing on that kind are left out.
+/// Contracts see the kind and the paths.
 #[derive(Drop)]
 pub struct KindPaths {
     kind: Kind,
@@ -67,7 +67,7 @@ pub struct Rule {
     paths: Vec<KindPaths>,
 }
 
-/// A list of at most 1,000 rules, numbered from 1. Its contracts speak of the list.
+/// A list of at most 1,000 rules, numbered from 1. Contracts see it as the list.
 #[derive(Drop)]
 pub struct Policy {
     rules: Vec<Rule>,
@@ -281,14 +281,14 @@ impl Policy {
     }
 
     /// The number of rules.
-    pub fn rule_count(&self) -> usize
+    pub fn rules(&self) -> usize
         ensures { result ≡ length self.now }
     {
         self.rules.len()
     }
 
     /// The rules, in order of their numbers.
-    pub fn rules(&self) -> &[Rule]
+    pub fn listed(&self) -> &[Rule]
         ensures rules { result.now ≡ self.now }
         ensures few { length self.now ≤ MOST_RULES }
     {

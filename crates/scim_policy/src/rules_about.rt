@@ -50,7 +50,7 @@ impl Policy {
     {
         let mut rules = Vec::new(alloc);
         let mut number = 0;
-        for rule in self.rules() {
+        for rule in self.listed() {
             number += 1;
             if rule.is_about(client, op, kind) {
                 push(&mut rules, NumberedRule { number, rule })?;

@@ -31,7 +31,7 @@ impl Policy {
     {
         let mut decisions = Decisions::none(alloc);
         let mut number = 0;
-        for rule in self.rules() {
+        for rule in self.listed() {
             number += 1;
             if rule.is_about(client, op, kind) {
                 if !rule.targets().is_empty() {

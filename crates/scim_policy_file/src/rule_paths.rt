@@ -73,8 +73,8 @@ fn paths_for(alloc: Global, texts: &[&str], kind: Kind) -> Result<KindPaths, NoM
     Ok(KindPaths::new(kind, paths))
 }
 
-/// Reads the entries of `paths` for a rule on these kinds. `None` if none of the kinds has what an entry
-/// names.
+/// Reads the entries of `paths` for a rule on these kinds. `None` if an entry is neither `*` nor the path of an
+/// attribute or sub-attribute of one of these kinds.
 pub(crate) fn paths_named(
     alloc: Global,
     kinds: &[Kind],

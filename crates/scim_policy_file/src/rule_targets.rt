@@ -14,7 +14,7 @@ use std::alloc::Global;
 
 /// Reads an optional target for a rule on these kinds. Empty if there is no target.
 ///
-/// Errors: as `targets_in`.
+/// Errors: those of `targets_in`.
 pub(crate) fn targets_for(
     alloc: Global,
     kinds: &[Kind],
@@ -31,8 +31,8 @@ pub(crate) fn targets_for(
 
 /// Reads a target for a rule on these kinds, as a filter on each of them.
 ///
-/// Target if the text isn't a filter on each kind. Name if none of the kinds has what a name refers to.
-/// TargetNames if it names `groups`, `password` or `meta`.
+/// Fails with Target if the text isn't a filter on each kind. Fails with Name if none of the kinds has what a
+/// name refers to. Fails with TargetNames if it names `groups`, `password` or `meta`.
 #[tactic(auto, unfolding(crate::specs::Targets::targets_in))]
 fn targets_in(alloc: Global, kinds: &[Kind], text: &str) -> Result<Vec<Target>, Failed<Cause>>
     ensures { Gives (λ v. v.items) result (spec.targets_in kinds.now text.now) }

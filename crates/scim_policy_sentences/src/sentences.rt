@@ -18,12 +18,12 @@ use std::alloc::Global;
 /// Prints the rules of the policy, each on a line.
 ///
 /// A line is `rule N: `, then whether the rule allows or denies, the clients, the operations, and for each
-/// type the target and the paths, as `rule 3: allow mail to read User: id and emails` and `rule 2: deny
+/// type the target and the paths, such as `rule 3: allow mail to read User: id and emails` and `rule 2: deny
 /// mail to read User where userType eq "Contractor": everything`.
 pub fn rule_sentences(alloc: Global, policy: &Policy) -> Result<String, NoMemory>
     ensures { IfOk result (λ text. string_bytes text ≡ spec.rule_sentences policy.now) }
 {
-    let rules = policy.rules();
+    let rules = policy.listed();
     let mut text = String::new(alloc);
     for (index, rule) in rules.iter().enumerate() {
         let line = sentence_line(alloc, index + 1, rule)?;

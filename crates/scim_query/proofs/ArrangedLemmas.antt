@@ -8,7 +8,7 @@ use Rattle.scim_query.specs.declared.queries.Query.{Query}
 use Rattle.scim_query.specs.declared.queries.Page.{Page}
 use Rattle.scim_query.specs.Pages.{matching, slice_of, first_position, IsInOrder, IsPage}
 use Rattle.scim_query.specs.ClientSearches.{IsShownPage}
-use Rattle.scim_query.specs.Arranged.{placed, before, with_placed, arranged, total_of, shown_items}
+use Rattle.scim_query.specs.Arranged.{placed, before, with_placed, arranged, total_of, shown_items, PagesAreArranged}
 use Rattle.scim_query.proofs.OneOrderLemmas.{one_list_in_order}
 use Rattle.scim_query.proofs.PagerLemmas.{in_order_more}
 
@@ -29,6 +29,12 @@ pub page_items : (parts : List Content) (query : Query) (page : Page) → IsPage
 page_items parts query page is =
     is.items ∙ ap (slice_of query.start query.count)
     (one_list_in_order query (matching query.filter parts) is.sorted (arranged query parts) is.is_sorted (arranged_in_order query parts))
+
+pub page_arranged : PagesAreArranged
+page_arranged view query page = (
+  λ is. record { total = is.total; start = is.start; items = page_items view query page is },
+  λ is. record { total = is.total; start = is.start; sorted = arranged query view; is_sorted = arranged_in_order query view; items = is.items },
+)
 
 -- what a page of a client's view says, by the view
 pub record Says (view : List Content) (query : Query) (page : Page) : Type 0 where

@@ -1,11 +1,12 @@
 -- The page of a list as a function of the list, by inserting each part in order.
-use Rattle.std.specs.Prelude.{ℕ, Bool, cond, List, [], ◌∷◌, map, length}
+use Rattle.std.specs.Prelude.{◌≡◌, ◌↔◌, ℕ, Bool, cond, List, [], ◌∷◌, map, length}
 use Rattle.std.specs.Ordering.{is_lt}
 use Rattle.scim_cell.specs.Content.{Content}
 use Rattle.scim_view.specs.Shown.{shown}
 use Rattle.scim_query.specs.declared.queries.Query.{Query}
+use Rattle.scim_query.specs.declared.queries.Page.{Page}
 use Rattle.scim_query.specs.Order.{part_cmp}
-use Rattle.scim_query.specs.Pages.{matching, slice_of}
+use Rattle.scim_query.specs.Pages.{matching, slice_of, first_position, IsPage}
 
 -- the list in order with x inserted before the first element that it is less than
 abbrev pub placed : {X : Type 0} → (X → X → Bool) → X → List X → List X
@@ -32,3 +33,13 @@ total_of query view = length (matching query.filter view)
 -- the items of the query's page of a client's view, each projected to what the query wants
 unfoldable pub shown_items : Query → List Content → List Content
 shown_items query view = map (shown query.wanted) (slice_of query.start query.count (arranged query view))
+
+-- the page has the total of the query and its start, and the arranged parts from the start on
+pub record IsArranged (view : List Content) (query : Query) (page : Page) : Type 0 where
+  pub total : page.total ≡ total_of query view
+  pub start : page.start ≡ first_position query.start
+  pub items : page.items.items ≡ slice_of query.start query.count (arranged query view)
+
+-- the arranged page of a view is the query's page of it, and no other page is
+abbrev pub PagesAreArranged : Type 0
+PagesAreArranged = (view : List Content) (query : Query) (page : Page) → IsPage view query page ↔ IsArranged view query page

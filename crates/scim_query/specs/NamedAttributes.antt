@@ -1,4 +1,4 @@
--- The attributes that a query names, and when two parts are alike to it.
+-- The attributes that a query names, and when a query can't tell two parts apart.
 use Rattle.std.specs.Prelude.{◌≡◌, Bool, Option, None, Some, List, [], ◌∷◌, ◌++◌, filter_map}
 use Rattle.std.specs.List.{list_any}
 use denote.Enum.Bare.{sameb}
@@ -42,7 +42,7 @@ attributes_of query = filter_attributes query.filter ++ key_attributes query.sor
 abbrev pub names_groups : Query → Bool
 names_groups query = list_any (λ a. sameb the_attribute a Groups) (attributes_of query)
 
--- two parts are alike to a query: both match or neither does, and they have equal sort keys and equal ids
+-- a query can't tell two parts apart: both match or neither does, and they have equal sort keys and equal ids
 pub record Alike (query : Query) (p q : Content) : Type 0 where
   pub matches : is_match query.filter p ≡ is_match query.filter q
   pub key : key_by query.sort_by (rows p) ≡ key_by query.sort_by (rows q)

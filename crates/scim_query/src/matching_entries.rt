@@ -22,7 +22,7 @@ pub(crate) struct Entry<'a> {
     part: &'a Part,
 }
 
-/// Whether the query's filter, if any, holds of the part.
+/// Whether the query's filter, if any, matches the part.
 pub(crate) fn is_matching(alloc: Global, query: &Query, part: &Part) -> Result<bool, NoMemory>
     ensures { IfOk result (λ b. b ≡ is_match query.now.filter part.now) }
 {
@@ -32,7 +32,7 @@ pub(crate) fn is_matching(alloc: Global, query: &Query, part: &Part) -> Result<b
     }
 }
 
-/// As [`is_matching`], for the part that is left when only the fields that the test admits are kept.
+/// Like [`is_matching`], for the part that is left when only the fields that the test admits are kept.
 pub(crate) fn is_matching_where<T: RowTest>(
     alloc: Global,
     query: &Query,

@@ -44,7 +44,7 @@ impl<'q> Pager<'q> {
     }
 
     /// Takes the next part. If the query has no sort key, parts must come in ascending order of id.
-    /// NoMemory also if the number of matches overflows `usize`. After it the pager is unchanged.
+    /// Fails with NoMemory also if the number of matches overflows `usize`. On an error the pager is unchanged.
     pub fn push(&mut self, part: Part) -> Result<(), NoMemory>
         ensures query { spec.query_of self.new ≡ spec.query_of self.old }
         ensures taken { OnOk result ((parts : List _) → spec.HasTaken parts self.old
@@ -62,10 +62,10 @@ impl<'q> Pager<'q> {
         }
     }
 
-    /// As [`Pager::push`], for the part that is left when only the fields that the test admits are kept.
+    /// Like [`Pager::push`], for the part that is left when only the fields that the test admits are kept.
     /// Returns whether the part is now held. A part that doesn't match isn't copied; of one that matches the
-    /// key is copied, and the rest only if it is held. NoMemory also if the number of matches overflows
-    /// `usize`. After it the pager is unchanged.
+    /// key is copied, and the rest only if it is held. Fails with NoMemory also if the number of matches
+    /// overflows `usize`. After it the pager is unchanged.
     pub fn push_where<T: RowTest>(&mut self, part: &Part, test: &T) -> Result<bool, NoMemory>
         ensures query { spec.query_of self.new ≡ spec.query_of self.old }
         ensures taken { OnOk result ((parts : List _) → spec.HasTaken parts self.old
@@ -90,8 +90,8 @@ impl<'q> Pager<'q> {
         }
     }
 
-    /// Counts a matching part and inserts it at `place` among the held parts.
-    /// NoMemory also if the number of matches overflows `usize`. After it the pager is unchanged.
+    /// Counts a matching part and inserts it at `place` among the held parts. Fails with NoMemory also if the
+    /// number of matches overflows `usize`. After it the pager is unchanged.
     fn hold(&mut self, place: usize, part: KeptPart) -> Result<(), NoMemory>
         requires { place ≤ length self.old.held.items }
         ensures query { spec.query_of self.new ≡ spec.query_of self.old }
@@ -110,7 +110,7 @@ impl<'q> Pager<'q> {
     }
 
     /// Counts a matching part that isn't held.
-    /// NoMemory, with the pager unchanged, if the number of matches overflows `usize`.
+    /// Fails with NoMemory if the number of matches overflows `usize`; the pager is then unchanged.
     fn pass(&mut self) -> Result<(), NoMemory>
         ensures query { spec.query_of self.new ≡ spec.query_of self.old }
         ensures counted { OnOk result (code.HasCounted self.old.held.items self.old self.new) }

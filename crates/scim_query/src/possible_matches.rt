@@ -13,7 +13,7 @@ use scim_policy::Decisions;
 use scim_schema::{Attribute, Kind, is_multi_valued};
 use scim_view::shows_some;
 
-/// Whether a comparison holds of an attribute without a value.
+/// Whether a comparison holds for an attribute without a value.
 fn holds_of_none(operator: Operator, literal: &Literal) -> bool
     ensures { result ≡ compares Nothing operator literal.now [] }
 {
@@ -48,8 +48,8 @@ fn may_be_seen(meant: Meant, kind: Kind, decisions: &Decisions) -> bool
     }
 }
 
-/// Whether the filter can hold of the visible part of some resource of the kind.
-/// False only if it holds of none; true may be a guess.
+/// Whether the filter can match the visible part of some resource of the kind. False only if it matches none;
+/// true may be a guess.
 fn may_hold(node: &Node, kind: Kind, decisions: &Decisions) -> bool
     ensures { result ≡ false → spec.NeverHolds (truth (view node.now)) kind
         (decision decisions.now) }

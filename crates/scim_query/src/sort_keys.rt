@@ -91,7 +91,8 @@ fn compared(alloc: Global, leaf: Leaf, atom: &Atom) -> Result<Atom, NoMemory>
     }
 }
 
-/// Returns the atom by which a part is sorted, with only the fields that the test admits.
+/// Returns the atom by which a part is sorted if only the fields that the test admits count; None if there is
+/// no such atom.
 fn sorting_atom<'p, T: RowTest>(leaf: Leaf, part: &'p Part, test: &T) -> Option<&'p Atom>
     ensures atom { option_copied result ≡ spec.atom_of leaf
         (spec.sorting_value
@@ -138,8 +139,8 @@ pub(crate) fn key_by(
     }
 }
 
-/// As [`key_by`], for the part that is left when only the fields that the test admits are kept.
-/// Only the key is copied.
+/// Like [`key_by`], for the part that is left when only the fields that the test admits are kept. Only the
+/// key is copied.
 pub(crate) fn key_where<T: RowTest>(
     alloc: Global,
     sort_by: Option<Leaf>,

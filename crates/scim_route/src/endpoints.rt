@@ -5,6 +5,7 @@ ghost use Rattle.std.specs.List.{after_first};
 ghost use Rattle.scim_route.specs.Targets.{is_slash};
 ghost use Rattle.scim_route.specs.code.Places.{place_at, led};
 
+use crate::request_targets::without_last_slash;
 use crate::route_table::{Leads, Routes};
 use scim_schema::{Kind, Schema};
 
@@ -72,13 +73,6 @@ fn in_segments<'p>(routes: &Routes, segments: &'p str) -> Option<Endpoint<'p>>
 {
     let leads = routes.leads(segments)?;
     endpoint_at(leads, behind_slash(segments))
-}
-
-/// The text without one slash at its end.
-fn without_last_slash(text: &str) -> &str
-    ensures { result.now ≡ spec.without_last_slash text.now }
-{
-    text.strip_suffix('/').unwrap_or(text)
 }
 
 /// The endpoint of a path, or None. One slash at the end is ignored.

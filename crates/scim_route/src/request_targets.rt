@@ -6,6 +6,7 @@ ghost use Rattle.std.specs.List.{position_or_len, before_first};
 ghost use Rattle.scim_text.specs.Failures.{IfFault};
 ghost use Rattle.scim_audit.specs.declared.refusals.Refusal.TheVariants.{NoRoute};
 ghost use Rattle.scim_route.specs.Targets as spec;
+ghost use Rattle.scim_route.specs.Endpoints as paths;
 
 use percent_encoding::{DecodeError, percent_decode};
 use scim_audit::Refusal;
@@ -66,7 +67,7 @@ fn before_question_mark(bytes: &[u8]) -> &[u8]
     &bytes[..end_of_path(bytes)]
 }
 
-/// The path of an absolute form, which is `/` if it is empty.
+/// The path of a target in absolute form: `path`, or `/` if `path` is empty.
 fn or_root(path: &[u8]) -> &[u8]
     ensures { result.now ≡ spec.or_root path.now }
 {
@@ -92,7 +93,7 @@ pub(crate) fn read_target(target: &[u8]) -> Target<'_>
 
 /// Decodes the escapes of a path.
 ///
-/// NoRoute if the result isn't UTF-8.
+/// Fails with NoRoute if the result isn't UTF-8.
 pub(crate) fn decoded<'t>(
     alloc: Global,
     path: &'t [u8],
@@ -106,4 +107,11 @@ pub(crate) fn decoded<'t>(
         Err(DecodeError::OutOfMemory) => Err(Failed::NoMemory),
         Err(DecodeError::Utf8(_)) => Err(Failed::Because(Refusal::NoRoute)),
     }
+}
+
+/// The text without one slash at its end.
+pub(crate) fn without_last_slash(text: &str) -> &str
+    ensures { result.now ≡ paths.without_last_slash text.now }
+{
+    text.strip_suffix('/').unwrap_or(text)
 }

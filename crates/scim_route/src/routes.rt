@@ -118,7 +118,7 @@ fn form_of(methods: Methods, method: &[u8]) -> Option<Form>
     }
 }
 
-/// The form of a method at an endpoint with these methods. BadMethod if the endpoint doesn't allow
+/// The form of a method at an endpoint with these methods. Fails with BadMethod if the endpoint doesn't allow
 /// it.
 fn asked(methods: Methods, method: &[u8]) -> Result<Form, Refusal>
     ensures { result ≡ spec.asked methods method.now }
@@ -126,7 +126,7 @@ fn asked(methods: Methods, method: &[u8]) -> Result<Form, Refusal>
     form_of(methods, method).ok_or(Refusal::BadMethod(methods))
 }
 
-/// The result for a method at an endpoint. NotSupported if this server doesn't support the
+/// The result for a method at an endpoint. Fails with NotSupported if this server doesn't support the
 /// endpoint, BadMethod if the endpoint doesn't allow the method.
 fn found_at<'t>(
     method: &[u8],
@@ -165,9 +165,9 @@ impl Routes {
     /// The id of the route is None if the path names a resource by a text that isn't an id in
     /// hyphenated form and lower case; no resource has it.
     ///
-    /// NoRoute if there is no such endpoint. NotSupported for an endpoint of SCIM that this server
-    /// doesn't support (RFC 7644 sections 3.4.3, 3.7 and 3.11). BadMethod, with the methods of the
-    /// endpoint, if it doesn't allow the method.
+    /// Fails with NoRoute if there is no such endpoint. Fails with NotSupported for an endpoint of SCIM that
+    /// this server doesn't support (RFC 7644 sections 3.4.3, 3.7 and 3.11). Fails with BadMethod, which
+    /// holds the methods of the endpoint, if it doesn't allow the method.
     pub fn find<'t>(
         &self,
         alloc: Global,

@@ -13,7 +13,7 @@ use scim_value::Part;
 use std::alloc::Global;
 use std::ops::Range;
 
-/// Reads the path of a leaf, such as `emails.value`. NoSuchLeaf if it isn't one.
+/// Reads the path of a leaf, such as `emails.value`. Fails with NoSuchLeaf if it isn't one.
 ///
 /// The attribute may be one of a user or of a group. Any attribute may have the sub-attributes of `name`, so
 /// `emails.familyName` is read, though no kind has this leaf.
@@ -66,7 +66,7 @@ fn push_cells(alloc: Global, cells: &mut Vec<Cell>, text: &str) -> Result<(), Sa
     Ok(())
 }
 
-/// Returns the leaf of an attribute and the rest of the path after the positions, such as `.value`.
+/// Reads the leaf of an attribute. `sub_name` is the rest of the path after the positions, such as `.value`.
 fn leaf_at(alloc: Global, name: &str, sub_name: &str) -> Result<Leaf, SampleFault> {
     let path = joined(alloc, &[name, sub_name])?;
     read_leaf(path.as_str())
@@ -83,7 +83,7 @@ fn read_positions(text: &str) -> Result<Range<usize>, SampleFault> {
     }
 }
 
-/// Reads a number in decimal digits. NotACell if it isn't one.
+/// Reads a number in decimal digits. Fails with NotACell if it isn't one.
 fn read_number(text: &str) -> Result<usize, SampleFault> {
     match text.parse::<usize>() {
         Ok(number) => Ok(number),

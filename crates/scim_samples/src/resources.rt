@@ -12,7 +12,8 @@ use std::alloc::Global;
 const MADE: &str =
     "; meta.created=@2024-01-01T00:00:00Z; meta.lastModified=@2024-01-01T00:00:00Z; meta.resourceType=";
 
-/// Returns the part with this kind, id and cells. NotAnId if the id is invalid, and Invalid if the cells are.
+/// Returns the part with this kind, id and cells. Fails with NotAnId if the id is invalid, and Invalid if the
+/// cells are.
 pub fn part(alloc: Global, kind: Kind, id: &str, cells: &str) -> Result<Part, SampleFault> {
     let Some(id) = Id::read(id) else {
         return Err(SampleFault::NotAnId);
@@ -22,8 +23,8 @@ pub fn part(alloc: Global, kind: Kind, id: &str, cells: &str) -> Result<Part, Sa
 
 /// Returns the resource with this kind, id and cells, located below [`BASE`].
 ///
-/// Its `id` and `meta` are added to the cells; it is created and last modified at 2024-01-01T00:00:00Z.
-/// NotAnId if the id is invalid, and Invalid if the cells are.
+/// Its `id` and `meta` are added to the cells; it is created and last modified at 2024-01-01T00:00:00Z. Fails
+/// with NotAnId if the id is invalid, and Invalid if the cells are.
 pub fn resource(alloc: Global, kind: Kind, id: &str, cells: &str) -> Result<Resource, SampleFault> {
     let cells = resource_cells(alloc, kind, id, cells)?;
     let part = part(alloc, kind, id, cells.as_str())?;

@@ -11,15 +11,15 @@ use Rattle.scim_schema.specs.declared.Attribute.{Attribute}
 use Rattle.scim_schema.specs.declared.Attribute.TheVariants.{Id, ExternalId, UserName, Name, DisplayName, NickName, ProfileUrl, Title, UserType, PreferredLanguage, Locale, Timezone, Active, Password, Emails, PhoneNumbers, Ims, Photos, Addresses, Groups, Entitlements, Roles, X509Certificates, EmployeeNumber, CostCenter, Organization, Division, Department, Manager, Members, Meta}
 use Rattle.scim_schema.specs.declared.SubAttribute.{SubAttribute}
 use Rattle.scim_schema.specs.declared.SubAttribute.TheVariants.{Formatted, FamilyName, GivenName, MiddleName, HonorificPrefix, HonorificSuffix, Value, Reference, Display, TypeName, Primary, StreetAddress, Locality, Region, PostalCode, Country, DisplayName as SubDisplayName, ResourceType, Created, LastModified, Location}
-use Rattle.scim_schema.specs.declared.schemas.Schema.{Schema}
-use Rattle.scim_schema.specs.declared.schemas.Schema.TheVariants.{EnterpriseUser}
+use Rattle.scim_schema.specs.declared.schema_urns.Schema.{Schema}
+use Rattle.scim_schema.specs.declared.schema_urns.Schema.TheVariants.{EnterpriseUser}
 use Rattle.scim_schema.specs.declared.characteristics.Characteristics.{Characteristics}
 use Rattle.scim_schema.specs.declared.characteristics.AttributeType.TheVariants.{Complex as ComplexType}
 use Rattle.scim_schema.specs.contracts.characteristics.AttributeType.{the_type as the_attribute_type}
 use Rattle.scim_schema.specs.Names.{attribute_name, sub_attribute_name}
 use Rattle.scim_schema.specs.contracts.Attribute.{the_type as the_attribute}
 use Rattle.scim_schema.specs.contracts.SubAttribute.{the_type as the_sub_attribute}
-use Rattle.scim_schema.specs.contracts.schemas.Schema.{the_type as the_schema}
+use Rattle.scim_schema.specs.contracts.schema_urns.Schema.{the_type as the_schema}
 use Rattle.scim_schema.specs.Schemas.{urn, extension_of}
 use Rattle.scim_schema.specs.Table.{attributes, sub_attributes}
 use Rattle.scim_schema.specs.Characteristics.{attribute_characteristics}

@@ -6,8 +6,8 @@ use Rattle.scim_schema.specs.declared.Kind.{Kind}
 use Rattle.scim_schema.specs.declared.Op.{Op}
 use Rattle.scim_schema.specs.declared.Attribute.{Attribute}
 use Rattle.scim_schema.specs.declared.SubAttribute.{SubAttribute}
-use Rattle.scim_schema.specs.declared.schemas.Schema.{Schema}
-use Rattle.scim_schema.specs.contracts.schemas.Schema.{the_type as the_schema}
+use Rattle.scim_schema.specs.declared.schema_urns.Schema.{Schema}
+use Rattle.scim_schema.specs.contracts.schema_urns.Schema.{the_type as the_schema}
 use Rattle.scim_schema.specs.Names.{is_same_name, kinds, kind_name, operations, op_name, attribute_name, sub_attribute_name}
 use Rattle.scim_schema.specs.Table.{attributes, sub_attributes}
 use Rattle.scim_schema.specs.Schemas.{urn, schemas, schema_of}

@@ -4,9 +4,9 @@ use Rattle.scim_schema.specs.declared.Kind.{Kind}
 use Rattle.scim_schema.specs.declared.Kind.TheVariants.{User, Group}
 use Rattle.scim_schema.specs.declared.Attribute.{Attribute}
 use Rattle.scim_schema.specs.declared.Attribute.TheVariants.{EmployeeNumber, CostCenter, Organization, Division, Department, Manager}
-use Rattle.scim_schema.specs.declared.schemas.Schema.{Schema}
-use Rattle.scim_schema.specs.declared.schemas.Schema.TheVariants.{User as UserSchema, Group as GroupSchema, EnterpriseUser}
-use Rattle.scim_schema.specs.contracts.schemas.Schema.{the_type as the_schema}
+use Rattle.scim_schema.specs.declared.schema_urns.Schema.{Schema}
+use Rattle.scim_schema.specs.declared.schema_urns.Schema.TheVariants.{User as UserSchema, Group as GroupSchema, EnterpriseUser}
+use Rattle.scim_schema.specs.contracts.schema_urns.Schema.{the_type as the_schema}
 use denote.Enum.Bare.{sameb}
 
 -- the URN of a schema (RFC 7643 section 8.7)

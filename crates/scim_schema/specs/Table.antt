@@ -66,6 +66,6 @@ leaves_with a (s ∷ ss) = map (λ b. record { attribute = a; sub_attribute = So
 abbrev pub leaves : Kind → List Leaf
 leaves kind = flat_map (λ a. leaves_with a (sub_attributes a)) (attributes kind)
 
--- the leaf is one of the kind
+-- the kind has the leaf
 abbrev pub HasLeaf : Kind → Leaf → Type 0
 HasLeaf kind leaf = Contains (leaves kind) leaf

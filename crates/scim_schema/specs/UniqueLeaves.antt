@@ -8,7 +8,7 @@ use Rattle.scim_schema.specs.contracts.characteristics.Uniqueness.{the_type as t
 use Rattle.scim_schema.specs.Characteristics.{characteristics_of}
 use Rattle.scim_schema.specs.Table.{leaves}
 
--- whether no two resources have the same name at the leaf (RFC 7643 section 2.2, uniqueness)
+-- whether values of the leaf must be unique across resources (RFC 7643 section 2.2, uniqueness)
 abbrev pub is_unique : Kind → Leaf → Bool
 is_unique kind l = sameb the_uniqueness (characteristics_of kind l).uniqueness Server
 

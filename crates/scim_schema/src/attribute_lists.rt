@@ -22,7 +22,8 @@ macro_rules! leaf {
     };
 }
 
-// The unit of a simple or whole attribute, or of a sub-attribute of a single complex attribute.
+// The unit of a simple attribute, of a whole multi-valued attribute, or of a sub-attribute of a single-valued
+// complex attribute.
 macro_rules! unit {
     ($attribute:ident) => {
         Unit {

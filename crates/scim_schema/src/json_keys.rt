@@ -4,7 +4,7 @@ ghost use Rattle.std.specs.Prelude.{◌≡◌};
 ghost use Rattle.scim_schema.specs.JsonKeys as spec;
 
 use crate::characteristics::{AttributeType, attribute_characteristics};
-use crate::schemas::Schema;
+use crate::schema_urns::Schema;
 use crate::{Attribute, Kind, SubAttribute};
 
 /// The purpose of a JSON text of a resource or of a part of one.

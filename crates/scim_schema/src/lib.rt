@@ -12,7 +12,7 @@ mod leaf_units;
 mod limits;
 mod lookup;
 mod names;
-mod schemas;
+mod schema_urns;
 
 pub use attribute_lists::{attributes, has_leaf, leaves, sub_attributes, unique_leaves, units};
 pub use characteristics::{
@@ -30,7 +30,7 @@ pub use limits::{
     MOST_VALUES, USUALLY_SHOWN,
 };
 pub use lookup::{attribute_named, attribute_named_in, sub_attribute_named};
-pub use schemas::{Schema, core_schema, extension_of, extensions, schema_of};
+pub use schema_urns::{Schema, core_schema, extension_of, extensions, schema_of};
 
 /// A kind of resource, called resource type in RFC 7643 section 6.
 #[derive(Clone, Copy, Debug, PartialEq, Eq)]
@@ -126,7 +126,7 @@ pub struct Leaf {
 }
 
 /// A part of a resource that is granted and written as one: a simple attribute, a sub-attribute of
-/// a single complex attribute, or a whole multi-valued attribute.
+/// a single-valued complex attribute, or a whole multi-valued attribute.
 #[derive(Clone, Copy, PartialEq, Eq)]
 pub struct Unit {
     pub attribute: Attribute,

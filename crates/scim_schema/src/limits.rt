@@ -15,7 +15,7 @@ pub const MOST_OPERATIONS: usize = 1_000;
 /// Rules of a policy, at most.
 pub const MOST_RULES: usize = 1_000;
 
-/// Clients of a token file, at most.
+/// Lines of a token file with a token, at most.
 pub const MOST_TOKENS: usize = 10_000;
 
 /// Resources on a page of a list, at most (`maxResults`, RFC 7643 section 5).

@@ -6,7 +6,7 @@ ghost use Rattle.scim_schema.specs.Lookup as lookup;
 
 use crate::attribute_lists::{attributes, sub_attributes};
 use crate::names::is_same_name;
-use crate::schemas::{Schema, schema_of};
+use crate::schema_urns::{Schema, schema_of};
 use crate::{Attribute, Kind, Op, SubAttribute};
 
 /// Returns the attribute of the kind with this name, or None if the kind has no such attribute. The

@@ -28,11 +28,11 @@ abbrev pub IsIndexed : Viewer → List Content → ViewScope → Type 0
 IsIndexed v groups (Named attributes) = ⊤
 IsIndexed v groups (Whole index) = IsIndexOf v groups index.now
 
--- the sight's decisions are those on the viewer's reading, and its index, if any, is of these groups
+-- the builder's decisions are those on the viewer's read access, and its index, if any, is of these groups
 pub record IsViewBuilder (groups : List Content) (builder : ViewBuilder) : Type 0 where
   pub decisions : AreDecisions (viewer_of builder.viewer.now) builder.decisions.now
   pub index : IsIndexed (viewer_of builder.viewer.now) groups builder.scope
 
--- the part that a sight makes of a resource; None if its viewer doesn't see it
+-- the part that a builder makes of a resource; None if its viewer doesn't see it
 abbrev pub part_of : List Content → ViewBuilder → Content → Option Content
 part_of groups builder c = made_part (made (viewer_of builder.viewer.now) groups builder.scope) (viewer_of builder.viewer.now) c

@@ -24,8 +24,7 @@ pub record TakesGroup (old : GroupVisitor) (c : Content) (new : GroupVisitor) : 
   pub index : (groups : List Content) → AreDecisions (viewer_of old.viewer.now) old.decisions → IsIndexOf (viewer_of old.viewer.now) groups old.index
       → IsIndexOf (viewer_of old.viewer.now) (groups ++ c ∷ []) new.index
 
--- the visitor's decisions, and its cached ones, are those on the viewer's reading of groups of these
--- resources
+-- the visitor's decisions, and its cached ones, are those on the viewer's read access to groups of these resources
 pub record Tells (v : Viewer) (cs : List Content) (listing : ListingVisitor) : Type 0 where
   pub viewer : viewer_of listing.viewer.now ≡ v
   pub decisions : AreDecisions v listing.decisions
@@ -36,8 +35,8 @@ abbrev pub TakesListing : ListingVisitor → Content → ListingVisitor → Type
 TakesListing old c new = (v : Viewer) (cs : List Content) → find (is_at Group c.id) cs ≡ Some c → Tells v cs old
     → Tells v cs new × ((id : List ℕ) (gathered : List Content) → lists id c ≡ true → AreListing v id gathered old.groups → AreListing v id (gathered ++ c ∷ []) new.groups)
 
--- the visitor keeps its sight and query, its pager has taken the part of the resource if it is seen, and its
--- cached decisions stay right
+-- the visitor keeps its builder and query, its pager has taken the part of the resource if it is seen, and its cached
+-- decisions stay right
 pub record TakesResource (old : SearchVisitor) (c : Content) (new : SearchVisitor) : Type 0 where
   pub builder : new.builder ≡ old.builder
   pub query : new.pager.query ≡ old.pager.query

@@ -21,11 +21,11 @@ pub record IndexTells (v : Viewer) (kind : Kind) (cs : List Content) (index : Gr
   pub is_index : IsIndexOf v groups index
   pub same : (c : Content) → c.kind ≡ kind → with_groups v groups c ≡ with_groups v (of_kind Group cs) c
 
--- the parts that a sight makes of the resources of a kind that its viewer sees
+-- the parts that a builder makes, one for each resource of the kind that its viewer sees
 abbrev pub made_of_kind : List Content → ViewBuilder → Kind → List Content → List Content
 made_of_kind groups builder kind cs = made_of_all (made (viewer_of builder.viewer.now) groups builder.scope) (viewer_of builder.viewer.now) (of_kind kind cs)
 
--- the decisions on the kind of a page's items, and the cached ones, are those on the viewer's reading
+-- the decisions on the kind of a page's items, and the cached ones, are those on the viewer's read access
 pub record IsItemBuilder (cs : List Content) (builder : ItemBuilder) : Type 0 where
   pub decisions : AreDecisions (viewer_of builder.viewer.now) builder.decisions.now
   pub decided : Recalls (viewer_of builder.viewer.now) builder.kind cs builder.decided.now

@@ -90,7 +90,7 @@ fn seen_part<S: Shelf>(
     view_beside(alloc, viewer, &decisions, &mut listing, shelf, resource)
 }
 
-/// As [`seen_part`], for a resource that may not have been found; None if there is none.
+/// Like [`seen_part`], for a resource that may not have been found; None if there is none.
 fn seen_if_found<S: Shelf>(
     alloc: Global,
     viewer: &Viewer<'_>,
@@ -166,7 +166,7 @@ pub(crate) fn page_named<S: Shelf>(
     page_found(alloc, viewer, shelf, kind, owner, query)
 }
 
-/// As [`page_named`], if only the resource with the id can match.
+/// Like [`page_named`], for a query that only the resource with the id can match.
 pub(crate) fn page_with_id<S: Shelf>(
     alloc: Global,
     viewer: &Viewer<'_>,

@@ -25,13 +25,12 @@ use std::alloc::Global;
 enum Form<'a> {
     /// The decisions are the same for all resources of the kind.
     Alike(Decisions),
-    /// The decisions depend on the resource, by the targets of these rules.
+    /// The decisions depend on the resource, since some of these rules have targets.
     ByTarget(RulesAbout<'a>),
 }
 
-/// The decisions on a client's reading of the resources of a kind.
-/// They are made once for all resources if the policy decides the same on all; otherwise by the rules that
-/// apply, which are selected once.
+/// The decisions on a client's read access to the resources of a kind. They are made once for all resources
+/// if the policy decides the same on all; otherwise by the rules that apply, which are selected once.
 #[derive(Drop)]
 pub(crate) struct ReadDecisions<'a> {
     kind: Kind,

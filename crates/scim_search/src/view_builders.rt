@@ -34,7 +34,7 @@ pub(crate) struct ViewBuilder<'a> {
 }
 
 impl<'a> ViewBuilder<'a> {
-    /// Returns the sight of a client, by these decisions on the kind of the resources.
+    /// Returns the builder of the parts that a client sees, by these decisions on the kind of the resources.
     pub(crate) fn new(
         viewer: &'a Viewer<'a>,
         decisions: &'a ReadDecisions<'a>,

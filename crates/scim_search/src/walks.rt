@@ -59,8 +59,8 @@ fn groups_for<S: Shelf>(
     }
 }
 
-/// Returns the query's page of the parts that the sight makes, and the cached decisions.
-/// The sight makes a part of each resource of the kind that its viewer sees.
+/// Returns the query's page of the parts that the builder makes, and the cached decisions.
+/// The builder makes one part for each resource of the kind that its viewer sees.
 fn page_made<S: Shelf>(
     alloc: Global,
     builder: ViewBuilder<'_>,

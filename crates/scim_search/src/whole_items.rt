@@ -31,7 +31,7 @@ pub(crate) struct ItemBuilder<'a> {
 }
 
 impl<'a> ItemBuilder<'a> {
-    /// Returns the sight of a viewer on items of the kind.
+    /// Returns the builder of the items of the kind that a viewer sees.
     pub(crate) fn new(
         viewer: &'a Viewer<'a>,
         kind: Kind,
@@ -53,7 +53,8 @@ impl<'a> ItemBuilder<'a> {
         }
     }
 
-    /// Returns the part of the resource that the client sees, with its groups; None if it sees none.
+    /// Returns the part of the resource that the client sees, with its groups; None if the client doesn't see
+    /// the resource.
     fn part_of<S: Shelf>(
         &self,
         alloc: Global,

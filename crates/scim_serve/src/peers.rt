@@ -24,8 +24,7 @@ impl Drop for PeerEvent {
     }
 }
 
-/// The fault that ends the serving of all connections: the system can't report incidents, tell the time or
-/// give random bytes.
+/// The fault that ends the serving of all connections: the system can't report events or measure time.
 #[derive(Clone, Copy, Debug, PartialEq, Eq, Error)]
 #[error("the connections can't be served")]
 pub struct PeersFault;

@@ -117,7 +117,8 @@ impl Waiting {
         true
     }
 
-    /// Lets a connection be written to. After `NoMemory` nothing has changed.
+    /// Adds a connection without pending bytes; from then on it can be written to. After `NoMemory` nothing
+    /// has changed.
     pub(crate) fn enter(&mut self, alloc: Global, connection: u64) -> Result<(), NoMemory>
         ensures ok { OnOk result (Becomes connection (Some []) self.old self.new) }
         ensures err { OnErr result (Stays self.old self.new) }

@@ -254,7 +254,7 @@ fn hear<P: Peers, S: Shelf>(
 /// written to any more. A connection is closed, and the others go on, if its number isn't greater than all
 /// earlier ones or if memory runs out for it.
 ///
-/// [`PeersFault`] if `peers` fails, or after 2^64 - 1 incidents.
+/// Fails with [`PeersFault`] if `peers` fails, or after 2^64 - 1 incidents.
 pub fn serve<P: Peers, S: Shelf>(
     alloc: Global,
     peers: &mut P,

@@ -1,6 +1,5 @@
 -- The replies of a service to turns, including its failures.
-use Rattle.std.specs.Prelude.{◌≡◌, ◌⊎◌, ◌<◌, ⊤, ℕ, List, length, zip, Err}
-use Rattle.std.specs.List.{FoldsTo}
+use Rattle.std.specs.Prelude.{◌≡◌, ◌≢◌, ◌⊎◌, ◌<◌, ◌≤◌, ℕ, List, [], ◌∷◌, length, Err}
 use Rattle.scim_text.specs.declared.memory.Failed.{Failed}
 use Rattle.scim_text.specs.declared.memory.Failed.TheVariants.{Because}
 use Rattle.scim_audit.specs.declared.refusals.Refusal.TheVariants.{Store as NoStore}
@@ -27,16 +26,24 @@ IsDone policy base turn store reply next = (reply ≡ (plan policy base turn sto
 abbrev pub HasFailed : (Failed ShelfFault → Type 0) → Store → Reply → Store → Type 0
 HasFailed Cause store reply next = (fault : Failed ShelfFault) × (reply ≡ Failure fault) × Cause fault × (next ≡ store)
 
--- Memory ran out before the request could be read, which is answered and not audited.
+-- Memory ran out before the request could be read. The turn gets a reply, but no row in the audit.
 abbrev pub WasNotTold : Turn → Store → Reply → Store → Type 0
 WasNotTold turn store reply next = (turn.request.ask ≡ Err NoStore) × (reply ≡ Refused NoStore) × (next ≡ store)
 
+-- Memory didn't run out before: the turn is done, or it failed.
+abbrev pub WasTold : List Rule → List ℕ → (Failed ShelfFault → Type 0) → Turn → Store → Reply → Store → Type 0
+WasTold policy base Cause turn store reply next =
+    (turn.request.ask ≢ Err NoStore) × (IsDone policy base turn store reply next ⊎ HasFailed Cause store reply next)
+
 -- The reply to a turn, over a store, and the store after it.
 abbrev pub Answered : List Rule → List ℕ → (Failed ShelfFault → Type 0) → Turn → Store → Reply → Store → Type 0
-Answered policy base Cause turn store reply next =
-    WasNotTold turn store reply next ⊎ (IsDone policy base turn store reply next ⊎ HasFailed Cause store reply next)
+Answered policy base Cause turn store reply next = WasNotTold turn store reply next ⊎ WasTold policy base Cause turn store reply next
 
--- The replies to turns in order, and the store after the last.
-abbrev pub Runs : List Rule → List ℕ → Store → List Turn → List Reply → Store → Type 0
-Runs policy base store turns replies next =
-    FoldsTo (λ s (pair : Turn × Reply) t. Answered policy base (λ _. ⊤) pair.0 s pair.1 t) store (zip turns replies) next
+-- The replies to turns in order, one for each, and the store after the last. `before` and `now` are the
+-- device's counts of failures before the first turn and after the last.
+abbrev pub Runs : List Rule → List ℕ → ℕ → Store → List Turn → List Reply → ℕ → Store → Type 0
+Runs policy base before store [] replies now next = (replies ≡ []) × (now ≡ before) × (next ≡ store)
+Runs policy base before store (turn ∷ turns) replies now next =
+    (reply : Reply) × (rest : List Reply) × (count : ℕ) × (mid : Store)
+    × (replies ≡ reply ∷ rest) × (before ≤ count) × Answered policy base (IsCause before count store) turn store reply mid
+    × Runs policy base count mid turns rest now next

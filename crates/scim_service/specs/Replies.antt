@@ -6,7 +6,7 @@ use Rattle.scim_audit.specs.Refusals as refusals
 use Rattle.scim_service.specs.declared.replies.Reply.{Reply}
 use Rattle.scim_service.specs.declared.replies.Reply.TheVariants.{Shown, Created, Done, Refused, Failed}
 
--- The refusal of a reply; that of a failure is `Store`, whatever its cause.
+-- The refusal that a reply reports, if any. A failure is reported as `Store`, whatever its cause.
 abbrev pub refusal_of : Reply → Option Refusal
 refusal_of (Refused refusal) = Some refusal
 refusal_of (Failed cause) = Some Store

@@ -1,7 +1,7 @@
 -- The setting of a service: its policy and the base of its locations; and its shelf.
 use Rattle.std.specs.Prelude.{◌≡◌, ℕ, List}
 use Rattle.scim_policy.specs.Rules.{Rule}
-use Rattle.scim_service.specs.declared.service.Service.{Service}
+use Rattle.scim_service.specs.declared.answering_turns.Service.{Service}
 
 -- The rules of a service's policy.
 abbrev pub service_policy : {S : Type 0} → Service S → List Rule

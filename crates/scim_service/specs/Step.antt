@@ -1,5 +1,5 @@
 -- The plan of one request: its reply, its change and its audit row (RFC 7644 section 3).
-use Rattle.std.specs.Prelude.{ℕ, Bool, not, ◌&&◌, ◌||◌, List, [], ◌∷◌, filter, find, Option, None, Some, is_none, option_and_then, Result, Ok, Err, if◌then◌else◌}
+use Rattle.std.specs.Prelude.{ℕ, Bool, true, false, not, ◌&&◌, ◌||◌, List, [], ◌∷◌, filter, find, Option, None, Some, is_none, option_and_then, Result, Ok, Err, if◌then◌else◌}
 use Rattle.std.specs.List.{list_any}
 use denote.Enum.Bare.{sameb}
 use Rattle.serde_json.specs.Written.{compact_text}
@@ -11,6 +11,7 @@ use Rattle.scim_schema.specs.declared.Unit.{Unit as AttributeUnit}
 use Rattle.scim_schema.specs.declared.Leaf.{Leaf}
 use Rattle.scim_schema.specs.declared.Attribute.TheVariants.{Id}
 use Rattle.scim_schema.specs.contracts.Kind.{the_type as the_kind}
+use Rattle.scim_schema.specs.contracts.Op.{the_type as the_op}
 use Rattle.scim_schema.specs.Table.{leaves}
 use Rattle.scim_schema.specs.Mutability.{is_fixed}
 use Rattle.scim_schema.specs.Units.{simple, unit_of, units, is_same_leaf, is_same_unit}
@@ -72,13 +73,26 @@ row_of turn id decided rule leaf refusal = record {
   refusal = refusal;
 }
 
--- ---- refusals: they change nothing, and their audit rows have the id of the request
+-- ---- refusals: they change nothing
 
--- The plan of a refusal, with this decision, rule and leaf in its audit row.
+-- Whether a request is for one resource that its id names, and not a create or a search; for one that can't
+-- be read its operation tells.
+abbrev pub is_for_one : Op → Result Ask Refusal → Bool
+is_for_one op (Ok (Search query)) = false
+is_for_one op (Ok (MakeOne draft wanted)) = false
+is_for_one op (Ok _) = true
+is_for_one op (Err refusal) = not (sameb the_op op Create)
+
+-- The id of the resource that a turn is for; None for a create or a search, whatever its request holds.
+unfoldable pub named_id : Turn → Option (List ℕ)
+named_id turn = if is_for_one turn.request.op turn.request.ask then turn.request.id else None
+
+-- The plan of a refusal, with the id of the resource that it is for and this decision, rule and leaf in its
+-- audit row.
 abbrev pub refusal_plan : Turn → Decided → Option ℕ → Option Leaf → Refusal → Plan
-refusal_plan turn how rule leaf refusal = record { reply = Refused refusal; change = Nothing; row = row_of turn turn.request.id how rule leaf (Some refusal) }
+refusal_plan turn how rule leaf refusal = record { reply = Refused refusal; change = Nothing; row = row_of turn (named_id turn) how rule leaf (Some refusal) }
 
--- The plan of a refusal for a cause in the request itself, which no rule decides.
+-- The plan of a refusal whose cause is in the request itself. No rule decides it.
 unfoldable pub rejection_plan : Turn → Refusal → Plan
 rejection_plan turn refusal = refusal_plan turn decided.Refused None None refusal
 
@@ -151,7 +165,7 @@ create_decision v c l = decide v.policy v.client Create c l
 abbrev pub is_decided : Draft → Leaf → Bool
 is_decided d l = is_same_leaf l (simple Id) || list_any (is_same_unit (unit_of l)) d.given
 
--- The first leaf, in leaf order, at which creating the resource from the draft is decided and denied.
+-- The first leaf, in leaf order, at which the policy decides on creating the resource from the draft and denies it.
 abbrev pub first_denied : Viewer → Draft → Content → Option Leaf
 first_denied v d c = find (λ l. is_decided d l && not (create_decision v c l).allow) (leaves d.kind)
 

@@ -2,17 +2,17 @@
 //! commits the plan, for one request or a list of them (RFC 7644 section 3).
 #![tactic(auto)]
 
+mod answering_turns;
 mod changed_resources;
-mod creations;
-mod patches;
+mod create_plans;
+mod patch_plans;
 mod plans;
-mod replacements;
+mod put_plans;
+mod reached_resources;
 mod replies;
 mod requests;
-mod seen_resources;
-mod service;
 mod taken_names;
 
+pub use answering_turns::Service;
 pub use replies::Reply;
 pub use requests::{Ask, Request, Turn, turn_is_sound};
-pub use service::Service;

@@ -13,11 +13,11 @@ ghost use Rattle.scim_shelf.specs.Shelves.{Answers, IsReadFrom, OnlyReads};
 ghost use Rattle.scim_shelf.specs.Stores.{AreOf};
 ghost use Rattle.scim_service.specs.Step as spec;
 
-use crate::creations::plan_create;
-use crate::patches::plan_patch;
-use crate::replacements::plan_replace;
+use crate::create_plans::plan_create;
+use crate::patch_plans::plan_patch;
+use crate::put_plans::plan_replace;
 use crate::replies::Reply;
-use crate::requests::{Ask, Turn};
+use crate::requests::{Ask, Turn, named_id};
 use scim_audit::{AuditRow, Decided, Refusal};
 use scim_cell::{Id, Text};
 use scim_json::{to_json, to_list_json};
@@ -110,7 +110,7 @@ pub(crate) fn refused_as(
     Ok(Plan {
         reply: Reply::Refused(refusal),
         change: Change::Nothing,
-        row: row_of(alloc, turn, turn.request.id, finding)?,
+        row: row_of(alloc, turn, named_id(turn), finding)?,
     })
 }
 

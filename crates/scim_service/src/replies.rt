@@ -18,7 +18,7 @@ pub enum Reply {
     Done,
     /// A refusal.
     Refused(Refusal),
-    /// 500: nothing was done, because of this fault. The body doesn't tell which.
+    /// 500: nothing was done, because of this fault. The body doesn't name the fault.
     Failed(Failed<ShelfFault>),
 }
 
@@ -33,6 +33,19 @@ impl Drop for Reply {
 }
 
 impl Reply {
+    /// Returns the status code (RFC 9110 section 15).
+    pub fn status(&self) -> u16
+        ensures { result ≡ spec.status_of self.now }
+    {
+        match self {
+            Reply::Shown(_) => 200,
+            Reply::Created(_, _) => 201,
+            Reply::Done => 204,
+            Reply::Refused(refusal) => refusal.status(),
+            Reply::Failed(_) => Refusal::Store.status(),
+        }
+    }
+
     /// Returns the refusal of the reply, if it is one; that of a failure is `Store`.
     pub fn refusal(&self) -> Option<Refusal>
         ensures { result ≡ spec.refusal_of self.now }

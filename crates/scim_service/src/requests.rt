@@ -1,5 +1,8 @@
 //! The requests that clients send to the service.
+ghost use Rattle.std.specs.Prelude.{◌≡◌, ◌↔◌, IsTrue, Err};
+ghost use Rattle.scim_audit.specs.declared.refusals.Refusal.{Refusal};
 ghost use Rattle.scim_service.specs.Requests.{IsAsk, IsTurn};
+ghost use Rattle.scim_service.specs.Step as spec;
 
 use scim_audit::Refusal;
 use scim_body::Draft;
@@ -81,6 +84,38 @@ pub struct Turn {
     pub moment: Moment,
     /// The id of the resource that the request creates, if it creates one.
     pub fresh: Id,
+}
+
+/// Whether memory ran out before the request could be read.
+pub(crate) fn is_unread(request: &Request) -> bool
+    ensures { IsTrue result ↔ (request.now.ask ≡ Err Refusal.Store) }
+{
+    matches!(request.ask, Err(Refusal::Store))
+}
+
+/// Whether a request is for one resource that its id names, and not a create or a search. For one that can't
+/// be read its operation tells.
+fn is_for_one(request: &Request) -> bool
+    ensures { result ≡ spec.is_for_one request.now.op request.now.ask }
+{
+    match &request.ask {
+        Ok(Ask::Search(_) | Ask::Create(_, _)) => false,
+        Ok(_) => true,
+        Err(_) => request.op != Op::Create,
+    }
+}
+
+/// Returns the id of the resource that the turn's request is for; None for a create or a search, whatever the
+/// request holds.
+#[tactic(auto, unfolding(crate::specs::Step::named_id))]
+pub(crate) fn named_id(turn: &Turn) -> Option<Id>
+    ensures { result ≡ spec.named_id turn.now }
+{
+    if is_for_one(&turn.request) {
+        turn.request.id
+    } else {
+        None
+    }
 }
 
 /// Proves that the draft or the patch of a request is valid. Has no effect.

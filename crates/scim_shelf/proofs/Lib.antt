@@ -13,4 +13,5 @@ pub mod NotedLemmas
 pub mod PickLemmas
 pub mod CopyLemmas
 pub mod CollectLemmas
+pub mod CountLemmas
 pub mod Facts

@@ -10,7 +10,7 @@ use Rattle.scim_shelf.specs.declared.caches.CachedShelf.{CachedShelf}
 abbrev pub AreThose : List Content → Option Collection → Type 0
 AreThose cs resources = IfSome resources (IsCollection cs)
 
--- A shelf stands for a store whose resources are in order of id and share no unique name.
+-- A shelf represents a store whose resources are in order of id and share no unique name.
 abbrev pub HasKeyed : {H : Type 0} → (H → Store → Type 0) → H → Store → Type 0
 HasKeyed Stands shelf store = Stands shelf store × AreKeyed store.resources
 

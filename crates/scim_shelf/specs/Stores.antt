@@ -1,4 +1,4 @@
--- The store that a shelf stands for, and how a change alters it.
+-- The store that a shelf represents, and how a change alters it.
 use Rattle.std.specs.Prelude.{◌≡◌, ◌≢◌, ℕ, Bool, ◌&&◌, List, [], ◌∷◌, ◌++◌, find, filter, nat_eq, All, AllPairs, Option, ⊤}
 use Rattle.std.specs.List.{list_any}
 use Rattle.std.specs.List.Sorted.{IsStrictlySortedBy, IsPermutation}

@@ -47,7 +47,7 @@ impl<S: Shelf> CachedShelf<S> {
         }
     }
 
-    /// Reads all resources of the shelf below into the cache. No two of them may have one id or share a
+    /// Reads all resources of the shelf below into the cache. No two of them may have the same id or share a
     /// unique name (RFC 7643 sections 2.2 and 3.1).
     ///
     /// Fails with Device if the shelf below did, or with NoMemory. On any error the cache is as before: if it
@@ -71,8 +71,8 @@ impl<S: Shelf> CachedShelf<S> {
         self.resources.is_some()
     }
 
-    /// Returns the shelf below, for what only it has, such as its audit rows. The cache doesn't follow a
-    /// change that is made through this reference: it counts as a write by others.
+    /// Returns the shelf below, for access to data that isn't cached, such as audit rows. A change made through
+    /// this reference doesn't update the cache: it counts as a write by others.
     pub fn lower_mut(&mut self) -> &mut S
         ensures* writes_back { sem 𝓛
             (Lends (the_row S.row) S.row self.entry result (λ lower. with_lower self.old lower)) }

@@ -70,7 +70,7 @@ fn shared_members(some: &[Row], others: &[Row]) -> usize
     shared
 }
 
-/// Returns the members of a group behind the prefix that it shares with the other group: only these can have
+/// Returns the members of a group after the prefix that it shares with the other group. Only these can have
 /// values that the other doesn't list. They are few if a large group grew or shrank at its end. A user counts
 /// as a group without members.
 pub(crate) fn members_beyond<'a>(other: &Resource, group: &'a Resource) -> &'a [Row]

@@ -37,7 +37,7 @@ impl Drop for MemoryShelf {
 
 impl MemoryShelf {
     /// Returns a shelf of these resources, which may come in any order, with no audit rows. No two of them
-    /// may have one id or share a unique name (RFC 7643 sections 2.2 and 3.1).
+    /// may have the same id or share a unique name (RFC 7643 sections 2.2 and 3.1).
     pub fn new(alloc: Global, resources: Vec<Resource>) -> Result<MemoryShelf, NoMemory>
         requires { AllPairs AreApart resources.items }
         ensures { IfOk result (λ shelf. (store : Store) × IsNewStore resources.items store

@@ -5,7 +5,7 @@ ghost use Rattle.std.specs.Option.{option_copied};
 ghost use Rattle.scim_cell.specs.Kinds.{of_kind};
 ghost use Rattle.scim_value.specs.Uniqueness.{name_of};
 ghost use Rattle.scim_shelf.specs.Stores.{Store, AreKeyed, CanKeep, IsOld, is_at, has_name, is_group_with, after};
-ghost use Rattle.scim_shelf.specs.Shelves.{Answers, OnlyReads, Commits};
+ghost use Rattle.scim_shelf.specs.Shelves.{Answers, OnlyReads, ShowsPrefix, Commits};
 
 use crate::changes::Change;
 use crate::faults::ShelfFault;
@@ -31,9 +31,9 @@ pub trait Visitor {
 /// A place where resources and audit rows are kept.
 ///
 /// `stands` relates a shelf to the store that it represents. The store isn't computed by reading, so a shelf
-/// still stands for the store of its last commit if its device can't be read any more.
+/// still represents the store of its last commit if its device can't be read any more.
 pub trait Shelf {
-    /// The shelf stands for this store.
+    /// The shelf represents this store.
     ghost stands: { Self → Store → Type 0 };
 
     /// Nobody else has written to the shelf's device, and the device returned what was written to it.
@@ -44,7 +44,7 @@ pub trait Shelf {
 
     /// Returns the resource of this kind with this id; None if there isn't one (RFC 7644 section 3.4.1).
     ///
-    /// Fails with Device if the device failed. On any error what is stored is unchanged.
+    /// Fails with Device if the device failed. An error leaves the stored resources and the audit unchanged.
     fn by_id(
         &mut self,
         alloc: Global,
@@ -71,7 +71,8 @@ pub trait Shelf {
     /// Passes the groups that list the value among their members to the visitor, in order of id (RFC 7643
     /// section 4.2).
     ///
-    /// Fails as `by_id` does, and if the visitor can't allocate. After an error the visitor is unusable.
+    /// Fails as `by_id` does, and if the visitor can't allocate. After Device the visitor has taken the first
+    /// of them, or none; after NoMemory it is unusable.
     fn groups_with<V: Visitor>(
         &mut self,
         alloc: Global,
@@ -81,11 +82,14 @@ pub trait Shelf {
         ensures answer { OnOk result ((store : Store) → stands self.old store → is_honest self.new
             → FoldsTo V.takes visitor.old
             (filter (is_group_with value.now) store.resources) visitor.new) }
+        ensures prefix { ShowsPrefix stands is_honest self.old self.new result
+            V.takes visitor.old (λ store. filter (is_group_with value.now) store.resources) visitor.new }
         ensures read { OnlyReads stands is_honest failures self.old self.new result };
 
     /// Passes the resources of the kind to the visitor, in order of id.
     ///
-    /// Fails as `by_id` does, and if the visitor can't allocate. After an error the visitor is unusable.
+    /// Fails as `by_id` does, and if the visitor can't allocate. After Device the visitor has taken the first
+    /// of them, or none; after NoMemory it is unusable.
     fn each<V: Visitor>(
         &mut self,
         alloc: Global,
@@ -94,6 +98,8 @@ pub trait Shelf {
     ) -> Result<(), Failed<ShelfFault>>
         ensures answer { OnOk result ((store : Store) → stands self.old store → is_honest self.new
             → FoldsTo V.takes visitor.old (of_kind kind store.resources) visitor.new) }
+        ensures prefix { ShowsPrefix stands is_honest self.old self.new result
+            V.takes visitor.old (λ store. of_kind kind store.resources) visitor.new }
         ensures read { OnlyReads stands is_honest failures self.old self.new result };
 
     /// Makes the change and adds the row to the audit, numbered one above the last row, or 1.
@@ -114,7 +120,7 @@ pub trait Shelf {
             → stands self.new (after change row store)) }
         ensures commits { Commits stands is_honest failures self.old self.new result };
 
-    /// As `commit`, but the caller passes the resource that the change's id has now, of either kind, so
+    /// Like `commit`, but the caller passes the resource that the change's id has now, of either kind, so
     /// that it isn't read again. `old` is ignored for `Change::Nothing`.
     fn commit_over(
         &mut self,

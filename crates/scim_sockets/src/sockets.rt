@@ -9,7 +9,7 @@ use crate::time_limits::{IDLE, WAIT, WATCH};
 use crate::turn_queue::{LISTENER, Place, Turns};
 use mio::net::{TcpListener, TcpStream};
 use mio::{Events, Interest, Poll, Token};
-use scim_hub::{OwnedEvent, OwnedEventKind};
+use scim_hub::{OwnedEvent, OwnedEventKind, Stamp};
 use scim_serve::{PeerEvent, Peers, PeersFault};
 use scim_text::Failed;
 use std::alloc::{AllocError, Global};
@@ -99,6 +99,15 @@ impl Room {
     }
 }
 
+/// Returns the event that a connection joins or leaves, which needs no stamp.
+fn unstamped(connection: u64, kind: OwnedEventKind) -> PeerEvent {
+    PeerEvent::Event(OwnedEvent {
+        connection,
+        stamp: Stamp::unused(),
+        kind,
+    })
+}
+
 /// The system's sockets as connections, many of which are served on one thread.
 ///
 /// A connection is closed if for a minute it has neither sent bytes nor taken bytes of a pending reply. A
@@ -125,7 +134,8 @@ impl<'r, R: Net + Clock + RandomSource> Sockets<'r, R> {
     /// Listens on a port of the loopback address; on a free port if `port` is 0.
     ///
     /// With `most`, at most that many connections are accepted, and [`Peers::next`] returns `None` after the
-    /// last has left. [`CannotListen`] if the port can't be bound. After any error the port isn't bound.
+    /// last has left. Fails with [`CannotListen`] if the port can't be bound. After any error the port isn't
+    /// bound.
     pub fn listen(
         rt: &'r R,
         alloc: Global,
@@ -179,25 +189,13 @@ impl<'r, R: Clock + RandomSource> Sockets<'r, R> {
         self.has_accepted_all() && self.room.turns.is_empty()
     }
 
-    /// Returns the event for an occurrence on a connection, stamped now.
-    fn tell(&self, connection: u64, kind: OwnedEventKind) -> Result<Option<PeerEvent>, PeersFault> {
-        match stamp_now(self.rt) {
-            Ok(stamp) => Ok(Some(PeerEvent::Event(OwnedEvent {
-                connection,
-                stamp,
-                kind,
-            }))),
-            Err(fault) => Err(fault),
-        }
-    }
-
     /// Accepts a connection, if one is waiting and may join now.
     ///
     /// If the system refuses for another reason, such as too many open files, accepting is tried again after
     /// the next poll and after a connection has left.
-    fn accept(&mut self) -> Result<Option<PeerEvent>, PeersFault> {
+    fn accept(&mut self) -> Option<PeerEvent> {
         if self.has_accepted_all() || self.room.turns.is_full() {
-            return Ok(None);
+            return None;
         }
         match self.listening.listener.accept() {
             Ok((stream, _)) => {
@@ -208,14 +206,14 @@ impl<'r, R: Clock + RandomSource> Sockets<'r, R> {
                 if error.kind() == ErrorKind::WouldBlock {
                     self.room.turns.close_door();
                 }
-                Ok(None)
+                None
             }
         }
     }
 
     /// Adds an accepted connection. Drops it without a report if it can't be registered or if memory runs
     /// out.
-    fn join(&mut self, mut stream: TcpStream) -> Result<Option<PeerEvent>, PeersFault>
+    fn join(&mut self, mut stream: TcpStream) -> Option<PeerEvent>
         requires room { btree_map_len self.old.room.turns.connections < 1024 }
     {
         let number = self.accepted;
@@ -227,24 +225,30 @@ impl<'r, R: Clock + RandomSource> Sockets<'r, R> {
             .is_ok();
         let connection = Connection::new(stream, self.time);
         if is_registered && self.room.turns.join(number, connection) {
-            self.tell(number, OwnedEventKind::Joined)
+            Some(unstamped(number, OwnedEventKind::Joined))
         } else {
-            Ok(None)
+            None
         }
     }
 
-    /// Gives a connection its turn, and returns its event. Ends the connection if its piece can't be
-    /// allocated.
-    fn serve(&mut self, alloc: Global, number: u64) -> Result<Option<PeerEvent>, PeersFault> {
+    /// Gives a connection its turn, and returns its event.
+    ///
+    /// Ends the connection if its piece can't be allocated or stamped, since the clock or the random source
+    /// failed; it leaves at its next turn.
+    fn serve(&mut self, alloc: Global, number: u64) -> Option<PeerEvent> {
         match self.room.turn(number, self.time) {
-            Turn::Nothing => Ok(None),
-            Turn::Ready => Ok(Some(PeerEvent::Ready(number))),
-            Turn::Left => self.tell(number, OwnedEventKind::Left),
-            Turn::Piece(count) => match self.room.piece(alloc, count) {
-                Ok(bytes) => self.tell(number, OwnedEventKind::Piece(bytes)),
-                Err(_) => {
+            Turn::Nothing => None,
+            Turn::Ready => Some(PeerEvent::Ready(number)),
+            Turn::Left => Some(unstamped(number, OwnedEventKind::Left)),
+            Turn::Piece(count) => match (self.room.piece(alloc, count), stamp_now(self.rt)) {
+                (Ok(bytes), Ok(stamp)) => Some(PeerEvent::Event(OwnedEvent {
+                    connection: number,
+                    stamp,
+                    kind: OwnedEventKind::Piece(bytes),
+                })),
+                _ => {
                     self.room.turns.end(number);
-                    Ok(None)
+                    None
                 }
             },
         }
@@ -272,8 +276,8 @@ impl<'r, R: Clock + RandomSource> Sockets<'r, R> {
         }
         self.round -= 1;
         match self.room.turns.pop() {
-            Some(Place::Door) => self.accept(),
-            Some(Place::Connection(number)) => self.serve(alloc, number),
+            Some(Place::Door) => Ok(self.accept()),
+            Some(Place::Connection(number)) => Ok(self.serve(alloc, number)),
             None => Ok(None),
         }
     }

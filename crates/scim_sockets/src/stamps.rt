@@ -4,8 +4,7 @@ ghost use Rattle.scim_text.specs.Moments.{last_moment};
 ghost use Rattle.uuid.specs.Uuid.{version_num};
 
 use scim_cell::id_of;
-use scim_hub::Stamp;
-use scim_serve::PeersFault;
+use scim_hub::{NoStamp, Stamp};
 use scim_text::Moment;
 use std::io;
 use std::random::RandomSource;
@@ -40,10 +39,11 @@ fn present(rt: &impl Clock) -> io::Result<Moment> {
     }
 }
 
-/// Returns a stamp for an event that occurs now. [`PeersFault`] if the clock or the random source fails.
-pub(crate) fn stamp_now<R: Clock + RandomSource>(rt: &R) -> Result<Stamp, PeersFault> {
+/// Returns a stamp for an event that occurs now. Fails with [`NoStamp`] if the clock or the random source
+/// fails.
+pub(crate) fn stamp_now<R: Clock + RandomSource>(rt: &R) -> Result<Stamp, NoStamp> {
     let (Ok(moment), Ok(uuid)) = (present(rt), fresh(rt)) else {
-        return Err(PeersFault);
+        return Err(NoStamp);
     };
     let first = id_of(uuid);
     Ok(Stamp { moment, first })

@@ -172,7 +172,7 @@ impl Turns {
         count
     }
 
-    /// Shuts a connection, as [`Connection::shut`].
+    /// Shuts a connection, as [`Connection::shut`] does.
     pub(crate) fn shut(&mut self, number: u64, now: Instant) {
         if let Some(connection) = self.connections.get_mut(&number) {
             connection.shut(now);

@@ -4,14 +4,12 @@ use Rattle.std.specs.Prelude.{All, AllPairs, IsPermutation}
 use Rattle.std.specs.List.{flat_map}
 use Rattle.std.specs.Ordering.{nat_cmp, is_eq}
 use Rattle.std.specs.Cmp.Lexicographic.{slice_cmp}
-use Rattle.std.proofs.lemmas.Cmp.{tied_itself, nat_list_cmp_total}
 use Rattle.std.proofs.lemmas.List.{append_assoc}
 use Rattle.std.proofs.lemmas.List.Elements.{All-head, All-tail, All-append, recursion_from_All, filter-append}
 use Rattle.std.proofs.lemmas.List.Folds.{list_any_at}
 use Rattle.std.proofs.lemmas.List.Kept.{AllPairs-cons, AllPairs-filter}
 use Rattle.std.proofs.lemmas.List.Sorted.{IsPermutation-trans, IsPermutation-append_right}
 use Rattle.std.proofs.lemmas.Grind.{flat_map-append}
-use Rattle.std.proofs.lemmas.Map.Lookups.{exact_bytes}
 use Rattle.std.proofs.lemmas.Map.Text.{is_eq-slice_cmp}
 use Rattle.std.proofs.lemmas.Slice.Eq.{bytes_eq-Decides}
 use Rattle.std.specs.Str.{bytes_eq}
@@ -19,8 +17,6 @@ use Rattle.sqlite_trees.proofs.ListLemmas.{IsPermutation-same, IsPermutation-fil
 use Rattle.sqlite.specs.Order.{Row}
 use Rattle.scim_schema.proofs.Facts.{and_first}
 use Rattle.scim_cell.specs.Ids.{IsId, id_text}
-use Rattle.scim_cell.proofs.Facts.{id_text-injective}
-use Rattle.scim_shelf.proofs.Facts.{by_order}
 use Rattle.scim_store_tables.specs.Lists.{has_text, has_texts}
 use Rattle.scim_store_rows.specs.Stands.{Entry, is_among, resource_row, member_row}
 use Rattle.scim_store_rows.proofs.Facts.{tied, ids_apart}

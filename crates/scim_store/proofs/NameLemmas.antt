@@ -6,7 +6,7 @@ use Rattle.std.specs.List.{flat_map, list_any}
 use Rattle.std.specs.Ordering.{nat_cmp, is_eq}
 use Rattle.std.specs.Cmp.Lexicographic.{slice_cmp}
 use Rattle.std.proofs.lemmas.List.{append-nil}
-use Rattle.std.proofs.lemmas.List.Elements.{All-nil, All-cons, All-head, All-tail, All-append, All-filter, All-map, All-weaker, All-contains_itself, recursion_from_All, Contains-get_or}
+use Rattle.std.proofs.lemmas.List.Elements.{All-nil, All-head, All-tail, All-filter, All-map, All-weaker, All-contains_itself, recursion_from_All, Contains-get_or}
 use Rattle.std.proofs.lemmas.Map.Text.{is_eq-slice_cmp}
 use Rattle.sqlite_trees.proofs.ListLemmas.{filter-map, filter_same}
 use Rattle.sqlite.specs.Order.{Row}

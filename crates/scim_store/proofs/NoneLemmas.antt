@@ -3,7 +3,7 @@ use Rattle.std.proofs.Common.{List, ℕ}
 use Rattle.sqlite.specs.Effect.{Database}
 use Rattle.sqlite.specs.State.{State}
 use Rattle.scim_store_tables.specs.Whole.{Is, AreNone, IsUntouched}
-use Rattle.scim_store_tables.specs.declared.tables.DatabaseKind.TheVariants.{WrongVersion, Foreign}
+use Rattle.scim_store_tables.specs.declared.database_kinds.DatabaseKind.TheVariants.{WrongVersion, Foreign}
 use Rattle.scim_store_tables.proofs.Facts.{other_none, foreign_none}
 use Rattle.scim_store_rows.specs.Stands.{lists_of}
 use Rattle.scim_store.specs.Committing.{StandForNone, Stays}

@@ -17,8 +17,8 @@ use Rattle.scim_store.proofs.ShelfLemmas.{clean_before}
 use Rattle.scim_store_tables.specs.Lists.{Are}
 use Rattle.scim_store_tables.specs.Reading.{shown, Rests}
 use Rattle.scim_store_tables.specs.Whole.{AreRowsOf as AreRead, Is, IsUntouched}
-use Rattle.scim_store_tables.specs.declared.tables.TableRows.{TableRows}
-use Rattle.scim_store_tables.specs.declared.tables.DatabaseKind.TheVariants.{WrongVersion as OtherVersion, Foreign as OtherProgram}
+use Rattle.scim_store_tables.specs.declared.database_kinds.TableRows.{TableRows}
+use Rattle.scim_store_tables.specs.declared.database_kinds.DatabaseKind.TheVariants.{WrongVersion as OtherVersion, Foreign as OtherProgram}
 use Rattle.scim_store_tables.proofs.Facts.{order_rising}
 use Rattle.scim_store_tables.proofs.Facts.{rows_of, holds_lists}
 use Rattle.scim_store_rows.specs.Audit.{audit_rows}
@@ -26,8 +26,8 @@ use Rattle.scim_store.specs.Damage.{AreOrdered, AreSound, IsLeastDamage, IsForei
 use Rattle.scim_store.specs.Opening.{resource_tables, CountsAudit, IsByAudit, IsFor, Examines}
 use Rattle.scim_store_rows.specs.Finding.{StandsIn}
 use Rattle.scim_store.specs.Shelves.{IsKeptIn, HasOpened, LeavesBegun}
-use Rattle.scim_store.specs.declared.opening.Examined.{Examined}
-use Rattle.scim_store.specs.declared.opening.Examined.TheVariants.{Empty, Stands, WrongVersion, Damaged, Foreign}
+use Rattle.scim_store.specs.declared.examining.Examined.{Examined}
+use Rattle.scim_store.specs.declared.examining.Examined.TheVariants.{Empty, Stands, WrongVersion, Damaged, Foreign}
 use Rattle.scim_store_rows.specs.Stands.{Entry, StandsFor, lists_of, name_row, name_rows, member_row, member_rows}
 use Rattle.scim_store.proofs.NoneLemmas.{other_stand, foreign_stand}
 use Rattle.scim_store_rows.proofs.Facts.{contents}
@@ -66,7 +66,7 @@ ordered_read db rows read = record { resources = read.resources.order; names = r
 -- ---- rows that are sound
 
 pub read_stands : (base : List ℕ) (db : Database) (rows : TableRows) (count : ℕ) → Are db (shown db) → AreRead (shown db) rows → AreSound base (resource_tables rows) → CountsAudit rows.audit.items (Some count) → IsFor base db (Stands count)
-read_stands base db rows count held read (es, are) (audit, is, long) = (
+read_stands base db rows count held read (es, are) (audit, valid, is, long) = (
   record { resources = contents es; audit = audit },
   record {
     entries = es;
@@ -80,6 +80,7 @@ read_stands base db rows count held read (es, are) (audit, is, long) = (
       audit = record { same = IsPermutation-same _ _ is; order = read.audit.order };
     });
   },
+  valid,
   long,
 )
 
@@ -105,13 +106,19 @@ damaged_read base db rows id read least = (
   λ store sound stands. least.here (sound_holds base (resource_tables rows) id least.is_id (sound_of base db rows store read stands)),
 )
 
-pub foreign_read : (base : List ℕ) (db : Database) (rows : TableRows) → AreRead (shown db) rows → IsForeign base (resource_tables rows) → IsFor base db Foreign
-foreign_read base db rows read foreign = λ store sound stands. foreign.unsound (sound_of base db rows store read stands)
+pub foreign_read : (base : List ℕ) (db : Database) (rows : TableRows) → Are db (shown db) → AreRead (shown db) rows → IsForeign base (resource_tables rows) → IsFor base db Foreign
+foreign_read base db rows held read foreign = (
+  inr (record { tables = held; rows = rows; read = read; holds = foreign.holds }),
+  λ store sound stands. foreign.unsound (sound_of base db rows store read stands),
+)
 
-pub audit_read : (base : List ℕ) (db : Database) (rows : TableRows) → AreRead (shown db) rows → CountsAudit rows.audit.items None → IsFor base db Foreign
-audit_read base db rows read none = λ store sound stands.
-    (let told = rows_of db (lists_of stands.entries store.audit) rows stands.tables read in
-    none store.audit sound (sym (order_rising (0 ∷ []) (audit_rows 1 store.audit) rows.audit.items (rows_rise 1 store.audit) told.audit.same told.audit.order)))
+pub audit_read : (base : List ℕ) (db : Database) (rows : TableRows) → Are db (shown db) → AreRead (shown db) rows → AreSound base (resource_tables rows) → CountsAudit rows.audit.items None → IsFor base db Foreign
+audit_read base db rows held read sound none = (
+  inr (record { tables = held; rows = rows; read = read; holds = λ id is. sound_holds base (resource_tables rows) id is sound }),
+  λ store valid stands.
+      (let told = rows_of db (lists_of stands.entries store.audit) rows stands.tables read in
+      none store.audit valid (sym (order_rising (0 ∷ []) (audit_rows 1 store.audit) rows.audit.items (rows_rise 1 store.audit) told.audit.same told.audit.order))),
+)
 
 -- ---- other databases
 
@@ -119,7 +126,7 @@ pub other_read : (base : List ℕ) (db : Database) → Is db OtherVersion → Is
 other_read base db is = (is, λ store sound stands. other_stand base db is store stands)
 
 pub program_read : (base : List ℕ) (db : Database) → Is db OtherProgram → IsFor base db Foreign
-program_read base db is = λ store sound stands. foreign_stand base db is store stands
+program_read base db is = (inl is, λ store sound stands. foreign_stand base db is store stands)
 
 -- ---- all rows
 
@@ -128,7 +135,7 @@ by_audit base db rows Empty held read sound wrong = absurd wrong
 by_audit base db rows (Stands count) held read sound counts = read_stands base db rows count held read sound counts
 by_audit base db rows WrongVersion held read sound wrong = absurd wrong
 by_audit base db rows (Damaged id) held read sound wrong = absurd wrong
-by_audit base db rows Foreign held read sound none = audit_read base db rows read none
+by_audit base db rows Foreign held read sound none = audit_read base db rows held read sound none
 
 -- ---- a shelf over the tables
 
@@ -137,8 +144,8 @@ pub opened_over : (base : List ℕ) (old mid new : State) (count rows : ℕ) →
 opened_over base old mid new count rows told kept = (
   told.is.0,
   record {
-    kept = kept told.is.0 (λ o. subst (λ (db : Database). StandsFor base db told.is.0) (sym (told.untouched.unchanged (told.untouched.was_open o)).0.now_is) told.is.1) told.is.2;
-    opens = inr told.is.1;
+    kept = kept told.is.0 (λ o. subst (λ (db : Database). StandsFor base db told.is.0) (sym (told.untouched.unchanged (told.untouched.was_open o)).0.now_is) told.is.1) told.is.3;
+    opens = inr (told.is.1, told.is.2);
   },
 )
 

@@ -1,8 +1,52 @@
--- What a disk has done before.
-use Rattle.std.proofs.Common.{arith, ◌≤◌}
-use Rattle.sqlite.specs.State.{State, HasCleanDisk}
+-- The shelf over a database: its count of failures, and what its commits leave.
+use Rattle.std.proofs.Common.{◌≡◌, ◌≤◌, ◌+◌, ℕ, List, Result, Ok, Err, inl, inr, sym, ap, subst, arith}
+use Rattle.std.specs.Prelude.{min, OnOk, IfOk}
+use Rattle.std.proofs.lemmas.Bool.Decides.{eqb_tells}
+use Rattle.std.proofs.lemmas.Result.{on_ok_weaker}
+use Rattle.sqlite.specs.State.{State, HasCleanDisk, Survives}
+use Rattle.sqlite.specs.Tree.{Trees}
 use Rattle.sqlite.specs.View.{doubt}
+use Rattle.sqlite.proofs.StateLemmas.{survives_weaker}
+use Rattle.scim_text.specs.declared.memory.Failed.TheVariants.{Because}
+use Rattle.scim_audit.specs.declared.audit_rows.AuditRow.{AuditRow}
+use Rattle.scim_shelf.specs.declared.changes.Change.{Change}
+use Rattle.scim_shelf.specs.declared.faults.ShelfFault.TheVariants.{Device}
+use Rattle.scim_shelf.specs.Shelves.{count_after}
+use Rattle.scim_shelf.specs.Stores.{Store, CanKeep, after}
+use Rattle.scim_store_tables.specs.Steps.{Leaves}
+use Rattle.scim_store.specs.Committing.{HasStore, IsDue, AreOf, Changes}
+use Rattle.scim_store.specs.Shelves.{IsKeptIn, CommitsWhole}
 
 -- a disk that gives back what was written did so before
 pub clean_before : (old new : State) → doubt old.is_clean ≤ doubt new.is_clean → HasCleanDisk new → HasCleanDisk old
 clean_before old new grows clean = omega (arith, grows, clean)
+
+-- ---- the count of failures
+
+-- a sum that saturates counts one failure
+pub saturates : (n : ℕ) → n ≤ 18446744073709551615 → min (n + 1) 18446744073709551615 ≡ count_after n (Because Device)
+saturates n low = elim (eqb_tells n 18446744073709551615) [
+  | inl same ↦ rw same.0 (omega (arith, same.1))
+  | inr other ↦ rw other.0 (omega (arith, low, other.1))
+]
+
+-- ---- what a commit leaves
+
+-- the result of the commit is that of the call
+pub told_ok : {T E F : Type 0} (P Q : Type 0) (done : Result T E) (result : Result T F) → IfOk result (λ x. (done ≡ Ok x) × Q) → OnOk done P → OnOk result P
+told_ok P Q done (Ok x) same made = subst (λ r. OnOk r P) same.0 made
+told_ok P Q done (Err e) same made = tt
+
+module _ {T E : Type 0} (base : List ℕ) (change : Change) (row : AuditRow) (Due May : Store → Type 0) (old new : State) (due : (store : Store) → May store → Due store)
+    (kept : (store : Store) → May store → HasCleanDisk old → HasStore base old store) where
+  -- what is left of each store to which the change is due is left of each that may be changed
+  pub whole_left : (result : Result T E) → Survives old new (Leaves (Changes base change row Due) old.now)
+      → (HasCleanDisk new → OnOk result ((store : Store) → HasStore base old store → Due store → (trees : Trees) → new.may_leave trees → AreOf base (after change row store) trees)) → CommitsWhole base change row May old new result
+  whole_left result crash durable = record {
+    crash = survives_weaker old new _ _ (λ _ trees leaves. (leaves.0, leaves.1, λ store stands may. leaves.2 store stands (due store may))) crash;
+    durable = λ clean. on_ok_weaker result (λ lasts store may. lasts store (kept store may (clean_before old new crash.clean clean)) (due store may)) (durable clean);
+  }
+
+-- the change is due to each store of the shelf to which it may be made
+pub due_of : (base : List ℕ) (s : State) (rows : ℕ) (change : Change) (store : Store) → IsKeptIn base s rows store → CanKeep store change → IsDue change (rows + 1) store
+due_of base s rows change store kept can = record { can = can; next = ap (λ n. n + 1) (sym kept.rows_are) }

@@ -9,7 +9,7 @@ use Rattle.scim_shelf.specs.declared.changes.Change.{Change}
 use Rattle.scim_shelf.specs.Stores.{Store, CanKeep, IsOld, after}
 use Rattle.scim_store_rows.specs.Stands.{StandsFor}
 
--- If the connection is open, its tables stand for the store and are committed.
+-- If the connection is open, its tables hold the store and are committed.
 pub record HasStore (base : List ℕ) (s : State) (store : Store) : Type 0 where
   pub stands : IsTrue s.is_open → StandsFor base s.now store
   pub settled : IsTrue s.is_open → s.now ≡ s.committed
@@ -25,12 +25,12 @@ pub record IsDueOver (old : Option Content) (change : Change) (number : ℕ) (st
   pub due : IsDue change number store
   pub was : IsOld store.resources change old
 
--- If the old tables stand for a store to which the change may be made, the new ones stand for the store after
--- the change with its audit row.
+-- If the old tables hold a valid store to which the change may be made, the new ones hold the store after the
+-- change with its audit row.
 abbrev pub Changes : List ℕ → Change → AuditRow → (Store → Type 0) → Database → Database → Type 0
 Changes base change row May old new = (store : Store) → StandsFor base old store → May store → StandsFor base new (after change row store)
 
--- The trees are those of tables that stand for the store.
+-- The trees are those of tables that hold the store.
 abbrev pub AreOf : List ℕ → Store → Trees → Type 0
 AreOf base store trees = (db : Database) × (trees ≡ db.trees) × StandsFor base db store
 
@@ -40,6 +40,6 @@ pub record Stays (old new : State) : Type 0 where
   pub now : IsTrue new.is_open → new.now ≡ old.now
   pub committed : IsTrue new.is_open → new.committed ≡ old.committed
 
--- The tables don't stand for a store.
+-- The tables don't hold a valid store.
 abbrev pub StandForNone : List ℕ → Database → Type 0
 StandForNone base db = (store : Store) → StandsFor base db store → ⊥

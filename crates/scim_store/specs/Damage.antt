@@ -24,7 +24,7 @@ pub record Tables : Type 0 where
   -- Columns group and value of each member.
   pub members : List Row
 
--- The rows are sorted as they are read: by id; by owner, attribute and text; by group and value.
+-- The rows are in the order in which they are read: by id; by owner, attribute and text; by group and value.
 pub record AreOrdered (tables : Tables) : Type 0 where
   pub resources : DoNotFall (0 ∷ []) tables.resources
   pub names : DoNotFall (0 ∷ 1 ∷ 2 ∷ []) tables.names

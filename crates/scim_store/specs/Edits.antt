@@ -23,11 +23,11 @@ use Rattle.scim_store.specs.declared.edits.Edits.{Edits}
 use Rattle.scim_store_rows.specs.Audit.{kind_number, audit_row}
 use Rattle.scim_store_rows.specs.Stands.{StandsFor, is_among}
 
--- Whether a row in `taken` is that of one of these names, whatever its owner.
+-- Whether a row in `taken` has one of these names, whatever its owner.
 abbrev pub is_name : List UniqueName → Row → Bool
 is_name names row = list_any (λ n. has_texts (attribute_name n.leaf.attribute) (string_bytes n.text) row) names
 
--- Whether a row in `member` is that of one of these values of the group.
+-- Whether a row in `member` has the id of the group and one of these values.
 abbrev pub is_member : List ℕ → List (List ℕ) → Row → Bool
 is_member group_id values row = list_any (λ v. has_texts v group_id row) values
 
@@ -105,8 +105,8 @@ abbrev pub KeepsBelow : List ℕ → Change → Type 0
 KeepsBelow base (Keep c) = HasBase base c
 KeepsBelow base _ = ⊤
 
--- If the old tables stand for a store, the new ones stand for the store after each change with these edits
--- and this audit row.
+-- If the old tables hold a valid store, the new ones hold the store after each change with these edits and this
+-- audit row.
 pub record Writes (edits : Option Edits) (columns : AuditColumns) (old new : Database) : Type 0 where
   pub stands : (base : List ℕ) (store : Store) (change : Change) (row : AuditRow) → StandsFor base old store → CanKeep store change → AreEdits base store.resources change edits
       → audit_values columns ≡ audit_row (length store.audit + 1) row → StandsFor base new (after change row store)

@@ -22,7 +22,7 @@ pub record HoldRowsOf (base : List ℕ) (cs : List Content) (db : Database) : Ty
 abbrev pub Fills : List Content → Database → Database → Type 0
 Fills cs old new = old.schema ≡ no_schema → (base : List ℕ) → All (HasBase base) cs → HoldRowsOf base cs new
 
--- The tables that a crash during an import may leave, beside those that it could leave before: only if the
--- database was empty, and then the tables with the rows of all these resources.
+-- The tables that a crash during an import may leave, in addition to those that it could leave before the import: if
+-- the database was empty, the tables with the rows of all these resources; otherwise none.
 abbrev pub LeavesImported : List ℕ → List Content → State → Trees → Type 0
 LeavesImported base cs s trees = (s.now.schema ≡ no_schema) × ((db : Database) × (trees ≡ db.trees) × HoldRowsOf base cs db × ((store : Store) → IsNewStore cs store → StandsFor base db store))

@@ -7,3 +7,4 @@ pub mod Owners
 pub mod Damage
 pub mod Opening
 pub mod code
+pub mod SqlShelves

@@ -1,23 +1,25 @@
 -- The result of examining a database.
-use Rattle.std.specs.Prelude.{◌≡◌, ◌≢◌, ℕ, List, length, All, Option, Some, None}
+use Rattle.std.specs.Prelude.{◌≡◌, ◌≢◌, ◌⊎◌, ℕ, List, length, All, Option, Some, None}
 use Rattle.sqlite.specs.Effect.{Database}
 use Rattle.sqlite.specs.Order.{Row}
 use Rattle.sqlite.specs.State.{State}
 use Rattle.scim_audit.specs.declared.audit_rows.AuditRow.{AuditRow}
 use Rattle.scim_shelf.specs.Stores.{Store}
+use Rattle.scim_cell.specs.Ids.{IsId}
 use Rattle.scim_store_tables.specs.Tables.{no_schema}
+use Rattle.scim_store_tables.specs.Lists.{Are}
 use Rattle.scim_store_tables.specs.Reading.{shown}
 use Rattle.scim_store_tables.specs.Whole.{AreRowsOf, Is, IsUntouched}
-use Rattle.scim_store_tables.specs.declared.tables.TableRows.{TableRows}
-use Rattle.scim_store_tables.specs.declared.tables.DatabaseKind.TheVariants.{WrongVersion as OtherVersion}
-use Rattle.scim_store.specs.declared.opening.Examined.{Examined}
-use Rattle.scim_store.specs.declared.opening.Examined.TheVariants.{Empty, Stands, WrongVersion, Damaged, Foreign}
+use Rattle.scim_store_tables.specs.declared.database_kinds.TableRows.{TableRows}
+use Rattle.scim_store_tables.specs.declared.database_kinds.DatabaseKind.TheVariants.{WrongVersion as OtherVersion, Foreign as OtherProgram}
+use Rattle.scim_store.specs.declared.examining.Examined.{Examined}
+use Rattle.scim_store.specs.declared.examining.Examined.TheVariants.{Empty, Stands, WrongVersion, Damaged, Foreign}
 use Rattle.scim_store_rows.specs.Audit.{audit_rows}
 use Rattle.scim_store_rows.specs.AuditBack.{IsSound}
-use Rattle.scim_store.specs.Damage.{Tables, IsLeastDamage}
+use Rattle.scim_store.specs.Damage.{Tables, HoldsAt, IsLeastDamage}
 use Rattle.scim_store_rows.specs.Stands.{StandsFor}
 
--- The tables don't stand for a store whose audit rows are valid.
+-- The tables don't hold a valid store whose audit rows are valid.
 abbrev pub StandForNoSound : List ℕ → Database → Type 0
 StandForNoSound base db = (store : Store) → All IsSound store.audit → StandsFor base db store → ⊥
 
@@ -31,10 +33,17 @@ pub record IsDamagedAt (base : List ℕ) (db : Database) (id : List ℕ) : Type 
   pub read : AreRowsOf (shown db) rows
   pub least : IsLeastDamage base (resource_tables rows) id
 
+-- The tables are those of version 1, and the rows of each id are empty or those of one resource.
+pub record HoldsAtEach (base : List ℕ) (db : Database) : Type 0 where
+  pub tables : Are db (shown db)
+  pub rows : TableRows
+  pub read : AreRowsOf (shown db) rows
+  pub holds : (id : List ℕ) → IsId id → HoldsAt base (resource_tables rows) id
+
 -- The rows are this many valid audit rows, numbered from 1; or None if they aren't valid audit rows.
 abbrev pub CountsAudit : List Row → Option ℕ → Type 0
 CountsAudit rows None = (audit : List AuditRow) → All IsSound audit → audit_rows 1 audit ≢ rows
-CountsAudit rows (Some count) = (audit : List AuditRow) × (audit_rows 1 audit ≡ rows) × (length audit ≡ count)
+CountsAudit rows (Some count) = (audit : List AuditRow) × All IsSound audit × (audit_rows 1 audit ≡ rows) × (length audit ≡ count)
 
 -- The result of examining the audit rows, if the rows of resources are valid.
 abbrev pub IsByAudit : List Row → Examined → Type 0
@@ -42,15 +51,16 @@ IsByAudit rows (Stands count) = CountsAudit rows (Some count)
 IsByAudit rows Foreign = CountsAudit rows None
 IsByAudit rows _ = ⊥
 
--- The meaning of a result for a store of resources with locations below the base URI: the database is empty,
--- or its tables stand for a store with this many audit rows, or they are of another version, or an id is
--- damaged, or they are foreign. The last three are returned only if the tables don't stand for a store.
+-- The meaning of a result for a store of resources with locations below the base URI: the database is empty, or its
+-- tables hold a valid store with this many audit rows, all valid, or they are of another version, or an id is damaged,
+-- or they are foreign: those of another program, or of version 1 with no id damaged. The last three are returned only
+-- if the tables don't hold a valid store.
 abbrev pub IsFor : List ℕ → Database → Examined → Type 0
 IsFor base db Empty = db.schema ≡ no_schema
-IsFor base db (Stands count) = (store : Store) × StandsFor base db store × (length store.audit ≡ count)
+IsFor base db (Stands count) = (store : Store) × StandsFor base db store × All IsSound store.audit × (length store.audit ≡ count)
 IsFor base db WrongVersion = Is db OtherVersion × StandForNoSound base db
 IsFor base db (Damaged id) = IsDamagedAt base db id × StandForNoSound base db
-IsFor base db Foreign = StandForNoSound base db
+IsFor base db Foreign = (Is db OtherProgram ⊎ HoldsAtEach base db) × StandForNoSound base db
 
 -- The result is true of the database, and nothing is changed.
 pub record Examines (base : List ℕ) (old new : State) (examined : Examined) : Type 0 where

@@ -1,16 +1,21 @@
--- The store of a shelf over a connection, and the result of opening a database.
-use Rattle.std.specs.Prelude.{◌≡◌, ◌⊎◌, ℕ, List, length, ⊤, IsTrue}
+-- The store of a shelf over a connection, what its commits leave, and the result of opening a database.
+use Rattle.std.specs.Prelude.{◌≡◌, ◌⊎◌, ℕ, List, length, All, ⊤, IsTrue, Option, Result, OnOk}
 use Rattle.sqlite.specs.Effect.{Database}
 use Rattle.sqlite.specs.Tree.{Trees}
-use Rattle.sqlite.specs.State.{State, HasCleanDisk}
-use Rattle.scim_shelf.specs.Stores.{Store}
+use Rattle.sqlite.specs.State.{State, HasCleanDisk, Survives}
+use Rattle.scim_cell.specs.Content.{Content}
+use Rattle.scim_audit.specs.declared.audit_rows.AuditRow.{AuditRow}
+use Rattle.scim_shelf.specs.declared.changes.Change.{Change}
+use Rattle.scim_shelf.specs.Stores.{Store, CanKeep, IsOld, after}
+use Rattle.scim_store_tables.specs.Steps.{Leaves}
 use Rattle.scim_store_tables.specs.Tables.{no_schema}
-use Rattle.scim_store.specs.declared.opening.Examined.TheVariants.{WrongVersion as OtherVersion, Damaged as DamagedAt}
+use Rattle.scim_store.specs.declared.examining.Examined.TheVariants.{WrongVersion as OtherVersion, Damaged as DamagedAt}
 use Rattle.scim_store.specs.declared.sql_shelf.OpenFault.{OpenFault}
 use Rattle.scim_store.specs.declared.sql_shelf.OpenFault.TheVariants.{WrongVersion, Damaged, Store as NoStore, NoMemory}
 use Rattle.scim_store.specs.Beginning.{no_store}
-use Rattle.scim_store.specs.Committing.{HasStore}
+use Rattle.scim_store.specs.Committing.{HasStore, AreOf, Changes}
 use Rattle.scim_store.specs.Opening.{IsFor}
+use Rattle.scim_store_rows.specs.AuditBack.{IsSound}
 use Rattle.scim_store_rows.specs.Stands.{StandsFor}
 
 -- The tables hold the store, if the disk returned what was written, and its audit has `rows` rows.
@@ -18,10 +23,24 @@ pub record IsKeptIn (base : List ℕ) (s : State) (rows : ℕ) (store : Store) :
   pub stored : HasCleanDisk s → HasStore base s store
   pub rows_are : length store.audit ≡ rows
 
+-- A shelf stands for the store, and the change may be made to it.
+abbrev pub MayMake : {H : Type 0} → (H → Store → Type 0) → H → Change → Store → Type 0
+MayMake Stands shelf change store = Stands shelf store × CanKeep store change
+
+-- As `MayMake`, and `old` is the stored resource with the id of the change, if any.
+abbrev pub MayMakeOver : {H : Type 0} → (H → Store → Type 0) → H → Option Content → Change → Store → Type 0
+MayMakeOver Stands shelf old change store = MayMake Stands shelf change store × IsOld store.resources change old
+
+-- A crash leaves what it could leave before the commit, or the tables with the change and its audit row. After
+-- Ok it leaves those, if the disk returned what was written. `May` tells the stores that may be changed so.
+pub record CommitsWhole {T E : Type 0} (base : List ℕ) (change : Change) (row : AuditRow) (May : Store → Type 0) (old new : State) (result : Result T E) : Type 0 where
+  pub crash : Survives old new (Leaves (Changes base change row May) old.now)
+  pub durable : HasCleanDisk new → OnOk result ((store : Store) → May store → (trees : Trees) → new.may_leave trees → AreOf base (after change row store) trees)
+
 -- The store of an opened database: an empty one if the database was empty, and otherwise the store that its
--- tables stand for.
+-- tables stand for, whose audit rows are valid.
 abbrev pub Opens : List ℕ → Database → Store → Type 0
-Opens base db store = ((db.schema ≡ no_schema) × (store ≡ no_store)) ⊎ StandsFor base db store
+Opens base db store = ((db.schema ≡ no_schema) × (store ≡ no_store)) ⊎ (StandsFor base db store × All IsSound store.audit)
 
 -- A database is opened as this store, and the shelf's count of audit rows is right.
 pub record HasOpened (base : List ℕ) (db : Database) (s : State) (rows : ℕ) (store : Store) : Type 0 where

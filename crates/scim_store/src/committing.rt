@@ -162,8 +162,8 @@ pub(crate) fn commit_over<S: Alter>(
     Ok(())
 }
 
-/// As [`commit_over`], but looks up the stored resource with the id of the change. Fails with a corrupt
-/// database if its document isn't valid.
+/// Like [`commit_over`], but reads the stored resource with the id of the change from the database. Fails with
+/// the database's error for corrupt data if the document of that resource isn't valid.
 pub(crate) fn commit_change<S: Alter>(
     conn: &mut Connection<S>,
     alloc: Global,

@@ -147,7 +147,7 @@ fn has_number(row: &Row, place: usize, number: u32) -> bool
     }
 }
 
-/// Whether a row is that of the resource, with this document.
+/// Whether a row of `resource` belongs to the resource and has this document.
 fn is_row_of(row: &Row, resource: &Resource, document: &str) -> bool
     ensures { result ≡ code.is_row (id_text resource.now.id)
         (spec_number resource.now.kind) document.now row.now }
@@ -245,7 +245,7 @@ fn are_of_one(
     }
 }
 
-/// The index in each table behind the rows of the last id.
+/// The index in each table after the rows of the last id.
 #[derive(Clone, Copy)]
 struct Places {
     resources: usize,
@@ -388,8 +388,8 @@ fn are_sound(alloc: Global, tables: &ResourceRows) -> Result<bool, NoMemory>
     are_apart(alloc, names)
 }
 
-/// Tests whether the rows of the tables are those of resources with locations below the base URI. They must
-/// be sorted as they are read.
+/// Tests whether the rows of the tables are those of resources with locations below the base URI. The rows
+/// must be sorted: resources by id; names by owner, attribute and text; members by group and value.
 ///
 /// Fails with Unreadable if the document of a resource isn't UTF-8.
 pub(crate) fn judge(

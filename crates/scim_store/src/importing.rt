@@ -31,8 +31,8 @@ pub enum ImportFault {
     NotEmpty,
     /// A resource has a location below another base URI.
     OtherBase,
-    /// The database failed with this error: a constraint if two resources have one id or share a unique name,
-    /// or a failure of the disk or the memory.
+    /// The database failed with this error: a constraint if two resources have the same id or share a unique
+    /// name, or a failure of the disk or the memory.
     Database(Error),
     /// Memory ran out.
     NoMemory,
@@ -150,9 +150,9 @@ fn fill<S: Alter>(
 /// transaction; the audit has no rows. The time is nearly linear in the number of resources.
 ///
 /// Fails with OtherBase if a resource has a location below another base URI, with NotEmpty if the database
-/// has a table, an index or a view, with NoMemory, or with the database's error, such as a constraint if two
-/// resources have one id or share a unique name. Then the database is as before or as the last commit left
-/// it, or the connection is closed.
+/// has a table, an index or a view, with NoMemory, or with the database's error, such as a violated constraint
+/// if two resources have the same id or share a unique name. Then the database is as before or as the last
+/// commit left it, or the connection is closed.
 ///
 /// A crash during the call leaves what was there before, or the tables with all these resources. A crash
 /// after Ok leaves the tables with them, if the disk returns what was written.

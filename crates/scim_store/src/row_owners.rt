@@ -55,8 +55,8 @@ fn compare_owner(row: &Row, text: &str) -> Ordering
     }
 }
 
-/// Whether the rows before `place` begin with less than the text and the others don't, judged by the two rows
-/// beside it. The rows must be sorted by their first column.
+/// Whether exactly the rows before `place` have a first column below the text. Tests only the two rows beside
+/// `place`. The rows must be sorted by their first column.
 fn is_start(rows: &[Row], text: &str, place: usize) -> bool
     ensures { result ≡ true → IsPartedAt (λ r.
         is_lt (value_cmp (column r 0) (Text text.now))) rows.now place }
@@ -66,7 +66,7 @@ fn is_start(rows: &[Row], text: &str, place: usize) -> bool
         && (place == rows.len() || compare_owner(&rows[place], text).is_ge())
 }
 
-/// Returns how many rows begin with less than the text. The rows must be sorted by their first column. Tries
+/// Returns how many rows have a first column below the text. The rows must be sorted by their first column. Tries
 /// `near` before it searches.
 fn start_of(rows: &[Row], text: &str, near: usize) -> usize
     ensures within { result ≤ length rows.now }
@@ -97,7 +97,7 @@ fn count_of(rows: &[Row], text: &str) -> usize
 }
 
 /// Returns the rows whose first column is the text. The rows must be sorted by that column. Starts at `near`
-/// and leaves it behind the rows returned, so look-ups in ascending order need no search.
+/// and leaves it after the rows returned, so look-ups in ascending order need no search.
 pub(crate) fn rows_of<'r>(rows: &'r [Row], text: &str, near: &mut usize) -> &'r [Row]
     ensures { DoNotFall (0 ∷ []) rows.now
         → result.now ≡ filter (tables.has_text 0 text.now) rows.now }

@@ -1,25 +1,28 @@
 //! A shelf over the tables of a database.
 
-ghost use Rattle.std.specs.Prelude.{◌≡◌, ◌≢◌, ◌<◌, ◌≤◌, ◌+◌, ◌⊎◌, ℕ, List, Ok, Err, IfOk, IfErr, OnErr, IsErr, IsTrue, length, false};
+ghost use Rattle.std.specs.Prelude.{◌≡◌, ◌≢◌, ◌<◌, ◌≤◌, ◌+◌, ℕ, List, Ok, Err, IfOk, IfErr, OnOk, OnErr, IsErr, IsTrue, length, false};
+ghost use Rattle.std.specs.Option.{option_copied};
 ghost use Rattle.sqlite.specs.Effect.{Database};
+ghost use Rattle.sqlite.specs.declared.error.Error.{Error};
+ghost use Rattle.sqlite.specs.declared.error.ErrorCode.{ErrorCode};
 ghost use Rattle.sqlite.specs.State.{HasCleanDisk, Survives};
 ghost use Rattle.sqlite.specs.Held.{state};
 ghost use Rattle.scim_text.specs.declared.memory.Failed.{Failed};
 ghost use Rattle.scim_shelf.specs.declared.faults.ShelfFault.{ShelfFault};
-ghost use Rattle.scim_shelf.specs.Shelves.{Counts, Answers, OnlyReads};
-ghost use Rattle.scim_shelf.specs.Stores.{Store, last_number};
+ghost use Rattle.scim_shelf.specs.Shelves.{Counts, Answers, OnlyReads, Commits, count_after};
+ghost use Rattle.scim_shelf.specs.Stores.{Store, AreKeyed, CanKeep, IsOld, last_number, after};
 ghost use Rattle.scim_store_rows.specs.Auditing.{AreRowsFrom};
-ghost use Rattle.scim_store.specs.Committing.{HasStore};
+ghost use Rattle.scim_store.specs.declared.committing.CommitFault.{CommitFault};
 ghost use Rattle.scim_store_tables.specs.Reading.{Rests};
 ghost use Rattle.scim_store_tables.specs.Tables.{no_schema};
 ghost use Rattle.scim_store_tables.specs.Steps.{Leaves};
 ghost use Rattle.scim_store.specs.Beginning.{no_store, Begins};
 ghost use Rattle.scim_store_rows.specs.Finding.{StandsIn};
-ghost use Rattle.scim_store.specs.Shelves.{IsKeptIn, HasOpened, Refuses, LeavesBegun};
+ghost use Rattle.scim_store.specs.Shelves.{IsKeptIn, MayMake, MayMakeOver, CommitsWhole, HasOpened, Refuses, LeavesBegun};
 
 use crate::committing::{CommitFault, commit_change, commit_over};
 use crate::creation::begin_store;
-use crate::opening::{Examined, examine};
+use crate::examining::{Examined, examine};
 use scim_audit::AuditRow;
 use scim_cell::{Id, Text};
 use scim_schema::Kind;
@@ -52,10 +55,10 @@ pub struct SqlShelf<S: Alter> {
 pub enum OpenFault {
     /// Its tables are of another version.
     WrongVersion,
-    /// Its tables don't stand for a store: this is the least id whose rows are neither empty nor those of one
-    /// resource.
+    /// Its tables don't hold a valid store: this is the least id whose rows are neither empty nor those of
+    /// one resource.
     Damaged(Id),
-    /// It belongs to another program, or its tables don't stand for a store though the rows of each id are
+    /// It belongs to another program, or its tables don't hold a valid store though the rows of each id are
     /// valid, or it can't be read or written.
     Store,
     /// Memory ran out.
@@ -73,6 +76,8 @@ fn open_fault_of(error: &Error) -> OpenFault
 }
 
 impl<S: Alter> SqlShelf<S> {
+    ghost use Rattle.scim_store.specs.SqlShelves.{connection_of, base_of, rows_of};
+
     /// Returns a shelf over the tables of a connection, whose audit has `rows` rows. On an error it gives the
     /// connection back.
     fn over(
@@ -84,6 +89,7 @@ impl<S: Alter> SqlShelf<S> {
         requires { connection.in_transaction ≡ false }
         ensures base { IfOk result (λ shelf. shelf.base ≡ base.now) }
         ensures same { IfOk result (λ shelf. shelf.connection ≡ connection) }
+        ensures count { IfOk result (λ shelf. shelf.failures ≡ 0) }
         ensures kept { IfOk result (λ shelf. HasCleanDisk (state S.Store shelf.connection)
             → HasCleanDisk (state S.Store connection)
             × ((store : Store) → StandsIn base.now (state S.Store connection) store
@@ -120,6 +126,7 @@ impl<S: Alter> SqlShelf<S> {
             × ((state S.Store connection).now.schema ≡ no_schema
             → IsKeptIn base.now (state S.Store shelf.connection) shelf.rows no_store)) }
         ensures base { IfOk result (λ shelf. shelf.base ≡ base.now) }
+        ensures count { IfOk result (λ shelf. shelf.failures ≡ 0) }
         ensures refused { IfErr result (λ e. (base : List ℕ) (db : Database)
             → Refuses base db e.0) }
         ensures clean { IfErr result (λ e. HasCleanDisk (state S.Store e.1)
@@ -141,7 +148,7 @@ impl<S: Alter> SqlShelf<S> {
     /// are created in one transaction. Otherwise all rows are read and checked, in time nearly linear in
     /// their number.
     ///
-    /// Fails with WrongVersion or Damaged if the tables don't stand for a store; with Store if they don't
+    /// Fails with WrongVersion or Damaged if the tables don't hold a valid store; with Store if they don't
     /// either, if the connection is in a transaction, or if the device failed; or with NoMemory. The
     /// connection is given back with the fault: it is closed, or its database is as before or as the last
     /// commit left it, except that an empty one may have been given its tables.
@@ -151,10 +158,11 @@ impl<S: Alter> SqlShelf<S> {
         base: &str,
     ) -> Result<SqlShelf<S>, (OpenFault, Connection<S>)>
         requires { connection.in_transaction ≡ false }
-        ensures base { IfOk result (λ shelf. shelf.base ≡ base.now) }
-        ensures opened { IfOk result (λ shelf. HasCleanDisk (state S.Store shelf.connection)
+        ensures base { IfOk result (λ shelf. base_of shelf ≡ base.now) }
+        ensures count { IfOk result (λ shelf. ⟦<SqlShelf<S> as Shelf>⟧.failures shelf ≡ 0) }
+        ensures opened { IfOk result (λ shelf. HasCleanDisk (state S.Store (connection_of shelf))
             → (store : Store) × HasOpened base.now (state S.Store connection).now
-            (state S.Store shelf.connection) shelf.rows store) }
+            (state S.Store (connection_of shelf)) (rows_of shelf) store) }
         ensures refused { IfErr result (λ e. HasCleanDisk (state S.Store e.1)
             → Refuses base.now (state S.Store connection).now e.0) }
         ensures rests { IfErr result (λ e. HasCleanDisk (state S.Store e.1)
@@ -164,7 +172,7 @@ impl<S: Alter> SqlShelf<S> {
         // A crash leaves what it could leave before, or, if the database was empty, the tables of an empty
         // store.
         ensures crash { IfOk result (λ shelf.
-            Survives (state S.Store connection) (state S.Store shelf.connection)
+            Survives (state S.Store connection) (state S.Store (connection_of shelf))
             (LeavesBegun base.now (state S.Store connection))) }
         ensures crash_at_err { IfErr result (λ e. Survives (state S.Store connection)
             (state S.Store e.1) (LeavesBegun base.now (state S.Store connection))) }
@@ -187,7 +195,7 @@ impl<S: Alter> SqlShelf<S> {
     /// and 0 counts as 1. Of a refused method, the methods of its endpoint aren't stored: those of a
     /// collection are returned.
     ///
-    /// Fails with Device if the device failed. On any error what is stored is unchanged.
+    /// Fails with Device if the device failed. An error leaves the stored resources and the audit unchanged.
     pub fn audit_rows(
         &mut self,
         alloc: Global,
@@ -205,12 +213,10 @@ impl<S: Alter> SqlShelf<S> {
         told(&mut self.failures, read)
     }
 
-    /// Returns the connection, with the tables as they are.
+    /// Returns the connection of the shelf, as it is.
     pub fn into_connection(self) -> Connection<S>
+        ensures connection { result ≡ connection_of self }
         ensures idle { result.in_transaction ≡ false }
-        ensures stands { (store : Store) → ⟦<SqlShelf<S> as Shelf>⟧.stands self store
-            → HasCleanDisk (state S.Store result)
-            → HasStore self.base (state S.Store result) store }
     {
         let SqlShelf {
             connection,
@@ -225,9 +231,9 @@ impl<S: Alter> SqlShelf<S> {
 /// Returns the shelf's fault for a fault of the database: NoMemory, or Device, which is counted in
 /// `failures`.
 fn fault_of(failures: &mut u64, fault: &CommitFault) -> Failed<ShelfFault>
-    ensures grown { failures.old ≤ failures.new }
-    ensures device { result ≡ Failed.Because ShelfFault.Device → (failures.old < failures.new)
-        ⊎ (failures.old ≡ 18446744073709551615) }
+    ensures counted { failures.new ≡ count_after failures.old result }
+    ensures device { result ≡ Failed.Because ShelfFault.Device
+        → fault.now ≢ CommitFault.Database (Error.SqliteFailure ErrorCode.OutOfMemory) }
     ensures not_full { result ≢ Failed.Because ShelfFault.Full }
 {
     match fault {
@@ -246,6 +252,8 @@ fn fault_of(failures: &mut u64, fault: &CommitFault) -> Failed<ShelfFault>
 fn told<T>(failures: &mut u64, found: Result<T, Error>) -> Result<T, Failed<ShelfFault>>
     ensures same { IfOk result (λ x. found ≡ Ok x) }
     ensures counts { Counts failures.old failures.new result }
+    ensures device { result ≡ Err (Failed.Because ShelfFault.Device) → (e : Error) × (found ≡ Err e)
+        × (e ≢ Error.SqliteFailure ErrorCode.OutOfMemory) }
     ensures not_full { result ≢ Err (Failed.Because ShelfFault.Full) }
 {
     match found {
@@ -276,6 +284,8 @@ fn told_commit(
 }
 
 impl<S: Alter> Shelf for SqlShelf<S> {
+    ghost use Rattle.scim_store.specs.SqlShelves.{connection_of, base_of};
+
     ghost stands = { λ shelf store. IsKeptIn shelf.base (state S.Store shelf.connection) shelf.rows store };
 
     ghost is_honest = { λ shelf. HasCleanDisk (state S.Store shelf.connection) };
@@ -333,7 +343,17 @@ impl<S: Alter> Shelf for SqlShelf<S> {
         alloc: Global,
         change: Change,
         row: AuditRow,
-    ) -> Result<(), Failed<ShelfFault>> {
+    ) -> Result<(), Failed<ShelfFault>>
+        ensures ok { OnOk result ((store : Store) → ⟦<SqlShelf<S> as Shelf>⟧.stands self.old store
+            → AreKeyed store.resources → CanKeep store change
+            → ⟦<SqlShelf<S> as Shelf>⟧.stands self.new (after change row store)) }
+        ensures commits { Commits ⟦<SqlShelf<S> as Shelf>⟧.stands
+            ⟦<SqlShelf<S> as Shelf>⟧.is_honest ⟦<SqlShelf<S> as Shelf>⟧.failures
+            self.old self.new result }
+        ensures disk { CommitsWhole (base_of self.old) change row
+            (MayMake ⟦<SqlShelf<S> as Shelf>⟧.stands self.old change)
+            (state S.Store (connection_of self.old)) (state S.Store (connection_of self.new)) result }
+    {
         if self.rows >= LAST_NUMBER {
             return Err(Failed::Because(ShelfFault::Full));
         }
@@ -348,7 +368,19 @@ impl<S: Alter> Shelf for SqlShelf<S> {
         old: Option<&Resource>,
         change: Change,
         row: AuditRow,
-    ) -> Result<(), Failed<ShelfFault>> {
+    ) -> Result<(), Failed<ShelfFault>>
+        ensures ok { OnOk result ((store : Store) → ⟦<SqlShelf<S> as Shelf>⟧.stands self.old store
+            → AreKeyed store.resources → CanKeep store change
+            → (⟦<SqlShelf<S> as Shelf>⟧.is_honest self.new
+            → IsOld store.resources change (option_copied old.entry))
+            → ⟦<SqlShelf<S> as Shelf>⟧.stands self.new (after change row store)) }
+        ensures commits { Commits ⟦<SqlShelf<S> as Shelf>⟧.stands
+            ⟦<SqlShelf<S> as Shelf>⟧.is_honest ⟦<SqlShelf<S> as Shelf>⟧.failures
+            self.old self.new result }
+        ensures disk { CommitsWhole (base_of self.old) change row
+            (MayMakeOver ⟦<SqlShelf<S> as Shelf>⟧.stands self.old (option_copied old.entry) change)
+            (state S.Store (connection_of self.old)) (state S.Store (connection_of self.new)) result }
+    {
         if self.rows >= LAST_NUMBER {
             return Err(Failed::Because(ShelfFault::Full));
         }

@@ -102,8 +102,8 @@ fn put_resource<S: Alter>(tx: &mut Transaction<'_, S>, edits: &Edits) -> Result<
     }
 }
 
-/// Updates the row of the resource with the id, or inserts it if there isn't one. Fails with a corrupt
-/// database if several rows have the id, or with the database's error.
+/// Updates the row of the resource with the id, or inserts it if there isn't one. Fails with DatabaseCorrupt
+/// if several rows have the id, or with the database's error.
 fn replace_resource<S: Alter>(
     tx: &mut Transaction<'_, S>,
     id: &str,

@@ -1,6 +1,6 @@
 -- What is found by its place or by its name.
-use Rattle.std.proofs.Common.{◌≡◌, ◌≢◌, ℕ, zero, suc, ◌+◌, ◌<◌, refl, sym, ap, subst, ◌∙◌, true, false, Bool, List, [], ◌∷◌, ◌++◌, map, length, arith, cond, ◌&&◌, get_or, ◌⊎◌, ◌≤◌, inl, inr}
-use Rattle.std.specs.Prelude.{Option, None, Some, IfSome, option_map, IsUtf8, MatchBool, codes, find, slice_get}
+use Rattle.std.proofs.Common.{◌≡◌, ◌≢◌, ℕ, zero, suc, ◌+◌, ◌<◌, refl, sym, ap, subst, ◌∙◌, true, false, Bool, List, [], ◌∷◌, ◌++◌, append_assoc, map, length, arith, cond, not, ◌&&◌, get_or, ◌⊎◌, ◌≤◌, inl, inr}
+use Rattle.std.specs.Prelude.{◌==◌, Option, None, Some, IfSome, option_map, IsUtf8, MatchBool, codes, find, slice_get}
 use Rattle.std.specs.List.{range_with_len, list_all}
 use Rattle.std.specs.Option.{is_some, option_copied}
 use Rattle.std.specs.Str.{bytes_eq}
@@ -36,7 +36,7 @@ use Rattle.scim_audit.specs.declared.audit_rows.Decided.TheVariants.{Allow, Deny
 use Rattle.scim_audit.specs.declared.refusals.Refusal.{Refusal}
 use Rattle.scim_audit.specs.declared.refusals.Refusal.TheVariants.{BadHead, TooLarge, BadFraming, UnknownCoding, NoRoute, NotSupported, BadMethod, NoToken, Syntax, Filter, Path, MessageValue, NotFound, Denied, Mutability, NoTarget, ResultValue, Taken, Widens, IdInUse, Store}
 use Rattle.scim_store_rows.specs.Audit.{kind_number, op_number, decided_number, refusal_number}
-use Rattle.scim_store_rows.specs.AuditBack.{ReadsBack, Any}
+use Rattle.scim_store_rows.specs.AuditBack.{ReadsBack, Any, IsAnyLeaf}
 use Rattle.scim_schema.specs.Names.{all_sub_attributes}
 use Rattle.scim_audit.specs.Refusals.{refusals}
 use Rattle.scim_audit.specs.Rows.{decisions}
@@ -263,6 +263,151 @@ id_utf8 id = IsUtf8-from_ascii (id_text id) small
     small : (i : ℕ) → get_or (id_text id) i 0 < 128
     small i = at i (cases_lt i (length (id_text id)))
 
+-- ---- a leaf has one path
+
+-- among all of which each is found by its own name, no two have one name
+one_named : {X : Type 0} (name : X → List ℕ) (xs : List X) → ((x : X) → with_name name xs (name x) ≡ Some x) → (x y : X) → name x ≡ name y → x ≡ y
+one_named {X} name xs each x y same = some (sym (each x) ∙ ap (with_name name xs) same ∙ each y)
+  where
+    some : {a b : X} → Some a ≡ Some b → a ≡ b
+    some h = cc
+
+attribute_found : (a : Attribute) → with_name attribute_name all_attributes (attribute_name a) ≡ Some a
+attribute_found attribute.Id = refl
+attribute_found attribute.ExternalId = refl
+attribute_found attribute.UserName = refl
+attribute_found attribute.Name = refl
+attribute_found attribute.DisplayName = refl
+attribute_found attribute.NickName = refl
+attribute_found attribute.ProfileUrl = refl
+attribute_found attribute.Title = refl
+attribute_found attribute.UserType = refl
+attribute_found attribute.PreferredLanguage = refl
+attribute_found attribute.Locale = refl
+attribute_found attribute.Timezone = refl
+attribute_found attribute.Active = refl
+attribute_found attribute.Password = refl
+attribute_found attribute.Emails = refl
+attribute_found attribute.PhoneNumbers = refl
+attribute_found attribute.Ims = refl
+attribute_found attribute.Photos = refl
+attribute_found attribute.Addresses = refl
+attribute_found attribute.Groups = refl
+attribute_found attribute.Entitlements = refl
+attribute_found attribute.Roles = refl
+attribute_found attribute.X509Certificates = refl
+attribute_found attribute.EmployeeNumber = refl
+attribute_found attribute.CostCenter = refl
+attribute_found attribute.Organization = refl
+attribute_found attribute.Division = refl
+attribute_found attribute.Department = refl
+attribute_found attribute.Manager = refl
+attribute_found attribute.Members = refl
+attribute_found attribute.Meta = refl
+
+sub_attribute_found : (b : SubAttribute) → with_name sub_attribute_name all_sub_attributes (sub_attribute_name b) ≡ Some b
+unfolding all_sub_attributes
+sub_attribute_found sub.Formatted = refl
+sub_attribute_found sub.FamilyName = refl
+sub_attribute_found sub.GivenName = refl
+sub_attribute_found sub.MiddleName = refl
+sub_attribute_found sub.HonorificPrefix = refl
+sub_attribute_found sub.HonorificSuffix = refl
+sub_attribute_found sub.Value = refl
+sub_attribute_found sub.Reference = refl
+sub_attribute_found sub.Display = refl
+sub_attribute_found sub.TypeName = refl
+sub_attribute_found sub.Primary = refl
+sub_attribute_found sub.StreetAddress = refl
+sub_attribute_found sub.Locality = refl
+sub_attribute_found sub.Region = refl
+sub_attribute_found sub.PostalCode = refl
+sub_attribute_found sub.Country = refl
+sub_attribute_found sub.DisplayName = refl
+sub_attribute_found sub.ResourceType = refl
+sub_attribute_found sub.Created = refl
+sub_attribute_found sub.LastModified = refl
+sub_attribute_found sub.Location = refl
+
+-- whether a text has no point
+abbrev has_no_point : List ℕ → Bool
+has_no_point text = list_all (λ c. not (c == 46)) text
+
+attribute_pointless : (a : Attribute) → has_no_point (attribute_name a) ≡ true
+attribute_pointless attribute.Id = refl
+attribute_pointless attribute.ExternalId = refl
+attribute_pointless attribute.UserName = refl
+attribute_pointless attribute.Name = refl
+attribute_pointless attribute.DisplayName = refl
+attribute_pointless attribute.NickName = refl
+attribute_pointless attribute.ProfileUrl = refl
+attribute_pointless attribute.Title = refl
+attribute_pointless attribute.UserType = refl
+attribute_pointless attribute.PreferredLanguage = refl
+attribute_pointless attribute.Locale = refl
+attribute_pointless attribute.Timezone = refl
+attribute_pointless attribute.Active = refl
+attribute_pointless attribute.Password = refl
+attribute_pointless attribute.Emails = refl
+attribute_pointless attribute.PhoneNumbers = refl
+attribute_pointless attribute.Ims = refl
+attribute_pointless attribute.Photos = refl
+attribute_pointless attribute.Addresses = refl
+attribute_pointless attribute.Groups = refl
+attribute_pointless attribute.Entitlements = refl
+attribute_pointless attribute.Roles = refl
+attribute_pointless attribute.X509Certificates = refl
+attribute_pointless attribute.EmployeeNumber = refl
+attribute_pointless attribute.CostCenter = refl
+attribute_pointless attribute.Organization = refl
+attribute_pointless attribute.Division = refl
+attribute_pointless attribute.Department = refl
+attribute_pointless attribute.Manager = refl
+attribute_pointless attribute.Members = refl
+attribute_pointless attribute.Meta = refl
+
+not_point : (x : ℕ) (xs : List ℕ) → has_no_point (x ∷ xs) ≡ true → x ≢ 46
+not_point x xs none same = (let c : false ≡ true = (rw same at none) in cc)
+
+-- what stands before the first point is one text
+split_once : (xs ys us vs : List ℕ) → has_no_point xs ≡ true → has_no_point ys ≡ true → xs ++ 46 ∷ us ≡ ys ++ 46 ∷ vs → (xs ≡ ys) × (us ≡ vs)
+split_once [] [] us vs p q e = (refl, (let t : us ≡ vs = cc in t))
+split_once [] (y ∷ ys) us vs p q e = absurd (not_point y ys q (let h : y ≡ 46 = cc in h))
+split_once (x ∷ xs) [] us vs p q e = absurd (not_point x xs p (let h : x ≡ 46 = cc in h))
+split_once (x ∷ xs) (y ∷ ys) us vs p q e =
+    let first : x ≡ y = cc in
+    let rest : xs ++ 46 ∷ us ≡ ys ++ 46 ∷ vs = cc in
+    let more = split_once xs ys us vs (and_second (not (x == 46)) (has_no_point xs) p) (and_second (not (y == 46)) (has_no_point ys) q) rest in
+    (rw (first, more.0) refl, more.1)
+
+-- a text without a point isn't one with a point
+never_split : (xs ys vs : List ℕ) → has_no_point xs ≡ true → xs ≢ ys ++ 46 ∷ vs
+never_split [] [] vs p e = absurd cc
+never_split [] (y ∷ ys) vs p e = absurd cc
+never_split (x ∷ xs) [] vs p e = not_point x xs p (let h : x ≡ 46 = cc in h)
+never_split (x ∷ xs) (y ∷ ys) vs p e = never_split xs ys vs (and_second (not (x == 46)) (has_no_point xs) p) (let rest : xs ≡ ys ++ 46 ∷ vs = cc in rest)
+
+with_point : (a : Attribute) (s : SubAttribute) → path_of a (Some s) ≡ attribute_name a ++ 46 ∷ sub_attribute_name s
+with_point a s = append_assoc (attribute_name a) (codes ".") (sub_attribute_name s)
+
+same_path : (a b : Attribute) (s t : Option SubAttribute) → path_of a s ≡ path_of b t → (a ≡ b) × (s ≡ t)
+same_path a b None None e = (one_named attribute_name all_attributes attribute_found a b e, refl)
+same_path a b None (Some t) e = absurd (never_split (attribute_name a) (attribute_name b) (sub_attribute_name t) (attribute_pointless a) (e ∙ with_point b t))
+same_path a b (Some s) None e = absurd (never_split (attribute_name b) (attribute_name a) (sub_attribute_name s) (attribute_pointless b) (sym e ∙ with_point a s))
+same_path a b (Some s) (Some t) e =
+    let both = split_once (attribute_name a) (attribute_name b) (sub_attribute_name s) (sub_attribute_name t) (attribute_pointless a) (attribute_pointless b) (sym (with_point a s) ∙ e ∙ with_point b t) in
+    (one_named attribute_name all_attributes attribute_found a b both.0, ap (λ (x : SubAttribute). Some x) (one_named sub_attribute_name all_sub_attributes sub_attribute_found s t both.1))
+
+-- no two leaves have one path
+pub path_one : (x y : Leaf) → leaf_path x ≡ leaf_path y → x ≡ y
+path_one x y e =
+    let both = same_path x.attribute y.attribute x.sub_attribute y.sub_attribute e in
+    λ i. record { attribute = both.0 i; sub_attribute = both.1 i }
+
+-- where what a path names is no leaf, no leaf has the path
+pub no_leaf_named : (path : List ℕ) (named : Leaf) → leaf_path named ≡ path → (IsAnyLeaf named → ⊥) → ReadsBack IsAnyLeaf leaf_path path None
+no_leaf_named path named is none = λ x known e. none (subst IsAnyLeaf (path_one x named (e ∙ sym is)) known)
+
 -- ---- what isn't found
 
 -- the value that an id is kept as, and a leaf
@@ -277,7 +422,7 @@ pub no_id_text : (v : Value) → v ≢ Null → ReadsBack IsUtf8 Text v None →
 no_id_text v full none None is e = full (sym e)
 no_id_text v full none (Some id) is e = none (id_text id) (id_utf8 id) e
 
-pub no_leaf_text : (v : Value) → v ≢ Null → ReadsBack IsUtf8 Text v None → ReadsBack Any leaf_kept v None
+pub no_leaf_text : (v : Value) → v ≢ Null → ReadsBack IsUtf8 Text v None → ReadsBack (λ leaf. IfSome leaf IsAnyLeaf) leaf_kept v None
 no_leaf_text v full none None is e = full (sym e)
 no_leaf_text v full none (Some leaf) is e = none (leaf_path leaf) (path_utf8 leaf) e
 

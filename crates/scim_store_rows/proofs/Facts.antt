@@ -5,3 +5,4 @@ pub use Rattle.scim_store_rows.proofs.PlaceLemmas.{own, lower, upper, others, sp
 pub use Rattle.scim_store_rows.proofs.OwnerLemmas.{contents, none_left}
 pub use Rattle.scim_store_rows.proofs.SpanLemmas.{rows_rise, drop-audit_rows, take-audit_rows}
 pub use Rattle.scim_store_rows.proofs.ReadLemmas.{length-audit_rows}
+pub use Rattle.scim_store_rows.proofs.WalkLemmas.{took_nothing}

@@ -10,7 +10,7 @@ use Rattle.scim_value.specs.Uniqueness.{Name}
 use Rattle.scim_shelf.specs.Stores.{Store, is_at, has_name, is_group_with, of_id}
 use Rattle.scim_store_rows.specs.Stands.{StandsFor}
 
--- If the connection is open, its tables stand for the store.
+-- If the connection is open, its tables hold the store.
 abbrev pub StandsIn : List ℕ → State → Store → Type 0
 StandsIn base s store = IsTrue s.is_open → StandsFor base s.now store
 

@@ -1,4 +1,4 @@
--- The relation between the tables of a database and the store that they stand for.
+-- The relation between the tables of a database and the store that they hold.
 use Rattle.std.specs.Prelude.{◌≡◌, ◌≢◌, ℕ, Bool, nat_eq, List, map, All, AllPairs}
 use Rattle.std.specs.List.{flat_map, list_any}
 use Rattle.std.specs.Cmp.Lexicographic.{pointwise}
@@ -59,11 +59,10 @@ member_rows e = map (member_row e.content.id) e.members
 abbrev pub lists_of : List Entry → List AuditRow → Lists
 lists_of entries audit = record { resources = map resource_row entries; taken = flat_map name_rows entries; member = flat_map member_rows entries; audit = audit_rows 1 audit }
 
--- A database stands for a store of resources with locations below the base URI.
--- It has exactly the five tables. `resource` has a row for each resource, whose document reads as it; `taken`
--- has one for each unique name of each resource; `member` has one for each value that a group lists; and
--- `audit` has the rows of the store's audit, numbered from 1. The store's resources are in order of id, and
--- no two share a unique name.
+-- A database holds a store of resources with locations below the base URI. It has exactly the five tables. `resource`
+-- has a row for each resource, whose document reads as it; `taken` has one for each unique name of each resource;
+-- `member` has one for each value that a group lists; and `audit` has the rows of the store's audit, numbered from 1.
+-- The store's resources are in order of id, and no two share a unique name.
 pub record StandsFor (base : List ℕ) (db : Database) (store : Store) : Type 0 where
   pub entries : List Entry
   pub resources : map (λ e. e.content) entries ≡ store.resources

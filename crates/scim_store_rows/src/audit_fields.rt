@@ -9,7 +9,7 @@ ghost use Rattle.scim_cell.specs.Ids.{IsId, id_text};
 ghost use Rattle.scim_audit.specs.Rows.{leaf_path};
 ghost use Rattle.scim_store_tables.specs.Audit as columns;
 ghost use Rattle.scim_store_rows.specs.Audit as spec;
-ghost use Rattle.scim_store_rows.specs.AuditBack.{ReadsBack, Any};
+ghost use Rattle.scim_store_rows.specs.AuditBack.{ReadsBack, Any, IsAnyLeaf};
 
 use crate::audit_numbers::{decided_of, kind_of, op_of, refusal_of};
 use crate::leaf_paths::leaf_of_path;
@@ -123,7 +123,8 @@ pub(crate) fn rule_in(row: &Row, place: usize) -> Option<Option<u32>>
 /// Returns the leaf whose path is in a column, Some(None) for NULL; None for anything else.
 pub(crate) fn leaf_in(row: &Row, place: usize) -> Option<Option<Leaf>>
     requires { place < length row.now }
-    ensures { ReadsBack Any (λ leaf. or_null Text (option_map leaf_path leaf))
+    ensures { ReadsBack (λ leaf. IfSome leaf IsAnyLeaf) (λ leaf.
+        or_null Text (option_map leaf_path leaf))
         (column row.now place) result }
 {
     if is_null(row, place) {

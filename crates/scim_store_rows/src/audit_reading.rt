@@ -39,9 +39,9 @@ fn sql_number(number: u64) -> i64
     number as i64
 }
 
-/// Reads the audit rows that a query found from `first` to `end`, exclusive. Fails with a corrupt database if
-/// a row isn't valid, or with out of memory. Fails with TooBig if the rows reach up to the largest number:
-/// the row with that number, which the query can't include, may be missing.
+/// Reads the audit rows that a query found from `first` to `end`, exclusive. Fails with DatabaseCorrupt if a
+/// row isn't valid, or if memory runs out. Fails with TooBig if the rows reach up to the largest number: the
+/// row with that number, which the query can't include, may be missing.
 fn read_span(alloc: Global, first: u64, end: u64, rows: &[Row]) -> Result<Vec<AuditRow>, Error>
     requires { first ≤ last_number }
     ensures read { IfOk result (λ read. audit_rows first read.items ≡ rows.now) }
@@ -61,8 +61,8 @@ fn read_span(alloc: Global, first: u64, end: u64, rows: &[Row]) -> Result<Vec<Au
 /// counts as 1. Of a refused method, the methods of its endpoint aren't stored: those of a collection are
 /// returned.
 ///
-/// Fails as [`crate::find_by_id`] does, with a corrupt database if a row of the table isn't a valid audit
-/// row, or with TooBig if the rows to return reach 2^63 - 1, the largest number.
+/// Fails as [`crate::find_by_id`] does, with DatabaseCorrupt if a row of the table isn't a valid audit row,
+/// or with TooBig if the rows to return reach 2^63 - 1, the largest number.
 pub fn read_audit_rows<S: Alter>(
     conn: &mut Connection<S>,
     alloc: Global,

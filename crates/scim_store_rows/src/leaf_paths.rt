@@ -1,10 +1,10 @@
 //! Finds leaves by their paths.
-ghost use Rattle.std.specs.Prelude.{◌≡◌, find, bytes_eq};
+ghost use Rattle.std.specs.Prelude.{◌≡◌, ◌↔◌, IsTrue, find, bytes_eq};
 ghost use Rattle.scim_schema.specs.Names.{attribute_name, sub_attribute_name};
 ghost use Rattle.scim_audit.specs.Rows as rows;
-ghost use Rattle.scim_store_rows.specs.AuditBack.{ReadsBack, Any};
+ghost use Rattle.scim_store_rows.specs.AuditBack.{ReadsBack, Any, IsAnyLeaf};
 
-use scim_schema::{Attribute, Kind, Leaf, SubAttribute, attributes};
+use scim_schema::{Attribute, Kind, Leaf, SubAttribute, attributes, has_leaf};
 
 /// Returns the first of these attributes that has this name. Case matters.
 fn attribute_in(attributes: &[Attribute], name: &str) -> Option<Attribute>
@@ -13,7 +13,7 @@ fn attribute_in(attributes: &[Attribute], name: &str) -> Option<Attribute>
     attributes.iter().copied().find(|a| a.name() == name)
 }
 
-/// Returns the attribute of any kind that has this name.
+/// Returns the attribute with this name, of a user or of a group.
 fn attribute_of(name: &str) -> Option<Attribute>
     ensures { ReadsBack Any attribute_name name.now result }
 {
@@ -37,9 +37,9 @@ fn sub_attribute_of(name: &str) -> Option<SubAttribute>
     sub_attribute_in(SubAttribute::all(), name)
 }
 
-/// Returns the leaf with this path, as `userName` or `emails.value`. Reads exactly the paths that
-/// [`scim_audit::leaf_path`] prints, including those of leaves that no kind has.
-pub(crate) fn leaf_of_path(path: &str) -> Option<Leaf>
+/// Returns the attribute that a path names, and its sub-attribute if it names one. They may be no leaf of
+/// any kind.
+fn named_in(path: &str) -> Option<Leaf>
     ensures { ReadsBack Any rows.leaf_path path.now result }
 {
     match path.split_once('.') {
@@ -52,4 +52,19 @@ pub(crate) fn leaf_of_path(path: &str) -> Option<Leaf>
             sub_attribute: None,
         }),
     }
+}
+
+/// Whether a leaf is one of some kind.
+fn is_any_leaf(leaf: Leaf) -> bool
+    ensures { IsTrue result ↔ IsAnyLeaf leaf }
+{
+    has_leaf(Kind::User, leaf) || has_leaf(Kind::Group, leaf)
+}
+
+/// Returns the leaf with this path, such as `userName` or `emails.value`; None if no leaf of any kind has it.
+pub(crate) fn leaf_of_path(path: &str) -> Option<Leaf>
+    ensures { ReadsBack IsAnyLeaf rows.leaf_path path.now result }
+{
+    let leaf = named_in(path)?;
+    if is_any_leaf(leaf) { Some(leaf) } else { None }
 }

@@ -1,5 +1,5 @@
-//! Reads of a store from its database: resources by id, by unique name, by member value and by kind, and
-//! audit rows. Specs say which store the tables stand for. No read changes anything.
+//! Reads a store from its database: resources by id, by unique name, by member value and by kind, and
+//! audit rows. The specs define which store the tables represent. No read changes anything.
 #![tactic(auto)]
 
 mod audit_columns;

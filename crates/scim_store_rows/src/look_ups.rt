@@ -25,8 +25,8 @@ use scim_value::{Resource, UniqueName};
 use sqlite::{Alter, Connection, Error, ErrorCode, Row};
 use std::alloc::Global;
 
-/// Reads the resource of a document, if any. Fails with a corrupt database if the document isn't valid, or
-/// with out of memory.
+/// Reads the resource of a document, if any. Fails with DatabaseCorrupt if the document isn't valid, or if
+/// memory runs out.
 pub(crate) fn read_document(
     alloc: Global,
     base: &str,
@@ -47,8 +47,8 @@ pub(crate) fn read_document(
 /// Returns the resource of this kind with this id; None if there isn't one (RFC 7644 section 3.4.1). Its
 /// location is below the base URI.
 ///
-/// Fails with the database's error, with out of memory, or with a corrupt database if the document isn't
-/// valid. The connection is then closed, or as before, or as the last commit left it.
+/// Fails with the database's error, if memory runs out, or with DatabaseCorrupt if the document isn't valid.
+/// The connection is then closed, or as before, or as the last commit left it.
 pub fn find_by_id<S: Alter>(
     conn: &mut Connection<S>,
     alloc: Global,
@@ -71,7 +71,7 @@ pub fn find_by_id<S: Alter>(
     read_document(alloc, base, document)
 }
 
-/// Reads an id from a text in the tables. Fails with a corrupt database if the text isn't an id.
+/// Reads an id from a text in the tables. Fails with DatabaseCorrupt if the text isn't an id.
 fn read_id(text: &str) -> Result<Id, Error>
     ensures value { IfOk result (λ id. text.now ≡ id_text id) }
     ensures id { IfOk result IsId }
@@ -151,8 +151,8 @@ pub fn find_owner_of_name<S: Alter>(
     }
 }
 
-/// Returns the group whose id is in the first column of a row. Fails as [`find_by_id`] does, and with a
-/// corrupt database if there is no such group.
+/// Returns the group whose id is in the first column of a row. Fails as [`find_by_id`] does, and with
+/// DatabaseCorrupt if there is no such group.
 fn find_group<S: Alter>(
     conn: &mut Connection<S>,
     alloc: Global,
@@ -209,7 +209,7 @@ fn find_groups<S: Alter>(
 /// Returns the groups that list the value among their members, in order of id (RFC 7643 section 4.2). Their
 /// locations are below the base URI.
 ///
-/// Fails as [`find_by_id`] does, and with a corrupt database if an indexed group is missing.
+/// Fails as [`find_by_id`] does, and with DatabaseCorrupt if an indexed group is missing.
 pub fn find_groups_with<S: Alter>(
     conn: &mut Connection<S>,
     alloc: Global,

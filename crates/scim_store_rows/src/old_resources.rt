@@ -41,8 +41,8 @@ fn find_document<S: Alter>(conn: &mut Connection<S>, id: &str) -> Result<Option<
 /// Returns the resource with the id, of either kind; None if there isn't one. Its location is below the base
 /// URI.
 ///
-/// Fails with the database's error, with out of memory, or with a corrupt database if the document isn't
-/// valid. The connection is then closed, or as before, or as the last commit left it.
+/// Fails with the database's error, if memory runs out, or with DatabaseCorrupt if the document isn't valid.
+/// The connection is then closed, or as before, or as the last commit left it.
 pub fn find_old<S: Alter>(
     conn: &mut Connection<S>,
     alloc: Global,

@@ -1,13 +1,16 @@
 //! Passes the resources of a kind to a visitor.
 
-ghost use Rattle.std.specs.Prelude.{◌≡◌, ◌≤◌, ◌∷◌, [], false, IfOk, OnOk};
+ghost use Rattle.std.specs.Prelude.{◌≡◌, ◌≢◌, ◌≤◌, ◌∷◌, [], false, IfOk, OnOk, IfErr};
 ghost use Rattle.std.specs.List.{FoldsTo};
 ghost use Rattle.std.specs.Option.{option_to_list};
+ghost use Rattle.sqlite.specs.declared.error.Error.{Error};
+ghost use Rattle.sqlite.specs.declared.error.ErrorCode.{ErrorCode};
 ghost use Rattle.sqlite.specs.State.{HasCleanDisk};
 ghost use Rattle.sqlite.specs.View.{doubt};
 ghost use Rattle.sqlite.specs.Held.{state};
 ghost use Rattle.scim_cell.specs.Kinds.{of_kind};
 ghost use Rattle.scim_shelf.specs.Stores.{Store};
+ghost use Rattle.scim_shelf.specs.Shelves.{TookPrefix};
 ghost use Rattle.scim_store_tables.specs.Reading.{Rests};
 ghost use Rattle.scim_store_rows.specs.Stands.{Entry, IsEntry, resource_row};
 ghost use Rattle.scim_store_rows.specs.Finding.{StandsIn, Shows};
@@ -20,8 +23,8 @@ use scim_value::Resource;
 use sqlite::{Alter, Connection, Error, ErrorCode, Row};
 use std::alloc::Global;
 
-/// Reads the resource of a row, if it is of the kind. Fails with a corrupt database if the document isn't
-/// valid, with the error of a column of another type, or with out of memory.
+/// Reads the resource of a row, if it is of the kind. Fails with DatabaseCorrupt if the document isn't valid,
+/// with the error of a column of another type, or if memory runs out.
 fn read_row(alloc: Global, base: &str, kind: Kind, row: &Row) -> Result<Option<Resource>, Error>
     ensures { IfOk result (λ found. (e : Entry) → IsEntry base.now e → row.now ≡ resource_row e
         → option_to_list found ≡ of_kind kind (e.content ∷ [])) }
@@ -34,8 +37,8 @@ fn read_row(alloc: Global, base: &str, kind: Kind, row: &Row) -> Result<Option<R
     read_document(alloc, base, Some(document))
 }
 
-/// Passes the resource of a row to the visitor, if it is of the kind. Fails as `read_row` does, or with out
-/// of memory if the visitor can't allocate.
+/// Passes the resource of a row to the visitor, if it is of the kind. Fails as `read_row` does, or with
+/// OutOfMemory if the visitor can't allocate. After any error but OutOfMemory the visitor has taken nothing.
 fn show_row<V: Visitor>(
     alloc: Global,
     base: &str,
@@ -43,8 +46,10 @@ fn show_row<V: Visitor>(
     row: &Row,
     visitor: &mut V,
 ) -> Result<(), Error>
-    ensures { OnOk result ((e : Entry) → IsEntry base.now e → row.now ≡ resource_row e
+    ensures shown { OnOk result ((e : Entry) → IsEntry base.now e → row.now ≡ resource_row e
         → FoldsTo V.Visitor.takes visitor.old (of_kind kind (e.content ∷ [])) visitor.new) }
+    ensures untaken { IfErr result (λ e. e ≢ Error.SqliteFailure ErrorCode.OutOfMemory
+        → visitor.new ≡ visitor.old) }
 {
     let Some(resource) = read_row(alloc, base, kind, row)? else {
         return Ok(());
@@ -58,8 +63,8 @@ fn show_row<V: Visitor>(
 /// Passes the resources of the kind to the visitor, in order of id, each as soon as its row is read. Their
 /// locations are below the base URI.
 ///
-/// Fails as [`crate::find_by_id`] does, or with out of memory if the visitor can't allocate. After an error
-/// the visitor is unusable.
+/// Fails as [`crate::find_by_id`] does, or with OutOfMemory if the visitor can't allocate. After OutOfMemory
+/// the visitor is unusable; after any other error it has taken the first of the resources, or none.
 pub fn walk<S: Alter, V: Visitor>(
     conn: &mut Connection<S>,
     alloc: Global,
@@ -74,6 +79,10 @@ pub fn walk<S: Alter, V: Visitor>(
         → StandsIn base.now (state S.Store conn.old) store
         → Shows V.Visitor.takes kind store (state S.Store conn.old)
         (state S.Store conn.new) visitor.old visitor.new) }
+    ensures prefix { HasCleanDisk (state S.Store conn.new)
+        → IfErr result (λ e. e ≢ Error.SqliteFailure ErrorCode.OutOfMemory → (store : Store)
+        → StandsIn base.now (state S.Store conn.old) store
+        → TookPrefix V.Visitor.takes visitor.old (of_kind kind store.resources) visitor.new) }
     ensures rests { HasCleanDisk (state S.Store conn.new) → (store : Store)
         → StandsIn base.now (state S.Store conn.old) store
         → Rests (state S.Store conn.old) (state S.Store conn.new) }

@@ -12,9 +12,9 @@ use Rattle.scim_store_tables.specs.Lists.{Lists, Are, version_values, pair, trip
 use Rattle.scim_store_tables.specs.Reading.{shown, shown_settings, owner_first, group_first}
 use Rattle.scim_store_tables.specs.code.Told.{Decides}
 use Rattle.scim_store_tables.specs.Whole.{HasVersion, AreAllKeyed, AreInOrder, AreRowsOf, IsByRows, IsReading, Is, AreNone}
-use Rattle.scim_store_tables.specs.declared.tables.TableRows.{TableRows}
-use Rattle.scim_store_tables.specs.declared.tables.DatabaseKind.{DatabaseKind}
-use Rattle.scim_store_tables.specs.declared.tables.DatabaseKind.TheVariants.{WrongVersion, Foreign}
+use Rattle.scim_store_tables.specs.declared.database_kinds.TableRows.{TableRows}
+use Rattle.scim_store_tables.specs.declared.database_kinds.DatabaseKind.{DatabaseKind}
+use Rattle.scim_store_tables.specs.declared.database_kinds.DatabaseKind.TheVariants.{WrongVersion, Foreign}
 
 -- ---- the settings
 

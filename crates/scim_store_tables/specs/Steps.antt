@@ -27,7 +27,7 @@ pub record DoesIn {S T E : Type 0} (g : Ghosts S) (old new : Transaction S) (res
   pub kept : Keeps (state g old.conn.now) (state g new.conn.now)
   pub survives : Survives (state g old.conn.now) (state g new.conn.now) (λ _. ⊥)
 
--- As `DoesIn`, for a step whose change of the database depends on its result: P takes the result first.
+-- Like `DoesIn`, for a step whose change of the database depends on its result: P takes the result first.
 pub record DoesBy {S T E : Type 0} (g : Ghosts S) (old new : Transaction S) (result : Result T E) (P : T → Database → Database → Type 0) : Type 0 where
   pub same_reference : new.conn.ghost_name ≡ old.conn.ghost_name
   pub went : GoesBy (state g old.conn.now) (state g new.conn.now) result P
@@ -38,7 +38,7 @@ pub record DoesBy {S T E : Type 0} (g : Ghosts S) (old new : Transaction S) (res
 abbrev pub Makes : (Database → Type 0) → (Database → Type 0) → Database → Database → Type 0
 Makes Before Behind old new = Before old → Behind new
 
--- A transaction is committed that changed the database by P.
+-- A transaction that changed the database by P has been committed.
 pub record Became (old new : State) (P : Database → Database → Type 0) : Type 0 where
   pub was_open : IsTrue old.is_open
   pub is_open : IsTrue new.is_open

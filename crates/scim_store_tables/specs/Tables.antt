@@ -17,8 +17,8 @@ no_schema = record { tables = []; indexes = []; views = [] }
 abbrev pub column : List ℕ → Kind → Bool → Column
 column name kind not_null = record { name = name; kind = kind; is_strict = false; not_null = not_null; default = Null; collation = Binary }
 
--- A table with these columns and a primary key of the columns at the places `primary`, counted from 1, with
--- no other rule; its tree is set when it is created.
+-- A table with these columns, a primary key and no other table constraint. `primary` lists the places of the key's
+-- columns, counted from 1. The table's tree is set when it is created.
 abbrev pub table : List ℕ → List Column → List ℕ → Table
 table name columns primary = record {
   name = name;

@@ -9,9 +9,9 @@ use Rattle.sqlite_schema.specs.Names.{same_name}
 use Rattle.scim_store_tables.specs.Tables.{no_schema, store_schema}
 use Rattle.scim_store_tables.specs.Lists.{Lists, Are, AreKeyed, version_values}
 use Rattle.scim_store_tables.specs.Reading.{DoNotFall, shown, shown_settings, owner_first, group_first}
-use Rattle.scim_store_tables.specs.declared.tables.TableRows.{TableRows}
-use Rattle.scim_store_tables.specs.declared.tables.DatabaseKind.{DatabaseKind}
-use Rattle.scim_store_tables.specs.declared.tables.DatabaseKind.TheVariants.{Empty, WrongVersion, Foreign, Tables}
+use Rattle.scim_store_tables.specs.declared.database_kinds.TableRows.{TableRows}
+use Rattle.scim_store_tables.specs.declared.database_kinds.DatabaseKind.{DatabaseKind}
+use Rattle.scim_store_tables.specs.declared.database_kinds.DatabaseKind.TheVariants.{Empty, WrongVersion, Foreign, Tables}
 
 -- ---- classification by table names
 

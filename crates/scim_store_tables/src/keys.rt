@@ -6,7 +6,7 @@ ghost use Rattle.scim_store_tables.specs.code.Keys as spec;
 
 use sqlite::{Error, Row};
 
-/// Whether a key is above the last one, or the first.
+/// Whether a key is above the last one; true if there is no last one.
 fn is_above(last: Option<i64>, key: i64) -> bool
     ensures { result ≡ spec.is_above last key }
 {

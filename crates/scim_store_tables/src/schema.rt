@@ -1,4 +1,4 @@
-//! A test that a schema is that of the five tables.
+//! Tests whether a schema has exactly the five tables.
 
 ghost use Rattle.std.specs.Prelude.{◌≡◌, ◌≢◌, ◌⊎◌, [], ◌∷◌, ◌++◌, false, true, IsTrue, None, Some, codes};
 ghost use Rattle.scim_store_tables.specs.Tables.{column, table, setting_table, resource_table, taken_table, member_table, audit_table, store_schema};
@@ -135,7 +135,7 @@ fn is_member(it: &Table) -> bool
     }
 }
 
-/// Whether an index is that of a primary key of texts, with this name and tree, over these columns of this
+/// Whether an index belongs to a primary key of texts, with this name and tree, over these columns of this
 /// table.
 fn is_index(it: &Index, name: &str, tree: u32, table: u32, columns: &[usize]) -> bool
     ensures yes { IsTrue result → it.now ≡ index name.now tree table columns.now }

@@ -39,21 +39,21 @@ pub record Spelling : Type 0 where
   pub fraction : List ℕ
   pub zone : Zone
 
--- the text of a date, as `2024-02-29`
+-- the text of a date, such as `2024-02-29`
 abbrev pub date_text : CivilDate → List ℕ
 date_text d = four_digits d.year ++ codes "-" ++ two_digits d.month ++ codes "-" ++ two_digits d.day
 
--- the text of a time of day, as `T23:59:59`
+-- the text of a time of day, such as `T23:59:59`
 abbrev pub clock_text : Clock → List ℕ
 clock_text c =
     codes "T" ++ two_digits c.hour ++ codes ":" ++ two_digits c.minute ++ codes ":" ++ two_digits c.second
 
--- the text of a fraction, as `.5`, or nothing
+-- the text of a fraction, such as `.5`, or nothing
 abbrev pub fraction_text : List ℕ → List ℕ
 fraction_text [] = []
 fraction_text (digit ∷ digits) = codes "." ++ digit ∷ digits
 
--- the text of hours and minutes, as `05:30`
+-- the text of hours and minutes, such as `05:30`
 abbrev pub offset_text : ℕ → ℕ → List ℕ
 offset_text hours minutes = two_digits hours ++ codes ":" ++ two_digits minutes
 
@@ -64,7 +64,7 @@ zone_text utc = codes "Z"
 zone_text (ahead hours minutes) = codes "+" ++ offset_text hours minutes
 zone_text (behind hours minutes) = codes "-" ++ offset_text hours minutes
 
--- the whole text of a moment, as `2024-02-29T23:59:59.5+05:30`
+-- the whole text of a moment, such as `2024-02-29T23:59:59.5+05:30`
 abbrev pub spelling_text : Spelling → List ℕ
 spelling_text s = date_text s.date ++ clock_text s.clock ++ fraction_text s.fraction ++ zone_text s.zone
 

@@ -217,8 +217,8 @@ fn read_bytes(text: &[u8]) -> Option<Reading>
     })
 }
 
-/// Reads the text of a moment, as `2024-02-29T23:59:59.5+05:30` (RFC 7643 section 2.3.5, RFC 3339
-/// section 5.6). It is year, month and day, `T`, hours, minutes and seconds; then, optionally, `.`
+/// Reads the text of a moment, such as `2024-02-29T23:59:59.5+05:30` (RFC 7643 section 2.3.5, RFC 3339
+/// section 5.6). The text is year, month and day, `T`, hours, minutes and seconds; then, optionally, `.`
 /// with one or more digits; then the zone. The zone is `Z`, or the hours and minutes by which the
 /// clock is ahead of UTC (`+`) or behind it (`-`), or is left out for UTC.
 ///

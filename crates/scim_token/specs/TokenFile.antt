@@ -1,6 +1,6 @@
 -- Token files: the clients' bearer tokens, as SHA-256 digests.
 use Rattle.std.specs.Prelude.{ℕ, ◌+◌, ◌==◌, nat_eq, Bool, true, List, [], ◌∷◌, ◌++◌, length, find, Option, None, Some, option_map, Result, Ok, Err, if◌then◌else◌}
-use Rattle.std.specs.List.{list_any, position_or_len, before_first, after_first}
+use Rattle.std.specs.List.{list_any, position_or_len, before_first, after_first, slice_split}
 use Rattle.std.specs.Cmp.Lexicographic.{pointwise}
 use Rattle.std.specs.Result.{result_ok}
 use Rattle.hex.specs.Hex.{decode_sized}
@@ -53,7 +53,7 @@ abbrev pub list_with_entry : List Entry → Result Entry LineFault → Result (L
 list_with_entry known (Ok e) = added known e
 list_with_entry known (Err fault) = Err fault
 
--- the entries after one more line
+-- the entries once one more line is read
 abbrev pub after_line : List Entry → List ℕ → Result (List Entry) LineFault
 after_line known line = if says_nothing line then Ok known else list_with_entry known (entry_in line)
 
@@ -67,6 +67,14 @@ if_well n (Err cause) rest = Err (record { line = n; cause = cause })
 unfoldable pub entries_from : ℕ → List Entry → List (List ℕ) → Result (List Entry) TokenFault
 entries_from n known [] = Ok known
 entries_from n known (line ∷ lines) = if_well n (after_line known line) (λ next. entries_from (n + 1) next lines)
+
+-- whether a byte is a line feed
+abbrev pub is_line_feed : ℕ → Bool
+is_line_feed b = b == 10
+
+-- the entries of a token file, or its first faulty line; a CR before a line feed is part of the line
+abbrev pub entries_in : List ℕ → Result (List Entry) TokenFault
+entries_in text = entries_from 1 [] (slice_split is_line_feed text)
 
 -- the client with the token of this digest, or None
 abbrev pub client_with : List Entry → List ℕ → Option (List ℕ)

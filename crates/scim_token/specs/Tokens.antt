@@ -3,7 +3,7 @@ use Rattle.std.specs.Prelude.{◌≡◌, ℕ, List, length, Option, Result, Ok, 
 use Rattle.std.specs.HashMap.{get, hash_map_len}
 use Rattle.scim_token.specs.declared.digests.Digest.{Digest}
 use Rattle.scim_token.specs.contracts.digests.DigestPartialEq.TheImpl as digest_eq
-use Rattle.scim_token.specs.declared.tokens.Tokens.{Tokens}
+use Rattle.scim_token.specs.declared.token_table.Tokens.{Tokens}
 use Rattle.scim_token.specs.declared.faults.TokenFault.{TokenFault}
 use Rattle.scim_token.specs.TokenFile.{Entry, client_with}
 

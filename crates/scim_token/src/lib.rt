@@ -5,7 +5,7 @@
 mod digests;
 mod faults;
 mod token_lines;
-mod tokens;
+mod token_table;
 
 pub use faults::{LineFault, TokenFault};
-pub use tokens::Tokens;
+pub use token_table::Tokens;

@@ -29,9 +29,9 @@ impl Part {
 
     /// Returns the part with this cell added, or replaced if there is one at this place.
     ///
-    /// Invalid if no part has these cells: the leaf doesn't belong to the kind, the atom isn't of
-    /// its type, there is no value at the position before, or the attribute is single-valued and
-    /// the position isn't 0.
+    /// Fails with Invalid if no part has these cells: the leaf doesn't belong to the kind, the atom isn't of
+    /// its type, there is no value at the position before, or the attribute is single-valued and the position
+    /// isn't 0.
     pub fn with(
         &self,
         alloc: Global,

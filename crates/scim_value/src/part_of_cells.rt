@@ -18,9 +18,9 @@ use std::alloc::Global;
 impl Part {
     /// Returns the part of these cells, which may be in any order.
     ///
-    /// Invalid if no part of the kind has these cells: a leaf doesn't belong to the kind, an atom
-    /// isn't of its leaf's type, two cells have the same place, positions have a gap, or a
-    /// single-valued attribute has a position other than 0.
+    /// Fails with Invalid if no part of the kind has these cells: a leaf doesn't belong to the kind, an atom
+    /// isn't of its leaf's type, two cells have the same place, positions have a gap, or a single-valued
+    /// attribute has a position other than 0.
     pub fn of(
         alloc: Global,
         kind: Kind,
@@ -41,7 +41,7 @@ impl Part {
     /// Returns the part of cells that are in order of place: by attribute in the order of the
     /// table, by position, by sub-attribute.
     ///
-    /// Invalid if they aren't in this order, and as for [`Part::of`].
+    /// Fails with Invalid if they aren't in this order, and as for [`Part::of`].
     pub fn of_sorted(
         alloc: Global,
         kind: Kind,

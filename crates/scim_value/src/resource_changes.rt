@@ -18,7 +18,7 @@ impl Resource {
     /// Returns the resource with this cell added, or replaced if there is one at this place. `self`
     /// isn't changed. Unless the leaf is `meta.location`, the base of the location is the same.
     ///
-    /// Invalid if the result isn't a resource: the leaf doesn't belong to the kind, the atom isn't
+    /// Fails with Invalid if the result isn't a resource: the leaf doesn't belong to the kind, the atom isn't
     /// of its type, there is no value at the position before, or a rule for resources is broken.
     pub fn with(
         &self,
@@ -41,7 +41,7 @@ impl Resource {
     /// loses its last cell is removed, and the positions after it move down by one. `self` isn't
     /// changed. Unless the leaf is `meta.location`, the base of the location is the same.
     ///
-    /// Invalid if the result isn't a resource, for example because the cell is required.
+    /// Fails with Invalid if the result isn't a resource, for example because the cell is required.
     pub fn without(
         &self,
         alloc: Global,

@@ -31,9 +31,9 @@ impl Drop for Resource {
     }
 }
 
-/// Returns the URL of a resource below a base, as
-/// `http://127.0.0.1:8080/Users/2819c223-7f76-453a-919d-413861904646`. It is the only valid
-/// `meta.location` (RFC 7643 section 3.1).
+/// Returns the URL of a resource below a base, such as
+/// `http://127.0.0.1:8080/Users/2819c223-7f76-453a-919d-413861904646`. It is the only valid `meta.location`
+/// (RFC 7643 section 3.1).
 pub fn location(alloc: Global, base: &str, kind: Kind, id: Id) -> Result<Text, NoMemory>
     ensures { IfOk result (λ t. t ≡ spec.location base.now kind id) }
 {
@@ -62,10 +62,9 @@ impl Model for Resource {
 }
 
 impl Resource {
-    /// Makes a resource of a part. Its `meta.location` must be below `base`, as
-    /// `http://127.0.0.1:8080`.
+    /// Makes a resource of a part. Its `meta.location` must be below `base`, such as `http://127.0.0.1:8080`.
     ///
-    /// Invalid if the part isn't a resource or its location is below another base. The part is
+    /// Fails with Invalid if the part isn't a resource or its location is below another base. The part is
     /// dropped then.
     pub fn of(part: Part, base: &str) -> Result<Resource, Invalid>
         ensures value { IfOk result (λ r. r ≡ part) }
@@ -78,8 +77,8 @@ impl Resource {
         }
     }
 
-    /// Makes a resource of a part, whose location may be below any base. Invalid if the part isn't
-    /// a resource.
+    /// Makes a resource from a part, whose location may be below any base. Fails with Invalid if the part
+    /// isn't valid as a resource.
     pub(crate) fn of_part(part: Part) -> Result<Resource, Invalid>
         ensures value { IfOk result (λ r. r ≡ part) }
         ensures valid { IsOk result ↔ IsResource part }
@@ -91,7 +90,7 @@ impl Resource {
         }
     }
 
-    /// Makes a resource of a part without a check. The part must be a resource.
+    /// Makes a resource from a part without checking it. The part must be valid as a resource.
     pub fn of_whole(part: Part) -> Resource
         requires { IsResource part }
         ensures { result ≡ part }

@@ -3,7 +3,7 @@ use Rattle.std.proofs.Common.{◌≡◌, ◌∙◌, ◌<◌, ◌+◌, refl, sym,
 use Rattle.std.specs.Prelude.{◌||◌, Option, None, Some}
 use Rattle.std.specs.List.{list_any}
 use Rattle.std.proofs.lemmas.List.Folds.{list_any_more}
-use Rattle.scim_schema.specs.declared.schemas.Schema.{Schema}
+use Rattle.scim_schema.specs.declared.schema_urns.Schema.{Schema}
 use Rattle.scim_schema.specs.Schemas.{is_same_schema}
 use Rattle.scim_view.specs.Names.{is_there}
 

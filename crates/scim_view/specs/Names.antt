@@ -4,7 +4,7 @@ use Rattle.std.specs.HashSet.{contains}
 use Rattle.scim_schema.specs.declared.Kind.{Kind}
 use Rattle.scim_schema.specs.declared.Attribute.{Attribute}
 use Rattle.scim_schema.specs.declared.Leaf.{Leaf}
-use Rattle.scim_schema.specs.declared.schemas.Schema.{Schema}
+use Rattle.scim_schema.specs.declared.schema_urns.Schema.{Schema}
 use Rattle.scim_schema.specs.Schemas.{extension_of, is_same_schema}
 use Rattle.scim_schema.specs.Units.{leaf_at, is_same_attribute, is_same_leaf}
 use Rattle.scim_filter_grammar.specs.declared.tree.Meant.{Meant}
@@ -14,7 +14,7 @@ use Rattle.scim_filter_grammar.specs.Spelled.{path_in}
 use Rattle.scim_path.specs.Paths.{extension_named}
 use Rattle.scim_view.specs.declared.attribute_lists.Names.{Names}
 
--- whether the option has a value and the test holds of it
+-- whether the option has a value and the test accepts it
 abbrev pub is_there : {X : Type 0} → (X → Bool) → Option X → Bool
 is_there test None = false
 is_there test (Some x) = test x

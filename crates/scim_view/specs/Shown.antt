@@ -34,6 +34,6 @@ shows_returned w returned.Request l = shows_requested w l
 abbrev pub shows : Wanted → Kind → Leaf → Bool
 shows w kind l = shows_returned w (characteristics_of kind l).returned l
 
--- the content with only the cells that are shown; the positions of values close up
+-- the content with only the cells that are shown; the positions of later values move down
 unfoldable pub shown : Wanted → Content → Content
 shown w v = content v.kind v.id (restricted (λ r l. shows w v.kind l) (rows v))

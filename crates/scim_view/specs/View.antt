@@ -28,7 +28,7 @@ pub record Viewer : Type 0 where
 abbrev pub viewer_of : ViewerInCode → Viewer
 viewer_of v = record { policy = v.policy.now; client = v.client.now; base = v.base.now }
 
--- the policy's decision on the client's reading of the leaf of the resource
+-- the policy's decision on the client's read access to the leaf of the resource
 abbrev pub read_decision : Viewer → Content → Leaf → Decision
 read_decision v c l = decide v.policy v.client Read c l
 
@@ -48,8 +48,8 @@ may_be_seen decision kind _ l = not (is_write_only kind l) && (decision l).allow
 abbrev pub shows_some : (Leaf → Decision) → Kind → Attribute → Bool
 shows_some decision kind a = list_any (λ l. sameb the_attribute l.attribute a && (not (is_write_only kind l) && (decision l).allow)) (leaves kind)
 
--- the part of the resource that the decisions on reading let be seen: values without a visible cell are left
--- out, and positions close up
+-- the part of the resource that the decisions on reading let be seen: values without a visible cell are left out, and
+-- later positions move down
 unfoldable pub visible_by : (Leaf → Decision) → Content → Content
 visible_by decision c = content c.kind c.id (restricted (may_be_seen decision c.kind) (rows c))
 

@@ -133,8 +133,8 @@ fn memberships(
 }
 
 impl Viewer<'_> {
-    /// Returns the part of the resource that the client may see, including a user's `groups`.
-    /// As [`Viewer::visible`]. A user's `groups` has those of the given groups that list the user, that the
+    /// Returns the part of the resource that the client may see, including a user's `groups`. Like
+    /// [`Viewer::visible`]. A user's `groups` has those of the given groups that list the user, that the
     /// client sees, and in which it sees the user's id, in ascending order of their ids. The policy decides
     /// on `groups` as on any other attribute (RFC 7643 section 4.1.2).
     pub fn with_groups(
@@ -151,9 +151,9 @@ impl Viewer<'_> {
         self.with_groups_by(alloc, &decisions, &listing, resource)
     }
 
-    /// As [`Viewer::with_groups`], with decisions and groups that the caller has computed.
-    /// `decisions` must come from [`Viewer::decisions`] for this resource, and `groups` must have been
-    /// gathered for it; otherwise the result is unspecified. The policy isn't evaluated again.
+    /// Like [`Viewer::with_groups`], with decisions and groups that the caller has computed. `decisions` must
+    /// come from [`Viewer::decisions`] for this resource, and `groups` must have been gathered for it;
+    /// otherwise the result is unspecified. The policy isn't evaluated again.
     pub fn with_groups_by(
         &self,
         alloc: Global,
@@ -170,7 +170,7 @@ impl Viewer<'_> {
         visible_among(alloc, decisions, resource, groups.as_slice(), self.base)
     }
 
-    /// As [`Viewer::with_groups`], but None if the client doesn't see the resource at all.
+    /// Like [`Viewer::with_groups`], but returns None if the client doesn't see the resource at all.
     /// Evaluates the policy once for the resource, and once for each group that lists it.
     pub fn view_with_groups(
         &self,
@@ -191,7 +191,7 @@ impl Viewer<'_> {
     }
 }
 
-/// As [`visible_with`], for a slice of groups in any order.
+/// Like [`visible_with`], for a slice of groups in any order.
 fn visible_among(
     alloc: Global,
     decisions: &Decisions,

@@ -76,7 +76,7 @@ impl ListingGroups {
         }
     }
 
-    /// Returns those of the groups that list the resource `id` and that the viewer sees to list it.
+    /// Returns the groups that list the resource `id`, if the viewer sees the group and the ids of its members.
     fn of_id(
         alloc: Global,
         viewer: &Viewer<'_>,

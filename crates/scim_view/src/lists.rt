@@ -42,10 +42,10 @@ impl Viewer<'_> {
         Ok(views)
     }
 
-    /// As [`Viewer::view_with_groups`], with the groups of the index.
-    /// None if the client doesn't see the resource. `decisions` must come from [`Viewer::decisions`] for the
-    /// resource, or from [`Viewer::decisions_on_all`] for its kind; otherwise the result is unspecified. The
-    /// policy isn't evaluated again.
+    /// Like [`Viewer::view_with_groups`], with the groups of the index. None if the client doesn't see the
+    /// resource. `decisions` must come from [`Viewer::decisions`] for the resource, or from
+    /// [`Viewer::decisions_on_all`] for its kind; otherwise the result is unspecified. The policy isn't
+    /// evaluated again.
     pub fn view_by_index(
         &self,
         alloc: Global,

@@ -20,7 +20,7 @@ pub struct Viewer<'a> {
     pub policy: &'a Policy,
     /// The name of the client.
     pub client: &'a str,
-    /// The base URL of all locations, as `http://127.0.0.1:8080`.
+    /// The base URL of all locations, such as `http://127.0.0.1:8080`.
     pub base: &'a str,
 }
 
@@ -36,8 +36,8 @@ impl Viewer<'_> {
     }
 
     /// Returns the decisions on reading that hold for all resources of the kind, if there are any.
-    /// They are those of [`Viewer::decisions`] for each of the resources. None if a rule that may decide has
-    /// a target, so that the decisions depend on the resource.
+    /// [`Viewer::decisions`] returns the same decisions for each of these resources. None if a rule that may
+    /// decide has a target, so that the decisions depend on the resource.
     pub fn decisions_on_all(&self, alloc: Global, kind: Kind) -> Result<Option<Decisions>, NoMemory>
         ensures same { IfOk result (λ o. IfSome o (λ decisions. (c : Content) → c.kind ≡ kind
             → (l : Leaf)

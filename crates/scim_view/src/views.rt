@@ -43,7 +43,7 @@ impl RowTest for MayBeSeen<'_> {
     }
 }
 
-/// A test of cells: those of certain attributes that the client may see.
+/// A test that keeps the cells of certain attributes that the client may see.
 #[derive(Clone, Copy)]
 pub struct MayBeSeenOf<'a> {
     attributes: &'a [Attribute],
@@ -99,9 +99,9 @@ impl Viewer<'_> {
         Ok(decision.allow)
     }
 
-    /// Returns the part of the resource that the client may see.
-    /// It has the cells that the policy lets the client read, except those of writeOnly attributes (RFC 7643
-    /// section 7). Values without a visible cell are left out, and the positions of the others close up.
+    /// Returns the part of the resource that the client may see. It has the cells that the policy lets the
+    /// client read, except those of writeOnly attributes (RFC 7643 section 7). Values without a visible cell
+    /// are left out, and the positions of the later ones move down.
     pub fn visible(&self, alloc: Global, resource: &Resource) -> Result<Part, NoMemory>
         ensures { IfOk result (λ p. p ≡ spec.visible (spec.viewer_of self.now) resource.now) }
     {
@@ -109,7 +109,7 @@ impl Viewer<'_> {
         self.visible_by(alloc, &decisions, resource)
     }
 
-    /// As [`Viewer::visible`], by decisions that [`Viewer::decisions`] returned for the resource.
+    /// Like [`Viewer::visible`], but uses the decisions that [`Viewer::decisions`] returned for the resource.
     /// The policy isn't evaluated again.
     pub fn visible_by(
         &self,
@@ -124,8 +124,8 @@ impl Viewer<'_> {
         visible_by(alloc, decisions, resource)
     }
 
-    /// As [`Viewer::visible`], but None if the client doesn't see that the resource exists.
-    /// Evaluates the policy once.
+    /// Like [`Viewer::visible`], but None if the client doesn't see that the resource exists. Evaluates the
+    /// policy once.
     pub fn view(&self, alloc: Global, resource: &Resource) -> Result<Option<Part>, NoMemory>
         ensures { IfOk result (λ o. o ≡ spec.view (spec.viewer_of self.now) resource.now) }
     {
@@ -134,7 +134,7 @@ impl Viewer<'_> {
     }
 }
 
-/// As [`visible_by`], but None if `decisions` don't let the client read the `id`.
+/// Like [`visible_by`], but None if `decisions` don't let the client read the `id`.
 #[tactic(auto, unfolding(crate::specs::View::view_by))]
 fn view_by(
     alloc: Global,

@@ -1,9 +1,11 @@
 -- The text of a reply (RFC 9112 section 4).
-use Rattle.std.specs.Prelude.{ℕ, Bool, not, List, [], ◌∷◌, ◌++◌, length, Option, Some, None, unwrap_or, codes, if◌then◌else◌, ◌==◌, is_some}
+use Rattle.std.specs.Prelude.{ℕ, Bool, false, not, List, [], ◌∷◌, ◌++◌, length, Option, Some, None, unwrap_or, codes, if◌then◌else◌, ◌==◌, is_some, bytes_eq}
 use Rattle.std.specs.Option.{option_copied}
 use Rattle.std.specs.Fmt.{decimal}
 use Rattle.http.specs.StatusCode.{reason_phrase}
+use Rattle.scim_wire.specs.declared.messages.Message.{Message}
 use Rattle.scim_wire.specs.declared.replies.HttpReply.{HttpReply}
+use Rattle.scim_wire.specs.declared.replies.ReplyForm.{ReplyForm}
 
 -- CR LF
 abbrev pub crlf : List ℕ
@@ -42,24 +44,37 @@ pub record Said : Type 0 where
 abbrev pub body_text : Said → List ℕ
 body_text said = unwrap_or said.body []
 
--- the text of a reply: status line, the headers that apply, an empty line and the body (RFC 9112 section 4)
-unfoldable pub text_of : Said → Bool → List ℕ
-text_of said close =
+-- the form of a whole reply, which closes the connection or not
+abbrev pub whole_form : Bool → ReplyForm
+whole_form closes = record { closes = closes; omits_body = false }
+
+-- the form of the reply to a message: without a body if the method, compared as written, is HEAD (RFC 9110
+-- section 9.3.2)
+abbrev pub form_of : Message → ReplyForm
+form_of message = record { closes = message.close; omits_body = bytes_eq message.method (codes "HEAD") }
+
+-- the head of a reply: status line, the headers that apply and an empty line (RFC 9112 section 4);
+-- `Content-Length` counts the body also where the reply omits it
+unfoldable pub head_text : Said → Bool → List ℕ
+head_text said closes =
     status_line said.status
     ++ optional_line (is_some said.body) (codes "Content-Type") (codes "application/scim+json")
     ++ optional_line (not (said.status == 204)) (codes "Content-Length") (decimal (length (body_text said)))
     ++ option_line (codes "Location") said.location
     ++ option_line (codes "Allow") said.allow
     ++ optional_line said.asks_for_token (codes "WWW-Authenticate") (codes "Bearer")
-    ++ optional_line close (codes "Connection") (codes "close")
+    ++ optional_line closes (codes "Connection") (codes "close")
     ++ crlf
-    ++ body_text said
+
+-- the text of a reply in a form: its head, and its body unless the form omits it
+abbrev pub text_of : Said → ReplyForm → List ℕ
+text_of said form = head_text said form.closes ++ (if form.omits_body then [] else body_text said)
 
 -- the contents of a reply
 abbrev pub said_by : HttpReply → Said
 said_by reply =
     record { status = reply.status; body = option_copied reply.body; location = option_copied reply.location; allow = option_copied reply.allow; asks_for_token = reply.asks_for_token }
 
--- the text of a reply, with `Connection: close` if it closes
-abbrev pub reply_text : HttpReply → Bool → List ℕ
-reply_text reply close = text_of (said_by reply) close
+-- the text of a reply in a form
+abbrev pub reply_text : HttpReply → ReplyForm → List ℕ
+reply_text reply form = text_of (said_by reply) form

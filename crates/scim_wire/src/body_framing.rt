@@ -87,9 +87,9 @@ fn framing_by(lengths: &[&[u8]], codings: &[&[u8]]) -> Result<Framing, Refusal>
 
 /// Returns the framing of the body that follows these headers.
 ///
-/// `TooLarge` if a `Content-Length` is above [`MAX_BODY`]. Otherwise `UnknownCoding` if the only framing
-/// header is one `Transfer-Encoding` other than `chunked`, and `BadFraming` if there are several framing
-/// headers or the `Content-Length` isn't a number (RFC 9112 section 6.3).
+/// Fails with `TooLarge` if a `Content-Length` is above [`MAX_BODY`]. Otherwise fails with `UnknownCoding` if
+/// the only framing header is one `Transfer-Encoding` other than `chunked`, and `BadFraming` if there are
+/// several framing headers or the `Content-Length` isn't a number (RFC 9112 section 6.3).
 pub fn framing_of(alloc: Global, headers: &[Header<'_>]) -> Result<Framing, Failed<Refusal>>
     ensures { UnlessMemory (λ r. r ≡ framing (map header_parts headers.now)) result }
 {

@@ -7,8 +7,8 @@ ghost use Rattle.scim_wire.specs.ChunkParts.{StandsFor};
 
 /// States that bytes are read as a chunked body in at most one way.
 ///
-/// At most one prefix of the bytes is a whole body or a refused one, never both, with one content or one
-/// fault. The bytes that an unfinished [`ChunkedPart`] has read have no such prefix.
+/// At most one prefix of the bytes is a whole body or a refused one. It has one content or one fault, never
+/// both. The bytes that an unfinished [`ChunkedPart`] has read have no such prefix.
 pub fn chunked_bodies_are_read_in_one_way()
     ensures part { (part : ChunkedPart) (bytes : List ℕ) → StandsFor part bytes
         → IsChunkedPart bytes }

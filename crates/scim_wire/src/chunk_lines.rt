@@ -25,7 +25,7 @@ fn has_room(line: &[u8]) -> bool
 
 /// Returns the chunk size that a whole chunk line gives, or `None` if the line isn't finished.
 ///
-/// [`BadLine`] if no chunk line of at most 1,024 bytes begins with these bytes.
+/// Fails with [`BadLine`] if no chunk line of at most 1,024 bytes begins with these bytes.
 pub fn judge_line(line: &[u8]) -> Result<Option<u64>, BadLine>
     ensures size { IfOk result (λ size.
         MatchOption size (IsFrontOf IsLine line.now) (λ n. IsLineOf n line.now)) }

@@ -59,9 +59,9 @@ impl ChunkedPart {
 
     /// Reads one byte of the body. Chunk extensions and trailers are checked and dropped.
     ///
-    /// [`BadChunks::Malformed`] at the first byte that can't continue a chunk line, the end of a chunk's data
-    /// or the trailers. [`BadChunks::TooLarge`] at the end of the chunk line by which the content would
-    /// exceed 1,048,576 bytes.
+    /// Fails with [`BadChunks::Malformed`] at the first byte that can't continue a chunk line, the end of a
+    /// chunk's data or the trailers. Fails with [`BadChunks::TooLarge`] at the end of the chunk line by which
+    /// the content would exceed 1,048,576 bytes.
     pub fn take(self, byte: u8) -> Result<ChunkStep, Failed<BadChunks>>
         ensures { (bytes : List ℕ) → StandsFor self bytes
             → UnlessMemory (Leads (bytes ++ byte ∷ [])) result }
@@ -106,7 +106,7 @@ impl ChunkedPart {
         }
     }
 
-    /// Returns the state after a whole chunk line of this size. Fails as [`ChunkedPart::take`].
+    /// Returns the state after a whole chunk line of this size. Fails as [`ChunkedPart::take`] does.
     fn after_line(mut self, size: u64) -> Result<ChunkStep, Failed<BadChunks>>
         ensures { (bytes : List ℕ) → HasChunks bytes self.body.items self.line.items
             → IsLineOf size self.line.items

@@ -7,10 +7,10 @@ ghost use Rattle.scim_wire.specs.Heads.{IsRequestText};
 use httparse::Status;
 use httparse::spans::{HeaderSpan, RequestSpans, parse_request};
 
-/// Returns the positions of the parts of the head that is the whole text.
+/// Parses the whole text as a head, and returns the positions of its parts.
 ///
-/// Writes those of its headers to `headers`, which has 64 entries. `None` if the text isn't a request line
-/// with at most 64 headers.
+/// Writes the positions of the headers to `headers`, which must have 64 entries. `None` if the text isn't a
+/// request line with at most 64 headers.
 pub fn spans_of(text: &[u8], headers: &mut [HeaderSpan]) -> Option<RequestSpans>
     requires { length headers.old ≡ 64 }
     ensures found { IfSome result (λ spans. (h : RequestHead) × IsRequestText text.now h

@@ -1,4 +1,4 @@
-//! Proof that a stream of requests is read in one way.
+//! Proof that a stream of requests can be read in only one way.
 ghost use Rattle.std.specs.Prelude.{◌≡◌, ℕ, List, [], ◌∷◌, ◌++◌};
 ghost use Rattle.scim_wire.specs.Messages.{HasItems};
 ghost use Rattle.scim_wire.specs.Wires.{IsShut, StandsFor};

@@ -22,14 +22,14 @@ mod octets;
 mod replies;
 mod state_steps;
 mod states;
+mod stream_writing;
 mod trailers;
 mod wires;
-mod writing;
 
 pub use chunk_laws::chunked_bodies_are_read_in_one_way;
 pub use laws::streams_are_read_in_one_way;
 pub use messages::{Item, Message};
 pub use octets::Octets;
-pub use replies::{HttpReply, print_reply};
+pub use replies::{HttpReply, ReplyForm, print_reply};
+pub use stream_writing::write_text;
 pub use wires::Wire;
-pub use writing::write_text;

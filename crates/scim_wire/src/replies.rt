@@ -1,8 +1,10 @@
 //! Prints a reply (RFC 9112 section 4).
 ghost use Rattle.std.specs.Prelude.{◌≡◌, [], ◌++◌, unwrap_or, IfOk, OnOk, string_bytes};
 ghost use Rattle.std.specs.Option.{option_copied};
-ghost use Rattle.scim_wire.specs.Replies.{line, option_line, optional_line, phrase_of, status_line, reply_text};
+ghost use Rattle.scim_wire.specs.Replies as spec;
+ghost use Rattle.scim_wire.specs.Replies.{line, option_line, optional_line, phrase_of, status_line, said_by, reply_text};
 
+use crate::messages::Message;
 use http::StatusCode;
 use scim_text::NoMemory;
 use std::alloc::Global;
@@ -22,6 +24,37 @@ pub struct HttpReply<'a> {
     pub allow: Option<&'a str>,
     /// Whether the reply asks for a bearer token with `WWW-Authenticate` (RFC 6750 section 3).
     pub asks_for_token: bool,
+}
+
+/// How a reply is printed.
+#[derive(Clone, Copy)]
+pub struct ReplyForm {
+    /// Whether the reply has the header `Connection: close`.
+    pub closes: bool,
+    /// Whether the reply ends with its head, as every reply to HEAD does (RFC 9110 section 9.3.2).
+    pub omits_body: bool,
+}
+
+impl ReplyForm {
+    /// Returns the form of a whole reply, which closes the connection or not.
+    pub fn whole(closes: bool) -> ReplyForm
+        ensures { result ≡ spec.whole_form closes }
+    {
+        ReplyForm {
+            closes,
+            omits_body: false,
+        }
+    }
+
+    /// Returns the form of the reply to a message: without a body if the method, compared as written, is HEAD.
+    pub fn of(message: &Message) -> ReplyForm
+        ensures { result ≡ spec.form_of message.now }
+    {
+        ReplyForm {
+            closes: message.close,
+            omits_body: message.method.as_slice() == b"HEAD".as_slice(),
+        }
+    }
 }
 
 /// Appends a header line.
@@ -87,14 +120,11 @@ fn status_line(alloc: Global, status: u16) -> Result<String, NoMemory>
     Ok(text)
 }
 
-/// Returns the text of a reply (RFC 9112 section 4): status line, headers, empty line and body.
-///
-/// With `close` it has the header `Connection: close`.
-pub fn print_reply(alloc: Global, reply: &HttpReply<'_>, close: bool) -> Result<String, NoMemory>
-    ensures { IfOk result (λ text. string_bytes text ≡ reply_text reply.now close) }
+/// Returns the head of a reply (RFC 9112 section 4): status line, headers and empty line.
+fn head_text(alloc: Global, reply: &HttpReply<'_>, closes: bool) -> Result<String, NoMemory>
+    ensures { IfOk result (λ text. string_bytes text ≡ spec.head_text (said_by reply.now) closes) }
 {
-    let body = or_empty(reply.body);
-    let length = format!(in alloc; "{}", body.len())?;
+    let length = format!(in alloc; "{}", or_empty(reply.body).len())?;
     let mut text = status_line(alloc, reply.status)?;
     push_if(
         &mut text,
@@ -116,8 +146,22 @@ pub fn print_reply(alloc: Global, reply: &HttpReply<'_>, close: bool) -> Result<
         "WWW-Authenticate",
         "Bearer",
     )?;
-    push_if(&mut text, close, "Connection", "close")?;
+    push_if(&mut text, closes, "Connection", "close")?;
     text.push_str("\r\n")?;
-    text.push_str(body)?;
+    Ok(text)
+}
+
+/// Returns the text of a reply in a form: its head, and its body unless the form omits it.
+pub fn print_reply(
+    alloc: Global,
+    reply: &HttpReply<'_>,
+    form: ReplyForm,
+) -> Result<String, NoMemory>
+    ensures { IfOk result (λ text. string_bytes text ≡ reply_text reply.now form) }
+{
+    let mut text = head_text(alloc, reply, form.closes)?;
+    if !form.omits_body {
+        text.push_str(or_empty(reply.body))?;
+    }
     Ok(text)
 }

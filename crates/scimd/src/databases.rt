@@ -10,8 +10,9 @@ use sqlite::Connection;
 
 /// Opens the database at a path, runs a command on it, and closes it. The file is created if there is none.
 ///
-/// Database or NoMemory if it can't be opened; otherwise the fault of the command. A failed close loses
-/// nothing: committed changes are in the log, which is read when the database is next opened.
+/// Fails with Database or NoMemory if the database can't be opened, or with the fault of the command. A
+/// failed close loses nothing: committed changes are in the log, which is read when the database is next
+/// opened.
 pub(crate) fn with_database<W: DatabaseWork + Drop>(
     rt: &HostRuntime,
     path: &str,
@@ -27,7 +28,7 @@ pub(crate) fn with_database<W: DatabaseWork + Drop>(
     }
 }
 
-/// As [`with_database`], for a file that must exist. CannotRead if it doesn't.
+/// Like [`with_database`], for a file that must exist. Fails with CannotRead if it doesn't.
 fn with_database_there<W: DatabaseWork + Drop>(
     rt: &HostRuntime,
     path: &str,

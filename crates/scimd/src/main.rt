@@ -28,7 +28,7 @@ fn main(rt: HostRuntime) -> ExitCode {
     }
 }
 
-/// Returns the arguments of the program. InvalidData if one isn't UTF-8.
+/// Returns the arguments of the program. Fails with InvalidData if one isn't UTF-8.
 fn words(rt: &HostRuntime) -> io::Result<Vec<String>> {
     Ok(env::args(rt)?.collect(rt.alloc())?)
 }

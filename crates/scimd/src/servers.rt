@@ -45,7 +45,7 @@ impl DatabaseWork for Serving<'_> {
         } = self;
         match open_cached(alloc, connection, options.base, options.has_cache) {
             Ok(shelf) => {
-                let mut hub = Hub::new(alloc, routes, Service::new(policy, base, shelf), tokens);
+                let mut hub = Hub::new(alloc, routes, Service::new(policy, shelf, base), tokens);
                 let done = serve_at_port(rt, &options, &mut hub);
                 let shelf = hub.into_service().into_shelf();
                 (done, shelf.into_lower().into_connection())

@@ -1,4 +1,4 @@
--- The row that the private fields of a `Row` stand for.
+-- The row that the private fields of a `Row` represent.
 use Rattle.scim_cell.specs.declared.rows.Row.TheInside.{Inside as RowInside}
 use Rattle.scim_cell.specs.Rows.{Row}
 

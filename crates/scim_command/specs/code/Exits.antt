@@ -6,9 +6,10 @@ use Rattle.scim_command.specs.declared.faults.RunFault.{RunFault}
 use Rattle.scim_command.specs.declared.faults.RunFault.TheVariants.{Policy, InputEnded, InputFailed, NoMemory as WantOfMemory}
 use Rattle.scim_command.specs.Faults.{IsOfUsers}
 use Rattle.scim_audit.specs.declared.refusals.Refusal.TheVariants.{Store}
+use Rattle.scim_wire.specs.Replies.{whole_form}
 use Rattle.scim_exchange.specs.Replies.{refusal_text}
 
--- the fault is of the input
+-- the fault is in the input
 abbrev pub IsOfInput : RunFault → Type 0
 IsOfInput InputEnded = Unit {0}
 IsOfInput InputFailed = Unit {0}
@@ -17,14 +18,14 @@ IsOfInput _ = ⊥
 -- the text of the reply, or of the refusal `Store` for `NoMemory`
 abbrev pub text_or_store : Result (String Global) NoMemory → List ℕ
 text_or_store (Ok t) = string_bytes t
-text_or_store (Err e) = refusal_text Store false
+text_or_store (Err e) = refusal_text Store (whole_form false)
 
--- the fault is of the policy file or the users file, or `NoMemory`
+-- the fault is in the policy file or the users file, or `NoMemory`
 abbrev pub IsOfFiles : RunFault → Type 0
 IsOfFiles (Policy rule cause) = Unit {0}
 IsOfFiles f = IsOfUsers f
 
--- the fault is of the policy file, or `NoMemory`
+-- the fault is in the policy file, or `NoMemory`
 abbrev pub IsOfPolicy : RunFault → Type 0
 IsOfPolicy (Policy rule cause) = Unit {0}
 IsOfPolicy WantOfMemory = Unit {0}

@@ -1,9 +1,8 @@
 -- The faults of the functions of `replay`, and the hub that it makes.
-use Rattle.std.specs.Prelude.{◌≡◌, List, [], Ok}
-use Rattle.std.specs.Str.Lines.{lines}
+use Rattle.std.specs.Prelude.{◌≡◌, List, Ok}
 use Rattle.scim_policy_file.specs.File.{policy_of}
 use Rattle.scim_shelf.specs.Stores.{Store}
-use Rattle.scim_token.specs.TokenFile.{Entry, entries_from}
+use Rattle.scim_token.specs.TokenFile.{Entry, entries_in}
 use Rattle.scim_token.specs.Tokens.{Knows}
 use Rattle.scim_hub.specs.declared.hubs.Hub.{Hub}
 use Rattle.scim_hub.specs.Events.{none_joined}
@@ -13,13 +12,13 @@ use Rattle.scim_command.specs.declared.faults.RunFault.{RunFault}
 use Rattle.scim_command.specs.declared.faults.RunFault.TheVariants.{Policy, Users, Tokens, Events, NoMemory}
 use Rattle.scim_command.specs.declared.replays.Recording.{Recording}
 
--- the fault is of the token file, or `NoMemory`
+-- the fault is in the token file, or `NoMemory`
 abbrev pub IsOfTokens : RunFault → Type 0
 IsOfTokens (Tokens n) = Unit {0}
 IsOfTokens NoMemory = Unit {0}
 IsOfTokens _ = ⊥
 
--- the fault is of the policy, token or users file, or `NoMemory`
+-- the fault is in the policy, token or users file, or it is `NoMemory`
 abbrev pub IsOfFiles : RunFault → Type 0
 IsOfFiles (Policy rule cause) = Unit {0}
 IsOfFiles (Users n) = Unit {0}
@@ -27,13 +26,13 @@ IsOfFiles (Tokens n) = Unit {0}
 IsOfFiles NoMemory = Unit {0}
 IsOfFiles _ = ⊥
 
--- the fault is of the events file, or `NoMemory`
+-- the fault is in the events file, or `NoMemory`
 abbrev pub IsOfEvents : RunFault → Type 0
 IsOfEvents (Events n) = Unit {0}
 IsOfEvents NoMemory = Unit {0}
 IsOfEvents _ = ⊥
 
--- the fault is of any of the files, or `NoMemory`
+-- the fault is in one of the files (policy, token, users or events), or it is `NoMemory`
 abbrev pub IsReplayFault : RunFault → Type 0
 IsReplayFault (Events n) = Unit {0}
 IsReplayFault fault = IsOfFiles fault
@@ -44,7 +43,7 @@ pub record IsHubOver {H : Type 0} (Stands : H → Store → Type 0) (r : Recordi
   pub holds : IsStoreOf r.base.now r.users.now store
   pub state : IsHubState Stands hub (none_joined store)
   pub entries : List Entry
-  pub knows : entries_from 1 [] (lines r.tokens.now) ≡ Ok entries
+  pub knows : entries_in r.tokens.now ≡ Ok entries
   pub has : Knows entries hub.tokens
   pub policy : policy_of r.policy.now ≡ Ok hub.service.policy
   pub base : hub.service.base ≡ r.base.now

@@ -19,7 +19,7 @@ texts_in v = map (λ text. text.now) v.items
 abbrev pub lists_in : AttributeLists → Lists
 lists_in lists = record { attributes = texts_in lists.attributes; excluded = texts_in lists.excluded }
 
--- the settings of the program's value
+-- the program's settings of a search, as a value of the definitions
 abbrev pub settings_in : SettingsInCode → Settings
 settings_in settings = record { lists = lists_in settings.lists; arrangement = settings.arrangement }
 

@@ -19,12 +19,12 @@ use Rattle.scim_hub.specs.HubStates.{output_of}
 abbrev pub Says : Result Reply NoMemory → List ℕ → Bool → Type 0
 Says result text closing = IfOk result (λ reply. (string_bytes reply.text ≡ text) × (reply.closes ≡ closing))
 
--- the message was answered, also if the result is `NoMemory`
+-- the message was answered, even if the result is `NoMemory`
 abbrev pub IsReplyToMessage : List Rule → List ℕ → Arrival → Message → Store → Result Reply NoMemory → Store → Type 0
 IsReplyToMessage policy base arrival message store result next =
     (text : List ℕ) × (closing : Bool) × IsReplied policy base arrival message store text closing next × Says result text closing
 
--- the item was answered, also if the result is `NoMemory`
+-- the item was answered, even if the result is `NoMemory`
 abbrev pub IsReplyToItem : List Rule → List ℕ → List Entry → Stamp → ℕ → Item → Store → Result Reply NoMemory → Store → Type 0
 IsReplyToItem policy base entries stamp k item store result next =
     (text : List ℕ) × (closing : Bool) × IsAnswered policy base entries stamp k item store text closing next × Says result text closing

@@ -6,7 +6,7 @@ use Rattle.scim_value.specs.contracts.uniqueness.UniqueNamePartialEq.TheImpl as 
 use Rattle.scim_cell.specs.Equality.{is_same_id}
 use Rattle.scim_cell.specs.Content.{Content}
 use Rattle.scim_value.specs.Uniqueness.{unique_names, name_of}
-use Rattle.scim_json.specs.declared.documents.Taken.{Taken}
+use Rattle.scim_json.specs.declared.users_files.Taken.{Taken}
 
 -- whether two unique names are equal
 abbrev pub is_same_unique_name : UniqueName → UniqueName → Bool

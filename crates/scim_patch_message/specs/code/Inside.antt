@@ -16,7 +16,7 @@ steps_or_fault steps (Some f) = Err f
 abbrev pub read_of : Reading → Read
 read_of r = steps_or_fault r.steps.items r.fault
 
--- the patch or the fault that a result in code stands for
+-- the patch or the fault that a result in code represents
 abbrev pub answered : Result Kept PatchFault → Result Patch PatchFault
 answered (Ok p) = Ok (patch_of p)
 answered (Err f) = Err f

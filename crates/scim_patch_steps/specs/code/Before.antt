@@ -18,7 +18,7 @@ abbrev pub IsBefore : Patch → List Row → Before → Type 0
 IsBefore p rs (Number u n) = (unit_told_by_length p ≡ Some u) × (n ≡ length (values u rs))
 IsBefore p rs (Rows v) = (v.items ≡ rows_about (touched p) rs) × IsInOrder (Rows v)
 
--- whether the patch changed something, as the rows afterwards and what was kept tell
+-- whether the patch changed something, judged by the kept values and the rows after the patch
 abbrev pub tells : Patch → List Row → Before → Bool
 tells p rs (Number u n) = list_any (is_unseen_writing p.kind) p.steps || not (length (values u rs) == n)
 tells p rs (Rows v) = changes p v.items rs

@@ -18,7 +18,8 @@ is_told_by_length (RemoveMatches t) = true
 is_told_by_length (Append given) = not (list_any is_primary given)
 is_told_by_length _ = false
 
--- the unit of the only step, if the number of its values suffices to tell whether they changed
+-- the unit of the step, if there is just one step and the number of the unit's values suffices to tell whether they
+-- changed
 abbrev pub unit_told_among : List Step → Option AttributeUnit
 unit_told_among (Of u change ∷ []) = if is_told_by_length change then Some u else None
 unit_told_among _ = None

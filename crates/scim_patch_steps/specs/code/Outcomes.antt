@@ -1,4 +1,4 @@
--- The rows that a result in code stands for.
+-- The rows that a result in code represents.
 use Rattle.std.specs.Prelude.{List, Result, Ok, Err}
 use Rattle.scim_cell.specs.Content.{Content}
 use Rattle.scim_cell.specs.Rows.{Row, rows}

@@ -74,7 +74,7 @@ stored (Present p) = inr (inl (0, p))
 stored (Values p) = inr (inl (1, p))
 stored (Compare p op x) = inr (inr (p, (op, x)))
 
--- the step that an encoding stands for
+-- the step that an encoding represents
 abbrev step_of : Stored → Step
 step_of (inl zero) = Or
 step_of (inl (suc zero)) = And

@@ -18,15 +18,15 @@ use Rattle.scim_policy.specs.declared.decisions.Decisions.{Decisions}
 use Rattle.scim_policy.specs.Decide.{covers, names, paths_on, is_target_met, speaks_of}
 use Rattle.scim_policy.specs.Table.{or_else, decided}
 
--- the decision of a path on a leaf: the given one if it covers the leaf
+-- the decision of a path on a leaf: the given decision if the path covers the leaf
 abbrev pub by_path : PolicyPath → Decision → Leaf → Option Decision
 by_path path d l = if covers l path then Some d else None
 
--- the decision of paths on a leaf: the given one if any of them covers the leaf
+-- the decision of paths on a leaf: the given decision if any of the paths covers the leaf
 abbrev pub by_paths : List PolicyPath → Decision → Leaf → Option Decision
 by_paths paths d l = if list_any (covers l) paths then Some d else None
 
--- the decision on a leaf's sub-attribute: the given one if it is the named sub-attribute
+-- the decision on a leaf's sub-attribute: the given decision if it is the named sub-attribute
 abbrev pub by_name : SubAttribute → Decision → Option SubAttribute → Option Decision
 by_name b d sub = if option_eq (sameb the_sub_attribute) sub (Some b) then Some d else None
 

@@ -16,18 +16,18 @@ Gives words (Ok x) said = said ≡ Ok (words x)
 Gives words (Err (Because cause)) said = said ≡ Err cause
 Gives words (Err NoMemory) said = Unit {0}
 
--- a borrowed text, by value
+-- a borrowed text, in its specified form
 abbrev pub text_at : Bor (List ℕ) → List ℕ
 text_at t = t.now
 
--- borrowed texts, by value
+-- borrowed texts, in their specified form
 abbrev pub texts_view : Vec (Bor (List ℕ)) Global → List (List ℕ)
 texts_view v = map text_at v.items
 
--- the texts of a rule, by value
+-- the texts of a rule, in their specified form
 abbrev pub rule_view : WrittenRule → RuleTexts
 rule_view w = record { allow = w.allow; clients = texts_view w.clients; ops = texts_view w.ops; types = texts_view w.types; target = option_map text_at w.target; paths = texts_view w.paths }
 
--- the version and the rules of a file, by value
+-- the version and the rules of a file, in their specified form
 abbrev pub parts_view : FileParts → Parts
 parts_view p = record { version = p.version.now; rules = map value_view p.rules.now }

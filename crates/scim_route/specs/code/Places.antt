@@ -16,7 +16,8 @@ place_at (Collection kind) = collection kind
 place_at (Search kind) = search kind
 place_at (Resource kind text) = resource kind text.now
 
--- the endpoint of a route, given the path's part after the first slash, or None
+-- the endpoint that a route leads to, where `text` is the part of the path after the first slash; None if the route
+-- needs the name of a kind or schema and `text` isn't one
 abbrev pub led : Leads → List ℕ → Option Place
 led LeadsNowhere text = Some unsupported
 led (LeadsToPage p) text = Some (page p)

@@ -1,11 +1,11 @@
--- The parameters after some pairs of a query string are read.
+-- The parameters that result from reading some pairs of a query string.
 use Rattle.std.specs.Prelude.{ℕ, List, codes, Option, None, Some, if◌then◌else◌}
 use Rattle.std.specs.Option.{option_or}
 use Rattle.scim_text.specs.Names.{is_same_name}
 use Rattle.scim_route.specs.declared.query_parameters.Parameters.{Parameters}
 use Rattle.scim_route.specs.Parameters.{first_named}
 
--- the value of a parameter after one more pair; the first value stays
+-- the value of a parameter once one more pair is read; the first value stays
 abbrev pub taken : List ℕ → List ℕ × List ℕ → Option (List ℕ) → Option (List ℕ)
 taken name pair held = option_or held (if is_same_name pair.0 name then Some pair.1 else None)
 
@@ -21,7 +21,7 @@ with_pair pair held = record {
   count = taken (codes "count") pair held.count;
 }
 
--- all parameters after these pairs
+-- all parameters once these pairs are read
 abbrev pub with_pairs : List (List ℕ × List ℕ) → Parameters → Parameters
 with_pairs pairs held = record {
   attributes = option_or held.attributes (first_named (codes "attributes") pairs);

@@ -1,4 +1,4 @@
--- The invariant by which connections that take all offered bytes get all that is due.
+-- The invariant that proves that a connection which takes all bytes offered to it gets all of its text.
 use Rattle.std.specs.Prelude.{◌≡◌, ◌⊎◌, ℕ, Bool, true, false, List, [], Option, None, Some, IsSome}
 use Rattle.scim_hub.specs.Events.{absent, HubEvent, HubState}
 use Rattle.scim_serve.specs.declared.pending_bytes.Waiting.{Waiting}

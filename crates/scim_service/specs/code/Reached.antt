@@ -7,7 +7,7 @@ use Rattle.scim_policy.specs.Table.{access_in}
 use Rattle.scim_view.specs.View.{Viewer, read_decision}
 use Rattle.scim_service.specs.declared.requests.Turn.{Turn}
 use Rattle.scim_service.specs.declared.plans.Plan.{Plan}
-use Rattle.scim_service.specs.declared.seen_resources.Reached.{Reached}
+use Rattle.scim_service.specs.declared.reached_resources.Reached.{Reached}
 use Rattle.scim_service.specs.Step.{access_to, sought_resource, plan_for_seen}
 
 -- The rights that come with a resource are the client's access to it.

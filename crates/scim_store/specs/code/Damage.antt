@@ -49,7 +49,7 @@ abbrev pub is_number : ℕ → Value → Bool
 is_number number (Int n) = int_eq n (pos number)
 is_number number _ = false
 
--- Whether a row is that of a resource with this id, kind and document.
+-- Whether a row of `resource` has this id, kind and document.
 abbrev pub is_row : List ℕ → ℕ → List ℕ → Row → Bool
 is_row id kind document row = length row == 3 && (has_text 0 id row && (is_number kind (column row 1) && has_text 2 document row))
 

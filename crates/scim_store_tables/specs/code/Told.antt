@@ -26,7 +26,7 @@ pub record Decides (P : Type 0) (found : Bool) : Type 0 where
   pub yes : IsTrue found → P
   pub no : found ≡ false → ¬ P
 
--- The rows of one table, sorted as they are read.
+-- The rows of one table, in the order in which they are read.
 abbrev pub AreRows : Table → Database → List Row → Type 0
 AreRows Setting db = AreInOrder [] (shown_settings db)
 AreRows Resource db = AreInOrder (0 ∷ []) (shown db).resources

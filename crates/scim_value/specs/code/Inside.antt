@@ -1,4 +1,4 @@
--- The part that the private fields of a `Part` stand for.
+-- The part that the private fields of a `Part` represent.
 use Rattle.scim_value.specs.declared.parts.Part.TheInside.{Inside as PartInside}
 use Rattle.scim_cell.specs.Content.{Content}
 use Rattle.scim_cell.specs.Rows.{content, AreSound}

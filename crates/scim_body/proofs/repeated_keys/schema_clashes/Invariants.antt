@@ -5,7 +5,7 @@ use Rattle.std.specs.Option.{option_eq}
 use denote.Enum.Bare.{sameb}
 use Rattle.scim_body.specs.View.{members_view}
 use Rattle.scim_schema.specs.declared.Attribute.{Attribute}
-use Rattle.scim_schema.specs.contracts.schemas.Schema.{the_type as the_schema}
+use Rattle.scim_schema.specs.contracts.schema_urns.Schema.{the_type as the_schema}
 use Rattle.scim_schema.specs.Schemas.{extension_of}
 use Rattle.scim_body.specs.BodyNames.{attribute_clashes}
 use Rattle.scim_body.proofs.repeated_keys.schema_clashes.Given as goal

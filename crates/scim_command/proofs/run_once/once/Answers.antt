@@ -3,6 +3,7 @@ use Rattle.std.proofs.lemmas.Result.{on_ok_weaker}
 use Rattle.std.specs.Io.KnownBytes.{Appends}
 use Rattle.scim_audit.specs.declared.refusals.Refusal.TheVariants.{Store as NoStore}
 use Rattle.scim_shelf.specs.Stores.{IsStore}
+use Rattle.scim_wire.specs.Replies.{whole_form}
 use Rattle.scim_wire.specs.Streams.{AppendsFront}
 use Rattle.scim_exchange.specs.Replies.{refusal_text}
 use Rattle.scim_command.specs.Once.{Answers}
@@ -24,7 +25,7 @@ returns-clause-answered g c =
     let below : IsStore c.in_ok-service.service.base store = subst (λ (b : List ℕ). IsStore b store) (sym service.4) (is_store s.base.now s.users.now store service.1) in
     let answer = answers_files s c.in_ok-service.service.policy c.in_ok-service.service.base store known text service.3 service.4 service.1
     (c.in_ok-reply.ensures.answer store service.2 below) in
-    let fallback : c.as_str.result.now ≡ refusal_text NoStore false = search rules in
+    let fallback : c.as_str.result.now ≡ refusal_text NoStore (whole_form false) = search rules in
     on_ok_weaker c.write_reply.result
     (λ wrote. written (Answers s) (λ (t : List ℕ). Appends (g.W.Write.contents c.args.writer.now) (g.W.Write.contents c.write_reply.new.writer) t) known text answer wrote)
     (c.write_reply.ensures.whole fallback)
@@ -39,7 +40,7 @@ returns-clause-output g c failed =
     let below : IsStore c.in_ok-service.service.base store = subst (λ (b : List ℕ). IsStore b store) (sym service.4) (is_store s.base.now s.users.now store service.1) in
     let answer = answers_files s c.in_ok-service.service.policy c.in_ok-service.service.base store known text service.3 service.4 service.1
     (c.in_ok-reply.ensures.answer store service.2 below) in
-    let fallback : c.as_str.result.now ≡ refusal_text NoStore false = search rules in
+    let fallback : c.as_str.result.now ≡ refusal_text NoStore (whole_form false) = search rules in
     let front = c.write_reply.ensures.front fallback in (
       sound_files s c.in_ok-service.service.policy store service.3 service.1,
       written (Answers s) (λ (t : List ℕ). AppendsFront (g.W.Write.contents c.args.writer.now) (g.W.Write.contents c.write_reply.new.writer) t) known text answer (rw failed at front),

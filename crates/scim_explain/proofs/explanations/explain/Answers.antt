@@ -6,7 +6,7 @@ use Rattle.scim_explain.proofs.explanations.explain.Goals as goal
 
 pub returns-in-None : goal.returns-in-None
 returns-in-None c =
-    let rules = c.rules-rule-items.result.now in
+    let rules = c.listed-rule-items.result.now in
     let client = c.args.client.now in
     let resource = c.args.resource.now in
     let allow = c.allows.result in
@@ -16,23 +16,23 @@ returns-in-None c =
     ∙ ends_at client c.args.op resource c.args.leaf rules c.loop-rule.rule-index done c.rule-item.result c.loop-rule-test.true c.rule-item.is (sym c.in_ok-misfit.ensures.first ∙ c.in-None.is) c.loop-rule.invariant.comes in
     (λ i. record { misfits = done; decision = record { rule = c.loop-rule.invariant.numbered i + 1; allow = c.allows.ensures i } })
     ∙ sym all
-    ∙ ap (λ (rs : List Rule). explained rs client c.args.op resource c.args.leaf) c.rules-rule-items.ensures.rules
+    ∙ ap (λ (rs : List Rule). explained rs client c.args.op resource c.args.leaf) c.listed-rule-items.ensures.rules
 
 pub loop-rule-preserved : goal.loop-rule-preserved
 loop-rule-preserved c =
-    let come = goes_on c.args.client.now c.args.op c.args.resource.now c.args.leaf c.rules-rule-items.result.now c.loop-rule.rule-index c.loop-rule.misfits.items c.rule-item.result c.in-Some.misfit
+    let come = goes_on c.args.client.now c.args.op c.args.resource.now c.args.leaf c.listed-rule-items.result.now c.loop-rule.rule-index c.loop-rule.misfits.items c.rule-item.result c.in-Some.misfit
     c.loop-rule-test.true c.rule-item.is (sym c.in_ok-misfit.ensures.first ∙ c.in-Some.is) c.loop-rule.invariant.comes in
     record {
       numbered = ap (λ (n : ℕ). n + 1) c.loop-rule.invariant.numbered;
       few = c.loop-rule.invariant.few;
-      comes = subst (Comes c.args.client.now c.args.op c.args.resource.now c.args.leaf c.rules-rule-items.result.now (c.loop-rule.rule-index + 1)) (sym c.in_ok-push-in-Some.ensures.items) come;
+      comes = subst (Comes c.args.client.now c.args.op c.args.resource.now c.args.leaf c.listed-rule-items.result.now (c.loop-rule.rule-index + 1)) (sym c.in_ok-push-in-Some.ensures.items) come;
     }
 
 pub returns : goal.returns
 returns c =
-    let rules = c.rules-rule-items.result.now in
+    let rules = c.listed-rule-items.result.now in
     let client = c.args.client.now in
     let resource = c.args.resource.now in
     sym (ends client c.args.op resource c.args.leaf rules c.loop-rule.rule-index c.loop-rule.misfits.items (omega arith) c.loop-rule.invariant.comes)
     ∙ told_policy rules client c.args.op resource c.args.leaf
-    ∙ ap (λ (rs : List Rule). explained rs client c.args.op resource c.args.leaf) c.rules-rule-items.ensures.rules
+    ∙ ap (λ (rs : List Rule). explained rs client c.args.op resource c.args.leaf) c.listed-rule-items.ensures.rules

@@ -1,22 +1,25 @@
-use Rattle.std.proofs.Common.{refl}
+use Rattle.std.proofs.Common.{refl, subst}
 use Rattle.std.specs.Prelude.{◌||◌}
+use Rattle.scim_wire.specs.declared.replies.ReplyForm.{ReplyForm}
+use Rattle.scim_wire.specs.Replies.{form_of}
 use Rattle.scim_exchange.specs.Replies.{answer_text}
 use Rattle.scim_hub.specs.Answering.{closes_by_itself}
+use Rattle.scim_hub.specs.code.Replies.{Says}
 use Rattle.scim_hub.proofs.ExchangeLemmas.{exchanged_weaker}
 use Rattle.scim_hub.proofs.answering.answer_message.Goals as goal
 
 pub returns-clause-answered : goal.returns-clause-answered
 returns-clause-answered g c store stands honest is =
     let answer = c.answer-answer.result in
-    let close = c.args.message.now.close in
+    let message = c.args.message.now in
     let done = c.answer-answer.ensures.exchanged store stands honest is in (
       done.0,
       done.1,
       done.2,
       (
-        answer_text answer close,
-        close || closes_by_itself answer,
+        answer_text answer (form_of message),
+        message.close || closes_by_itself answer,
         record { answer = answer; exchanged = exchanged_weaker _ _ _ _ _ _ _ _ done.3; text_is = refl; closing_is = refl },
-        c.reply_with.ensures,
+        subst (λ (form : ReplyForm). Says c.reply_with.result (answer_text answer form) (form.closes || closes_by_itself answer)) c.of.ensures c.reply_with.ensures,
       ),
     )

@@ -1,7 +1,7 @@
 use Rattle.std.proofs.Common.{◌∙◌, sym, subst, inr, ℕ, List, map}
 use Rattle.scim_policy.specs.Rules.{Rule}
 use Rattle.scim_token.specs.Tokens.{Knows}
-use Rattle.scim_token.specs.declared.tokens.Tokens.{Tokens}
+use Rattle.scim_token.specs.declared.token_table.Tokens.{Tokens}
 use Rattle.scim_hub.specs.HubStates.{output_of, done}
 use Rattle.scim_hub.specs.Streams.{IsStreamServed}
 use Rattle.scim_hub.proofs.streams.serve_stream.Goals as goal

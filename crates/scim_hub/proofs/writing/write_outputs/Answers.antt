@@ -18,7 +18,9 @@ returns-in_err-write_output g c =
     let p = err_from_is_err_and c.from_residual.result c.from_residual.ensures.1 in
     let old = g.W.Write.contents c.args.writer.now in
     let new = g.W.Write.contents c.write_output.new.writer in
-    rw p.1
-    (subst (AppendsFront old new) (sym (texts_around outputs i output more))
-    (front_longer old new _ (flat_map text_in (map output_of (drop (i + 1) outputs)))
-    (front_after old (g.W.Write.contents c.loop-output.writer) new (flat_map text_in (map output_of (take i outputs))) (text_in (output_of output)) c.loop-output.invariant c.in_err-write_output.ensures)))
+    rw p.1 (
+      p.2 ∙ c.in_err-write_output.ensures.0,
+      subst (AppendsFront old new) (sym (texts_around outputs i output more))
+          (front_longer old new _ (flat_map text_in (map output_of (drop (i + 1) outputs)))
+          (front_after old (g.W.Write.contents c.loop-output.writer) new (flat_map text_in (map output_of (take i outputs))) (text_in (output_of output)) c.loop-output.invariant c.in_err-write_output.ensures.1)),
+    )

@@ -1,7 +1,7 @@
 use Rattle.std.proofs.Common.{◌≡◌, ◌≤◌, length, List, ℕ, Option, None, Result, Ok, Err, sym, subst, ◌∙◌}
 use Rattle.std.specs.Prelude.{MatchOption}
 use Rattle.scim_schema.specs.declared.Kind.{Kind}
-use Rattle.scim_schema.specs.declared.schemas.Schema.{Schema}
+use Rattle.scim_schema.specs.declared.schema_urns.Schema.{Schema}
 use Rattle.scim_schema.specs.declared.limits.TheConstants.{LONGEST_FILTER}
 use Rattle.scim_filter_grammar.specs.declared.written_paths.WrittenPath.{WrittenPath}
 use Rattle.scim_filter_grammar.specs.WrittenPaths.{Written, IsWritten, written_of}

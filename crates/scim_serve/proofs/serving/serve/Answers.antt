@@ -2,7 +2,7 @@ use Rattle.std.proofs.Common.{rules, ◌≡◌, ◌∙◌, refl, sym, ap, subst,
 use Rattle.std.specs.Prelude.{Option, Some, Ok}
 use Rattle.scim_policy.specs.Rules.{Rule}
 use Rattle.scim_token.specs.Tokens.{Knows}
-use Rattle.scim_token.specs.declared.tokens.Tokens.{Tokens}
+use Rattle.scim_token.specs.declared.token_table.Tokens.{Tokens}
 use Rattle.scim_hub.specs.declared.hubs.Hub.{Hub}
 use Rattle.scim_hub.specs.Events.{HubEvent, Hears, Runs}
 use Rattle.scim_hub.specs.HubStates.{owned_event_of}

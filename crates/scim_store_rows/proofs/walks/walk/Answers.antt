@@ -2,11 +2,15 @@ use Rattle.std.proofs.Common.{rules, ◌≡◌, ◌++◌, ◌∷◌, [], None, S
 use Rattle.sqlite.specs.State.{HasCleanDisk}
 use Rattle.sqlite.specs.Held.{state}
 use Rattle.sqlite.specs.Given.{row_if, IsRefused}
-use Rattle.sqlite.proofs.Callers.{unchanged_then}
+use Rattle.sqlite.proofs.Callers.{unchanged_then, given_begin}
+use Rattle.scim_cell.specs.Kinds.{of_kind}
 use Rattle.scim_store_tables.proofs.Facts.{resources_text}
 use Rattle.scim_store_tables.proofs.Facts.{failed_rests, unchanged_rests}
+use Rattle.scim_shelf.specs.Stores.{Store}
+use Rattle.scim_shelf.specs.Shelves.{TookPrefix}
+use Rattle.scim_store_rows.specs.Finding.{StandsIn}
 use Rattle.scim_store_rows.proofs.FindLemmas.{rests_then}
-use Rattle.scim_store_rows.proofs.WalkLemmas.{took_none, took_more, took_all, begun_here, stands_tables}
+use Rattle.scim_store_rows.proofs.WalkLemmas.{took_none, took_more, took_all, took_prefix, took_nothing, any_err, same_err, begun_here, stands_tables}
 use Rattle.scim_store_rows.proofs.walks.walk.Goals as goal
 
 pub rows-init : goal.rows-init
@@ -34,7 +38,7 @@ rows-preserved g c =
             let it = inv.given.1 store stands (omega (arith, clean, c.in_ok-advance.ensures.survives.clean)) in
             let next = (rw some at (c.in_ok-advance.ensures.ok clean)) resources_text [] inv.given.0 it.0 in
             (next, unchanged_then (state g.S.Store c.args.conn.now) (state g.S.Store c.rows.rows.conn.now) (state g.S.Store c.advance.new.self.conn.now) it.1 (c.in_ok-advance.ensures.same clean))),
-        took_more g.V.Visitor.takes c.args.base.now c.args.kind c.args.visitor.now c.rows.visitor c.show_row.new.visitor inv.given.0 row inv.given.2 c.in_ok-show_row.ensures,
+        took_more g.V.Visitor.takes c.args.base.now c.args.kind c.args.visitor.now c.rows.visitor c.show_row.new.visitor inv.given.0 row inv.given.2 c.in_ok-show_row.ensures.shown,
       );
     }
 
@@ -96,3 +100,31 @@ returns-in_err-rows-clause-rests g c clean store stands =
     let last = c.query.follows.lender-at-none in
     let refused : IsRefused g.S.Store resources_text [] first c.query.result last = search rules in
     failed_rests resources_text [] (state g.S.Store first) (state g.S.Store last) c.in_err-rows.field-0.0 (rw c.in_err-rows.was at (refused.err clean))
+
+pub returns-in_err-rows-clause-prefix : goal.returns-in_err-rows-clause-prefix
+returns-in_err-rows-clause-prefix g c = λ clean.
+    (let none : (store : Store) → StandsIn c.args.base.now (state g.S.Store c.args.conn.now) store → TookPrefix g.V.Visitor.takes c.args.visitor.now (of_kind c.args.kind store.resources) c.args.visitor.now =
+    λ store stands. took_nothing g.V.Visitor.takes (of_kind c.args.kind store.resources) c.args.visitor.now in
+    any_err _ _ _ none)
+
+pub returns-in_err-advance-clause-prefix : goal.returns-in_err-advance-clause-prefix
+returns-in_err-advance-clause-prefix g c clean =
+    let first = state g.S.Store c.args.conn.now in
+    let mid = state g.S.Store c.rows.rows.conn.now in
+    let new = state g.S.Store c.advance.new.self.conn.now in
+    let late : HasCleanDisk new = search rules in
+    let some : (store : Store) → StandsIn c.args.base.now first store → TookPrefix g.V.Visitor.takes c.args.visitor.now (of_kind c.args.kind store.resources) c.rows.visitor = λ store stands.
+    (let it = c.rows.invariant.given.1 store stands (omega (arith, late, c.advance.ensures.survives.clean)) in
+    took_prefix g.V.Visitor.takes c.args.base.now c.args.kind first mid c.rows.invariant.given.0 c.args.visitor.now c.rows.visitor store stands it.1 (given_begin g.S.Store resources_text [] c.rows.rows.conn.now c.rows.invariant.given.0 it.0) c.rows.invariant.given.2) in
+    any_err _ _ _ some
+
+pub returns-in_err-show_row-clause-prefix : goal.returns-in_err-show_row-clause-prefix
+returns-in_err-show_row-clause-prefix g c clean =
+    let first = state g.S.Store c.args.conn.now in
+    let mid = state g.S.Store c.rows.rows.conn.now in
+    let new = state g.S.Store c.advance.new.self.conn.now in
+    let late : HasCleanDisk new = search rules in
+    same_err _ c.in_err-show_row.field-0.0 _ c.from_residual-in_err-show_row.ensures.1 (λ other store stands.
+    (let it = c.rows.invariant.given.1 store stands (omega (arith, late, c.advance.ensures.survives.clean)) in
+    let same : c.show_row.new.visitor ≡ c.rows.visitor = c.in_err-show_row.ensures.untaken other in
+    rw same (took_prefix g.V.Visitor.takes c.args.base.now c.args.kind first mid c.rows.invariant.given.0 c.args.visitor.now c.rows.visitor store stands it.1 (given_begin g.S.Store resources_text [] c.rows.rows.conn.now c.rows.invariant.given.0 it.0) c.rows.invariant.given.2)))

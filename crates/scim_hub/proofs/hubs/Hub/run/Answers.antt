@@ -3,7 +3,7 @@ use Rattle.std.specs.Prelude.{Result}
 use Rattle.std.proofs.lemmas.List.{take_more, map-append}
 use Rattle.scim_policy.specs.Rules.{Rule}
 use Rattle.scim_token.specs.Tokens.{Knows}
-use Rattle.scim_token.specs.declared.tokens.Tokens.{Tokens}
+use Rattle.scim_token.specs.declared.token_table.Tokens.{Tokens}
 use Rattle.scim_hub.specs.declared.events.Event.{Event}
 use Rattle.scim_hub.specs.declared.events.HubFault.{HubFault}
 use Rattle.scim_hub.specs.Events.{HubEvent, HubOutput, Hears, Runs}

@@ -8,5 +8,5 @@ use Rattle.scim_policy.proofs.rules.Policy.decisions.Goals as goal
 
 pub returns : goal.returns
 returns c l =
-    all_decide c.add_rules.new.self c.args.client.now c.args.op c.args.resource.now c.rules.result.now (λ (m : Leaf). decided c.none-decisions.result m) c.none-decisions.ensures c.in_ok-add_rules.ensures l
-    ∙ ap (λ (rs : List Rule). decide rs c.args.client.now c.args.op c.args.resource.now l) c.rules.ensures.rules
+    all_decide c.add_rules.new.self c.args.client.now c.args.op c.args.resource.now c.listed.result.now (λ (m : Leaf). decided c.none-decisions.result m) c.none-decisions.ensures c.in_ok-add_rules.ensures l
+    ∙ ap (λ (rs : List Rule). decide rs c.args.client.now c.args.op c.args.resource.now l) c.listed.ensures.rules

@@ -12,7 +12,7 @@ pub returns : goal.returns
 returns c =
     let client = c.args.client.now in
     let resource = c.args.resource.now in
-    let rules = c.rules.result.now in
+    let rules = c.listed.result.now in
     let before = c.none-rights.result in
     let after = c.add_rules.new.self in
     let added = c.in_ok-add_rules.ensures in
@@ -20,4 +20,4 @@ returns c =
     (all_decide after.read client Read resource rules (λ (l : Leaf). decided before.read l) c.none-rights.ensures.read added.read)
     (all_decide after.modify client Modify resource rules (λ (l : Leaf). decided before.modify l) c.none-rights.ensures.modify added.modify)
     (all_decide after.delete client Delete resource rules (λ (l : Leaf). decided before.delete l) c.none-rights.ensures.delete added.delete)
-    ∙ ap (λ (rs : List Rule). access rs client resource) c.rules.ensures.rules
+    ∙ ap (λ (rs : List Rule). access rs client resource) c.listed.ensures.rules

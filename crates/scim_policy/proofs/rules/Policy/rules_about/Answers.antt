@@ -13,6 +13,6 @@ returns c =
     let client = c.args.client.now in
     let picked : RulesAbout = record { rules = c.loop-rule.rules } in
     record {
-      decide = subst (λ (rs : List Rule). (r : Content) → r.kind ≡ c.args.kind → (l : Leaf) → decided_by picked r l ≡ decide rs client c.args.op r l) c.rules-rule-items.ensures.rules
-          (picked_decide client c.args.op c.args.kind c.rules-rule-items.result.now c.loop-rule.rule-index picked c.loop-rule-test.false c.loop-rule.invariant.picked);
+      decide = subst (λ (rs : List Rule). (r : Content) → r.kind ≡ c.args.kind → (l : Leaf) → decided_by picked r l ≡ decide rs client c.args.op r l) c.listed-rule-items.ensures.rules
+          (picked_decide client c.args.op c.args.kind c.listed-rule-items.result.now c.loop-rule.rule-index picked c.loop-rule-test.false c.loop-rule.invariant.picked);
     }

@@ -1,0 +1,19 @@
+use Rattle.std.proofs.Common.{subst}
+use Rattle.std.proofs.lemmas.Result.{IfOk-weaker}
+use Rattle.scim_store.specs.Damage.{Judges}
+use Rattle.scim_store.specs.Opening.{IsByAudit, resource_tables}
+use Rattle.scim_store.proofs.OpenLemmas.{ordered_read, by_audit, damaged_read, foreign_read}
+use Rattle.scim_store.proofs.examining.examine_rows.Goals as goal
+
+pub returns-in-Sound : goal.returns-in-Sound
+returns-in-Sound c =
+    IfOk-weaker c.examine_audit.result _ _ (λ it by db held read.
+    by_audit c.args.base.now db c.args.rows it held read (subst (Judges c.args.base.now (resource_tables c.args.rows)) c.in-Sound.is (c.in_ok-judge_resources.ensures (ordered_read db c.args.rows read))) (subst (λ rows. IsByAudit rows it) c.as_slice.ensures.value by)) c.examine_audit.ensures
+
+pub returns-in-Damaged : goal.returns-in-Damaged
+returns-in-Damaged c = λ db held read.
+    damaged_read c.args.base.now db c.args.rows c.in-Damaged.id read (subst (Judges c.args.base.now (resource_tables c.args.rows)) c.in-Damaged.is (c.in_ok-judge_resources.ensures (ordered_read db c.args.rows read)))
+
+pub returns : goal.returns
+returns c = λ db held read.
+    foreign_read c.args.base.now db c.args.rows held read (subst (Judges c.args.base.now (resource_tables c.args.rows)) c.in-Foreign.is (c.in_ok-judge_resources.ensures (ordered_read db c.args.rows read)))

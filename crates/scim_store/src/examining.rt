@@ -1,0 +1,122 @@
+//! The examination of a database before it is opened as a store.
+
+ghost use Rattle.std.specs.Prelude.{◌≡◌, ◌≤◌, false, IfOk, OnErr};
+ghost use Rattle.sqlite.specs.Effect.{Database};
+ghost use Rattle.sqlite.specs.State.{HasCleanDisk, Survives};
+ghost use Rattle.sqlite.specs.View.{doubt};
+ghost use Rattle.sqlite.specs.Held.{state};
+ghost use Rattle.scim_store_tables.specs.Lists.{Are};
+ghost use Rattle.scim_store_tables.specs.Reading.{Rests, shown};
+ghost use Rattle.scim_store_tables.specs.Whole.{AreRowsOf};
+ghost use Rattle.scim_store.specs.Damage.{AreOrdered, Judges};
+ghost use Rattle.scim_store.specs.Opening as spec;
+
+use crate::damage::{Judged, ResourceRows, judge};
+use scim_cell::Id;
+use scim_store_rows::are_audit_rows;
+use scim_store_tables::{DatabaseKind, TableRows, read_tables};
+use scim_text::{Failed, NoMemory};
+use sqlite::{Alter, Connection, Error, ErrorCode, Row};
+use std::alloc::Global;
+
+/// The result of examining a database as a store of resources with locations below a base URI.
+#[derive(Clone, Copy, PartialEq, Eq)]
+pub(crate) enum Examined {
+    /// It has no table, index or view.
+    Empty,
+    /// Its tables hold a valid store, whose audit has this many rows.
+    Stands(u64),
+    /// Its tables are of another version.
+    WrongVersion,
+    /// Its tables don't hold a valid store: this is the least id whose rows are neither empty nor those of
+    /// one resource.
+    Damaged(Id),
+    /// Its tables don't hold a valid store, although the rows of each id are valid; or it belongs to another
+    /// program.
+    Foreign,
+}
+
+/// Returns the number of audit rows; None unless all of them are valid and numbered from 1.
+fn count_audit(alloc: Global, rows: &[Row]) -> Result<Option<u64>, NoMemory>
+    ensures { IfOk result (spec.CountsAudit rows.now) }
+{
+    match are_audit_rows(alloc, 1, rows)? {
+        Some(audit) => Ok(Some(audit.len() as u64)),
+        None => Ok(None),
+    }
+}
+
+/// Examines the audit rows, if the rows of resources are valid. Fails only if memory runs out.
+fn examine_audit(alloc: Global, rows: &[Row]) -> Result<Examined, Error>
+    ensures { IfOk result (spec.IsByAudit rows.now) }
+{
+    match count_audit(alloc, rows) {
+        Ok(Some(count)) => Ok(Examined::Stands(count)),
+        Ok(None) => Ok(Examined::Foreign),
+        Err(NoMemory) => Err(Error::SqliteFailure(ErrorCode::OutOfMemory)),
+    }
+}
+
+/// Examines the rows of resources. Fails if memory runs out, and with DatabaseCorrupt if a document isn't
+/// UTF-8.
+fn judge_resources(alloc: Global, base: &str, tables: &ResourceRows) -> Result<Judged, Error>
+    ensures { AreOrdered tables.now → IfOk result (Judges base.now tables.now) }
+{
+    match judge(alloc, base, tables) {
+        Ok(judged) => Ok(judged),
+        Err(Failed::Because(_)) => Err(Error::SqliteFailure(ErrorCode::DatabaseCorrupt)),
+        Err(Failed::NoMemory) => Err(Error::SqliteFailure(ErrorCode::OutOfMemory)),
+    }
+}
+
+/// Examines all rows of the tables. Fails if memory runs out, and with DatabaseCorrupt if a document isn't
+/// UTF-8.
+fn examine_rows(alloc: Global, base: &str, rows: TableRows) -> Result<Examined, Error>
+    ensures { IfOk result (λ it. (db : Database) → Are db (shown db) → AreRowsOf (shown db) rows
+        → spec.IsFor base.now db it) }
+{
+    let TableRows {
+        resources,
+        names,
+        members,
+        audit,
+    } = rows;
+    let tables = ResourceRows {
+        resources,
+        names,
+        members,
+    };
+    match judge_resources(alloc, base, &tables)? {
+        Judged::Sound => examine_audit(alloc, audit.as_slice()),
+        Judged::Damaged(id) => Ok(Examined::Damaged(id)),
+        Judged::Foreign => Ok(Examined::Foreign),
+    }
+}
+
+/// Examines a database as a store of resources with locations below the base URI. Reads all rows, in time
+/// nearly linear in their number.
+///
+/// Fails with the database's error, if memory runs out, or with DatabaseCorrupt if the document of a resource
+/// isn't UTF-8 or a key isn't a number. The connection is then closed, or as before, or as the last commit
+/// left it.
+pub(crate) fn examine<S: Alter>(
+    conn: &mut Connection<S>,
+    alloc: Global,
+    base: &str,
+) -> Result<Examined, Error>
+    ensures mode { conn.old.in_transaction ≡ false → conn.new.in_transaction ≡ false }
+    ensures clean { doubt (state S.Store conn.old).is_clean
+        ≤ doubt (state S.Store conn.new).is_clean }
+    ensures survives { Survives (state S.Store conn.old) (state S.Store conn.new) (λ _. ⊥) }
+    ensures examined { HasCleanDisk (state S.Store conn.new)
+        → IfOk result (spec.Examines base.now (state S.Store conn.old) (state S.Store conn.new)) }
+    ensures rests { HasCleanDisk (state S.Store conn.new)
+        → OnErr result (Rests (state S.Store conn.old) (state S.Store conn.new)) }
+{
+    match read_tables(conn)? {
+        DatabaseKind::Empty => Ok(Examined::Empty),
+        DatabaseKind::WrongVersion => Ok(Examined::WrongVersion),
+        DatabaseKind::Foreign => Ok(Examined::Foreign),
+        DatabaseKind::Tables(rows) => examine_rows(alloc, base, rows),
+    }
+}

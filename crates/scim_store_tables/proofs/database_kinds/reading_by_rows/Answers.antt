@@ -1,0 +1,43 @@
+use Rattle.std.proofs.Common.{rules, ◌≡◌, true, false}
+use Rattle.sqlite.specs.Held.{state}
+use Rattle.scim_store_tables.proofs.ToldLemmas.{told_both, told_failed, told_as}
+use Rattle.scim_store_tables.proofs.WholeLemmas.{shown_are}
+use Rattle.scim_store_tables.proofs.database_kinds.reading_by_rows.Goals as goal
+
+pub returns-in_err-are_all_keyed : goal.returns-in_err-are_all_keyed
+returns-in_err-are_all_keyed g c =
+    let old = state g.S.Store c.args.conn.now in
+    let a = state g.S.Store c.has_version.new.conn in
+    let b = state g.S.Store c.are_all_keyed.new.conn in
+    told_failed _ _ old b c.in_err-are_all_keyed.field-0.0 c.from_residual-in_err-are_all_keyed.result c.from_residual-in_err-are_all_keyed.ensures.0
+    (told_both _ _ old a b _ _ c.in_ok-has_version.ensures c.in_err-are_all_keyed.ensures)
+
+pub returns-then-not-branch-2 : goal.returns-then-not-branch-2
+returns-then-not-branch-2 g c =
+    let old = state g.S.Store c.args.conn.now in
+    let a = state g.S.Store c.has_version.new.conn in
+    let b = state g.S.Store c.are_all_keyed.new.conn in
+    let version : c.in_ok-has_version.field-0 ≡ true = search rules in
+    let fails : c.in_ok-are_all_keyed.field-0 ≡ false = search rules in
+    told_as _ _ old b c.in_ok-are_all_keyed.field-0 _ (told_both _ _ old a b _ _ c.in_ok-has_version.ensures c.in_ok-are_all_keyed.ensures) (λ schema all. (all.0.yes version, all.1.no fails))
+
+pub returns-in_err-rows : goal.returns-in_err-rows
+returns-in_err-rows g c =
+    let old = state g.S.Store c.args.conn.now in
+    let a = state g.S.Store c.has_version.new.conn in
+    let b = state g.S.Store c.are_all_keyed.new.conn in
+    let new = state g.S.Store c.read_all_rows.new.conn in
+    told_failed _ _ old new c.in_err-rows.field-0.0 c.from_residual-in_err-rows.result c.from_residual-in_err-rows.ensures.0
+    (told_both _ _ old a new _ _ c.in_ok-has_version.ensures (told_both _ _ a b new _ _ c.in_ok-are_all_keyed.ensures c.in_err-rows.ensures))
+
+pub returns : goal.returns
+returns g c =
+    let old = state g.S.Store c.args.conn.now in
+    let a = state g.S.Store c.has_version.new.conn in
+    let b = state g.S.Store c.are_all_keyed.new.conn in
+    let new = state g.S.Store c.read_all_rows.new.conn in
+    let version : c.in_ok-has_version.field-0 ≡ true = search rules in
+    let keyed : c.in_ok-are_all_keyed.field-0 ≡ true = search rules in
+    told_as _ _ old new c.in_ok-rows.rows _
+    (told_both _ _ old a new _ _ c.in_ok-has_version.ensures (told_both _ _ a b new _ _ c.in_ok-are_all_keyed.ensures c.in_ok-rows.ensures))
+    (λ schema all. (shown_are old.now schema (all.0.yes version) (all.1.0.yes keyed), all.1.1))

@@ -1,0 +1,261 @@
+//! Classifies a database by its schema and its rows, and reads the rows of one with the tables of version 1.
+
+ghost use Rattle.std.specs.Prelude.{◌≡◌, ◌≢◌, ◌≤◌, ◌∷◌, [], false, true, pos, IfOk, OnErr, IsTrue};
+ghost use Rattle.sqlite_value.specs.Value.{owned};
+ghost use Rattle.sqlite.specs.declared.types.Value.TheVariants.{Int, Text};
+ghost use Rattle.sqlite.specs.State.{HasCleanDisk, Survives};
+ghost use Rattle.sqlite.specs.View.{doubt};
+ghost use Rattle.sqlite.specs.Held.{state};
+ghost use Rattle.scim_store_tables.specs.Lists.{version_values};
+ghost use Rattle.scim_store_tables.specs.Tables.{no_schema};
+ghost use Rattle.scim_store_tables.specs.Whole as spec;
+ghost use Rattle.scim_store_tables.specs.Reading.{Rests, shown};
+ghost use Rattle.scim_store_tables.specs.code.Told.{OnlyAsks, Decides, DecidesKeyed};
+ghost use Rattle.scim_store_tables.specs.Whole.{HasVersion, AreAllKeyed, AreRowsOf, IsByNames, IsByRows, IsReading};
+
+use crate::asking::{read_keys, read_rows};
+use crate::keys::do_keys_rise;
+use crate::queries::Table;
+use crate::schema::is_store_schema;
+use sqlite::types::ValueRef;
+use sqlite::{Alter, Connection, Error, Row};
+use sqlite_schema::names::same_name;
+use sqlite_schema::schema::Schema;
+
+/// All rows of the tables, each list in its own order. The columns aren't checked.
+#[derive(Drop)]
+pub struct TableRows {
+    /// Columns id, kind and document of each resource, sorted by id.
+    pub resources: Vec<Row>,
+    /// Columns owner, attribute and folded text of each unique name, sorted by these.
+    pub names: Vec<Row>,
+    /// Columns group and value of each member, sorted by these.
+    pub members: Vec<Row>,
+    /// All columns of the audit rows, sorted by number.
+    pub audit: Vec<Row>,
+}
+
+/// The classification of a database.
+#[derive(Drop)]
+pub enum DatabaseKind {
+    /// It has no table, index or view.
+    Empty,
+    /// It has some of our tables, but not those of version 1.
+    WrongVersion,
+    /// It belongs to another program, or is damaged.
+    Foreign,
+    /// It has the tables of version 1, with these rows.
+    Tables(TableRows),
+}
+
+/// Whether a schema has a table of this name, ignoring the case of ASCII letters.
+fn has_table(schema: &Schema, name: &str) -> bool
+    ensures { result ≡ spec.has_table schema.now name.now }
+{
+    schema
+        .tables
+        .as_slice()
+        .iter()
+        .any(|table| same_name(table.name.as_slice(), name.as_bytes()))
+}
+
+/// Whether a schema has all four of our tables beside `setting`.
+fn has_others(schema: &Schema) -> bool
+    ensures { result ≡ spec.has_others schema.now }
+{
+    has_table(schema, "resource")
+        && has_table(schema, "taken")
+        && has_table(schema, "member")
+        && has_table(schema, "audit")
+}
+
+/// Whether a schema has at least one of our four tables beside `setting`.
+fn has_another(schema: &Schema) -> bool
+    ensures { result ≡ spec.has_another schema.now }
+{
+    has_table(schema, "resource")
+        || has_table(schema, "taken")
+        || has_table(schema, "member")
+        || has_table(schema, "audit")
+}
+
+/// Whether a schema other than that of version 1 counts as one of another version: it has all five names, or
+/// no `setting` but one of the other four. A table whose SQL the reader doesn't understand isn't counted.
+fn is_of_other_version(schema: &Schema) -> bool
+    ensures { result ≡ spec.is_of_other_version schema.now }
+{
+    if has_table(schema, "setting") {
+        has_others(schema)
+    } else {
+        has_another(schema)
+    }
+}
+
+/// Whether a schema has no table, index or view.
+fn is_no_schema(schema: &Schema) -> bool
+    ensures yes { IsTrue result → schema.now ≡ no_schema }
+    ensures no { result ≡ false → schema.now ≢ no_schema }
+{
+    schema.tables.is_empty() && schema.indexes.is_empty() && schema.views.is_empty()
+}
+
+/// Classifies a database by the names of its tables, if its schema isn't that of version 1.
+pub(crate) fn reading_by_names(schema: &Schema) -> DatabaseKind
+    ensures { IsByNames schema.now result }
+{
+    if is_no_schema(schema) {
+        DatabaseKind::Empty
+    } else if is_of_other_version(schema) {
+        DatabaseKind::WrongVersion
+    } else {
+        DatabaseKind::Foreign
+    }
+}
+
+/// Whether a database has no table, index or view. Reads no rows.
+pub fn is_empty_database<S: Alter>(conn: &Connection<S>) -> bool
+    ensures yes { IsTrue result → (state S.Store conn.now).now.schema ≡ no_schema }
+    ensures no { result ≡ false → (state S.Store conn.now).now.schema ≢ no_schema }
+{
+    is_no_schema(conn.schema())
+}
+
+/// Whether a value is this text.
+fn is_text(value: ValueRef<'_>, text: &str) -> bool
+    ensures yes { IsTrue result → owned value.entry ≡ Text text.now }
+    ensures no { result ≡ false → owned value.entry ≢ Text text.now }
+{
+    match value {
+        ValueRef::Text(bytes) => bytes == text.as_bytes(),
+        _ => false,
+    }
+}
+
+/// Whether a value is this number.
+fn is_number(value: ValueRef<'_>, number: i64) -> bool
+    ensures yes { IsTrue result → owned value.entry ≡ Int number }
+    ensures no { result ≡ false → owned value.entry ≢ Int number }
+{
+    match value {
+        ValueRef::Int(n) => n == number,
+        _ => false,
+    }
+}
+
+/// Whether a row of `setting` is the one of version 1.
+fn is_version_row(row: &Row) -> Result<bool, Error>
+    ensures yes { IfOk result (λ is. IsTrue is → row.now ≡ version_values) }
+    ensures no { IfOk result (λ is. is ≡ false → row.now ≢ version_values) }
+{
+    if row.column_count() != 2 {
+        return Ok(false);
+    }
+    let name = row.get_ref(0)?;
+    let number = row.get_ref(1)?;
+    Ok(is_text(name, "version") && is_number(number, 1))
+}
+
+/// Whether these rows are exactly the one row of version 1.
+fn is_version(rows: &[Row]) -> Result<bool, Error>
+    ensures yes { IfOk result (λ is. IsTrue is → rows.now ≡ version_values ∷ []) }
+    ensures no { IfOk result (λ is. is ≡ false → rows.now ≢ version_values ∷ []) }
+{
+    match rows {
+        [only] => is_version_row(only),
+        _ => Ok(false),
+    }
+}
+
+/// Whether `setting` names version 1. The schema must be that of the five tables.
+fn has_version<S: Alter>(conn: &mut Connection<S>) -> Result<bool, Error>
+    ensures { OnlyAsks (λ db. Decides (HasVersion db)) (state S.Store conn.old)
+        (state S.Store conn.new) result }
+{
+    let rows = read_rows(conn, Table::Setting)?;
+    is_version(rows.as_slice())
+}
+
+/// Whether each row of a table has a key and no key occurs twice. The schema must be that of the five tables.
+fn are_keyed<S: Alter>(conn: &mut Connection<S>, table: Table) -> Result<bool, Error>
+    ensures { OnlyAsks (DecidesKeyed table) (state S.Store conn.old)
+        (state S.Store conn.new) result }
+{
+    let keys = read_keys(conn, table)?;
+    do_keys_rise(keys.as_slice())
+}
+
+/// Whether `are_keyed` holds for each table but the audit. The schema must be that of the five tables.
+fn are_all_keyed<S: Alter>(conn: &mut Connection<S>) -> Result<bool, Error>
+    ensures { OnlyAsks (λ db. Decides (AreAllKeyed db)) (state S.Store conn.old)
+        (state S.Store conn.new) result }
+{
+    if !are_keyed(conn, Table::Setting)? {
+        return Ok(false);
+    }
+    if !are_keyed(conn, Table::Resource)? {
+        return Ok(false);
+    }
+    if !are_keyed(conn, Table::Taken)? {
+        return Ok(false);
+    }
+    are_keyed(conn, Table::Member)
+}
+
+/// Reads the rows of the tables. The schema must be that of the five tables.
+fn read_all_rows<S: Alter>(conn: &mut Connection<S>) -> Result<TableRows, Error>
+    ensures { OnlyAsks (λ db. AreRowsOf (shown db)) (state S.Store conn.old)
+        (state S.Store conn.new) result }
+{
+    let resources = read_rows(conn, Table::Resource)?;
+    let names = read_rows(conn, Table::Taken)?;
+    let members = read_rows(conn, Table::Member)?;
+    let audit = read_rows(conn, Table::Audit)?;
+    Ok(TableRows {
+        resources,
+        names,
+        members,
+        audit,
+    })
+}
+
+/// Classifies a database by its rows. The schema must be that of the five tables.
+fn reading_by_rows<S: Alter>(conn: &mut Connection<S>) -> Result<DatabaseKind, Error>
+    ensures { OnlyAsks IsByRows (state S.Store conn.old) (state S.Store conn.new) result }
+{
+    if !has_version(conn)? {
+        return Ok(DatabaseKind::WrongVersion);
+    }
+    if !are_all_keyed(conn)? {
+        return Ok(DatabaseKind::Foreign);
+    }
+    let rows = read_all_rows(conn)?;
+    Ok(DatabaseKind::Tables(rows))
+}
+
+/// Reads the rows of a database with the tables of version 1, and classifies any other as empty, of another
+/// version, or foreign.
+///
+/// A database without tables, indexes and views is empty. If its schema isn't that of version 1, it is of
+/// another version if it has tables of all our five names, or no `setting` but one of the other four,
+/// ignoring the case of ASCII letters; otherwise it is foreign. So a table `setting` of another program makes
+/// it foreign, whatever its rows are. If its schema is that of version 1, it is of another version if
+/// `setting` has other rows than the one of version 1, and foreign if a key occurs twice, which no valid file
+/// has.
+///
+/// Fails with the database's error, or if a key isn't a number. The connection is then closed, or as before,
+/// or as the last commit left it. A crash can leave only what it could leave before the call.
+pub fn read_tables<S: Alter>(conn: &mut Connection<S>) -> Result<DatabaseKind, Error>
+    ensures mode { conn.old.in_transaction ≡ false → conn.new.in_transaction ≡ false }
+    ensures clean { doubt (state S.Store conn.old).is_clean
+        ≤ doubt (state S.Store conn.new).is_clean }
+    ensures survives { Survives (state S.Store conn.old) (state S.Store conn.new) (λ _. ⊥) }
+    ensures read { HasCleanDisk (state S.Store conn.new)
+        → IfOk result (IsReading (state S.Store conn.old) (state S.Store conn.new)) }
+    ensures rests { HasCleanDisk (state S.Store conn.new)
+        → OnErr result (Rests (state S.Store conn.old) (state S.Store conn.new)) }
+{
+    if !is_store_schema(conn.schema()) {
+        return Ok(reading_by_names(conn.schema()));
+    }
+    reading_by_rows(conn)
+}
