@@ -117,7 +117,8 @@ fn hub_over(alloc: Global, recording: &Recording<'_>) -> Result<Hub<MemoryShelf>
 fn owned_events_in(alloc: Global, text: &str) -> Result<Vec<OwnedEvent>, RunFault>
     ensures events { IfOk result (λ events.
         IsEventFile text.now (map owned_event_of events.items)) }
-    ensures faulty { (n : ℕ) → result ≡ Err (RunFault.Events n) → IsFaultyAt (file_lines text.now) n }
+    ensures faulty { (n : ℕ) → result ≡ Err (RunFault.Events n)
+        → IsFaultyAt (file_lines text.now) n }
     ensures fault { IfErr result IsOfEvents }
 {
     match read_events(alloc, text) {

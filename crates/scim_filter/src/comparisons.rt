@@ -81,7 +81,8 @@ fn compare_moments(moment: Moment, reading: Reading) -> Ordering
         .then(false.cmp(&reading.later))
 }
 
-/// Whether a moment satisfies the operator with the literal's. False if the literal isn't a moment.
+/// Whether a moment satisfies a comparison with the moment of a literal. False if the literal isn't a
+/// moment.
 fn moments_stand(op: Operator, moment: Moment, reading: Option<Reading>) -> bool
     ensures { result ≡ spec.moment_stands op moment reading }
 {

@@ -109,7 +109,8 @@ fn urn(before: Option<&[u8]>) -> Option<Option<&str>>
     }
 }
 
-/// The text after a dot as a name, if there is a dot. `None` if it isn't a name.
+/// Returns the name after the dot: `Some(None)` if there is no dot, and `None` if what follows the dot isn't
+/// a name.
 #[tactic(auto, unfolding(crate::specs::Reading::sub_of))]
 fn sub_name(behind: &[u8]) -> Option<Option<&str>>
     ensures { ok_or (option_map (λ o. option_map (λ t. t.now) o) result) Syntax

@@ -39,7 +39,7 @@ pub record HubState : Type 0 where
 abbrev pub none_joined : Store → HubState
 none_joined store = record { connections = λ _. absent; store = store }
 
--- the connections with that of one number replaced
+-- the connections, with the one at a number replaced
 abbrev pub set : ℕ → Connection → (ℕ → Connection) → ℕ → Connection
 set n connection connections m = if n == m then connection else connections m
 
@@ -56,7 +56,7 @@ hub_outputs n texts closed = map (writing n) texts ++ (if closed then shutting n
 abbrev pub IsDenied : HubFault → HubState → Result (List HubOutput) HubFault → HubState → Type 0
 IsDenied fault state result next = (result ≡ Err fault) × (next ≡ state)
 
--- the next state has this connection under the number and this store; all other connections are unchanged
+-- the next state has this store, and this connection at the number; the other connections are as before
 abbrev pub Becomes : ℕ → Connection → Store → HubState → HubState → Type 0
 Becomes n connection store state next = next ≡ record { connections = set n connection state.connections; store = store }
 

@@ -148,7 +148,7 @@ and_true : (b : Bool) → b ≡ (b && true)
 and_true true = refl
 and_true false = refl
 
--- what is left of all, where one has none of what the others have
+-- if `all` is `has` or `others`, and `others` is false where `has` is true, `others` is `all` and not `has`
 left_over : (all has others : Bool) → all ≡ (has || others) → (has ≡ true → others ≡ false) → others ≡ (all && not has)
 left_over all true others split none = none refl ∙ sym (ap (λ b. b && false) split)
 left_over all false others split none = and_true others ∙ sym (ap (λ b. b && true) split)

@@ -44,7 +44,7 @@ key_steps kind op key d (Err f) = if names_nothing kind key then Ok [] else Err 
 abbrev pub member_steps : Kind → Operation → List ℕ → Data → Read
 member_steps kind op key d = key_steps kind op key d (target_in kind key)
 
--- the steps at all keys of the value; Value if it isn't an object
+-- the steps at all keys of the value; the error `Value` if the value isn't an object
 abbrev pub object_steps : Kind → Operation → Option Members → Read
 object_steps kind op None = Err Value
 object_steps kind op (Some ms) = each_member (member_steps kind op) ms
@@ -65,12 +65,13 @@ valued_steps kind Add target (Some d) = target_steps kind Add target (present (S
 valued_steps kind Replace target None = Err Value
 valued_steps kind Replace target (Some d) = target_steps kind Replace target (present (Some d))
 
--- the steps of an operation at the target of its path; Path if there is none, whatever the value is
+-- the steps of an operation at the target of its path; the error `Path` if the path has no target, whatever
+-- the value is
 abbrev pub pathed_steps : Kind → Operation → Option Data → Result PathTarget PathFault → Read
 pathed_steps kind op v (Err f) = Err Path
 pathed_steps kind op v (Ok target) = valued_steps kind op target v
 
--- the steps of an operation whose path has this text; Path if it isn't a text
+-- the steps of an operation whose path is this text; the error `Path` if the path isn't a text
 abbrev pub text_steps : Kind → Operation → Option Data → Option (List ℕ) → Read
 text_steps kind op v None = Err Path
 text_steps kind op v (Some text) = pathed_steps kind op v (target_in kind text)
@@ -90,7 +91,7 @@ operation_name Remove = codes "remove"
 abbrev pub operation_named : List ℕ → Option Operation
 operation_named name = find (λ op. is_same_name (operation_name op) name) (Add ∷ Replace ∷ Remove ∷ [])
 
--- the steps of an operation's object with this operation; Syntax if there is none
+-- the steps of an operation's object with this operation; the error `Syntax` if there is none
 abbrev pub named_steps : Kind → Members → Option Operation → Read
 named_steps kind ms None = Err Syntax
 named_steps kind ms (Some op) = path_steps kind op (value_named (codes "value") ms) (given_named (codes "path") ms)
@@ -103,7 +104,7 @@ keys_clash ms = list_any (λ key. is_twice key ms) (codes "op" ∷ codes "path" 
 abbrev pub member_operation : Members → Option Operation
 member_operation ms = option_and_then operation_named (option_and_then as_str (value_named (codes "op") ms))
 
--- the steps of an operation's object; Syntax if it isn't an object or its keys clash
+-- the steps of an operation's object; the error `Syntax` if it isn't an object or its keys clash
 abbrev pub object_operation : Kind → Option Members → Read
 object_operation kind None = Err Syntax
 object_operation kind (Some ms) = if keys_clash ms then Err Syntax else named_steps kind ms (member_operation ms)
@@ -118,12 +119,12 @@ operation_steps kind d = object_operation kind (as_object d)
 abbrev pub if_few : List Data → Read
 if_few ds = if nat_lt MOST_OPERATIONS (length ds) then Err Value else Ok []
 
--- the steps of all operations; Syntax if there are none
+-- the steps of all operations; the error `Syntax` if there are none
 abbrev pub list_steps : Kind → List Data → Read
 list_steps kind [] = Err Syntax
 list_steps kind (d ∷ ds) = joined (if_few (d ∷ ds) ∷ map (operation_steps kind) (d ∷ ds))
 
--- the steps of the operations in a list; Syntax if it isn't a list
+-- the steps of the operations in a list; the error `Syntax` if it isn't a list
 abbrev pub items_steps : Kind → Option Items → Read
 items_steps kind None = Err Syntax
 items_steps kind (Some items) = list_steps kind (items_list items)
@@ -134,7 +135,7 @@ object_message kind None = Err Syntax
 object_message kind (Some ms) =
     if is_twice (codes "Operations") ms then Err Syntax else items_steps kind (option_and_then as_array (value_named (codes "Operations") ms))
 
--- the steps of a message with this JSON value; Syntax if it isn't JSON
+-- the steps of a message with this JSON value; the error `Syntax` if it isn't JSON
 unfoldable pub message_steps : Kind → Option Data → Read
 message_steps kind d = object_message kind (option_and_then as_object d)
 

@@ -245,7 +245,7 @@ attribute_or_none kind op (Some a) d = attribute_steps kind op a (present (Some 
 abbrev pub own_member : Kind → Operation → Schema → List ℕ → Data → Read
 own_member kind op s key d = attribute_or_none kind op (attribute_named_in kind s key) d
 
--- the steps at each key of an extension's object; Value if the value isn't an object
+-- the steps at each key of an extension's object; the error `Value` if the value isn't an object
 abbrev pub extension_object : Kind → Operation → Schema → Option Members → Read
 extension_object kind op s None = Err Value
 extension_object kind op s (Some ms) = each_member (own_member kind op s) ms

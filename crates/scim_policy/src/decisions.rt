@@ -228,8 +228,8 @@ impl Decisions {
         Ok(())
     }
 
-    /// Adds the decision for the leaves of an attribute that have none. The table must have no decision on
-    /// the rest.
+    /// Adds a decision on each leaf of an attribute that has none yet. The table must not have a decision on
+    /// the remaining attributes yet.
     fn add_attribute(
         &mut self,
         alloc: Global,

@@ -108,7 +108,7 @@ fn sorting_atom<'p, T: RowTest>(leaf: Leaf, part: &'p Part, test: &T) -> Option<
 }
 
 /// Returns the sort key of a part by the leaf, with only the fields that the test admits.
-/// None if the part has no such atom.
+/// None if the part has no value there.
 fn key_at<T: RowTest>(
     alloc: Global,
     leaf: Leaf,

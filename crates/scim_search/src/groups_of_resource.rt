@@ -61,7 +61,7 @@ fn gather_groups<S: Shelf>(
     }
 }
 
-/// Lets a visitor without groups gather those that list the resource, whatever its kind.
+/// Gathers the groups that list the resource, a user or a group, in a visitor that has none yet.
 fn gather_listing<S: Shelf>(
     alloc: Global,
     listing: &mut ListingVisitor<'_>,

@@ -27,10 +27,10 @@ abbrev pub leaves_now : ℕ → ℕ → HubEventKind → Bool
 leaves_now m n leaving = n == m
 leaves_now m n _ = false
 
--- whether the event is that the connection with the number m leaves
+-- whether the event says that connection m leaves
 abbrev pub leaves : ℕ → HubEvent → Bool
 leaves m seen = leaves_now m seen.connection seen.kind
 
--- whether any event is that the connection with the number m leaves
+-- whether any event says that connection m leaves
 abbrev pub has_left : ℕ → List HubEvent → Bool
 has_left m events = list_any (leaves m) events

@@ -29,11 +29,11 @@ abbrev pub FitsIn : List ℕ → Turn → Type 0
 FitsIn buffer (Piece count) = count ≤ length buffer
 FitsIn buffer _ = Unit {0}
 
--- the maximum number of connections was accepted
+-- there is a maximum, and at least that many connections were accepted
 abbrev pub AreAccepted : Option ℕ → ℕ → Type 0
 AreAccepted None accepted = ⊥
 AreAccepted (Some most) accepted = most ≤ accepted
 
--- the maximum number of connections was accepted, and none is left
+-- at least the maximum number of connections was accepted, and none is open
 abbrev pub IsOver : Option ℕ → ℕ → ℕ → Type 0
 IsOver most accepted left = AreAccepted most accepted × (left ≡ 0)

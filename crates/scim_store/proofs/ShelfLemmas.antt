@@ -39,7 +39,8 @@ told_ok P Q done (Err e) same made = tt
 
 module _ {T E : Type 0} (base : List ℕ) (change : Change) (row : AuditRow) (Due May : Store → Type 0) (old new : State) (due : (store : Store) → May store → Due store)
     (kept : (store : Store) → May store → HasCleanDisk old → HasStore base old store) where
-  -- what is left of each store to which the change is due is left of each that may be changed
+  -- a commit that leaves the change of each store to which it is due leaves that of each store to which it
+  -- may be made
   pub whole_left : (result : Result T E) → Survives old new (Leaves (Changes base change row Due) old.now)
       → (HasCleanDisk new → OnOk result ((store : Store) → HasStore base old store → Due store → (trees : Trees) → new.may_leave trees → AreOf base (after change row store) trees)) → CommitsWhole base change row May old new result
   whole_left result crash durable = record {

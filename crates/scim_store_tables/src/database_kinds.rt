@@ -69,7 +69,7 @@ fn has_others(schema: &Schema) -> bool
         && has_table(schema, "audit")
 }
 
-/// Whether a schema has at least one of our four tables beside `setting`.
+/// Whether a schema has at least one of our tables other than `setting`.
 fn has_another(schema: &Schema) -> bool
     ensures { result ≡ spec.has_another schema.now }
 {

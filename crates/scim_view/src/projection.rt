@@ -17,7 +17,7 @@ use std::alloc::Global;
 pub enum Wanted {
     /// The attributes that are returned by default.
     Default,
-    /// Of the attributes returned by default or on request, the named ones.
+    /// The named attributes, where they are returned by default or on request.
     /// This is the parameter `attributes` (RFC 7644 section 3.9).
     Only(Names),
     /// The attributes returned by default, except the named ones.
