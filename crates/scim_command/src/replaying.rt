@@ -2,10 +2,11 @@
 use crate::command_faults::CommandFault;
 use crate::files::{FileKind, read_file};
 use crate::replay_options::ReplayOptions;
-use crate::replays::{Recording, replay};
+use crate::replays::{Recording, first_fault, replay};
 use crate::token_files::read_tokens;
 use clap::ArgMatches;
 use scim_token::Tokens;
+use std::alloc::Global;
 use std::io::Write;
 use std::rt::Files;
 
@@ -19,25 +20,63 @@ struct Texts {
 }
 
 impl Texts {
-    /// Reads the files that the options name. Returns the fault of the first file that can't be read or isn't
-    /// UTF-8.
+    /// Reads the files that the options name, one after another. Returns the fault of the first file that
+    /// can't be read, isn't UTF-8 or is invalid; the events aren't checked.
     fn read(
         rt: &(impl Files + AllocGlobal),
         options: &ReplayOptions<'_>,
     ) -> Result<Texts, CommandFault> {
-        Ok(Texts {
+        let mut texts = Texts {
             policy: read_file(rt, FileKind::Policy, options.policy)?,
-            tokens: read_file(rt, FileKind::Tokens, options.tokens)?,
-            users: read_file(rt, FileKind::Users, options.users)?,
-            events: read_file(rt, FileKind::Events, options.events)?,
-        })
+            tokens: String::new(rt.alloc()),
+            users: String::new(rt.alloc()),
+            events: String::new(rt.alloc()),
+        };
+        texts.tokens = match read_file(rt, FileKind::Tokens, options.tokens) {
+            Ok(tokens) => tokens,
+            Err(fault) => return Err(texts.first_fault(rt.alloc(), options.base, "[]", fault)),
+        };
+        texts.users = match read_file(rt, FileKind::Users, options.users) {
+            Ok(users) => users,
+            Err(fault) => return Err(texts.first_fault(rt.alloc(), options.base, "[]", fault)),
+        };
+        texts.events = match read_file(rt, FileKind::Events, options.events) {
+            Ok(events) => events,
+            Err(fault) => {
+                let users = texts.users.as_str();
+                return Err(texts.first_fault(rt.alloc(), options.base, users, fault));
+            }
+        };
+        Ok(texts)
+    }
+
+    /// Returns the fault of the first invalid file among the policy, the tokens and these users, or `fault`
+    /// if they are valid.
+    fn first_fault(
+        &self,
+        alloc: Global,
+        base: &str,
+        users: &str,
+        fault: CommandFault,
+    ) -> CommandFault {
+        let recording = Recording {
+            policy: self.policy.as_str(),
+            tokens: self.tokens.as_str(),
+            users,
+            events: "",
+            base,
+        };
+        match first_fault(alloc, &recording) {
+            Some(earlier) => CommandFault::Run(earlier),
+            None => fault,
+        }
     }
 }
 
 /// Runs `replay`: answers the events of a file, and writes the outputs for each.
 ///
-/// Errors: those of the options, then of the first file that can't be read or isn't UTF-8, then of
-/// [`replay`].
+/// Errors: those of the options, then of the first file that can't be read, isn't UTF-8 or is invalid, then
+/// the others of [`replay`].
 pub fn replay_over_files<W: Write>(
     rt: &(impl Files + AllocGlobal),
     matches: &ArgMatches<'_>,

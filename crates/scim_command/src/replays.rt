@@ -75,6 +75,12 @@ pub fn replay<W: Write>(
     write_or_fault(text.as_str(), writer)
 }
 
+/// Returns the fault of the first invalid file among the policy, the tokens and the users; `None` if they
+/// are valid.
+pub(crate) fn first_fault(alloc: Global, recording: &Recording<'_>) -> Option<RunFault> {
+    hub_over(alloc, recording).err()
+}
+
 /// Returns the lines for the events. Errors: those of [`replay`], except Output.
 fn replayed(alloc: Global, recording: &Recording<'_>) -> Result<String, RunFault>
     ensures told { IfOk result (λ text. Replays recording.now (string_bytes text)) }
