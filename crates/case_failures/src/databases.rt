@@ -1,7 +1,7 @@
-//! Work on a database, and the contents of a database as text.
+//! Does work on a database, and returns the contents of a database as text.
 //!
-//! The functions are generic in the storage of the database: a function that holds a connection to a concrete
-//! storage takes long to prove.
+//! The functions are generic in the storage of the database, because a function that has a connection to a
+//! concrete storage takes long to prove.
 ghost use Rattle.std.specs.Prelude.{◌≡◌, false};
 
 use crate::request_parts::{RequestParts, are_answered};
@@ -23,15 +23,16 @@ use std::alloc::Global;
 /// Work on a database.
 #[derive(Clone, Copy)]
 pub(crate) enum Work<'a> {
-    /// Answers these requests by a store. The result is an empty text, or None if a reply is 500.
+    /// Answers these requests over the store. The result is an empty text, or `None` if a reply has the
+    /// status 500.
     Answer(&'a [RequestParts]),
     /// Returns the contents of the database: the resources and the audit rows of the store, or an empty text
-    /// if it has no tables.
+    /// if the database has no tables.
     Look,
 }
 
-/// Opens the store in a database, does the work and returns its result and the connection. None if the store
-/// can't be opened or the work fails.
+/// Opens the store in a database and does the work. Returns the result of the work and the connection. The
+/// result is `None` if the store can't be opened or the work fails.
 pub(crate) fn work_over<S: Alter>(
     alloc: Global,
     connection: Connection<S>,
@@ -85,7 +86,8 @@ fn look<S: Alter>(
     (told, shelf.into_connection())
 }
 
-/// Returns the documents of a store's resources and the rows of its audit. None if the store can't be read.
+/// Returns the documents of the resources in a store and the rows of its audit. Returns `None` if the store
+/// can't be read, or if memory runs out.
 fn told_of<S: Alter>(alloc: Global, shelf: &mut SqlShelf<S>) -> Option<String> {
     let (Ok(users), Ok(groups)) = (
         all_of(alloc, shelf, Kind::User),

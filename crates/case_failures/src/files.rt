@@ -1,4 +1,4 @@
-//! Files in memory that fail after a number of calls, and crash.
+//! Files in memory that fail after a number of calls, and then crash.
 use crate::databases::{Work, work_over};
 use crate::request_parts::RequestParts;
 use scim_text::NoMemory;
@@ -13,32 +13,32 @@ pub(crate) struct Contents {
     db: Vec<u8>,
 }
 
-/// The number of calls after which each file fails.
+/// For each file of a database, the number of calls after which it fails.
 #[derive(Clone, Copy)]
 pub(crate) struct Calls {
     pub(crate) log: u64,
     pub(crate) db: u64,
 }
 
-/// The number of calls with which no file fails.
+/// Numbers of calls that are so large that no file fails.
 pub(crate) const ALL: Calls = Calls {
     log: u64::MAX,
     db: u64::MAX,
 };
 
-/// The result of work on files that crash after it.
+/// The result of answering requests over files that then crash.
 #[derive(Drop)]
 pub(crate) struct Outcome {
-    /// All requests were answered, none with 500.
+    /// Whether every request was answered with another status than 500.
     pub(crate) is_answered: bool,
-    /// Neither file failed, and both have calls left.
+    /// Whether neither file failed and each has at least one call left.
     pub(crate) is_whole: bool,
-    /// The contents of the database after the crash, if a store can be opened over the files.
+    /// The contents of the database after the crash, or `None` if they can't be read.
     pub(crate) found: Option<String>,
 }
 
 impl Contents {
-    /// Returns the contents of the files of a new database.
+    /// Returns the contents of the files of a new database, which are empty.
     pub(crate) fn none(alloc: Global) -> Contents {
         Contents {
             log: Vec::new(alloc),
@@ -46,7 +46,8 @@ impl Contents {
         }
     }
 
-    /// Returns the contents after a store in a new database has answered these requests. None if it fails.
+    /// Returns the contents after a store in a new database has answered these requests, or `None` if this
+    /// fails.
     pub(crate) fn after(alloc: Global, requests: &[RequestParts]) -> Option<Contents> {
         let files = Contents::none(alloc).files(alloc, ALL)?;
         let (told, files) = over_files(alloc, files, Work::Answer(requests));
@@ -57,7 +58,8 @@ impl Contents {
         }
     }
 
-    /// Returns files with these contents that fail after the given numbers of calls.
+    /// Returns files with these contents that fail after the given numbers of calls, or `None` if memory runs
+    /// out.
     fn files(&self, alloc: Global, calls: Calls) -> Option<Files<Fuse<Memory>>> {
         match (
             holding(alloc, self.log.as_slice()),
@@ -71,7 +73,8 @@ impl Contents {
         }
     }
 
-    /// Returns the result of answering these requests by a store over files with these contents.
+    /// Answers these requests over files with these contents, which fail after the given numbers of calls and
+    /// then crash. Returns the result, or `None` if memory runs out.
     pub(crate) fn outcome(
         &self,
         alloc: Global,
@@ -92,7 +95,7 @@ fn copied(alloc: Global, files: &Files<Fuse<Memory>>) -> Result<Contents, NoMemo
     })
 }
 
-/// Returns a file with these bytes, which survive a crash.
+/// Returns a file with these bytes, which survive a crash, or `None` if memory runs out.
 fn holding(alloc: Global, bytes: &[u8]) -> Option<Memory> {
     let mut memory = Memory::new(alloc);
     if memory.write_at(0, bytes).is_err() || memory.sync().is_err() {
@@ -101,7 +104,8 @@ fn holding(alloc: Global, bytes: &[u8]) -> Option<Memory> {
     Some(memory)
 }
 
-/// Does the work on a database in the files, and returns its result and the files.
+/// Does the work on a database in the files. Returns the result and the files. The result is `None` if the
+/// database can't be opened or the work fails.
 fn over_files<D: Disk + Drop>(
     alloc: Global,
     files: Files<D>,

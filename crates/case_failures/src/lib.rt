@@ -1,6 +1,6 @@
 //! The calls in which reads, writes and disks fail: inputs and streams that end or fail, writers that take
-//! few bytes at a call or fail, a server over scripted connections and over a socket, and stores whose disk
-//! stops at a call and crashes.
+//! few bytes at a call or fail, and stores whose disk fails at a call and then crashes. Other calls run a
+//! server over scripted connections and over a socket.
 #![tactic(auto)]
 
 mod databases;
@@ -36,7 +36,7 @@ static CALLS: [(&str, Call); 7] = [
     ("stream_ends", Call::StreamEnds),
 ];
 
-/// Returns the result of the case's call, or None if it isn't a call of this crate.
+/// Returns the result of the case's call, or `None` if it isn't a call of this crate.
 pub fn answer(rt: &HostRuntime, case: &Case<'_>, call: &str) -> Option<Result<String, CaseFault>> {
     let call = named(&CALLS, call)?;
     Some(match call {

@@ -14,7 +14,7 @@ const REQUEST: &str =
 const REPLY: &str =
     "HTTP/1.1 404 Not Found\r\nContent-Type: application/scim+json\r\nContent-Length: 105\r\n\r\n{\"detail\":\"Resource not found.\",\"schemas\":[\"urn:ietf:params:scim:api:messages:2.0:Error\"],\"status\":\"404\"}";
 
-/// Runs `once` over a users file without users.
+/// Runs `once` with a users file that has no users.
 fn answer<R: Read>(alloc: Global, reader: &mut R, writer: &mut Stutter) -> Result<(), RunFault> {
     let setting = Setting::new(POLICY, "[]", "hr", BASE);
     once(alloc, &setting, reader, writer)
@@ -25,14 +25,15 @@ fn took(writer: &Stutter, count: usize) -> bool {
     writer.taken.len() == count && REPLY.as_bytes().starts_with(writer.taken.as_slice())
 }
 
-/// Whether `once` fails with this fault and writes nothing.
+/// Whether `once` fails with the error `told` and writes nothing.
 fn fails<R: Read>(alloc: Global, reader: &mut R, told: RunFault) -> bool {
     let mut writer = Stutter::new(alloc, 1_000, u32::MAX, ErrorKind::Other);
     let done = answer(alloc, reader, &mut writer);
     done == Err(told) && took(&writer, 0)
 }
 
-/// Whether, after this text, a failed read gives InputFailed and the end of the input gives InputEnded.
+/// Whether `once` fails with `InputFailed` if a read fails after this text, and with `InputEnded` if the
+/// input ends after this text.
 fn are_told_apart(alloc: Global, text: &str) -> bool {
     let mut failing = Trickle {
         bytes: text.as_bytes(),
@@ -41,7 +42,8 @@ fn are_told_apart(alloc: Global, text: &str) -> bool {
         && fails(alloc, &mut text.as_bytes(), RunFault::InputEnded)
 }
 
-/// Returns the bytes that `once` leaves unread after it has answered the first request. None if it fails.
+/// Returns the bytes of [`REQUEST`] that `once` leaves unread after it has answered the first request, or
+/// `None` if it doesn't write exactly [`REPLY`].
 fn left(alloc: Global) -> Option<&'static [u8]> {
     let mut reader = Trickle {
         bytes: REQUEST.as_bytes(),
@@ -51,7 +53,8 @@ fn left(alloc: Global) -> Option<&'static [u8]> {
     (done.is_ok() && took(&writer, REPLY.len())).then_some(reader.bytes)
 }
 
-/// Returns the number of the writer's call that fails, from 0; a number never reached if the case gives none.
+/// Returns the argument `failing`, which is the number of the write that fails, counted from 0. If it isn't
+/// given, returns a number that is never reached.
 fn failing(case: &Case<'_>) -> Result<u32, CaseFault> {
     if case.has("failing") {
         Ok(u32::try_from(case.count("failing")?).unwrap_or(u32::MAX))
@@ -60,8 +63,9 @@ fn failing(case: &Case<'_>) -> Result<u32, CaseFault> {
     }
 }
 
-/// Returns the part of the reply that a writer gets that takes `step` bytes at a call and fails at the call
-/// `failing`: `whole`, or the number of bytes before the failure.
+/// Runs `once` with a writer that takes at most `step` bytes at a call and fails at the call `failing`.
+/// Returns `whole` if the writer takes the whole reply, or the number of bytes of the reply that it takes if
+/// `once` fails with `Output`. Returns `something else` otherwise.
 pub(crate) fn written_call(case: &Case<'_>) -> Result<String, CaseFault> {
     let kind = if case.is_true("interrupted") {
         ErrorKind::Interrupted
@@ -78,12 +82,13 @@ pub(crate) fn written_call(case: &Case<'_>) -> Result<String, CaseFault> {
     }
 }
 
-/// Whether, after the argument `text`, a failed read and the end of the input give different faults.
+/// Whether `once` fails with `InputFailed` if a read fails after the argument `text`, and with `InputEnded`
+/// if the input ends after it.
 pub(crate) fn input_call(case: &Case<'_>) -> Result<String, CaseFault> {
     truth(case.alloc, are_told_apart(case.alloc, case.text("text")?))
 }
 
-/// Returns the bytes left of two requests after the first has been answered.
+/// Returns the bytes of [`REQUEST`] that `once` leaves unread after it has answered the first request.
 pub(crate) fn left_call(case: &Case<'_>) -> Result<String, CaseFault> {
     match left(case.alloc) {
         Some(bytes) => said(case.alloc, str::from_utf8(bytes).unwrap_or("no UTF-8")),

@@ -1,4 +1,4 @@
-//! Requests to a store, given by their parts.
+//! Requests to a store as constants, and functions that answer them.
 use scim_body::{UseFor, read_body};
 use scim_cell::{Id, Text};
 use scim_patch_message::read_patch;
@@ -9,7 +9,8 @@ use scim_text::Moment;
 use scim_view::Wanted;
 use std::alloc::Global;
 
-/// A request: its operation, its resource and its body, which is empty if it has none.
+/// A request: its operation, the kind and the id of its resource, and its body, which is empty if the request
+/// has no body.
 #[derive(Clone, Copy)]
 pub(crate) struct RequestParts {
     pub(crate) op: Op,
@@ -56,7 +57,7 @@ fn turn_of(alloc: Global, parts: RequestParts) -> Option<Turn> {
     }
 }
 
-/// Whether a request is answered with another status than 500.
+/// Whether the service answers a request with another status than 500.
 fn is_answered<H: Shelf>(alloc: Global, service: &mut Service<H>, parts: RequestParts) -> bool {
     match turn_of(alloc, parts) {
         Some(turn) => !matches!(service.answer(alloc, &turn), Reply::Failed(..)),
@@ -64,7 +65,8 @@ fn is_answered<H: Shelf>(alloc: Global, service: &mut Service<H>, parts: Request
     }
 }
 
-/// Whether all these requests are answered, one after another, with another status than 500.
+/// Answers the requests one after another, up to the first reply with status 500. Returns whether there is no
+/// such reply.
 pub(crate) fn are_answered<H: Shelf>(
     alloc: Global,
     service: &mut Service<H>,

@@ -1,4 +1,4 @@
-//! Runs `serve_stream` with failing reads and writes, without stamps, and on streams that are too long.
+//! Runs `serve_stream` with failing reads and writes, with too few stamps, and on streams that are too long.
 use crate::streams::{EmptyLines, Stutter, Trickle};
 use case_values::{Case, CaseFault, named, truth};
 use scim_cell::id_of;
@@ -14,14 +14,14 @@ use std::alloc::Global;
 use std::io::{ErrorKind, Read};
 use uuid::Uuid;
 
-/// Two requests for an endpoint that isn't supported; they need no token.
+/// Two requests for an endpoint that isn't supported. They don't need a token.
 pub(crate) const REQUESTS: &str = "GET /Me HTTP/1.1\r\n\r\nGET /Me HTTP/1.1\r\n\r\n";
 
-/// The replies to the two requests.
+/// The replies to [`REQUESTS`].
 pub(crate) const REPLIES: &str =
     "HTTP/1.1 501 Not Implemented\r\nContent-Type: application/scim+json\r\nContent-Length: 100\r\n\r\n{\"detail\":\"Not supported.\",\"schemas\":[\"urn:ietf:params:scim:api:messages:2.0:Error\"],\"status\":\"501\"}HTTP/1.1 501 Not Implemented\r\nContent-Type: application/scim+json\r\nContent-Length: 100\r\n\r\n{\"detail\":\"Not supported.\",\"schemas\":[\"urn:ietf:params:scim:api:messages:2.0:Error\"],\"status\":\"501\"}";
 
-/// Returns a number of stamps, and then fails.
+/// A source of stamps that returns `left` stamps and then fails.
 #[derive(Drop)]
 struct Few {
     left: u32,
@@ -47,7 +47,7 @@ impl Stamps for Few {
     }
 }
 
-/// Returns a hub without users. None if memory runs out.
+/// Returns a hub without users, or `None` if memory runs out.
 pub(crate) fn hub(alloc: Global) -> Option<Hub<MemoryShelf>> {
     let (Ok(policy), Ok(tokens)) = (read_policy(alloc, POLICY), Tokens::read(alloc, "")) else {
         return None;
@@ -58,15 +58,15 @@ pub(crate) fn hub(alloc: Global) -> Option<Hub<MemoryShelf>> {
     }
 }
 
-/// The end of serving a stream.
+/// How serving a stream ends.
 #[derive(Clone, Copy)]
 enum Ending {
-    /// A read after the requests fails.
+    /// The read after the requests fails.
     Read,
-    /// The write with this number, from 0, fails; each write takes one byte.
+    /// The write with this number, counted from 0, fails. Each write takes one byte.
     Write(u32),
-    /// The requests come byte by byte, and there are stamps for the first ones alone. Then this many bytes
-    /// are written.
+    /// The requests arrive byte by byte, and the stamps run out. The first field is the number of stamps, and
+    /// the second is the number of bytes written before the stamps run out.
     Stamp(u32, usize),
     /// The stream ends after this many empty lines, one at each read.
     Lines(u32),
@@ -74,7 +74,8 @@ enum Ending {
     Turns(u32),
 }
 
-/// Whether serving the stream has this result and writes exactly the first `count` bytes of the replies.
+/// Whether serving the stream has the result `told` and writes exactly the first `count` bytes of
+/// [`REPLIES`].
 fn comes_to<R: Read>(
     alloc: Global,
     reader: &mut R,
@@ -93,13 +94,13 @@ fn comes_to<R: Read>(
         && REPLIES.as_bytes().starts_with(writer.taken.as_slice())
 }
 
-/// Whether serving this many empty lines has this result and writes nothing.
+/// Whether serving `left` empty lines has the result `told` and writes nothing.
 fn are_read(alloc: Global, left: u32, told: Result<Served, IoFault>) -> bool {
     let writer = Stutter::new(alloc, 7, u32::MAX, ErrorKind::Other);
     comes_to(alloc, &mut EmptyLines { left }, writer, u32::MAX, told, 0)
 }
 
-/// Whether a stream with this end is served up to it.
+/// Whether serving a stream ends in this way, with the expected result and the expected bytes written.
 fn is_served_up_to(alloc: Global, ending: Ending) -> bool {
     let mut bytes = REQUESTS.as_bytes();
     match ending {
@@ -142,8 +143,8 @@ static ENDINGS: [(&str, Ending); 14] = [
     ("lines without an end", Ending::Turns(u32::MAX)),
 ];
 
-/// Whether a stream with the end in the argument `end` is served up to it, and a prefix of the replies is
-/// written. A stream is read at most a million times.
+/// Whether serving a stream ends as the argument `end` says, with the expected result and the expected prefix
+/// of the replies written. A stream is read at most a million times.
 pub(crate) fn ends_call(case: &Case<'_>) -> Result<String, CaseFault> {
     let Some(ending) = named(&ENDINGS, case.text("end")?) else {
         return Err(CaseFault::Missing("end"));

@@ -1,4 +1,4 @@
-//! Runs a server over scripted connections, and over a socket.
+//! Runs a server over scripted connections and over a socket.
 use crate::served::{REPLIES, REQUESTS, hub};
 use case_peers::ScriptedPeers;
 use case_values::{Case, CaseFault, truth};
@@ -11,8 +11,8 @@ use std::io;
 use std::io::{Read, Write};
 use std::net::{Ipv4Addr, Shutdown, SocketAddr, TcpStream};
 
-/// The incidents of two connections in turn. Connection 0 sends the two requests, cut within them; connection
-/// 1 sends bytes that aren't HTTP.
+/// The events of two connections, in order. Connection 0 sends [`REQUESTS`] in three pieces, and connection 1
+/// sends bytes that aren't HTTP in two pieces. Both first join.
 const HAPPENINGS: [(u64, &str); 7] = [
     (0, ""),
     (1, ""),
@@ -27,8 +27,8 @@ const HAPPENINGS: [(u64, &str); 7] = [
 const REFUSAL: &str =
     "HTTP/1.1 400 Bad Request\r\nContent-Type: application/scim+json\r\nContent-Length: 109\r\nConnection: close\r\n\r\n{\"detail\":\"Malformed request head.\",\"schemas\":[\"urn:ietf:params:scim:api:messages:2.0:Error\"],\"status\":\"400\"}";
 
-/// Whether each connection gets all its replies when it takes `step` bytes at a call, and only the one that
-/// sent invalid HTTP is closed.
+/// Whether each connection receives all its replies if it takes `step` bytes at a call, and the server closes
+/// only the connection that sent invalid HTTP.
 fn answers_each(alloc: Global, step: usize) -> bool {
     let (Some(mut hub), Ok(mut peers)) = (hub(alloc), ScriptedPeers::new(alloc, step, &HAPPENINGS))
     else {
@@ -41,8 +41,8 @@ fn answers_each(alloc: Global, step: usize) -> bool {
         && peers.second.is_closed
 }
 
-/// Whether a client gets its replies over a socket. It sends the two requests and closes its sending side
-/// before it is served.
+/// Whether a client receives its replies over a socket. The client sends [`REQUESTS`] and closes its sending
+/// side before the server runs.
 fn answers_client(
     rt: &HostRuntime,
     sockets: &mut Sockets<'_, HostRuntime>,
@@ -60,8 +60,8 @@ fn answers_client(
     Ok(replies.as_slice() == REPLIES.as_bytes())
 }
 
-/// Whether a client gets its replies over a socket. Also true if the machine has no loopback; nothing is
-/// tested then.
+/// Whether a client receives its replies over a socket. Returns true without a test if the program can't
+/// listen on a socket, for example because the machine has no loopback interface.
 fn answers_over_socket(rt: &HostRuntime) -> bool {
     let Some(mut hub) = hub(rt.alloc()) else {
         return false;
@@ -75,12 +75,12 @@ fn answers_over_socket(rt: &HostRuntime) -> bool {
     }
 }
 
-/// Whether each connection gets all its replies when it takes `step` bytes at a call.
+/// Whether each scripted connection receives all its replies if it takes `step` bytes at a call.
 pub(crate) fn peers_call(case: &Case<'_>) -> Result<String, CaseFault> {
     truth(case.alloc, answers_each(case.alloc, case.count("step")?))
 }
 
-/// Whether a client gets its replies over a socket.
+/// Whether a client receives its replies over a socket, or the program can't listen on a socket.
 pub(crate) fn socket_call(rt: &HostRuntime, case: &Case<'_>) -> Result<String, CaseFault> {
     truth(case.alloc, answers_over_socket(rt))
 }

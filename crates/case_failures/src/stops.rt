@@ -1,4 +1,4 @@
-//! A store whose disk stops at each call in turn.
+//! Tests a store whose disk stops at a call, for each call in turn.
 use crate::files::{ALL, Calls, Contents, Outcome};
 use crate::request_parts::RequestParts;
 use case_values::{Case, CaseFault, named, truth};
@@ -6,7 +6,7 @@ use scim_samples::{ALICE, BOB, TEAM};
 use scim_schema::{Kind, Op};
 use std::alloc::Global;
 
-/// An upper limit of the calls of a file in one turn.
+/// An upper limit on the number of calls to a file in one turn.
 const MOST: u64 = 1_000;
 
 /// A user, and a group with the user as member.
@@ -46,14 +46,15 @@ const REMOVE: [RequestParts; 1] = [RequestParts {
     body: "",
 }];
 
-/// Whether the contents after a stop are those before the turn or those after it. They must be those after it
-/// if the turn was answered.
+/// Whether the contents after a stop are the contents before the turn or the contents after it. If the turn
+/// was answered, only the contents after it are right.
 fn is_right(outcome: &Outcome, before: &Outcome, after: &Outcome) -> bool {
     let is_done = outcome.found == after.found;
     is_done || (outcome.found == before.found && !outcome.is_answered)
 }
 
-/// Whether the contents are right for each stop of one of the files, up to the first run that has calls left.
+/// Whether [`is_right`] is true after each stop of one file, which is the log if `is_of_log` is true, or else
+/// the database. Increases the number of calls until no file fails. Then the turn must be answered.
 fn stops_well(
     alloc: Global,
     contents: &Contents,
@@ -81,7 +82,8 @@ fn stops_well(
     false
 }
 
-/// Whether each stop of either file in the turn leaves the contents before or after the turn.
+/// Whether each stop of a file in the turn leaves the contents before the turn or the contents after it. The
+/// turn must change the contents.
 fn nothing_else_is_left(alloc: Global, contents: &Contents, requests: &[RequestParts]) -> bool {
     let none = Calls { log: 0, db: 0 };
     let (Some(before), Some(after)) = (
@@ -97,7 +99,8 @@ fn nothing_else_is_left(alloc: Global, contents: &Contents, requests: &[RequestP
         && stops_well(alloc, contents, requests, (&before, &after), false)
 }
 
-/// As [`nothing_else_is_left`], for a database with the user and the group of [`MADE`].
+/// Whether each stop of a file in the turn leaves the contents before the turn or the contents after it. The
+/// database has the user and the group of [`MADE`] before the turn.
 fn nothing_else_is_left_of(alloc: Global, requests: &[RequestParts]) -> bool {
     match Contents::after(alloc, &MADE) {
         Some(contents) => nothing_else_is_left(alloc, &contents, requests),
@@ -131,8 +134,8 @@ fn is_done_or_not(alloc: Global, stopped: Stopped) -> bool {
     }
 }
 
-/// Whether each stop of a disk in the turn of the argument `turn` leaves the contents before or after the
-/// turn.
+/// Whether each stop of a disk in the turn that the argument `turn` names leaves the contents before the turn
+/// or the contents after it.
 pub(crate) fn stops_call(case: &Case<'_>) -> Result<String, CaseFault> {
     let Some(stopped) = named(&TURNS, case.text("turn")?) else {
         return Err(CaseFault::Missing("turn"));

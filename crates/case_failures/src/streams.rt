@@ -3,7 +3,7 @@ use std::alloc::Global;
 use std::io;
 use std::io::{ErrorKind, Read, Write};
 
-/// A reader that returns one byte at a time, and fails after the last one.
+/// A reader that returns one byte at a time, and fails after the last byte.
 #[derive(Drop)]
 pub(crate) struct Trickle<'a> {
     pub(crate) bytes: &'a [u8],
@@ -23,8 +23,8 @@ impl<'a> Read for Trickle<'a> {
     }
 }
 
-/// A writer that takes `step` bytes at a call. The call with the number `failing`, from 0, fails with `kind`;
-/// later ones take bytes again.
+/// A writer that takes at most `step` bytes at a call. The call with the number `failing`, counted from 0,
+/// fails with `kind`. Later calls take bytes again.
 #[derive(Drop)]
 pub(crate) struct Stutter {
     pub(crate) taken: Vec<u8>,
@@ -63,7 +63,7 @@ impl Write for Stutter {
     }
 }
 
-/// A reader that returns one empty line at each read, `left` times, and then ends.
+/// A reader that returns one empty line at each of the next `left` reads, and then ends.
 #[derive(Drop)]
 pub(crate) struct EmptyLines {
     pub(crate) left: u32,

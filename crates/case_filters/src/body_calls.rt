@@ -7,7 +7,7 @@ use scim_schema::{Kind, Unit};
 use scim_text::Failed;
 use std::alloc::Global;
 
-/// Returns the result of the case's call, or None if it isn't `read_body`.
+/// Returns the result of the case's call, or `None` if it isn't `read_body`.
 pub fn answer(case: &Case<'_>, call: &str) -> Option<Result<String, CaseFault>> {
     match call {
         "read_body" => Some(body_call(case)),
@@ -15,12 +15,13 @@ pub fn answer(case: &Case<'_>, call: &str) -> Option<Result<String, CaseFault>> 
     }
 }
 
-/// Returns the kind that the body is read for: the argument `body_kind`, by default `kind`.
+/// Returns the kind of resource that the body describes: the argument `body_kind`, by default the argument
+/// `kind`.
 pub fn body_kind(case: &Case<'_>) -> Kind {
     kind_of(case.text_or("body_kind", case.text_or("kind", "User")))
 }
 
-/// Returns the use that the body is read for: the argument `use`, `creating` or `replacing`, by default
+/// Returns what the body is used for: the argument `use`, which is `creating` or `replacing`, by default
 /// `creating`.
 pub fn use_for(case: &Case<'_>) -> UseFor {
     match case.text_or("use", "creating") {
@@ -29,7 +30,8 @@ pub fn use_for(case: &Case<'_>) -> UseFor {
     }
 }
 
-/// Returns the units that the body gives and the rows of their values, or the body's fault.
+/// Returns the units in the body and the rows of their values, or the name of the error if the body is
+/// invalid.
 fn body_call(case: &Case<'_>) -> Result<String, CaseFault> {
     match read_body(
         case.alloc,

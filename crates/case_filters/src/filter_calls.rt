@@ -49,7 +49,7 @@ static CALLS: [(&str, FilterCall); 10] = [
     ("written_path", FilterCall::WrittenPath),
 ];
 
-/// Returns the result of the case's call, or None if it isn't a call on filters.
+/// Returns the result of the case's call, or `None` if it isn't a call on filters.
 pub fn answer(case: &Case<'_>, call: &str) -> Option<Result<String, CaseFault>> {
     let call = named(&CALLS, call)?;
     Some(match call {
@@ -68,7 +68,7 @@ pub fn filter_of(case: &Case<'_>) -> Result<Result<Filter, Failed<FilterFault>>,
     Ok(read_filter(case.alloc, case.kind(), text.as_str()))
 }
 
-/// Returns the name of a fault; for `Syntax` also the byte position.
+/// Returns the name of an error. The name `Syntax` is followed by the byte position of the error.
 fn fault_text(alloc: Global, fault: Failed<FilterFault>) -> Result<String, CaseFault> {
     match fault {
         Failed::Because(FilterFault::Syntax(at)) => between(alloc, "Syntax ", &at, ""),
@@ -79,7 +79,7 @@ fn fault_text(alloc: Global, fault: Failed<FilterFault>) -> Result<String, CaseF
     }
 }
 
-/// Returns the attribute or leaf that a path names, such as `emails.value`; `nothing` if the kind doesn't
+/// Returns the attribute or leaf that a path names, such as `emails.value`, or `nothing` if the kind doesn't
 /// have it.
 fn meant_text(alloc: Global, meant: Meant) -> Result<String, CaseFault> {
     match meant {
@@ -105,7 +105,7 @@ fn literal_text(alloc: Global, literal: &Literal) -> Result<String, CaseFault> {
     }
 }
 
-/// Returns the text that a node begins with.
+/// Returns the text that begins a node in prefix notation.
 fn opening(node: &Node) -> &'static str {
     match node {
         Node::Or(_, _) => "(or ",
@@ -119,7 +119,8 @@ fn opening(node: &Node) -> &'static str {
 
 /// Appends a tree in prefix notation, such as `(and (pr title) (Eq emails.value "a"))`.
 ///
-/// Paths are printed as the attributes they name, and a value path as `(of emails (pr emails.type))`.
+/// A path is printed as the attribute or leaf that it names. A value path is printed as
+/// `(of emails (pr emails.type))`.
 pub fn push_tree(alloc: Global, node: &Node, text: &mut String) -> Result<(), CaseFault> {
     text.push_str(opening(node))?;
     match node {
@@ -159,7 +160,7 @@ fn push_comparison(
     )
 }
 
-/// Returns the result of a call on the filter, or the filter's fault.
+/// Returns the result of a call on the filter in the argument `filter`, or the error if it is invalid.
 fn filter_call(case: &Case<'_>, told: OfFilter) -> Result<String, CaseFault> {
     match filter_of(case)? {
         Ok(filter) => told_of_filter(case, told, &filter),
@@ -189,7 +190,7 @@ fn holds_text(case: &Case<'_>, filter: &Filter) -> Result<String, CaseFault> {
     truth(case.alloc, found)
 }
 
-/// Whether the filter holds at the argument `position`.
+/// Whether the part matches the filter at the argument `position`.
 fn holds_at_text(case: &Case<'_>, filter: &Filter) -> Result<String, CaseFault> {
     let position = case.count("position")?;
     let part = case.part()?;
@@ -197,7 +198,8 @@ fn holds_at_text(case: &Case<'_>, filter: &Filter) -> Result<String, CaseFault> 
     truth(case.alloc, found)
 }
 
-/// Returns the names in the filter in order of the text, each as written and with its attribute.
+/// Returns the attribute names in the filter in the order of the text, each as written and followed by the
+/// attribute that it names. Returns `no filter` if the filter is invalid.
 fn names_call(case: &Case<'_>) -> Result<String, CaseFault> {
     match filter_of(case)? {
         Ok(filter) => listed_names(case.alloc, &filter),
@@ -205,7 +207,7 @@ fn names_call(case: &Case<'_>) -> Result<String, CaseFault> {
     }
 }
 
-/// Returns the names in a filter, each with its attribute.
+/// Returns the attribute names in a filter, each followed by the attribute that it names.
 fn listed_names(alloc: Global, filter: &Filter) -> Result<String, CaseFault> {
     let names = mentioned_names(alloc, filter)?;
     let mut text = String::new(alloc);
@@ -223,8 +225,8 @@ fn push_name(name: &Named, text: &mut String) -> Result<(), CaseFault> {
     push_all(text, &[" ", attribute_name(name.attribute)])
 }
 
-/// Returns the text of a comparison with a string, its folded form, and the second of the moment that it
-/// spells.
+/// Returns the string in a comparison, its folded form, and its second if it is a timestamp or else `none`.
+/// Returns `no string` if the node isn't a comparison with a string.
 fn string_text(alloc: Global, node: &Node) -> Result<String, CaseFault> {
     let Node::Compare(_, _, Literal::Text(string)) = node else {
         return said(alloc, "no string");
@@ -239,7 +241,7 @@ fn string_text(alloc: Global, node: &Node) -> Result<String, CaseFault> {
     }
 }
 
-/// Returns each token with its start and end, such as `0-5 title|6-8 pr`.
+/// Returns each token with its start and end in bytes, such as `0-5 title|6-8 pr`.
 fn tokens_call(case: &Case<'_>) -> Result<String, CaseFault> {
     let source = spaced_text(case, "text")?;
     match read_tokens(case.alloc, source.as_str()) {
@@ -265,8 +267,9 @@ fn push_token(alloc: Global, token: &Token<'_>, text: &mut String) -> Result<(),
     push_all(text, &[start.as_str(), "-", end.as_str(), " ", token.slice])
 }
 
-/// Returns what the path names: the attribute or leaf; the attribute whose sub-attributes are allowed in
-/// brackets; the attribute that is mentioned; and the leaf that is compared.
+/// Returns what the path names: the attribute or leaf, the attribute whose sub-attributes are allowed in
+/// brackets, the attribute that the path mentions, and the leaf that a comparison with the path compares.
+/// Returns `none` if the text isn't a path.
 fn attribute_path_call(case: &Case<'_>) -> Result<String, CaseFault> {
     match attribute_path(case.kind(), case.text("text")?) {
         Some(meant) => told_of_meant(case.alloc, meant),
@@ -298,8 +301,9 @@ fn lone_word_call(case: &Case<'_>) -> Result<String, CaseFault> {
     }
 }
 
-/// Returns what the path names, or the tree of a value path and the name after it. `wrong types` goes before
-/// the tree if the filter compares values of wrong types.
+/// Returns what the path names. For a value path, this is the tree of its filter and the name after the
+/// filter, with `wrong types` before the tree if the filter compares values of wrong types. Returns `none`
+/// if the text isn't a path.
 fn written_path_call(case: &Case<'_>) -> Result<String, CaseFault> {
     let source = spaced_text(case, "text")?;
     match written_path(case.alloc, case.kind(), source.as_str())? {
@@ -319,8 +323,8 @@ fn written_text(alloc: Global, path: &WrittenPath) -> Result<String, CaseFault> 
     }
 }
 
-/// Appends the tree of a filter and the name after it, with `wrong types` before it if its values have wrong
-/// types.
+/// Appends the tree of a filter and the name after the filter. Puts `wrong types` before the tree if the
+/// filter compares values of wrong types.
 fn push_filter(
     alloc: Global,
     filter: &Filter,

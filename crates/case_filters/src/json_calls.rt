@@ -26,7 +26,7 @@ static CALLS: [(&str, JsonCall); 6] = [
     ("users_file", JsonCall::UsersFile),
 ];
 
-/// Returns the result of the case's call, or None if it isn't a call of `scim_json`.
+/// Returns the result of the case's call, or `None` if it isn't a call of `scim_json`.
 pub fn answer(case: &Case<'_>, call: &str) -> Option<Result<String, CaseFault>> {
     let call = named(&CALLS, call)?;
     Some(match call {
@@ -49,7 +49,7 @@ fn stored_text_call(case: &Case<'_>) -> Result<String, CaseFault> {
     Ok(stored_text(case.alloc, &resource)?)
 }
 
-/// Reads a stored document and returns its resource, as cells or, if `again` is true, as a document.
+/// Reads a stored document. Returns its resource as cells, or as a document if `again` is true. Returns
 /// `Damaged` if the document is invalid.
 fn read_stored_call(case: &Case<'_>, again: bool) -> Result<String, CaseFault> {
     match read_stored(case.alloc, case.text_or("base", BASE), case.text("text")?) {
@@ -67,7 +67,7 @@ fn resource_text(alloc: Global, again: bool, resource: &Resource) -> Result<Stri
     }
 }
 
-/// Whether reading the document of a resource gives the resource.
+/// Whether a resource is unchanged after it is written as a stored document and read again.
 fn reads_back(case: &Case<'_>) -> Result<String, CaseFault> {
     let resource = case.resource()?;
     read_again(case.alloc, &resource)
@@ -82,7 +82,8 @@ fn read_again(alloc: Global, resource: &Resource) -> Result<String, CaseFault> {
     }
 }
 
-/// Returns `ok, N resources`, or `item N` for the first invalid item; `item 0` if the file isn't UTF-8.
+/// Returns `ok, N resources`, or `item N` with the number of the first invalid item, counted from 1. Returns
+/// `item 0` if the file isn't UTF-8 or isn't a JSON list.
 fn users_file(case: &Case<'_>) -> Result<String, CaseFault> {
     match file_text(case, "users", "users_hex")? {
         Some(text) => users_told(case, text.as_str()),

@@ -10,7 +10,7 @@ pub use body_calls::{body_kind, use_for};
 use case_values::{Case, CaseFault};
 pub use filter_calls::filter_of;
 
-/// Returns the result of the case's call, or None if it isn't a call of this crate.
+/// Returns the result of the case's call, or `None` if it isn't a call of this crate.
 pub fn answer(case: &Case<'_>, call: &str) -> Option<Result<String, CaseFault>> {
     if let Some(found) = json_calls::answer(case, call) {
         return Some(found);

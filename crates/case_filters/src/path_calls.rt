@@ -7,7 +7,7 @@ use scim_schema::Leaf;
 use scim_text::Failed;
 use std::alloc::Global;
 
-/// Returns the result of the case's call, or None if it isn't a call of `scim_path`.
+/// Returns the result of the case's call, or `None` if it isn't a call of `scim_path`.
 pub fn answer(case: &Case<'_>, call: &str) -> Option<Result<String, CaseFault>> {
     match call {
         "read_path" => Some(read_path_call(case)),
@@ -17,7 +17,7 @@ pub fn answer(case: &Case<'_>, call: &str) -> Option<Result<String, CaseFault>> 
 }
 
 /// Returns what the path names: an attribute or leaf such as `emails.value`, the URN of an extension, or the
-/// attribute, tree and sub-attribute of a value path.
+/// attribute, filter and sub-attribute of a value path. Returns `Syntax` or `Unknown` if the path is invalid.
 fn read_path_call(case: &Case<'_>) -> Result<String, CaseFault> {
     let text = spaced_text(case, "text")?;
     path_read(case, text.as_str())

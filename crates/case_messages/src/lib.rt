@@ -8,7 +8,7 @@ mod wire_calls;
 use case_values::{Case, CaseFault};
 pub use token_calls::{client_of, tokens_of};
 
-/// Returns the result of the case's call, or None if it isn't a call of this crate.
+/// Returns the result of the case's call, or `None` if it isn't a call of this crate.
 pub fn answer(case: &Case<'_>, call: &str) -> Option<Result<String, CaseFault>> {
     if let Some(found) = token_calls::answer(case, call) {
         return Some(found);

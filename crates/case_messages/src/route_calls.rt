@@ -5,7 +5,7 @@ use scim_route::{Found, Parameters, Route, Routes};
 use scim_text::{Failed, NoMemory};
 use std::alloc::Global;
 
-/// Returns the result of the case's call, or None if it isn't a call of `scim_route`.
+/// Returns the result of the case's call, or `None` if it isn't a call of `scim_route`.
 pub fn answer(case: &Case<'_>, call: &str) -> Option<Result<String, CaseFault>> {
     match call {
         "find" => Some(find_call(case)),
@@ -14,7 +14,7 @@ pub fn answer(case: &Case<'_>, call: &str) -> Option<Result<String, CaseFault>> 
     }
 }
 
-/// Returns the route of the method and the target, or the refusal.
+/// Returns the route that the arguments `method` and `target` select, or the refusal if they select none.
 fn find_call(case: &Case<'_>) -> Result<String, CaseFault> {
     let method = case.text_or("method", "GET").as_bytes();
     let target = case.text("target")?.as_bytes();
@@ -26,7 +26,7 @@ fn find_call(case: &Case<'_>) -> Result<String, CaseFault> {
     }
 }
 
-/// Returns the discovery page or the route, with the query after a `?`.
+/// Returns the discovery page or the route as text, followed by `?` and the query.
 fn found_text(alloc: Global, found: &Found<'_>) -> Result<String, CaseFault> {
     match found {
         Found::Discovery(page, query) => {
@@ -37,7 +37,8 @@ fn found_text(alloc: Global, found: &Found<'_>) -> Result<String, CaseFault> {
     }
 }
 
-/// Returns the form, the operation, the kind and the id of a route; `-` if it has no id.
+/// Returns the form, the operation, the kind and the id of a route as text. The id is `-` if the route has no
+/// id.
 fn route_text(alloc: Global, route: &Route<'_>) -> Result<String, CaseFault> {
     let form = debugged(alloc, &route.form)?;
     let op = debugged(alloc, &route.op)?;
@@ -72,7 +73,7 @@ fn with_query(mut text: String, query: Option<&[u8]>) -> Result<String, CaseFaul
     Ok(text)
 }
 
-/// Returns the parameters of a query string as `NAME=VALUE;`.
+/// Returns the parameters of a query string, each as `NAME=VALUE;`.
 fn parameters_call(case: &Case<'_>) -> Result<String, CaseFault> {
     let query = query_of(case)?;
     let parameters = parameters_in(case.alloc, query.as_ref())?;
@@ -86,7 +87,8 @@ fn parameters_in(alloc: Global, query: Option<&Vec<u8>>) -> Result<Parameters, N
     }
 }
 
-/// Returns the query string: the argument `query`, or `query_hex` in hex. None if neither is given.
+/// Returns the query string from the argument `query`, or in hex from the argument `query_hex`. Returns
+/// `None` if neither is given, or if `query_hex` isn't valid hex.
 fn query_of(case: &Case<'_>) -> Result<Option<Vec<u8>>, CaseFault> {
     if let Ok(digits) = case.text("query_hex") {
         return Ok(hex::decode(case.alloc, digits).ok());

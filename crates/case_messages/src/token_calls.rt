@@ -1,11 +1,11 @@
-//! The call of `scim_token`, and the client of a step.
+//! The call of `scim_token`, and a function that finds the client of a step.
 use case_values::{Case, CaseFault, said, shown};
 use scim_text::{Failed, NoMemory};
 use scim_token::Tokens;
 use scim_wire::Message;
 use std::alloc::Global;
 
-/// Returns the result of the case's call, or None if it isn't `client_of`.
+/// Returns the result of the case's call, or `None` if it isn't `client_of`.
 pub fn answer(case: &Case<'_>, call: &str) -> Option<Result<String, CaseFault>> {
     match call {
         "client_of" => Some(client_call(case)),
@@ -13,7 +13,8 @@ pub fn answer(case: &Case<'_>, call: &str) -> Option<Result<String, CaseFault>> 
     }
 }
 
-/// Returns the client that has the token by a token file; `none`, or the file's fault.
+/// Returns the client to which a token file assigns the token in the argument `token`, or `none` if the file
+/// assigns it to no client. Returns the text of the error if the token file is invalid.
 fn client_call(case: &Case<'_>) -> Result<String, CaseFault> {
     let token = case.text("token")?.as_bytes();
     let file = token_file(case)?;
@@ -28,7 +29,8 @@ fn client_in(alloc: Global, file: &str, token: &[u8]) -> Result<String, CaseFaul
     }
 }
 
-/// Returns the argument `tokens`, followed by `more` lines, each with another token.
+/// Returns the argument `tokens`, followed by as many lines as the argument `more` says. Each line has a
+/// different token.
 fn token_file(case: &Case<'_>) -> Result<String, NoMemory> {
     let mut file = String::from_str(case.alloc, case.text_or("tokens", ""))?;
     for number in 0..case.number("more").unwrap_or(0) {
@@ -37,7 +39,7 @@ fn token_file(case: &Case<'_>) -> Result<String, NoMemory> {
     Ok(file)
 }
 
-/// Appends the line of a token whose digest is the number in hex.
+/// Appends the line of a token whose digest is `number` in hex, padded with zeros.
 fn push_token_line(alloc: Global, number: i64, file: &mut String) -> Result<(), NoMemory> {
     let digits = hex::encode(alloc, number.to_be_bytes())?;
     file.push_str("client 000000000000000000000000000000000000000000000000")?;
@@ -45,7 +47,8 @@ fn push_token_line(alloc: Global, number: i64, file: &mut String) -> Result<(), 
     Ok(file.push_str("\n")?)
 }
 
-/// Returns the tokens of the token file in the argument `tokens`, by default empty. Missing if it is invalid.
+/// Returns the tokens of the token file in the argument `tokens`, by default an empty file. Fails with
+/// `Missing` if the file is invalid.
 pub fn tokens_of(case: &Case<'_>) -> Result<Tokens, CaseFault> {
     match Tokens::read(case.alloc, case.text_or("tokens", "")) {
         Ok(tokens) => Ok(tokens),
@@ -54,7 +57,8 @@ pub fn tokens_of(case: &Case<'_>) -> Result<Tokens, CaseFault> {
     }
 }
 
-/// Returns the client of a step: its argument `client`, or else the client that has the message's token.
+/// Returns the client of a step: its argument `client` or, if this isn't given, the client that has the token
+/// of the message. Returns `None` if there is no such client.
 pub fn client_of<'c>(step: &'c Case<'_>, message: &Message, tokens: &'c Tokens) -> Option<&'c str> {
     if let Ok(client) = step.text("client") {
         return Some(client);

@@ -3,7 +3,7 @@ use case_values::{Case, CaseFault, between, debugged, push_all};
 use scim_wire::{HttpReply, Item, Message, Octets, ReplyForm, Wire, print_reply};
 use std::alloc::Global;
 
-/// Returns the result of the case's call, or None if it isn't a call of `scim_wire`.
+/// Returns the result of the case's call, or `None` if it isn't a call of `scim_wire`.
 pub fn answer(case: &Case<'_>, call: &str) -> Option<Result<String, CaseFault>> {
     match call {
         "feed" => Some(feed_call(case)),
@@ -12,7 +12,8 @@ pub fn answer(case: &Case<'_>, call: &str) -> Option<Result<String, CaseFault>> 
     }
 }
 
-/// Returns the bytes of a stream: those of `hex`; or `text`, then `count` times `again`, then `end`.
+/// Returns the bytes of a stream, which the argument `hex` gives in hex. If it isn't given, the stream is the
+/// argument `text`, then `again` repeated `count` times, then `end`.
 fn stream(case: &Case<'_>) -> Result<Vec<u8>, CaseFault> {
     if let Ok(digits) = case.text("hex") {
         return bytes_of(case.alloc, digits);
@@ -32,9 +33,10 @@ fn bytes_of(alloc: Global, digits: &str) -> Result<Vec<u8>, CaseFault> {
     }
 }
 
-/// Returns the items of a stream that is fed byte by byte, each with the number of bytes fed until then.
+/// Feeds a stream byte by byte. Returns its items, each with the number of bytes fed when it is complete.
 ///
-/// If `cuts` is true, also returns the first way to feed it in two pieces that gives other items, if any.
+/// If the argument `cuts` is true, also feeds the stream in two pieces, cut at each position in turn. Then
+/// also returns the first cut that changes the items, or ` however cut` if no cut does.
 fn feed_call(case: &Case<'_>) -> Result<String, CaseFault> {
     let bytes = stream(case)?;
     let mut text = String::new(case.alloc);
@@ -45,7 +47,7 @@ fn feed_call(case: &Case<'_>) -> Result<String, CaseFault> {
     Ok(text)
 }
 
-/// Appends the items of a stream that is fed byte by byte.
+/// Feeds a stream byte by byte and appends its items.
 fn push_stream(alloc: Global, bytes: &[u8], text: &mut String) -> Result<(), CaseFault> {
     let mut wire = Wire::new(alloc);
     for (index, byte) in bytes.iter().enumerate() {
@@ -54,7 +56,8 @@ fn push_stream(alloc: Global, bytes: &[u8], text: &mut String) -> Result<(), Cas
     Ok(())
 }
 
-/// Feeds some bytes and appends the items that they complete, each with the number of bytes fed until then.
+/// Feeds some bytes and appends the items that they complete. Prints `count`, the number of bytes fed so far,
+/// after each item.
 fn push_fed(
     alloc: Global,
     wire: &mut Wire,
@@ -75,8 +78,8 @@ fn push_count(alloc: Global, count: usize, text: &mut String) -> Result<(), Case
     push_all(text, &[count.as_str()])
 }
 
-/// Appends an item: `Continue`, a refusal, or a message's method, target, token, body, and whether it closes
-/// the connection.
+/// Appends an item: `Continue`, a refusal, or a message. Of a message, appends the method, the target, the
+/// token and the body, and ` closes` if it closes the connection.
 fn push_item(alloc: Global, item: &Item, text: &mut String) -> Result<(), CaseFault> {
     match item {
         Item::Continue => push_all(text, &["Continue"]),
@@ -106,7 +109,7 @@ fn text_of(octets: &Octets) -> &str {
     str::from_utf8(octets.as_slice()).unwrap_or("no UTF-8")
 }
 
-/// Returns the items of a stream that is fed in two pieces, the first with `cut` bytes.
+/// Feeds a stream in two pieces, the first of `cut` bytes, and returns its items.
 fn items_in_two(alloc: Global, bytes: &[u8], cut: usize) -> Result<String, CaseFault> {
     let (front, back) = bytes.split_at(cut.min(bytes.len()));
     let mut wire = Wire::new(alloc);
@@ -116,7 +119,8 @@ fn items_in_two(alloc: Global, bytes: &[u8], cut: usize) -> Result<String, CaseF
     Ok(text)
 }
 
-/// Appends the first cut whose items differ from those of the uncut stream; ` however cut` if no cut's do.
+/// Appends the first cut with which the items differ from the items of the uncut stream, and these items.
+/// Appends ` however cut` if the items are equal for every cut.
 fn push_cuts(alloc: Global, bytes: &[u8], text: &mut String) -> Result<(), CaseFault> {
     let whole = items_in_two(alloc, bytes, 0)?;
     for cut in 1..bytes.len() {
@@ -133,7 +137,7 @@ fn push_cut(alloc: Global, cut: usize, found: &str, text: &mut String) -> Result
     push_all(text, &[cut.as_str(), found])
 }
 
-/// Returns the text of a reply.
+/// Returns the HTTP reply that the arguments describe, printed as text.
 fn print_reply_call(case: &Case<'_>) -> Result<String, CaseFault> {
     let Ok(status) = u16::try_from(case.number("status")?) else {
         return Err(CaseFault::Missing("status"));

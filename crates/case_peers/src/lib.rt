@@ -1,5 +1,5 @@
-//! Connections in memory for cases, of which the contracts know the events and the bytes taken, as the theorem
-//! about `serve` asks.
+//! Connections in memory for cases. Their contracts describe the reported events and the bytes taken, as the
+//! theorem about `serve` requires.
 #![tactic(auto)]
 
 mod scripted_peers;

@@ -1,4 +1,4 @@
-//! Connections whose events are given by a script.
+//! Connections in memory whose events come from a script.
 ghost use Rattle.std.specs.Prelude.{◌≡◌, ◌≤◌, ◌++◌, ◌==◌, IfOk, length, take, true};
 ghost use Rattle.scim_hub.specs.HubStates.{owned_event_of};
 
@@ -11,9 +11,9 @@ use std::alloc::{AllocError, Global};
 pub struct ScriptedPeer {
     /// The bytes that the connection has taken.
     pub taken: Vec<u8>,
-    /// Whether it took all of the last offer.
+    /// Whether the connection took all bytes of the last offer.
     takes_all: bool,
-    /// Whether it is closed.
+    /// Whether the connection is closed.
     pub is_closed: bool,
 }
 
@@ -27,7 +27,8 @@ impl ScriptedPeer {
         }
     }
 
-    /// Takes at most `most` bytes of an offer, and returns their number; none if memory runs out.
+    /// Takes at most `most` bytes of an offer, and returns the number of bytes taken. Takes no bytes if
+    /// memory runs out.
     fn take(&mut self, offer: &[u8], most: usize) -> usize
         ensures count { result ≤ length offer.now }
         ensures taken { self.new.taken.items ≡ self.old.taken.items ++ take result offer.now }
@@ -44,17 +45,18 @@ impl ScriptedPeer {
     }
 }
 
-/// The connections 0 and 1, which take at most `step` bytes at a call.
+/// Two connections with the numbers 0 and 1, which take at most `step` bytes at a call of `write`.
 #[derive(Drop)]
 pub struct ScriptedPeers {
     /// The events, in order.
     script: Vec<OwnedEvent>,
-    /// The number of events that were reported.
+    /// The number of events reported so far.
     reported: usize,
-    /// The connections that took less than they were offered and may take more, the next one last.
+    /// The connections that took fewer bytes than they were offered and may take more. The last of them is
+    /// reported next.
     ready: Vec<u64>,
     step: usize,
-    /// Whether the end was reported last.
+    /// Whether the last call of `next` reported the end of the events.
     is_over: bool,
     /// Connection 0.
     pub first: ScriptedPeer,
@@ -62,7 +64,8 @@ pub struct ScriptedPeers {
     pub second: ScriptedPeer,
 }
 
-/// Returns the event of a connection: these bytes arrive, or it joins if there are none.
+/// Returns the event in which these bytes arrive on a connection. If there are no bytes, returns the event in
+/// which the connection joins.
 fn event_of(alloc: Global, connection: u64, bytes: &str) -> Result<OwnedEvent, AllocError> {
     let kind = if bytes.is_empty() {
         OwnedEventKind::Joined
@@ -95,7 +98,8 @@ fn copy_of(alloc: Global, event: &OwnedEvent) -> Result<OwnedEvent, AllocError>
 }
 
 impl ScriptedPeers {
-    /// Returns connections with these events, in order: bytes arrive, or a connection joins if there are none.
+    /// Returns connections with these events, in order. An event is the number of a connection and the bytes
+    /// that arrive on it. If there are no bytes, the connection joins.
     pub fn new(
         alloc: Global,
         step: usize,

@@ -8,7 +8,7 @@ use scim_schema::{Leaf, Op, unit_of};
 use scim_value::Resource;
 use std::alloc::Global;
 
-/// A call on access.
+/// A call on the access of a client.
 #[derive(Clone, Copy)]
 enum AccessCall {
     MayWrite,
@@ -20,7 +20,7 @@ static CALLS: [(&str, AccessCall); 2] = [
     ("widens", AccessCall::Widens),
 ];
 
-/// Returns the result of the case's call, or None if it isn't a call on access.
+/// Returns the result of the case's call, or `None` if it isn't a call on access.
 pub fn answer(case: &Case<'_>, call: &str) -> Option<Result<String, CaseFault>> {
     let call = named(&CALLS, call)?;
     Some(access_call(case, call))
@@ -39,7 +39,8 @@ fn told_of_access(case: &Case<'_>, call: AccessCall, policy: &Policy) -> Result<
     }
 }
 
-/// Returns the leaf that forbids writing the unit of `leaf`, with the deciding rule; or `nothing`.
+/// Returns the leaf because of which the client may not write the unit of the argument `leaf`, and the
+/// deciding rule. Returns `nothing` if the client may write the unit.
 fn forbidding_text(
     case: &Case<'_>,
     policy: &Policy,
@@ -52,8 +53,8 @@ fn forbidding_text(
     }
 }
 
-/// Returns the operation and the leaf that the client gains if the resource gets the cells `then`, with the
-/// deciding rule; or `nothing`.
+/// Returns the operation and the leaf that the client gains if the resource changes to the cells in the
+/// argument `then`, and the deciding rule. Returns `nothing` if the client gains no access.
 fn widening_text(case: &Case<'_>, policy: &Policy, before: &Resource) -> Result<String, CaseFault> {
     let after = resource(
         case.alloc,

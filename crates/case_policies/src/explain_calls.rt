@@ -22,7 +22,8 @@ static CALLS: [(&str, ExplainCall); 4] = [
     ("idle_rules", ExplainCall::IdleRules),
 ];
 
-/// Returns the result of the case's call, or None if it isn't a call of these crates.
+/// Returns the result of the case's call, or `None` if it isn't a call of `scim_explain` or
+/// `scim_policy_sentences`.
 pub fn answer(case: &Case<'_>, call: &str) -> Option<Result<String, CaseFault>> {
     let call = named(&CALLS, call)?;
     Some(policy_call(case, call))
@@ -51,7 +52,7 @@ fn table_text(case: &Case<'_>, policy: &Policy) -> Result<String, CaseFault> {
     Ok(table(case.alloc, policy, client, case.op(), &resource)?)
 }
 
-/// Returns the explanation of a decision, one rule per line.
+/// Returns the explanation of a decision, with one line for each rule.
 fn explanation_text(case: &Case<'_>, policy: &Policy) -> Result<String, CaseFault> {
     let client = case.text("client")?;
     let resource = case.resource()?;

@@ -13,7 +13,7 @@ pub use policy_calls::policy;
 pub use query_calls::query_of;
 pub use view_calls::wanted;
 
-/// Returns the result of the case's call, or None if it isn't a call of this crate.
+/// Returns the result of the case's call, or `None` if it isn't a call of this crate.
 pub fn answer(case: &Case<'_>, call: &str) -> Option<Result<String, CaseFault>> {
     if let Some(found) = policy_calls::answer(case, call) {
         return Some(found);

@@ -48,7 +48,8 @@ static CALLS: [(&str, PolicyCall); 10] = [
     ("misfits", PolicyCall::OnResource(OfDecision::Misfits)),
 ];
 
-/// Returns the result of the case's call, or None if it isn't a call of these crates.
+/// Returns the result of the case's call, or `None` if it isn't a call of `scim_policy` or
+/// `scim_policy_file`.
 pub fn answer(case: &Case<'_>, call: &str) -> Option<Result<String, CaseFault>> {
     let call = named(&CALLS, call)?;
     Some(match call {
@@ -64,13 +65,14 @@ fn is_client_name_call(case: &Case<'_>) -> Result<String, CaseFault> {
     truth(case.alloc, is_client_name(case.text("text")?))
 }
 
-/// Returns `ok, N rules`, or the text of the policy's fault.
+/// Returns `ok, N rules`, or the text of the error if the policy is invalid.
 fn read_policy_call(case: &Case<'_>) -> Result<String, CaseFault> {
     let text = policy_text(case)?;
     told_of_text(case.alloc, text.as_str())
 }
 
-/// Returns `ok, N rules`, or the text of the policy file's fault; the fault `json` if the file isn't UTF-8.
+/// Returns `ok, N rules`, or the text of the error if the policy file is invalid. The error is `rule 0: json`
+/// if the file isn't UTF-8.
 fn policy_file(case: &Case<'_>) -> Result<String, CaseFault> {
     match file_text(case, "policy", "policy_hex")? {
         Some(text) => told_of_text(case.alloc, text.as_str()),
@@ -85,12 +87,12 @@ fn told_of_text(alloc: Global, text: &str) -> Result<String, CaseFault> {
     }
 }
 
-/// Returns the text for a valid policy with this number of rules.
+/// Returns `ok, N rules`, the result for a valid policy with this number of rules.
 fn count_text(alloc: Global, rules: usize) -> Result<String, CaseFault> {
     between(alloc, "ok, ", &rules, " rules")
 }
 
-/// Returns the policy of a case, read from [`policy_text`]. Missing if it is invalid.
+/// Returns the policy of a case, read from [`policy_text`]. Fails with `Missing` if it is invalid.
 pub fn policy(case: &Case<'_>) -> Result<Policy, CaseFault> {
     let text = policy_text(case)?;
     match read_policy(case.alloc, text.as_str()) {
@@ -99,7 +101,8 @@ pub fn policy(case: &Case<'_>) -> Result<Policy, CaseFault> {
     }
 }
 
-/// Returns the rule with the number `number`, from 1, by default the first. Missing if there is none.
+/// Returns the rule whose number is the argument `number`, counted from 1, by default the first. Fails with
+/// `Missing` if there is no such rule.
 fn rule_of<'p>(case: &Case<'_>, policy: &'p Policy) -> Result<&'p Rule, CaseFault> {
     let number = if case.has("number") {
         case.count("number")?
@@ -127,7 +130,7 @@ fn told_of_rule(case: &Case<'_>, told: OfRule, policy: &Policy) -> Result<String
     }
 }
 
-/// Returns a rule's effect, clients, operations and kinds.
+/// Returns the effect, the clients, the operations and the kinds of a rule.
 fn rule_text(alloc: Global, rule: &Rule) -> Result<String, CaseFault> {
     let mut text = said(alloc, if rule.allows() { "allow" } else { "deny" })?;
     for client in rule.clients() {
@@ -151,7 +154,8 @@ fn push_scope(alloc: Global, rule: &Rule, text: &mut String) -> Result<(), CaseF
     push_all(text, &[" ", ops.as_str(), " ", kinds.as_str()])
 }
 
-/// Returns the targets of a rule, each with whether its values have the types of their attributes.
+/// Returns the targets of a rule. After each target, says whether its values have the types of their
+/// attributes.
 fn targets_text(alloc: Global, targets: &[Target]) -> Result<String, CaseFault> {
     let mut text = String::new(alloc);
     for target in targets {
@@ -205,7 +209,7 @@ fn decision_of(case: &Case<'_>, policy: &Policy, resource: &Resource) -> Result<
     decision_text(case.alloc, decision)
 }
 
-/// Returns the decisions on the leaves of the list `leaves`, separated by `; `.
+/// Returns the decisions on the leaves in the list `leaves`, separated by `; `.
 fn decisions_of(
     case: &Case<'_>,
     policy: &Policy,
@@ -235,7 +239,8 @@ fn push_decision(alloc: Global, decision: Decision, text: &mut String) -> Result
     Ok(text.push_str(decision.as_str())?)
 }
 
-/// Returns why the rule with the number `number` doesn't fit, from the policy.
+/// Returns the first part of a rule that doesn't match the case, or `None` if every part matches. The
+/// argument `number` is the number of the rule. Fails with `Missing` if there is no such rule.
 fn misfit_text(case: &Case<'_>, policy: &Policy, resource: &Resource) -> Result<String, CaseFault> {
     let leaf = case.leaf("leaf")?;
     let client = case.text("client")?;
@@ -247,7 +252,7 @@ fn misfit_text(case: &Case<'_>, policy: &Policy, resource: &Resource) -> Result<
     debugged(case.alloc, &misfit)
 }
 
-/// Returns for each rule why it doesn't fit.
+/// Returns, for each rule, the first part that doesn't match the case, or `None` if every part matches.
 fn misfits_text(
     case: &Case<'_>,
     policy: &Policy,

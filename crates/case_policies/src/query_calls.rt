@@ -32,7 +32,7 @@ static CALLS: [(&str, QueryCall); 4] = [
     ("read_sort_by", QueryCall::ReadSortBy),
 ];
 
-/// Returns the result of the case's call, or None if it isn't a call of `scim_query`.
+/// Returns the result of the case's call, or `None` if it isn't a call of `scim_query`.
 pub fn answer(case: &Case<'_>, call: &str) -> Option<Result<String, CaseFault>> {
     let call = named(&CALLS, call)?;
     Some(match call {
@@ -43,7 +43,7 @@ pub fn answer(case: &Case<'_>, call: &str) -> Option<Result<String, CaseFault>> 
     })
 }
 
-/// Returns the leaf that a `sortBy` names; `none` if it names none.
+/// Returns the leaf that the `sortBy` parameter in the argument `text` names, or `none` if it names no leaf.
 fn read_sort_by_call(case: &Case<'_>) -> Result<String, CaseFault> {
     let text = spaced_text(case, "text")?;
     match read_sort_by(case.kind(), text.as_str()) {
@@ -52,7 +52,8 @@ fn read_sort_by_call(case: &Case<'_>) -> Result<String, CaseFault> {
     }
 }
 
-/// Returns the filter in the argument `filter`, if it is given. Missing if it is invalid.
+/// Returns the filter in the argument `filter`, or `None` if it isn't given. Fails with `Missing` if it is
+/// invalid.
 fn wanted_filter(case: &Case<'_>) -> Result<Option<Filter>, CaseFault> {
     if case.text("filter").is_err() {
         return Ok(None);
@@ -63,12 +64,12 @@ fn wanted_filter(case: &Case<'_>) -> Result<Option<Filter>, CaseFault> {
     }
 }
 
-/// Returns the leaf that the argument `sortBy` names, if it is given and names one.
+/// Returns the leaf that the argument `sortBy` names, or `None` if it isn't given or doesn't name a leaf.
 fn sort_leaf(case: &Case<'_>) -> Option<Leaf> {
     read_sort_by(case.kind(), case.text("sortBy").ok()?)
 }
 
-/// Returns the query of a case, by default the first 100 resources by id.
+/// Returns the query of a case. By default it asks for the first 100 resources in order of id.
 pub fn query_of(case: &Case<'_>) -> Result<Query, CaseFault> {
     let wanted = wanted(case)?;
     Ok(Query {
@@ -81,7 +82,7 @@ pub fn query_of(case: &Case<'_>) -> Result<Query, CaseFault> {
     })
 }
 
-/// Returns the page of the query over the parts in the list `parts`.
+/// Returns the page that the query finds among the parts in the list `parts`.
 fn found_page(case: &Case<'_>) -> Result<String, CaseFault> {
     let query = query_of(case)?;
     found_by(case, &query)
@@ -97,7 +98,8 @@ fn found_among(case: &Case<'_>, parts: &[Part], query: &Query) -> Result<String,
     page_text(case, &page)
 }
 
-/// Returns the parts in the list `parts`; if it is empty, the parts of the resources of [`resources_of`].
+/// Returns the parts in the list `parts`. If it is empty, returns the parts of the resources from
+/// [`resources_of`].
 fn pushed_parts(case: &Case<'_>) -> Result<Vec<Part>, CaseFault> {
     if !case.list("parts").is_empty() {
         return parts_of(case);
@@ -111,8 +113,8 @@ fn pushed_parts(case: &Case<'_>) -> Result<Vec<Part>, CaseFault> {
     )
 }
 
-/// Returns the page of a pager that gets the parts one by one, and the maximum number of parts it held
-/// between two calls.
+/// Pushes the parts to a pager one by one. Returns its page, and the maximum number of parts that it held
+/// after a push.
 fn paged(case: &Case<'_>) -> Result<String, CaseFault> {
     let query = query_of(case)?;
     paged_by(case, &query)
@@ -126,7 +128,7 @@ fn paged_by(case: &Case<'_>, query: &Query) -> Result<String, CaseFault> {
     told_page(case, &page, most)
 }
 
-/// Pushes the parts to the pager and returns the maximum number of parts it held between two calls.
+/// Pushes the parts to the pager. Returns the maximum number of parts that the pager held after a push.
 fn push_parts(pager: &mut Pager<'_>, parts: Vec<Part>) -> Result<usize, CaseFault> {
     let mut most = 0;
     for part in parts {
@@ -142,13 +144,13 @@ fn told_page(case: &Case<'_>, page: &Page, most: usize) -> Result<String, CaseFa
     joined(case.alloc, &[text.as_str(), held.as_str()])
 }
 
-/// Returns the page of the query over the client's view, as text.
+/// Returns the page that the query finds in the client's view, as text.
 fn seen_page(case: &Case<'_>) -> Result<String, CaseFault> {
     let page = page_of_view(case)?;
     page_text(case, &page)
 }
 
-/// Returns the page of the query over the client's view.
+/// Returns the page that the query finds in the client's view.
 fn page_of_view(case: &Case<'_>) -> Result<Page, CaseFault> {
     let query = query_of(case)?;
     page_for(case, &query)
@@ -175,8 +177,8 @@ fn page_among(
     Ok(search_view(case.alloc, viewer, groups, resources.as_slice(), query)?)
 }
 
-/// Returns a page as its total, its start and its items. An item is printed as JSON, or as the atom at the
-/// leaf that the argument `tell` names.
+/// Prints a page: its total, its start and its items. An item is printed as JSON or, if the argument `tell`
+/// names a leaf, as the atom at this leaf.
 fn page_text(case: &Case<'_>, page: &Page) -> Result<String, CaseFault> {
     let mut text = page_head(case.alloc, page)?;
     for item in &page.items {

@@ -41,7 +41,7 @@ static CALLS: [(&str, ViewCall); 8] = [
     ("includes", ViewCall::Includes),
 ];
 
-/// Returns the result of the case's call, or None if it isn't a call of `scim_view`.
+/// Returns the result of the case's call, or `None` if it isn't a call of `scim_view`.
 pub fn answer(case: &Case<'_>, call: &str) -> Option<Result<String, CaseFault>> {
     let call = named(&CALLS, call)?;
     Some(match call {
@@ -52,7 +52,7 @@ pub fn answer(case: &Case<'_>, call: &str) -> Option<Result<String, CaseFault>> 
     })
 }
 
-/// Returns the viewer for the case's client, with this policy.
+/// Returns a viewer for this policy and the client in the argument `client`.
 pub fn viewer<'c>(case: &'c Case<'_>, policy: &'c Policy) -> Result<Viewer<'c>, CaseFault> {
     Ok(Viewer {
         policy,
@@ -113,7 +113,7 @@ fn cells_text(alloc: Global, part: &Part) -> Result<String, CaseFault> {
     Ok(part_text(alloc, part)?)
 }
 
-/// Returns the cells of the visible part; `unseen` if the client doesn't see the resource.
+/// Returns the cells of the visible part, or `unseen` if the client doesn't see the resource.
 fn seen_text(alloc: Global, part: Option<Part>) -> Result<String, CaseFault> {
     match part {
         Some(part) => cells_text(alloc, &part),
@@ -126,7 +126,7 @@ fn groups(case: &Case<'_>) -> Result<Vec<Resource>, CaseFault> {
     resources(case, Kind::Group, "groups")
 }
 
-/// Returns the visible parts of the resources in the list `resources`, with a bar after each.
+/// Returns the visible parts of the resources in the list `resources`, with ` | ` after each.
 fn views_call(case: &Case<'_>) -> Result<String, CaseFault> {
     let parts = seen_parts(case)?;
     parts_text(case.alloc, parts.as_slice())
@@ -165,14 +165,14 @@ fn push_part(alloc: Global, part: &Part, text: &mut String) -> Result<(), CaseFa
     push_all(text, &[cells.as_str(), " | "])
 }
 
-/// Returns the attribute names in a list.
+/// Reads the argument `list` as a list of attribute names.
 fn names(case: &Case<'_>, list: &'static str) -> Result<Names, CaseFault> {
     let texts = texts(case, list)?;
     Ok(Names::of(case.alloc, case.kind(), texts.as_slice())?)
 }
 
-/// Returns the attributes wanted: the list `attributes`, all but the list `excludedAttributes`, or the
-/// default.
+/// Returns the attributes that a response contains: those in the list `attributes`, all except those in the
+/// list `excludedAttributes`, or the default attributes.
 pub fn wanted(case: &Case<'_>) -> Result<Wanted, CaseFault> {
     if case.has("attributes") {
         return Ok(Wanted::Only(names(case, "attributes")?));

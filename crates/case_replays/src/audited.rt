@@ -1,4 +1,4 @@
-//! The audit after a recording's events.
+//! The audit after the events of a recording.
 use crate::recordings::Texts;
 use case_values::{CaseFault, push_rows_after};
 use scim_command::{DatabaseFault, Recording, RunFault, events_of, read_events, service_over};
@@ -9,14 +9,14 @@ use scim_shelf::MemoryShelf;
 use scim_token::Tokens;
 use std::alloc::Global;
 
-/// Returns the lines of the audit after the events of a recording.
+/// Runs the events of a recording on a new hub, and returns the lines of the audit.
 pub(crate) fn audit_lines(alloc: Global, texts: &Texts) -> Result<String, CaseFault> {
     let recording = texts.recording();
     let mut hub = hub_of(alloc, &recording)?;
     lines_after(alloc, &mut hub, recording.events)
 }
 
-/// Returns the lines of a hub's audit after the events of a file.
+/// Runs the events of an events file on a hub, and returns the lines of the audit.
 fn lines_after(
     alloc: Global,
     hub: &mut Hub<MemoryShelf>,
@@ -28,7 +28,8 @@ fn lines_after(
     Ok(text)
 }
 
-/// Returns a hub with the policy, tokens and users of a recording.
+/// Returns a hub with the policy, tokens and users of a recording. Fails with `Missing` if the text of one of
+/// them is invalid.
 pub(crate) fn hub_of(
     alloc: Global,
     recording: &Recording<'_>,
@@ -46,7 +47,7 @@ pub(crate) fn hub_of(
     }
 }
 
-/// Runs the events of a file on the hub.
+/// Runs the events of an events file on a hub. Fails with `Missing` if the file is invalid.
 fn run_events(alloc: Global, hub: &mut Hub<MemoryShelf>, events: &str) -> Result<(), CaseFault> {
     match read_events(alloc, events) {
         Ok(owned) => run_recorded(alloc, hub, owned.as_slice()),

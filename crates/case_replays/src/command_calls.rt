@@ -13,7 +13,8 @@ use scim_schema::Leaf;
 use scim_text::{print_moment, push};
 use std::alloc::Global;
 
-/// Returns the output of `once` after the text `before`, followed by the line of its fault, if any.
+/// Runs `once`. Returns the argument `before`, followed by the output and, if the command failed, the text of
+/// its error.
 pub(crate) fn once_call(case: &Case<'_>) -> Result<String, CaseFault> {
     let setting = Setting::new(
         case.text_or("policy", POLICY),
@@ -27,7 +28,8 @@ pub(crate) fn once_call(case: &Case<'_>) -> Result<String, CaseFault> {
     end_text(case.alloc, written.as_slice(), done)
 }
 
-/// Returns the output of `check` after the text `before`, followed by the line of its fault, if any.
+/// Runs `check`. Returns the argument `before`, followed by the output and, if it failed, the text of its
+/// error.
 pub(crate) fn check_call(case: &Case<'_>) -> Result<String, CaseFault> {
     let policy = case.text_or("policy", POLICY);
     let is_verbose = case.has("verbose");
@@ -36,7 +38,7 @@ pub(crate) fn check_call(case: &Case<'_>) -> Result<String, CaseFault> {
     end_text(case.alloc, written.as_slice(), done)
 }
 
-/// Returns the output of a command, followed by the line of its fault, if any.
+/// Returns the output of a command, followed by the text of its error if it failed.
 pub(crate) fn end_text(
     alloc: Global,
     written: &[u8],
@@ -49,7 +51,7 @@ pub(crate) fn end_text(
     }
 }
 
-/// Returns the arguments of a command line, in the list `words`.
+/// Returns the words of a command line, which are the strings in the list `words`.
 fn words(case: &Case<'_>) -> Result<Vec<String>, CaseFault> {
     let mut words = Vec::new(case.alloc);
     for value in case.list("words") {
@@ -60,7 +62,7 @@ fn words(case: &Case<'_>) -> Result<Vec<String>, CaseFault> {
     Ok(words)
 }
 
-/// Returns the options of a command line, or the exit status if it is invalid.
+/// Returns the options of a command line, or the exit status if the command line is invalid.
 pub(crate) fn command_line(case: &Case<'_>) -> Result<String, CaseFault> {
     let words = words(case)?;
     told_of_words(case.alloc, words.as_slice())
@@ -174,7 +176,7 @@ fn serve_options(alloc: Global, matches: &ArgMatches<'_>) -> Result<String, Case
     }
 }
 
-/// Returns the options of `serve`; 0 connections if the server doesn't end.
+/// Returns the options of `serve`. Prints 0 as the number of connections if the options don't limit it.
 fn served_text(alloc: Global, options: &ServeOptions<'_>) -> Result<String, CaseFault> {
     let port = shown(alloc, &options.port)?;
     let connections = shown(alloc, &options.connections.unwrap_or(0))?;
@@ -223,7 +225,7 @@ fn import_options(alloc: Global, matches: &ArgMatches<'_>) -> Result<String, Cas
     }
 }
 
-/// Returns the leaf in the options of `explain`; `all` if none is given.
+/// Returns the leaf in the options of `explain`, or `all` if no leaf is given.
 fn explain_options(alloc: Global, matches: &ArgMatches<'_>) -> Result<String, CaseFault> {
     match ExplainOptions::of(matches) {
         Ok(options) => leaf_text(alloc, options.leaf),
@@ -258,26 +260,26 @@ fn options_text(alloc: Global, options: &OnceOptions<'_>) -> Result<String, Case
     joined(alloc, &words)
 }
 
-/// Returns the line of a fault and the exit status.
+/// Returns the text of the error that the argument `fault` names, and its exit status.
 pub(crate) fn fault_line(case: &Case<'_>) -> Result<String, CaseFault> {
     let fault = fault_of(case)?;
     line_and_status(case.alloc, &fault)
 }
 
-/// A fault of a command.
+/// An error of a command.
 #[derive(Clone, Copy)]
 enum FaultNamed {
     NotText,
-    /// The file `path` can't be read.
+    /// The file in the argument `path` can't be read.
     CannotRead,
-    /// The item `item` of the users file is invalid.
+    /// An item of the users file is invalid. Its number is the argument `item`.
     Users,
     InputEnded,
     InputFailed,
     Output,
     NoMemory,
     Absent,
-    /// The rows of `id` in the database aren't those of a resource.
+    /// The rows of the resource with the id `id` in the database are damaged.
     Damaged,
     WrongVersion,
     Unusable,

@@ -6,16 +6,16 @@ use std::alloc::Global;
 /// The default time of an event.
 const NOON: &str = "2024-06-01T12:00:00Z";
 
-/// The default id of the resource that an event's first message creates.
+/// The default id of a resource that the first message of an event creates.
 const FRESH: &str = "00000000-0000-4000-8000-0000000000e1";
 
-/// Returns the lines of the list `events`. An event is one of:
+/// Returns the lines of an events file for the list `events`. An event is one of:
 ///
-/// - a string: a line of an events file;
-/// - an object with a connection `on` that `joins`, `leaves` or sends a `request`;
-/// - an object with a list `interleaved` of two events that send; each sends one byte in turn.
+/// - a string, which is a line of an events file;
+/// - an object with the number `on` of a connection, which `joins`, `leaves` or sends a `request`;
+/// - an object with a list `interleaved` of two events that send a request. They send one byte each in turn.
 ///
-/// `at` and `first` are the event's stamp.
+/// The members `at` and `first` of an object are the stamp of the event.
 pub(crate) fn events_text(case: &Case<'_>) -> Result<String, CaseFault> {
     let mut text = String::new(case.alloc);
     for value in case.list("events") {
@@ -52,7 +52,7 @@ fn line_of(alloc: Global, line: &str) -> Result<String, CaseFault> {
     joined(alloc, &[line, "\n"])
 }
 
-/// Returns the line for a change of the event's connection, with `behind` after the connection's number.
+/// Returns the line of an event called `name`: its stamp, `name`, the number of the connection, and `behind`.
 fn change_line(event: &Case<'_>, name: &str, behind: &str) -> Result<String, CaseFault> {
     let connection = shown(event.alloc, &event.count("on")?)?;
     let mut line = stamp_text(event)?;
@@ -73,14 +73,14 @@ fn stamp_text(event: &Case<'_>) -> Result<String, CaseFault> {
     Ok(text)
 }
 
-/// Returns the line for a piece of a stream.
+/// Returns the line of an event in which a connection sends these bytes.
 pub(crate) fn piece_line(event: &Case<'_>, bytes: &[u8]) -> Result<String, CaseFault> {
     let digits = hex::encode(event.alloc, bytes)?;
     let behind = joined(event.alloc, &[" ", digits.as_str()])?;
     change_line(event, "piece", behind.as_str())
 }
 
-/// Returns the lines of two streams that send one byte each in turn.
+/// Returns the lines of the two events in the list `interleaved`, which send one byte each in turn.
 fn interleaved(event: &Case<'_>) -> Result<String, CaseFault> {
     let [first, second] = event.list("interleaved") else {
         return Err(CaseFault::Missing("interleaved"));
@@ -99,7 +99,7 @@ fn by_turns(first: &Case<'_>, second: &Case<'_>) -> Result<String, CaseFault> {
     Ok(text)
 }
 
-/// Appends the line for a stream's byte at an index, if there is one.
+/// Appends the line for the byte at `index`, or nothing if there is no such byte.
 fn push_byte(
     event: &Case<'_>,
     bytes: &[u8],

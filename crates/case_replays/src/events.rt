@@ -1,4 +1,4 @@
-//! Cases of events, answered as by `replay`.
+//! Runs cases of events as the command `replay` does.
 use crate::audited::audit_lines;
 use crate::command_calls::end_text;
 use crate::event_lines::{events_text, piece_line};
@@ -8,8 +8,8 @@ use case_values::{Case, CaseFault, push_all, said, shown};
 use scim_command::replay;
 use std::alloc::Global;
 
-/// Returns the outputs for the events of a case, in lines as `replay` writes them, followed by the lines of
-/// the audit if the case has `audit`.
+/// Returns the output of `replay` for the events of a case. If the case has `audit`, appends the lines of the
+/// audit.
 pub fn answered(case: &Case<'_>) -> Result<String, CaseFault> {
     let texts = Texts::of(case, events_text(case)?)?;
     told_of_events(case, &texts)
@@ -24,15 +24,15 @@ fn told_of_events(case: &Case<'_>, texts: &Texts) -> Result<String, CaseFault> {
     Ok(lines)
 }
 
-/// Returns the output of `replay` for the text `events`, after the text `before`, followed by the line of its
-/// fault, if any.
+/// Runs `replay` for the text in the argument `events`. Returns the argument `before`, followed by the output
+/// and, if the command failed, the text of its error.
 pub(crate) fn replay_call(case: &Case<'_>) -> Result<String, CaseFault> {
     let texts = Texts::of(case, said(case.alloc, case.text("events")?)?)?;
     replayed(case.alloc, &texts, case.text_or("before", ""))
 }
 
-/// Returns the outputs for the request of a case. If the request in two pieces has other outputs at some cut,
-/// the first such cut and its outputs are appended.
+/// Returns the output of `replay` for the request of a case. Also sends the request in two pieces, once for
+/// each position of the cut. If the output differs for a cut, appends the first such cut and its output.
 pub(crate) fn cut_call(case: &Case<'_>) -> Result<String, CaseFault> {
     let request = request_bytes(case)?;
     told_of_cuts(case, request.as_slice())
@@ -44,7 +44,8 @@ fn told_of_cuts(case: &Case<'_>, request: &[u8]) -> Result<String, CaseFault> {
     Ok(text)
 }
 
-/// Appends the first cut of the request with other outputs than the whole request, if any.
+/// Appends the first cut of the request for which the output differs from `whole`, the output for the whole
+/// request, and the output for this cut. Appends nothing if there is no such cut.
 fn push_first_cut(case: &Case<'_>, request: &[u8], whole: &mut String) -> Result<(), CaseFault> {
     for place in 1..request.len() {
         let cut = sent(case, request, place)?;
@@ -55,14 +56,14 @@ fn push_first_cut(case: &Case<'_>, request: &[u8], whole: &mut String) -> Result
     Ok(())
 }
 
-/// Appends a cut and its outputs.
+/// Appends the position of a cut, and the output for this cut.
 fn push_cut(alloc: Global, place: usize, cut: &str, text: &mut String) -> Result<(), CaseFault> {
     let place = shown(alloc, &place)?;
     push_all(text, &["cut at ", place.as_str(), ": ", cut])
 }
 
-/// Returns the outputs for a request in two pieces, the first with `place` bytes; in one piece if `place` is
-/// 0.
+/// Returns the output of `replay` for a request that is sent in two pieces, the first of `place` bytes. If
+/// `place` is 0, the request is sent in one piece.
 fn sent(case: &Case<'_>, request: &[u8], place: usize) -> Result<String, CaseFault> {
     let mut events = events_text(case)?;
     push_pieces(case, request, place, &mut events)?;
@@ -70,7 +71,8 @@ fn sent(case: &Case<'_>, request: &[u8], place: usize) -> Result<String, CaseFau
     replayed(case.alloc, &texts, "")
 }
 
-/// Appends the lines of a request in two pieces, or in one.
+/// Appends the event lines of a request that is sent in two pieces, the first of `place` bytes. If `place` is
+/// 0, appends one line.
 fn push_pieces(
     case: &Case<'_>,
     request: &[u8],

@@ -1,5 +1,5 @@
-//! The calls of `scim_command`: command lines, `once`, `check` and `replay`; cases of events of connections;
-//! and streams served whole, over users in memory.
+//! The calls of `scim_command` for command lines, `once`, `check` and `replay`; the cases of events of
+//! connections; and the call that serves a whole stream. The users are in memory.
 #![tactic(auto)]
 
 mod audited;
@@ -34,7 +34,7 @@ static CALLS: [(&str, Call); 7] = [
     ("fault_line", Call::FaultLine),
 ];
 
-/// Returns the result of the case's call, or None if it isn't a call of this crate.
+/// Returns the result of the case's call, or `None` if it isn't a call of this crate.
 pub fn answer(case: &Case<'_>, call: &str) -> Option<Result<String, CaseFault>> {
     let call = named(&CALLS, call)?;
     Some(match call {

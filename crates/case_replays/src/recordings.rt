@@ -1,9 +1,10 @@
-//! The files that the events of a case are answered with.
+//! The recording of a case: the texts of its files and of its events.
 use case_values::{Case, CaseFault, policy_text, said, text_or_json};
 use scim_command::Recording;
 use scim_samples::{BASE, USERS};
 
-/// The default tokens: `abc` of the client `hr` and `hello` of the client `mail`.
+/// The default token file. The token of the client `hr` is `abc`, and the token of the client `mail` is
+/// `hello`.
 const TOKENS: &str =
     "hr ba7816bf8f01cfea414140de5dae2223b00361a396177a9cb410ff61f20015ad\nmail 2cf24dba5fb0a30e26e83b2ac5b9e29e1b161e5c1fa7425e73043362938b9824\n";
 
@@ -29,8 +30,8 @@ impl Drop for Texts {
 }
 
 impl Texts {
-    /// Returns the texts with these events and with the policy, tokens, users and base of a case, by default
-    /// those of the samples.
+    /// Returns the texts with these events, and with the policy, tokens, users and base of a case. By default
+    /// the tokens are [`TOKENS`], and the policy, users and base are the samples.
     pub(crate) fn of(case: &Case<'_>, events: String) -> Result<Texts, CaseFault> {
         Ok(Texts {
             policy: policy_text(case)?,

@@ -1,4 +1,4 @@
-//! Streams that are served whole.
+//! The call that serves a whole stream.
 use crate::audited::hub_of;
 use crate::recordings::Texts;
 use case_runs::request_bytes;
@@ -11,7 +11,7 @@ use scim_text::read_printed_moment;
 use std::alloc::Global;
 use uuid::Uuid;
 
-/// Returns the same stamp at each call.
+/// A source of stamps that returns the same stamp at each call.
 #[derive(Clone, Copy)]
 struct OneStamp {
     stamp: Stamp,
@@ -27,7 +27,7 @@ impl Stamps for OneStamp {
     }
 }
 
-/// Returns the output for the request of a case as a whole stream, and the number of replies.
+/// Serves a stream that consists of the request of a case. Returns the output and the number of replies.
 pub(crate) fn stream_call(case: &Case<'_>) -> Result<String, CaseFault> {
     let request = request_bytes(case)?;
     told_of_stream(case, request.as_slice())
@@ -47,7 +47,7 @@ fn told_of_hub(
     served_by(alloc, request, &mut hub)
 }
 
-/// Returns the output of a hub for a stream on its own connection.
+/// Serves a stream on connection 1 of a hub. Returns the output and the number of replies.
 fn served_by(
     alloc: Global,
     request: &[u8],
@@ -63,8 +63,8 @@ fn served_by(
     told(alloc, written.as_slice(), done)
 }
 
-/// Returns the stamp 2024-06-01T12:00:00Z, with an id for the resource that the first message creates. None
-/// if memory runs out.
+/// Returns a stamp with the time 2024-06-01T12:00:00Z and an id for a resource that the first message
+/// creates, or `None` if memory runs out.
 fn stamp(alloc: Global) -> Option<Stamp> {
     match read_printed_moment(alloc, "2024-06-01T12:00:00Z") {
         Ok(Some(moment)) => Some(Stamp {
@@ -75,7 +75,7 @@ fn stamp(alloc: Global) -> Option<Stamp> {
     }
 }
 
-/// Returns the output, followed by the number of replies or the fault.
+/// Returns the output, followed by the number of replies, or by the error if the stream can't be served.
 fn told(alloc: Global, written: &[u8], done: Result<Served, IoFault>) -> Result<String, CaseFault> {
     let text = str::from_utf8(written).unwrap_or("no UTF-8");
     let end = match done {

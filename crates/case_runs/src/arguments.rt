@@ -4,25 +4,25 @@ use scim_text::{NoMemory, push};
 use serde_json::{Map, Value};
 use std::alloc::Global;
 
-/// A JSON value in the queue, with its name as a member of an object.
+/// A JSON value in the queue, and its name if it is a member of an object.
 #[derive(Clone, Copy)]
 struct Met<'v> {
     name: &'v str,
     value: &'v Value,
 }
 
-/// Returns a value and all values in it, breadth first, so that the items of one list and the members of one
-/// object are adjacent.
+/// Returns a JSON value and all values in it, breadth first. So the items of a list, or the members of an
+/// object, are adjacent.
 pub(crate) fn arguments_of(alloc: Global, value: &Value) -> Result<Vec<Argument>, NoMemory> {
     let mut met = Vec::new(alloc);
     push(&mut met, Met { name: "", value })?;
     all_of(alloc, &mut met)
 }
 
-/// Returns the arguments for the queue's values, and for all values in them.
+/// Returns the arguments for the values in the queue, and for all values in them.
 fn all_of(alloc: Global, met: &mut Vec<Met<'_>>) -> Result<Vec<Argument>, NoMemory> {
     let mut arguments = Vec::new(alloc);
-    // The queue may grow in each iteration, so it is walked by index up to its end.
+    // The queue may grow in each iteration, so the loop uses an index.
     for place in 0..usize::MAX {
         let Some(next) = met.get(place).copied() else {
             break;
@@ -32,7 +32,7 @@ fn all_of(alloc: Global, met: &mut Vec<Met<'_>>) -> Result<Vec<Argument>, NoMemo
     Ok(arguments)
 }
 
-/// Appends the items or members of a value to the queue, and returns the value's argument.
+/// Appends the items or members of a value to the queue, and returns the argument for the value.
 fn opened<'v>(alloc: Global, next: Met<'v>, met: &mut Vec<Met<'v>>) -> Result<Argument, NoMemory> {
     let first = met.len();
     push_inner(next.value, met)?;

@@ -4,10 +4,10 @@ use crate::requests::{message_text, push_lines};
 use crate::stores::{Store, goes_to, stores_of};
 use case_values::{Case, CaseFault, text_or_json};
 
-/// Returns the expected result of a case: the replies of its steps, or the outputs of its events.
+/// Returns the expected result of a case: the replies to its steps, or the outputs of its events.
 ///
-/// For any other case it is `gives`, or `said` if there is no `gives`: a string as it is, or any other value
-/// as compact JSON with sorted keys.
+/// A case without steps and outputs has the expected result in `gives` or, if this isn't given, in `said`. A
+/// string is returned as it is, and any other value as JSON without spaces.
 pub fn expected(case: &Case<'_>) -> Result<String, CaseFault> {
     if case.has("steps") {
         return replies(case);
@@ -19,7 +19,8 @@ pub fn expected(case: &Case<'_>) -> Result<String, CaseFault> {
     text_or_json(case, name, "")
 }
 
-/// Returns the expected replies of the steps, each followed by its `audit` lines, for each store in turn.
+/// Returns the expected replies to the steps for each store in turn. Each reply is followed by the lines in
+/// the list `audit` of its step.
 fn replies(case: &Case<'_>) -> Result<String, CaseFault> {
     let mut text = String::new(case.alloc);
     for store in stores_of(case) {
@@ -28,8 +29,8 @@ fn replies(case: &Case<'_>) -> Result<String, CaseFault> {
     Ok(text)
 }
 
-/// Appends the expected replies of a store. A step with an invalid `over` is expected to have a reply;
-/// running it fails, so the case is reported.
+/// Appends the expected replies of a store. Includes the reply to a step whose `over` is invalid. Running
+/// this step fails, so the case is reported.
 fn push_replies(case: &Case<'_>, store: &Store, text: &mut String) -> Result<(), CaseFault> {
     for value in case.list("steps") {
         let step = case.inner(value);

@@ -1,13 +1,13 @@
-//! The faults of a run of the cases.
+//! The error of a run of the cases.
 use scim_text::NoMemory;
 use std::alloc::{AllocError, AllocFailed};
 use std::io;
 use thiserror::Error;
 
-/// The fault that ends a run of the cases.
+/// Why a run of the cases ends early.
 #[derive(Debug, Drop, Error)]
 pub enum FolderFault {
-    /// The command line names no folder.
+    /// The command line doesn't name a folder.
     #[error("give a folder of cases")]
     NoFolder,
     /// A folder or a file can't be read, or the output can't be written.

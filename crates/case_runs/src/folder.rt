@@ -1,10 +1,11 @@
-//! The files of a folder.
+//! Reads the case files of a folder.
 use crate::faults::FolderFault;
 use std::alloc::Global;
 use std::fs;
 use std::rt::Files;
 
-/// Returns the names of the folder's files of cases, sorted: those that end in `.jsonl` or `.json`.
+/// Returns the names of the case files in a folder, sorted. The name of a case file ends in `.jsonl` or
+/// `.json`.
 pub fn case_files<R: Files + AllocGlobal + Clone + Drop>(
     rt: &R,
     alloc: Global,
@@ -22,7 +23,7 @@ pub fn case_files<R: Files + AllocGlobal + Clone + Drop>(
     Ok(names)
 }
 
-/// Returns the text of a file of the folder.
+/// Returns the text of a file in a folder.
 pub fn read(
     rt: &(impl Files + AllocGlobal),
     alloc: Global,

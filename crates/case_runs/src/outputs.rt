@@ -2,10 +2,11 @@
 use crate::requests::{message_text, push_lines};
 use case_values::{Argument, Case, CaseFault, Form, push_all, said, shown};
 
-/// Returns the lines of the list `outputs`, followed by those of `audit`.
+/// Returns the lines of the list `outputs`, followed by the lines of the list `audit`.
 ///
-/// An output is a line as `replay` writes it, a list of such lines, or an object with a connection `to` and
-/// the `reply` written to it, in the form of the replies of steps.
+/// An output is a line in the format of `replay`, a list of lines in this format, or an object. The object
+/// has the number of a connection in `to`, and the head and the body of the reply written to this connection
+/// in `reply` and `gives`.
 pub(crate) fn outputs_text(case: &Case<'_>) -> Result<String, CaseFault> {
     let mut text = String::new(case.alloc);
     for value in case.list("outputs") {
@@ -39,7 +40,7 @@ fn lines_of(case: &Case<'_>, lines: &[Argument]) -> Result<String, CaseFault> {
     Ok(text)
 }
 
-/// Returns the line for a reply written to a connection.
+/// Returns the line that says that a reply is written to a connection.
 fn write_line(output: &Case<'_>) -> Result<String, CaseFault> {
     let connection = shown(output.alloc, &output.count("to")?)?;
     let reply = message_text(output, "reply", "gives", false)?;

@@ -1,11 +1,11 @@
 //! The texts of requests and replies.
 use case_values::{Case, CaseFault, push_all, said, shown, text_or_json};
 
-/// Returns the text of a message, given as head and body.
+/// Returns the text of an HTTP message. The parameters `head` and `body` name the arguments that contain it.
 ///
-/// If the argument `head` is a string, it is the whole message. Otherwise it is a list of lines, followed by
-/// an empty line and the argument `body`, JSON or a string. If `counts` is true, a `Content-Length` line is
-/// added for a body that isn't empty.
+/// If the argument `head` is a string, it is the whole message. Otherwise it is a list of lines, and the
+/// message is these lines, an empty line and the argument `body`, which is a string or another JSON value. If
+/// `counts` is true and the body isn't empty, a `Content-Length` line is added.
 pub fn message_text(
     step: &Case<'_>,
     head: &'static str,
@@ -25,7 +25,7 @@ pub fn message_text(
     Ok(text)
 }
 
-/// Appends the lines of a list, each followed by `end`.
+/// Appends the strings in the list `name`, each followed by `end`.
 pub fn push_lines(
     step: &Case<'_>,
     name: &'static str,
@@ -45,7 +45,8 @@ fn push_length(step: &Case<'_>, length: usize, text: &mut String) -> Result<(), 
     push_all(text, &["Content-Length: ", number.as_str(), "\r\n"])
 }
 
-/// Returns the bytes of the step's request, given as a message or in hex.
+/// Returns the bytes of the request in a step. It is given in hex in `request_hex`, or as a message in
+/// `request` and `body`.
 pub fn request_bytes(step: &Case<'_>) -> Result<Vec<u8>, CaseFault> {
     let Ok(digits) = step.text("request_hex") else {
         return Ok(message_text(step, "request", "body", true)?.into_bytes());

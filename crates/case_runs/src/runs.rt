@@ -10,14 +10,14 @@ use std::alloc::Global;
 use std::io::Print;
 use std::rt::Files;
 
-/// The calls that cases make.
+/// Runs the calls that cases name.
 pub trait Calls {
     /// Returns the result of the case's call as text.
     fn answer(&self, case: &Case<'_>) -> Result<String, CaseFault>;
 }
 
-/// Runs the cases in a folder's files, and prints each case whose result differs from the expected one, and
-/// the numbers of cases.
+/// Runs the cases in the files of a folder. Prints each case whose result differs from the expected one. Then
+/// prints the number of cases, and the number of cases with the expected result.
 pub fn go_through<R: Print + Files + AllocGlobal + Clone + Drop>(
     rt: &R,
     alloc: Global,
@@ -53,7 +53,7 @@ fn take_files(
     Ok(tally)
 }
 
-/// Runs the cases in the folder's file with this name.
+/// Runs the cases in the file with this name in the folder.
 fn take_named(
     rt: &(impl Print + Files + AllocGlobal),
     alloc: Global,
@@ -82,8 +82,8 @@ fn take_file(
     }
 }
 
-/// Runs the cases in a JSON list, numbered from 1. A text that isn't a JSON list counts as one case whose
-/// result differs.
+/// Runs the cases in a JSON list, numbered from 1. Counts a text that isn't a JSON list as one case with an
+/// unexpected result.
 fn take_list(
     rt: &impl Print,
     alloc: Global,
@@ -103,7 +103,7 @@ fn take_list(
     Ok(())
 }
 
-/// Runs the cases in the lines of a file. Empty lines and those that begin with `#` are skipped.
+/// Runs the cases in the lines of a file. Skips empty lines and lines that begin with `#`.
 fn take_lines(
     rt: &impl Print,
     alloc: Global,
@@ -138,7 +138,7 @@ fn take_line(
     }
 }
 
-/// Counts a text that isn't the JSON that was expected as a case whose result differs.
+/// Counts a text that isn't a JSON list or a JSON value as a case with an unexpected result.
 fn take_no_json(
     rt: &impl Print,
     alloc: Global,
@@ -182,7 +182,7 @@ fn take_case(
     tally.take(rt, place, case, &outcome)
 }
 
-/// Returns the result, or `no answer: ` and the fault.
+/// Returns the result, or `no answer: ` and the text of the error.
 fn told(case: &Case<'_>, found: Result<String, CaseFault>) -> Result<String, FolderFault> {
     match found {
         Ok(found) => Ok(found),

@@ -1,19 +1,19 @@
-//! The stores that the steps of a case go to: one, or two side by side.
+//! The stores that receive the steps of a case. A case has one store or two.
 use case_values::{Case, CaseFault};
 
-/// A store of a case, and its keys in the case and in the steps.
+/// A store of a case, and the keys for this store in the case and in its steps.
 #[derive(Clone, Copy)]
 pub struct Store {
     /// The text before each of its replies.
     pub title: &'static str,
     /// The key of its users file.
     pub users: &'static str,
-    /// The keys of the head and the body of its reply in a step. A step without the first has one reply for
-    /// both stores.
+    /// The key of the head of its reply in a step, and `gives` is the key of the body. If a step doesn't have
+    /// this head, the reply of both stores is in the step's `reply` and `gives`.
     pub reply: &'static str,
     pub gives: &'static str,
-    /// The values of `over` in a step that goes only to this store, and in one that goes only to the other
-    /// store.
+    /// The value of `over` in a step that goes only to this store. The field `other` is the value of `over`
+    /// in a step that goes only to the other store.
     own: &'static str,
     other: &'static str,
 }
@@ -46,13 +46,14 @@ static TWO: [Store; 2] = [
     },
 ];
 
-/// Returns the stores of a case: the one of `users`, and the one of `beside` if it is given.
+/// Returns the stores of a case: a store with the users file `users` and, if `beside` is given, a store with
+/// the users file `beside`.
 pub fn stores_of(case: &Case<'_>) -> &'static [Store] {
     if case.has("beside") { &TWO } else { &ONE }
 }
 
-/// Whether a step goes to the store; it does unless its `over` names the other store. Missing if `over` is
-/// invalid.
+/// Whether a step goes to the store. It does unless its `over` names the other store. Fails with `Missing` if
+/// `over` is invalid.
 pub fn goes_to(step: &Case<'_>, store: &Store) -> Result<bool, CaseFault> {
     if !step.has("over") {
         return Ok(true);

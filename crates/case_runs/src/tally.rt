@@ -1,17 +1,17 @@
-//! Counts the cases, and those with the expected result.
+//! Counts the cases, and the cases with the expected result.
 use crate::faults::FolderFault;
 use case_values::Case;
 use std::io::Print;
 use std::process::ExitCode;
 
-/// The number of cases, and the number of those with the expected result.
+/// The number of cases, and the number of cases with the expected result.
 #[derive(Clone, Copy)]
 pub struct Tally {
     cases: u64,
     as_written: u64,
 }
 
-/// The place of a case: a line of a file, or an item of a list, from 1.
+/// The place of a case: its file, and the number of its line or list item, counted from 1.
 #[derive(Clone, Copy)]
 pub struct Place<'a> {
     pub file: &'a str,
@@ -51,13 +51,14 @@ impl Tally {
         print_outcome(rt, case, outcome)
     }
 
-    /// Prints both numbers.
+    /// Prints the number of cases, and the number of cases with the expected result.
     pub(crate) fn print(self, rt: &impl Print) -> Result<(), FolderFault> {
         println!(rt; "{} cases, {} as written", self.cases, self.as_written)?;
         Ok(())
     }
 
-    /// Returns the exit status: 0 if all results are as expected, 1 if one isn't, 2 if there are no cases.
+    /// Returns the exit status: 0 if every result is as expected, 1 if a result isn't, and 2 if there are no
+    /// cases.
     pub fn exit_code(self) -> ExitCode {
         if self.cases == 0 {
             ExitCode::from(2)
@@ -69,14 +70,14 @@ impl Tally {
     }
 }
 
-/// Prints the place of a case and its call, or the sentence that says what it shows.
+/// Prints the place of a case and its call. If the case has no `call`, prints its `shows` or its `name`.
 fn print_place(rt: &impl Print, place: &Place<'_>, case: &Case<'_>) -> Result<(), FolderFault> {
     let name = case.text_or("call", case.text_or("shows", case.text_or("name", "")));
     println!(rt; "{} line {}: {name}", place.file, place.line)?;
     Ok(())
 }
 
-/// Prints the expected and the actual result of a case, and its reason if it gives one.
+/// Prints the expected and the actual result of a case, and its argument `since` if that isn't empty.
 fn print_outcome(
     rt: &impl Print,
     case: &Case<'_>,

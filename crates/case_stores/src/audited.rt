@@ -1,4 +1,4 @@
-//! The stores that whole requests go to.
+//! The stores over which cases answer whole requests.
 use crate::databases::opened;
 use crate::faults::StoreFault;
 use case_values::{Case, CaseFault};
@@ -9,13 +9,13 @@ use scim_text::push;
 use sqlite::Alter;
 use std::alloc::Global;
 
-/// A store that whole requests go to, with its audit.
+/// A store over which cases answer whole requests, and its audit.
 pub trait Audited: Shelf {
-    /// Returns the rows of the audit after the first `known`.
+    /// Returns the rows of the audit, without the first `known` rows.
     fn rows_after(&mut self, alloc: Global, known: u64) -> Result<Vec<AuditRow>, StoreFault>;
 
-    /// Closes the store's database, opens it again and returns the store. A store without a database is
-    /// returned as it is.
+    /// Closes the database of the store, opens it again and returns the store. Returns a store in memory
+    /// unchanged.
     fn reopened(self, case: &Case<'_>) -> Result<Self, StoreFault>;
 
     /// Closes the store.
@@ -65,7 +65,8 @@ impl<S: Audited> Audited for CachedShelf<S> {
     }
 }
 
-/// Returns the store with a cache of all its resources.
+/// Returns the store with a cache that contains all its resources. If the store can't be read, closes it and
+/// fails with `NotRead`.
 pub fn cached<S: Audited>(alloc: Global, shelf: S) -> Result<CachedShelf<S>, StoreFault> {
     let mut store = CachedShelf::over(shelf);
     match store.fill(alloc) {
@@ -77,7 +78,7 @@ pub fn cached<S: Audited>(alloc: Global, shelf: S) -> Result<CachedShelf<S>, Sto
     }
 }
 
-/// Returns copies of the rows after the first `known`.
+/// Returns copies of the rows, without the first `known` rows.
 fn copied_after(
     alloc: Global,
     rows: &[AuditRow],

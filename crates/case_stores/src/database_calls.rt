@@ -9,7 +9,7 @@ use scim_store::{OpenFault, SqlShelf};
 use sqlite::{Alter, Connection};
 use std::alloc::Global;
 
-/// Returns the result of opening a [`prepared`] database: the number of its audit rows, or the fault.
+/// Opens a [`prepared`] database. Returns the number of its audit rows, or the error if it can't be opened.
 pub fn database_call(case: &Case<'_>) -> Result<String, CaseFault> {
     told_or_fault(case.alloc, over_new_database(case, &Opening))
 }
@@ -31,11 +31,11 @@ impl OverDatabase for Opening {
     }
 }
 
-/// Returns the connection to a database with the users of the argument `users`, after the statements in the
-/// list `sql`.
+/// Imports the users file in the argument `users` into the database, runs the statements in the list `sql`,
+/// and returns the connection.
 ///
-/// With `empty`, the database has only the tables that the statements create. NotRun if a statement fails or
-/// if they leave a transaction open.
+/// If the argument `empty` is true, imports no users, so the database has only the tables that the statements
+/// create. Fails with `NotRun` if a statement fails or the statements leave a transaction open.
 pub fn prepared<S: Alter + Drop>(
     case: &Case<'_>,
     connection: Connection<S>,
@@ -68,7 +68,7 @@ fn run_statements<S: Alter>(
     Ok(())
 }
 
-/// Returns the number of audit rows of a store, and closes it.
+/// Returns the number of audit rows of a store, and closes the store.
 fn told_of_audit<S: Audited>(alloc: Global, shelf: S) -> Result<String, StoreFault> {
     let mut shelf = shelf;
     let rows = shelf.rows_after(alloc, 0);

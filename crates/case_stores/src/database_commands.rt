@@ -16,18 +16,18 @@ use sqlite::{Alter, Connection};
 /// A command over a database.
 #[derive(Clone, Copy)]
 pub enum DatabaseCommand {
-    /// Prints at most `count` rows of the audit from the argument `from` on.
+    /// Prints at most `count` rows of the audit, starting with the row numbered `from`.
     Audit,
     /// Exports the users file of the database.
     Export,
     /// Imports the text `file` and exports the users file of the database.
     Import,
-    /// Explains the policy's decision on `client`, `op`, `kind`, `id` and `leaf`; or on all leaves, if no
-    /// leaf is given.
+    /// Explains the decision of the policy on the arguments `client`, `op`, `kind`, `id` and `leaf`, or the
+    /// decisions on all leaves if `leaf` isn't given.
     Explain,
 }
 
-/// Returns the output of a command over a database, followed by the line of its fault, if any.
+/// Returns the output of a command over a database, followed by the text of its error if it failed.
 pub fn command_call(case: &Case<'_>, command: DatabaseCommand) -> Result<String, CaseFault> {
     told_or_fault(case.alloc, over_new_database(case, &command))
 }
@@ -48,7 +48,7 @@ impl OverDatabase for DatabaseCommand {
     }
 }
 
-/// Returns rows of the audit of a store, and closes it.
+/// Returns the output of a command that prints audit rows of a store, and closes the store.
 fn audited<S: Alter + Drop>(
     case: &Case<'_>,
     connection: Connection<S>,
@@ -72,7 +72,7 @@ fn audit_text<S: Alter + Drop>(
     Ok(written_text(case.alloc, written.as_slice(), done)?)
 }
 
-/// Returns the users file of a store, and closes it.
+/// Returns the users file exported from a store, and closes the store.
 fn exported<S: Alter + Drop>(
     case: &Case<'_>,
     connection: Connection<S>,
@@ -94,8 +94,8 @@ fn export_text<S: Alter + Drop>(
     Ok(written_text(case.alloc, written.as_slice(), done)?)
 }
 
-/// Returns the users file of a database after an import of the text `file`, or the line of the import's
-/// fault.
+/// Imports the text in the argument `file` into a database. Returns the users file exported from it, or the
+/// text of the error if the import fails.
 fn imported<S: Alter + Drop>(
     case: &Case<'_>,
     connection: Connection<S>,
@@ -110,7 +110,7 @@ fn imported<S: Alter + Drop>(
     }
 }
 
-/// Returns the explanation of a decision by the store of a database.
+/// Returns the explanation of a decision on a resource in the store of a database.
 fn explained<S: Alter + Drop>(
     case: &Case<'_>,
     connection: Connection<S>,
@@ -148,7 +148,8 @@ fn answer_text<S: Alter + Drop>(
     Ok(written_text(case.alloc, written.as_slice(), done)?)
 }
 
-/// Returns the question of a case; None if its `id` isn't an id. An invalid `leaf` counts as not given.
+/// Returns the question that a case asks `explain`, or `None` if the argument `id` isn't an id. An invalid
+/// `leaf` counts as not given.
 fn question_of<'c>(case: &'c Case<'_>) -> Option<Question<'c>> {
     let Ok(text) = case.text("id") else {
         return None;

@@ -9,13 +9,14 @@ use scim_shelf::MemoryShelf;
 use scim_store::{SqlShelf, import};
 use sqlite::{Alter, Connection};
 
-/// Returns the base URL of the resources of a case: the argument `base`, by default that of the samples.
+/// Returns the base URL of the resources of a case: the argument `base`, by default the base URL of the
+/// samples.
 pub fn base_of<'c>(case: &'c Case<'_>) -> &'c str {
     case.text_or("base", BASE)
 }
 
-/// Returns a shelf in memory with the users file in the argument `name`, by default the sample users and
-/// groups.
+/// Returns a shelf in memory with the resources of the users file in the argument `name`, by default
+/// [`USERS`]. Fails with `Missing` if the users file is invalid.
 pub fn shelf_of(case: &Case<'_>, name: &'static str) -> Result<MemoryShelf, CaseFault> {
     let users = text_or_json(case, name, USERS)?;
     match read_documents(case.alloc, base_of(case), users.as_str()) {
@@ -43,7 +44,7 @@ pub fn fill<S: Alter>(
     }
 }
 
-/// Opens the store in a database.
+/// Opens the store in a database. Fails with `NotOpened` if the database can't be opened.
 pub fn opened<S: Alter + Drop>(
     case: &Case<'_>,
     connection: Connection<S>,
@@ -82,8 +83,8 @@ pub trait OverDatabase {
 
 /// Does the work on a new database in memory, and returns its result.
 ///
-/// All other functions are generic in the storage of the database: a function that holds a connection to a
-/// concrete storage takes long to prove.
+/// Only this function has a connection to a concrete storage, because such a function takes long to prove.
+/// The functions that it calls are generic in the storage of the database.
 pub fn over_new_database<W: OverDatabase>(case: &Case<'_>, work: &W) -> Result<String, StoreFault> {
     match Connection::open_in_memory(case.alloc) {
         Ok(connection) => work.over(case, connection),

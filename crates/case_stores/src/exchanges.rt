@@ -1,4 +1,4 @@
-//! Whole requests: the messages in a stream of bytes, answered over a store.
+//! Answers whole requests, which are the messages in a stream of bytes, over a store.
 use case_messages::client_of;
 use case_runs::request_bytes;
 use case_values::{Case, CaseFault};
@@ -12,13 +12,13 @@ use scim_token::Tokens;
 use scim_wire::{Item, Message, ReplyForm, Wire};
 use std::alloc::Global;
 
-/// The default id of the resource that a request creates.
+/// The default id of a resource that a request creates.
 pub const FRESH: &str = "00000000-0000-4000-8000-0000000000e1";
 
 /// The response that asks for the body of a message (RFC 9110 section 15.2.1).
 const CONTINUE: &str = "HTTP/1.1 100 Continue\r\n\r\n";
 
-/// Appends the replies to the messages of a step, up to one that closes the connection.
+/// Appends the replies to the messages of a step, up to the first reply that closes the connection.
 pub fn push_replies<S: Shelf>(
     step: &Case<'_>,
     tokens: &Tokens,
@@ -29,14 +29,14 @@ pub fn push_replies<S: Shelf>(
     push_items(step, items.as_slice(), tokens, service, text)
 }
 
-/// Returns the items that a wire finds in the bytes of a step.
+/// Returns the items that [`Wire`] reads from the bytes of a step.
 fn items_of(step: &Case<'_>) -> Result<Vec<Item>, CaseFault> {
     let bytes = request_bytes(step)?;
     let mut wire = Wire::new(step.alloc);
     Ok(wire.feed(step.alloc, bytes.as_slice())?)
 }
 
-/// Appends the replies to the items of a step, up to one that closes the connection.
+/// Appends the replies to the items of a step, up to the first reply that closes the connection.
 fn push_items<S: Shelf>(
     step: &Case<'_>,
     items: &[Item],
@@ -54,7 +54,7 @@ fn push_items<S: Shelf>(
 
 /// Appends the reply to an item, and returns whether the connection is closed after it.
 ///
-/// A step with a `client` is answered as by `once`, without 100 (Continue); any other by its token.
+/// Like the command `once`, doesn't append a 100 (Continue) response if the step has a `client`.
 fn push_item<S: Shelf>(
     step: &Case<'_>,
     item: &Item,
@@ -87,8 +87,9 @@ fn push_item<S: Shelf>(
 
 /// Appends the reply to a message.
 ///
-/// The client is the step's `client`, or else the one that has the message's token. The time is `at`, by
-/// default 2024-06-01T12:00:00Z, and `first` is the id of the resource that the message creates.
+/// The client is the step's `client` or, if this isn't given, the client that has the token of the message.
+/// The time is the argument `at`, by default 2024-06-01T12:00:00Z. If the message creates a resource, the id
+/// of the resource is the argument `first`, by default [`FRESH`].
 fn push_answer<S: Shelf>(
     step: &Case<'_>,
     message: &Message,

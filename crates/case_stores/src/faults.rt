@@ -1,12 +1,12 @@
-//! The faults of the stores of cases.
+//! The error of a case that uses a store.
 use case_values::{CaseFault, shown};
 use std::alloc::{AllocError, Global};
 use thiserror::Error;
 
-/// The fault of a store of a case. Its text is reported in place of the result.
+/// Why a case that uses a store has no result. The text of this error is reported in place of the result.
 #[derive(Clone, Copy, Debug, Error)]
 pub enum StoreFault {
-    /// The case has a fault, or memory ran out.
+    /// The case is invalid, or memory ran out.
     #[error("{0}")]
     Case(CaseFault),
     /// The users can't be imported into a database.
@@ -35,7 +35,8 @@ impl From<AllocError> for StoreFault {
     }
 }
 
-/// Returns the result, or the text of the store's fault. A fault of the case is returned as an error.
+/// Returns the result, or the text of the error if it isn't `Case`. Fails with the inner error if it is
+/// `Case`.
 pub fn told_or_fault(alloc: Global, told: Result<String, StoreFault>) -> Result<String, CaseFault> {
     match told {
         Ok(text) => Ok(text),

@@ -1,5 +1,6 @@
-//! Whole requests over a store in memory and over SQLite, which must give the same replies; turns of a
-//! service; refusals with their status codes; commands over a database; and the opening of damaged databases.
+//! The calls that use a store: whole requests, which must have equal replies over a store in memory and over
+//! SQLite; turns of a service; refusals and their status codes; commands over a database; and the opening of
+//! damaged databases.
 #![tactic(auto)]
 
 mod audited;
@@ -39,7 +40,7 @@ static CALLS: [(&str, Call); 9] = [
     ("explain_kept", Call::Command(DatabaseCommand::Explain)),
 ];
 
-/// Returns the result of the case's call, or None if it isn't a call of this crate.
+/// Returns the result of the case's call, or `None` if it isn't a call of this crate.
 pub fn answer(case: &Case<'_>, call: &str) -> Option<Result<String, CaseFault>> {
     let call = named(&CALLS, call)?;
     Some(match call {

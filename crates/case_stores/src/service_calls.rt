@@ -15,20 +15,21 @@ use std::alloc::Global;
 /// The time of all turns, 2024-06-01T12:00:00Z.
 const NOON: i64 = 1_717_243_200;
 
-/// Returns the replies to the turns in the list `turns`, answered one by one, followed by the lines of the
-/// audit.
+/// Answers the turns in the list `turns` one by one. Returns the replies, followed by the lines of the audit.
 pub fn service_call(case: &Case<'_>) -> Result<String, CaseFault> {
     let mut service = service_of(case)?;
     told_of_turns(case, &mut service)
 }
 
-/// As [`service_call`], with all turns given to the service at once.
+/// Answers the turns in the list `turns` by one call of `Service::run`. Returns the replies, followed by the
+/// lines of the audit.
 pub fn run_call(case: &Case<'_>) -> Result<String, CaseFault> {
     let mut service = service_of(case)?;
     told_of_run(case, &mut service)
 }
 
-/// Returns a service with the case's policy, over the users file in the argument `users`.
+/// Returns a service with the policy of the case over a shelf in memory. The shelf has the resources of the
+/// users file in the argument `users`.
 fn service_of(case: &Case<'_>) -> Result<Service<MemoryShelf>, CaseFault> {
     let base = Text::copy_of(case.alloc, base_of(case))?;
     let policy = policy(case)?;
@@ -82,7 +83,7 @@ fn told_of_replies(
     Ok(text)
 }
 
-/// Appends the reply to a turn: its status, the location of the resource that it created, and its body.
+/// Answers a turn. Appends the status of the reply, its location if it has one, and its body.
 fn push_answer(
     case: &Case<'_>,
     service: &mut Service<MemoryShelf>,
@@ -142,7 +143,7 @@ enum AskNamed {
     Search,
     Create,
     Remove,
-    /// The request is refused before the service gets it.
+    /// The request is refused before the service receives it.
     Refused(Refusal),
 }
 
@@ -158,7 +159,8 @@ static ASKS: [(&str, AskNamed); 9] = [
     ("Store", AskNamed::Refused(Refusal::Store)),
 ];
 
-/// Returns the request body that the argument `ask` names: `get`, `search`, `create`, `remove` or a refusal.
+/// Returns what the request asks for, as the argument `ask` says: `get`, `search`, `create`, `remove`, or the
+/// name of a refusal.
 fn ask_of(case: &Case<'_>) -> Result<Result<Ask, Refusal>, CaseFault> {
     let Some(ask) = named(&ASKS, case.text("ask")?) else {
         return Err(CaseFault::Missing("ask"));
@@ -172,7 +174,7 @@ fn ask_of(case: &Case<'_>) -> Result<Result<Ask, Refusal>, CaseFault> {
     }
 }
 
-/// Returns the request to create a resource with the argument `body`, or the refusal of the body.
+/// Returns the request to create a resource from the argument `body`, or the refusal if the body is invalid.
 fn create_of(case: &Case<'_>) -> Result<Result<Ask, Refusal>, CaseFault> {
     match read_body(
         case.alloc,
@@ -187,7 +189,7 @@ fn create_of(case: &Case<'_>) -> Result<Result<Ask, Refusal>, CaseFault> {
     }
 }
 
-/// Returns the request to create a resource with a draft.
+/// Returns the request to create a resource from a draft.
 fn creating(case: &Case<'_>, draft: Draft) -> Result<Result<Ask, Refusal>, CaseFault> {
     let wanted = wanted(case)?;
     Ok(Ok(Ask::Create(draft, wanted)))

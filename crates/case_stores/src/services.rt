@@ -1,4 +1,4 @@
-//! Services with the policy of a case.
+//! Makes services with the policy of a case.
 use crate::audited::Audited;
 use crate::databases::base_of;
 use crate::faults::StoreFault;
@@ -8,7 +8,7 @@ use scim_cell::Text;
 use scim_policy::Policy;
 use scim_service::Service;
 
-/// Returns a service with the policy of a case over a store. On a fault the store is closed.
+/// Returns a service with the policy of a case over a store. If this fails, closes the store.
 pub fn service_over<S: Audited>(case: &Case<'_>, shelf: S) -> Result<Service<S>, StoreFault> {
     match policy_and_base(case) {
         Ok((policy, base)) => Ok(Service::new(policy, shelf, base)),

@@ -1,4 +1,4 @@
-//! The steps of a case, over stores in memory, in a database, and in a database with a cache.
+//! Answers the steps of a case over stores in memory, in a database, and in a database with a cache.
 use crate::audited::{Audited, cached};
 use crate::databases::{OverDatabase, filled, over_new_database, shelf_of};
 use crate::exchanges::push_replies;
@@ -12,8 +12,8 @@ use scim_shelf::Shelf;
 use scim_token::Tokens;
 use sqlite::{Alter, Connection};
 
-/// Returns the replies to the steps over a store in memory. If those over a database, or over a database with
-/// a cache, differ, they are appended.
+/// Answers the steps over a store in memory, over a database, and over a database with a cache. Returns the
+/// replies over the store in memory and, if the three results differ, also the replies over both databases.
 pub fn answered(case: &Case<'_>) -> Result<String, CaseFault> {
     let tokens = tokens_of(case)?;
     told_of_all(case, &tokens)
@@ -68,7 +68,7 @@ fn told_in_database(
     Ok(text)
 }
 
-/// The store of the case that the steps go to, the tokens of its clients, and whether it has a cache.
+/// The store of a case, the tokens of its clients, and whether the store has a cache.
 #[derive(Clone, Copy)]
 struct Asked<'a> {
     store: &'a Store,
@@ -93,7 +93,7 @@ impl OverDatabase for Asked<'_> {
     }
 }
 
-/// Appends the replies of a store to the steps of a case, and closes it.
+/// Appends the replies of a store to the steps of a case, and closes the store.
 fn push_steps<S: Audited>(
     case: &Case<'_>,
     asked: &Asked<'_>,
@@ -111,7 +111,8 @@ fn push_steps<S: Audited>(
     Ok(())
 }
 
-/// Returns a service for a step. If the step has `reopens`, the database is closed and opened again first.
+/// Returns a service for a step. If `reopens` is true in the step, first closes the database and opens it
+/// again.
 fn service_for<S: Audited>(
     case: &Case<'_>,
     step: &Case<'_>,
@@ -127,7 +128,7 @@ fn service_for<S: Audited>(
 /// Answers a step and returns the store. Appends the replies and, if the step has `audit`, the new audit
 /// lines.
 ///
-/// On a fault the store is closed.
+/// If this fails, closes the store.
 fn after_step<S: Audited>(
     step: &Case<'_>,
     asked: &Asked<'_>,
@@ -166,8 +167,8 @@ fn push_answers<S: Shelf>(
     push_replies(step, asked.tokens, service, text)
 }
 
-/// Appends the lines of the audit rows after the first `known`, if the step has `audit`, and adds their
-/// number to `known`.
+/// If the step has `audit`, appends a line for each audit row after the first `known` rows. Sets `known` to
+/// the number of all audit rows in any case.
 fn push_new_rows<S: Audited>(
     step: &Case<'_>,
     shelf: &mut S,

@@ -19,13 +19,13 @@ impl Case<'_> {
         Op::named(self.text_or("op", "read")).unwrap_or(Op::Read)
     }
 
-    /// Returns the argument as a leaf, such as `emails.value`.
+    /// Returns an argument as a leaf, such as `emails.value`.
     pub fn leaf(&self, name: &'static str) -> Result<Leaf, CaseFault> {
         Ok(read_leaf(self.text(name)?)?)
     }
 
     /// Returns the argument `part`: the name of a sample, or the cells of a part with the kind `kind` and the
-    /// id `id`, by default Alice's.
+    /// id `id`, by default the id of Alice.
     pub fn part(&self) -> Result<Part, CaseFault> {
         let text = self.text("part")?;
         match sample(self.alloc, text)? {
@@ -35,7 +35,7 @@ impl Case<'_> {
     }
 
     /// Returns the argument `resource`: the name of a sample, or the cells of a resource with the kind `kind`
-    /// and the id `id`, by default Alice's. The cells of `id` and `meta` are added.
+    /// and the id `id`, by default the id of Alice. The cells of `id` and `meta` are added.
     pub fn resource(&self) -> Result<Resource, CaseFault> {
         let text = self.text("resource")?;
         match sample(self.alloc, text)? {
@@ -96,7 +96,7 @@ pub fn between<T: Display>(
     joined(alloc, &[before, text.as_str(), behind])
 }
 
-/// Returns the output of a command, followed by its fault if it failed.
+/// Returns the output of a command, followed by the text of its error if it failed.
 pub fn written_text<E: Display + Drop>(
     alloc: Global,
     written: &[u8],
@@ -129,7 +129,8 @@ pub fn truth(alloc: Global, truth: bool) -> Result<String, CaseFault> {
     said(alloc, if truth { "true" } else { "false" })
 }
 
-/// Returns the argument's text, or its JSON without spaces if it isn't a string; `other` if it isn't given.
+/// Returns the text of an argument, or its JSON without spaces if it isn't a string. Returns `other` if the
+/// argument isn't given.
 pub fn text_or_json(case: &Case<'_>, name: &'static str, other: &str) -> Result<String, CaseFault> {
     match case.get(name) {
         Some(value) => said(case.alloc, value.text.as_str()),
@@ -137,8 +138,8 @@ pub fn text_or_json(case: &Case<'_>, name: &'static str, other: &str) -> Result<
     }
 }
 
-/// Returns the text of a file, given as text in the argument `name` or in hex in `hex_name`. None if it isn't
-/// UTF-8.
+/// Returns the text of a file, given as text in the argument `name` or in hex in the argument `hex_name`, or
+/// `None` if it isn't UTF-8. Fails with `Missing` if the file isn't given, or not in hex.
 pub fn file_text(
     case: &Case<'_>,
     name: &'static str,

@@ -8,7 +8,7 @@ use scim_cell::{Id, Text};
 use scim_text::read_printed_moment;
 use std::alloc::Global;
 
-/// The refusals of a wrong method that [`Refusal::all`] doesn't contain.
+/// The refusals with `BadMethod` that [`Refusal::all`] doesn't contain.
 const OTHER_METHODS: [Refusal; 3] = [
     Refusal::BadMethod(Methods::Search),
     Refusal::BadMethod(Methods::Resource),
@@ -31,7 +31,7 @@ static CALLS: [(&str, AuditCall); 4] = [
     ("copied_audit_row", AuditCall::CopiedRow),
 ];
 
-/// Returns the result of the case's call, or None if it isn't a call of `scim_audit`.
+/// Returns the result of the case's call, or `None` if it isn't a call of `scim_audit`.
 pub fn answer(case: &Case<'_>, call: &str) -> Option<Result<String, CaseFault>> {
     let call = named(&CALLS, call)?;
     Some(match call {
@@ -91,12 +91,13 @@ fn decided(case: &Case<'_>) -> Result<Decided, CaseFault> {
     Err(CaseFault::Missing("decided"))
 }
 
-/// Returns the argument `rule`; None if it isn't given or doesn't fit in 32 bits.
+/// Returns the argument `rule`, or `None` if it isn't given or isn't an unsigned integer of 32 bits.
 fn rule(case: &Case<'_>) -> Option<u32> {
     u32::try_from(case.number("rule").ok()?).ok()
 }
 
-/// Returns the audit row of the arguments; fields that may be absent are, if they aren't given.
+/// Returns the audit row that the arguments describe. An optional field is absent if its argument isn't
+/// given or is invalid.
 fn row(case: &Case<'_>) -> Result<AuditRow, CaseFault> {
     let Some(moment) = read_printed_moment(case.alloc, case.text("moment")?)? else {
         return Err(CaseFault::Missing("moment"));
@@ -116,18 +117,18 @@ fn row(case: &Case<'_>) -> Result<AuditRow, CaseFault> {
     })
 }
 
-/// Returns the argument `number`, by default 1; 0 if it is negative.
+/// Returns the argument `number`, by default 1. Returns 0 if the argument is negative.
 fn number(case: &Case<'_>) -> u64 {
     u64::try_from(case.number("number").unwrap_or(1)).unwrap_or(0)
 }
 
-/// Returns the line of the row.
+/// Returns the audit row of the arguments, printed as a line.
 fn row_line(case: &Case<'_>) -> Result<String, CaseFault> {
     let row = row(case)?;
     line_of(case, &row)
 }
 
-/// Returns the line of a copy of the row.
+/// Returns a copy of the audit row of the arguments, printed as a line.
 fn copied_row_line(case: &Case<'_>) -> Result<String, CaseFault> {
     let row = row(case)?;
     copy_line(case, &row)
@@ -142,7 +143,7 @@ fn line_of(case: &Case<'_>, row: &AuditRow) -> Result<String, CaseFault> {
     Ok(print_row(case.alloc, number(case), row)?)
 }
 
-/// Appends the lines of audit rows, numbered from `known` + 1, with a `;` after each.
+/// Appends a line for each audit row, with a `;` after each. The rows are numbered from `known` + 1.
 pub fn push_rows_after(
     alloc: Global,
     known: u64,

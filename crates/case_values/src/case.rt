@@ -8,14 +8,14 @@ use std::alloc::Global;
 #[derive(Clone, Copy)]
 pub struct Case<'a> {
     pub alloc: Global,
-    /// All values of the line; the items of one list, or the members of one object, are adjacent.
+    /// All JSON values of the line. The items of a list, or the members of an object, are adjacent.
     values: &'a [Argument],
-    /// The value that is the case; None if nothing was read.
+    /// The value that is the case, or `None` if `values` is empty.
     value: Option<&'a Argument>,
 }
 
 impl Case<'_> {
-    /// Returns the case that is the first of these values, which include all its items and members.
+    /// Returns the case whose JSON value is the first of `values`. They include all its items and members.
     pub fn of(alloc: Global, values: &[Argument]) -> Case<'_> {
         Case {
             alloc,
@@ -33,8 +33,10 @@ impl Case<'_> {
         }
     }
 
-    /// Returns the name of the call. A case without `call` is a case of whole requests, if it has `steps`, or
-    /// a case of a users file or a policy file, if it has `said`.
+    /// Returns the name of the call.
+    ///
+    /// This is `steps` if the case has `steps`. Otherwise, if the case has `said`, it is `users_file` or
+    /// `policy_file`. Otherwise it is the argument `call`. Fails with `Missing` if `call` isn't a string.
     pub fn call(&self) -> Result<&str, CaseFault> {
         if self.has("steps") {
             return Ok("steps");
@@ -49,7 +51,7 @@ impl Case<'_> {
         }
     }
 
-    /// Returns an argument, if it is given.
+    /// Returns an argument, or `None` if it isn't given.
     pub(crate) fn get(&self, name: &'static str) -> Option<&Argument> {
         let value = self.value?;
         if !matches!(value.form, Form::Object) {
@@ -77,7 +79,7 @@ impl Case<'_> {
         self.get(name).is_some()
     }
 
-    /// Returns the text of an argument. Missing if it isn't given as a string.
+    /// Returns the text of an argument. Fails with `Missing` if it isn't given as a string.
     pub fn text(&self, name: &'static str) -> Result<&str, CaseFault> {
         match self.text_of(name) {
             Some(text) => Ok(text),
@@ -98,7 +100,7 @@ impl Case<'_> {
         value.as_str()
     }
 
-    /// Returns the number of an argument. Missing if it isn't given as a whole number.
+    /// Returns the number of an argument. Fails with `Missing` if it isn't given as an integer of 64 bits.
     pub fn number(&self, name: &'static str) -> Result<i64, CaseFault> {
         match self.form_of(name) {
             Form::Number(number) => Ok(number),
@@ -106,8 +108,8 @@ impl Case<'_> {
         }
     }
 
-    /// Returns the number of an argument as a count or position; 0 if it is negative. Missing if it isn't
-    /// given as a whole number.
+    /// Returns the number of an argument as a count or position, or 0 if it is negative. Fails with `Missing`
+    /// if it isn't given as an integer of 64 bits.
     pub fn count(&self, name: &'static str) -> Result<usize, CaseFault> {
         let number = self.number(name)?;
         Ok(usize::try_from(number).unwrap_or(0))
@@ -118,7 +120,7 @@ impl Case<'_> {
         matches!(self.form_of(name), Form::Truth(true))
     }
 
-    /// Returns the form of an argument; that of null if it isn't given.
+    /// Returns the form of an argument, or `Form::Other` if it isn't given.
     fn form_of(&self, name: &'static str) -> Form {
         match self.get(name) {
             Some(value) => value.form,
@@ -126,7 +128,7 @@ impl Case<'_> {
         }
     }
 
-    /// Returns the items of an argument that is a list; empty if it isn't given as one.
+    /// Returns the items of an argument, or no items if it isn't given as a list.
     pub fn list(&self, name: &'static str) -> &[Argument] {
         match self.get(name) {
             Some(value) => self.items(value),
@@ -134,7 +136,7 @@ impl Case<'_> {
         }
     }
 
-    /// Returns the items of a value of this case; empty if it isn't a list.
+    /// Returns the items of a value of this case, or no items if it isn't a list.
     pub fn items(&self, value: &Argument) -> &[Argument] {
         match value.form {
             Form::List => self.within(value),

@@ -73,7 +73,7 @@ static CALLS: [(&str, CellCall); 20] = [
     ("same_field", CellCall::SameField),
 ];
 
-/// Returns the result of the case's call, or None if it isn't a call of `scim_cell`.
+/// Returns the result of the case's call, or `None` if it isn't a call of `scim_cell`.
 pub fn answer(case: &Case<'_>, call: &str) -> Option<Result<String, CaseFault>> {
     let call = named(&CALLS, call)?;
     Some(match call {
@@ -94,7 +94,7 @@ pub fn answer(case: &Case<'_>, call: &str) -> Option<Result<String, CaseFault>> 
     })
 }
 
-/// Returns the text or the bytes of the id in the argument `text`; `none` if it isn't an id.
+/// Returns the text or the bytes of the id in the argument `text`, or `none` if it isn't an id.
 fn id_call(case: &Case<'_>, told: OfId) -> Result<String, CaseFault> {
     let Some(id) = Id::read(case.text("text")?) else {
         return said(case.alloc, "none");
@@ -109,7 +109,7 @@ fn id_call(case: &Case<'_>, told: OfId) -> Result<String, CaseFault> {
     }
 }
 
-/// Returns the order of two ids; `none` if one isn't an id.
+/// Returns the order of two ids, or `none` if one of the arguments isn't an id.
 fn order_of_ids(case: &Case<'_>) -> Result<String, CaseFault> {
     let first = Id::read(case.text("text")?);
     let second = Id::read(case.text("other")?);
@@ -130,7 +130,7 @@ fn same_text(case: &Case<'_>) -> Result<String, CaseFault> {
     truth(case.alloc, first == second)
 }
 
-/// Returns the cell in an argument; the last one if it has several.
+/// Returns the last cell in an argument.
 pub fn cell(case: &Case<'_>, name: &'static str) -> Result<Cell, CaseFault> {
     let mut cells = read_cells(case.alloc, case.text(name)?)?;
     match cells.pop() {
@@ -150,7 +150,7 @@ fn same_atom(case: &Case<'_>) -> Result<String, CaseFault> {
     truth(case.alloc, first.atom == second.atom)
 }
 
-/// Whether the atom of a cell has the type of a leaf of the kind, or of a whole attribute.
+/// Whether the atom of the argument `cell` has the type of the argument `leaf`.
 fn has_type_call(case: &Case<'_>) -> Result<String, CaseFault> {
     let leaf = case.leaf("leaf")?;
     let cell = cell(case, "cell")?;
@@ -194,7 +194,7 @@ fn field_of(cell: Cell) -> Field {
     Field { leaf, atom }
 }
 
-/// Reads the fields of a text of cells.
+/// Reads cells from a text and returns their fields.
 fn fields(alloc: Global, text: &str) -> Result<Vec<Field>, CaseFault> {
     let mut fields = Vec::new(alloc);
     for cell in read_cells(alloc, text)? {
@@ -203,7 +203,7 @@ fn fields(alloc: Global, text: &str) -> Result<Vec<Field>, CaseFault> {
     Ok(fields)
 }
 
-/// Reads a row, given as a leaf of its unit, a bar and its cells, such as `emails.value|emails.type=work`.
+/// Reads a row such as `emails.value|emails.type=work`: a leaf of its unit, a `|`, and its cells.
 fn row(alloc: Global, text: &str) -> Result<Row, CaseFault> {
     let Some((path, cells)) = text.split_once('|') else {
         return Err(CaseFault::Missing("row"));
@@ -242,7 +242,7 @@ fn fields_text(alloc: Global, row: &Row) -> Result<String, CaseFault> {
     Ok(row_text(alloc, row)?)
 }
 
-/// Returns the row made of copies of the row's fields.
+/// Copies the fields of the row one by one, and returns the row that they make.
 fn copied_fields(alloc: Global, row: &Row) -> Result<String, CaseFault> {
     let mut copies = Vec::new(alloc);
     for field in row.fields() {
@@ -251,7 +251,7 @@ fn copied_fields(alloc: Global, row: &Row) -> Result<String, CaseFault> {
     fields_text(alloc, &Row::new(row.unit(), copies))
 }
 
-/// Returns the atom of a row at a leaf; `none` if it has none.
+/// Returns the atom of a row at the argument `leaf`, or `none` if the row has no atom there.
 fn atom_of_row(case: &Case<'_>, row: &Row) -> Result<String, CaseFault> {
     let atom = row.get(case.leaf("leaf")?);
     Ok(atom_text(case.alloc, atom)?)
@@ -262,7 +262,7 @@ fn same_row(case: &Case<'_>, one: &Row) -> Result<String, CaseFault> {
     truth(case.alloc, *one == other)
 }
 
-/// Returns the row restricted to the fields of one sub-attribute.
+/// Returns the row restricted to the sub-attribute of the leaf in the argument `keep`.
 fn restricted_row(case: &Case<'_>, row: &Row) -> Result<String, CaseFault> {
     let test = of_sub_attribute(case)?;
     let rest = row.restrict(case.alloc, &test)?;
@@ -283,7 +283,8 @@ fn same_field(case: &Case<'_>) -> Result<String, CaseFault> {
     truth(case.alloc, first == second)
 }
 
-/// Returns the test that keeps the sub-attribute of the leaf in the argument `keep`.
+/// Returns the test that keeps the sub-attribute of the leaf in the argument `keep`. Fails with `Missing` if
+/// the leaf has no sub-attribute.
 pub fn of_sub_attribute(case: &Case<'_>) -> Result<OfSubAttribute, CaseFault> {
     match case.leaf("keep")?.sub_attribute {
         Some(sub_attribute) => Ok(OfSubAttribute { sub_attribute }),

@@ -1,16 +1,16 @@
-//! The faults of cases.
+//! The error of a case that has no result.
 use scim_samples::SampleFault;
 use scim_text::NoMemory;
 use std::alloc::{AllocError, AllocFailed};
 use thiserror::Error;
 
-/// The fault of a case without a result. Its text is reported in place of the result.
+/// Why a case has no result. The text of this error is reported in place of the result.
 #[derive(Clone, Copy, Debug, Error)]
 pub enum CaseFault {
     /// The line isn't a JSON object.
     #[error("the line is no JSON object")]
     NoObject,
-    /// The case names no known call.
+    /// There is no call with the name in the case.
     #[error("there is no such call")]
     NoSuchCall,
     /// An argument of the call is missing or has the wrong type.

@@ -17,17 +17,17 @@ pub enum Form {
     Other,
 }
 
-/// A JSON value of a case: an argument, an item of a list, or the case itself.
+/// A JSON value of a case: the case itself, or an argument, item or member at any depth.
 ///
 /// It is a separate type so that the crates of calls don't depend on a JSON parser.
 pub struct Argument {
-    /// Its name as a member of an object; empty for any other value.
+    /// Its name if it is a member of an object, and empty otherwise.
     pub name: String,
     /// Its text if it is a string, otherwise its JSON without spaces.
     pub text: String,
     /// Its type.
     pub form: Form,
-    /// The index of its first item or member in the case's values.
+    /// The index of its first item or member in the list of all values of the case.
     pub first: usize,
     /// The number of its items or members.
     pub count: usize,
@@ -46,7 +46,7 @@ impl Drop for Argument {
 }
 
 impl Argument {
-    /// Returns its text, if it is a string.
+    /// Returns its text, or `None` if it isn't a string.
     pub fn as_str(&self) -> Option<&str> {
         match self.form {
             Form::Text => Some(self.text.as_str()),

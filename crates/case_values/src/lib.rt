@@ -1,8 +1,8 @@
 //! The type of a case, and the calls of `scim_text`, `scim_schema`, `scim_cell`, `scim_value` and
 //! `scim_audit`.
 //!
-//! Calls of other crates are in crates above this one, since a function is proved with everything that its
-//! crate depends on.
+//! The calls of other crates are in crates that depend on this one, because a function is proved together
+//! with everything that its crate depends on.
 #![tactic(auto)]
 
 mod arguments;
@@ -32,7 +32,7 @@ pub use policies::policy_text;
 pub use schema_calls::{attribute_name, urn_of};
 pub use tables::named;
 
-/// Returns the result of the case's call, or None if it isn't a call of this crate.
+/// Returns the result of the case's call, or `None` if it isn't a call of this crate.
 pub fn answer(case: &Case<'_>, call: &str) -> Option<Result<String, CaseFault>> {
     if let Some(found) = text_calls::answer(case, call) {
         return Some(found);

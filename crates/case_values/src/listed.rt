@@ -1,4 +1,4 @@
-//! Arguments that are lists, and lists of parts and resources.
+//! Reads arguments that are lists, such as lists of texts, parts and resources.
 use crate::arguments::{between, joined, said};
 use crate::case::Case;
 use crate::faults::CaseFault;
@@ -9,7 +9,7 @@ use scim_text::push;
 use scim_value::{Part, Resource};
 use std::alloc::Global;
 
-/// Returns the texts of a list. Missing if an item isn't a string.
+/// Returns the strings in a list. Fails with `Missing` if an item isn't a string.
 pub fn texts<'c>(case: &'c Case<'_>, name: &'static str) -> Result<Vec<&'c str>, CaseFault> {
     let mut texts = Vec::new(case.alloc);
     for value in case.list(name) {
@@ -21,7 +21,7 @@ pub fn texts<'c>(case: &'c Case<'_>, name: &'static str) -> Result<Vec<&'c str>,
     Ok(texts)
 }
 
-/// Returns the text of an argument followed by `spaces` spaces, by default none.
+/// Returns the text of an argument, with as many spaces appended as the argument `spaces` says, by default 0.
 pub fn spaced_text(case: &Case<'_>, name: &'static str) -> Result<String, CaseFault> {
     let mut text = said(case.alloc, case.text(name)?)?;
     for _ in 0..case.number("spaces").unwrap_or(0) {
@@ -30,7 +30,8 @@ pub fn spaced_text(case: &Case<'_>, name: &'static str) -> Result<String, CaseFa
     Ok(text)
 }
 
-/// Returns the parts in the list `parts`, each given as the last two digits of its id and its cells.
+/// Returns the parts in the list `parts`. Each is given as the last two digits of its id, a space, and its
+/// cells.
 pub fn parts_of(case: &Case<'_>) -> Result<Vec<Part>, CaseFault> {
     let mut parts = Vec::new(case.alloc);
     for value in case.list("parts") {
@@ -39,14 +40,14 @@ pub fn parts_of(case: &Case<'_>) -> Result<Vec<Part>, CaseFault> {
     Ok(parts)
 }
 
-/// Returns the part of `DIGITS CELLS`, with the digits at the end of its id.
+/// Reads a part from `DIGITS CELLS`. The digits are the last two of its id.
 fn part_of(case: &Case<'_>, text: &str) -> Result<Part, CaseFault> {
     let (digits, cells) = text.split_once(' ').unwrap_or((text, ""));
     let id = joined(case.alloc, &["00000000-0000-4000-8000-0000000000", digits])?;
     Ok(part(case.alloc, case.kind(), id.as_str(), cells)?)
 }
 
-/// Returns the resources in a list of names of samples and of objects with an `id` and `cells`.
+/// Returns the resources in a list. Each item is the name of a sample, or an object with `id` and `cells`.
 pub fn resources(
     case: &Case<'_>,
     kind: Kind,
@@ -73,7 +74,8 @@ fn resource_of(case: &Case<'_>, kind: Kind, value: &Argument) -> Result<Resource
     }
 }
 
-/// Returns as many users as the argument `users` says, or by default the sample resources of the kind.
+/// Returns as many users as the argument `users` says. If it isn't given, returns the sample resources of the
+/// argument `kind`.
 pub fn resources_of(case: &Case<'_>) -> Result<Vec<Resource>, CaseFault> {
     if let Ok(number) = case.number("users") {
         return numbered_users(case.alloc, number);
@@ -84,7 +86,7 @@ pub fn resources_of(case: &Case<'_>) -> Result<Vec<Resource>, CaseFault> {
     }
 }
 
-/// Returns users with the names `user0`, `user1` and so on, in order of id.
+/// Returns `number` users with the names `user0`, `user1` and so on.
 fn numbered_users(alloc: Global, number: i64) -> Result<Vec<Resource>, CaseFault> {
     let mut users = Vec::new(alloc);
     for index in 0..number {
@@ -93,7 +95,8 @@ fn numbered_users(alloc: Global, number: i64) -> Result<Vec<Resource>, CaseFault
     Ok(users)
 }
 
-/// Returns the prefix of the id that ends in this number of at most three digits.
+/// Returns the id of a numbered user without its last digits, which are the decimal digits of `number`. The
+/// number must be at most 999.
 fn id_before(number: i64) -> &'static str {
     if number < 10 {
         "00000000-0000-4000-8000-00000000000"

@@ -7,8 +7,9 @@ use std::alloc::Global;
 
 /// Returns the text of the policy file of a case.
 ///
-/// It has the rules of the list `rules`, or `times` times the rule `rule`; otherwise it is the argument
-/// `policy`, a string or a JSON value, by default the sample policy.
+/// If the argument `rules` is given, the file has the rules of this list. Otherwise, if `rule` is given, the
+/// file repeats this rule `times` times. Otherwise it is the argument `policy`, a string or a JSON value, by
+/// default the sample policy.
 pub fn policy_text(case: &Case<'_>) -> Result<String, CaseFault> {
     let alloc = case.alloc;
     if let Some(rules) = case.get("rules") {
@@ -20,12 +21,12 @@ pub fn policy_text(case: &Case<'_>) -> Result<String, CaseFault> {
     text_or_json(case, "policy", POLICY)
 }
 
-/// Returns the policy file with a list of rules.
+/// Returns a policy file with the rules of a JSON array.
 fn file_of(alloc: Global, rules: &str) -> Result<String, CaseFault> {
     joined(alloc, &["{\"version\":1,\"rules\":", rules, "}"])
 }
 
-/// Returns the policy file with a rule repeated `times` times.
+/// Returns a policy file that repeats one rule `times` times.
 fn repeated(alloc: Global, rule: &str, times: i64) -> Result<String, CaseFault> {
     let mut text = String::from_str(alloc, "{\"version\":1,\"rules\":[")?;
     for number in 0..times {

@@ -1,4 +1,4 @@
-//! Tests that cases restrict rows and parts with.
+//! Tests by which cases restrict rows and parts.
 ghost use Rattle.std.specs.Option.{option_eq};
 ghost use Rattle.std.specs.Prelude.{Some};
 ghost use denote.Enum.Bare.{sameb};

@@ -29,7 +29,7 @@ enum SchemaCall {
     UnitOf,
 }
 
-/// What a schema is looked up by.
+/// The key by which a call looks up a schema.
 #[derive(Clone, Copy)]
 enum SchemaBy {
     Urn,
@@ -57,7 +57,7 @@ static CALLS: [(&str, SchemaCall); 16] = [
     ("unit_of", SchemaCall::UnitOf),
 ];
 
-/// Returns the result of the case's call, or None if it isn't a call of `scim_schema`.
+/// Returns the result of the case's call, or `None` if it isn't a call of `scim_schema`.
 pub fn answer(case: &Case<'_>, call: &str) -> Option<Result<String, CaseFault>> {
     let call = named(&CALLS, call)?;
     Some(match call {
@@ -117,12 +117,12 @@ fn characteristics_text(
     joined(alloc, &words)
 }
 
-/// Returns the attribute that the case names, of either kind.
+/// Returns the attribute in the argument `attribute`. It may be an attribute of a user or of a group.
 fn attribute_of(case: &Case<'_>) -> Result<Attribute, CaseFault> {
     Ok(case.leaf("attribute")?.attribute)
 }
 
-/// Returns the schema that the case names by its URN.
+/// Returns the schema whose URN is the argument `urn`. Fails with `Missing` if there is no such schema.
 fn schema_named(case: &Case<'_>) -> Result<Schema, CaseFault> {
     match Schema::named(case.text("urn")?) {
         Some(schema) => Ok(schema),
@@ -130,7 +130,7 @@ fn schema_named(case: &Case<'_>) -> Result<Schema, CaseFault> {
     }
 }
 
-/// Returns the name of an attribute; `none` for None.
+/// Returns the name of an attribute, or `none` if `attribute` is `None`.
 pub fn attribute_name(attribute: Option<Attribute>) -> &'static str {
     match attribute {
         Some(attribute) => attribute.name(),
@@ -138,20 +138,20 @@ pub fn attribute_name(attribute: Option<Attribute>) -> &'static str {
     }
 }
 
-/// Returns the attribute that a name finds.
+/// Returns the attribute of the kind that has the name in the argument `name`, or `none`.
 fn attribute_call(case: &Case<'_>) -> Result<String, CaseFault> {
     let found = attribute_named(case.kind(), case.text("name")?);
     said(case.alloc, attribute_name(found))
 }
 
-/// Returns the attribute that a name finds in a schema.
+/// Returns the attribute of the kind in a schema that has the name in the argument `name`, or `none`.
 fn attribute_in_call(case: &Case<'_>) -> Result<String, CaseFault> {
     let name = case.text("name")?;
     let found = attribute_named_in(case.kind(), schema_named(case)?, name);
     said(case.alloc, attribute_name(found))
 }
 
-/// Returns the sub-attribute that a name finds.
+/// Returns the sub-attribute that has the name in the argument `name`, or `none`.
 fn sub_attribute_call(case: &Case<'_>) -> Result<String, CaseFault> {
     let name = case.text("name")?;
     match sub_attribute_named(attribute_of(case)?, name) {
@@ -160,7 +160,7 @@ fn sub_attribute_call(case: &Case<'_>) -> Result<String, CaseFault> {
     }
 }
 
-/// Returns the URN of a schema; `none` for None.
+/// Returns the URN of a schema, or `none` if `schema` is `None`.
 pub fn urn_of(schema: Option<Schema>) -> &'static str {
     match schema {
         Some(schema) => schema.urn(),
@@ -168,7 +168,7 @@ pub fn urn_of(schema: Option<Schema>) -> &'static str {
     }
 }
 
-/// Returns the URN of the schema that the look-up finds.
+/// Returns the URN of the schema that the look-up finds, or `none`.
 fn schema_call(case: &Case<'_>, by: SchemaBy) -> Result<String, CaseFault> {
     let found = match by {
         SchemaBy::Urn => Schema::named(case.text("urn")?),
@@ -179,7 +179,7 @@ fn schema_call(case: &Case<'_>, by: SchemaBy) -> Result<String, CaseFault> {
     said(case.alloc, urn_of(found))
 }
 
-/// Returns the name of the kind, of its endpoint or of the operation.
+/// Returns the name of the kind, its endpoint or the name of the operation, as the argument `of` says.
 fn name(case: &Case<'_>) -> Result<String, CaseFault> {
     let name = match case.text("of")? {
         "kind" => case.kind().name(),
@@ -216,7 +216,8 @@ fn sub_attribute_list(case: &Case<'_>) -> Result<String, CaseFault> {
     Ok(text)
 }
 
-/// Returns the schema, path and characteristics of the leaf with this number in leaf order, from 1.
+/// Returns the schema, path and characteristics of a leaf, or `none` if there is no such leaf. The argument
+/// `place` is the number of the leaf in the kind's list of leaves, counted from 1.
 fn leaf(case: &Case<'_>) -> Result<String, CaseFault> {
     let kind = case.kind();
     let place = case.count("place")?;
@@ -249,7 +250,8 @@ fn has_leaf_call(case: &Case<'_>) -> Result<String, CaseFault> {
     truth(case.alloc, has_leaf(case.kind(), case.leaf("leaf")?))
 }
 
-/// Returns the path of a leaf's unit; it is that of the whole attribute if it is multi-valued.
+/// Returns the path of a leaf's unit. If the attribute is multi-valued, this is the path of the whole
+/// attribute.
 fn unit_call(case: &Case<'_>) -> Result<String, CaseFault> {
     let unit = unit_of(case.leaf("leaf")?);
     let leaf = Leaf {

@@ -1,8 +1,8 @@
 //! Look-up of names in tables.
 
-/// Returns the value beside a name in a table, if any.
+/// Returns the value of a name in a table, or `None` if the table doesn't contain the name.
 ///
-/// A loop over a table takes one proof; a match on texts would take one for each name.
+/// A loop over a table needs one proof. A match on texts would need one for each name.
 pub fn named<T: Copy>(table: &[(&str, T)], name: &str) -> Option<T> {
     for (own, meant) in table {
         if *own == name {

@@ -25,7 +25,7 @@ static CALLS: [(&str, TextCall); 6] = [
     ("order_of_readings", TextCall::OrderOfReadings),
 ];
 
-/// Returns the result of the case's call, or None if it isn't a call of `scim_text`.
+/// Returns the result of the case's call, or `None` if it isn't a call of `scim_text`.
 pub fn answer(case: &Case<'_>, call: &str) -> Option<Result<String, CaseFault>> {
     let call = named(&CALLS, call)?;
     Some(match call {
@@ -49,7 +49,8 @@ fn fold_call(case: &Case<'_>) -> Result<String, CaseFault> {
     Ok(fold(case.alloc, case.text("text")?)?)
 }
 
-/// Returns the text of the moment with this second; `none` if there is no such moment.
+/// Returns the text of the moment that the argument `second` gives in seconds since 1970, or `none` if there
+/// is no such moment.
 fn print_moment_call(case: &Case<'_>) -> Result<String, CaseFault> {
     match Moment::new(case.number("second")?) {
         Some(moment) => Ok(print_moment(case.alloc, moment)?),
@@ -57,8 +58,8 @@ fn print_moment_call(case: &Case<'_>) -> Result<String, CaseFault> {
     }
 }
 
-/// Returns the second of a timestamp, with `later` after it if the timestamp has a fraction beyond the
-/// second.
+/// Returns the second of a timestamp, followed by ` later` if the timestamp is later than this second.
+/// Returns `BadMoment` if the timestamp is invalid.
 fn read_moment_call(case: &Case<'_>) -> Result<String, CaseFault> {
     let Ok(reading) = read_moment(case.text("text")?) else {
         return said(case.alloc, "BadMoment");
@@ -77,7 +78,7 @@ fn read_printed_moment_call(case: &Case<'_>) -> Result<String, CaseFault> {
     }
 }
 
-/// Returns the order of the readings of two timestamps.
+/// Returns the order of two timestamps, or `BadMoment` if one is invalid.
 fn order_call(case: &Case<'_>) -> Result<String, CaseFault> {
     let first = read_moment(case.text("text")?);
     let second = read_moment(case.text("other")?);

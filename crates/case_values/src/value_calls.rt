@@ -14,7 +14,7 @@ use scim_value::{
 };
 use std::alloc::Global;
 
-/// A call of `scim_value`, or the one of `scim_samples`.
+/// A call of `scim_value`, or the call of `scim_samples` that prints a part.
 #[derive(Clone, Copy)]
 enum ValueCall {
     Part,
@@ -101,7 +101,7 @@ static CALLS: [(&str, ValueCall); 29] = [
     ),
 ];
 
-/// Returns the result of the case's call, or None if it isn't a call of `scim_value`.
+/// Returns the result of the case's call, or `None` if it isn't a call of `scim_value`.
 pub fn answer(case: &Case<'_>, call: &str) -> Option<Result<String, CaseFault>> {
     let call = named(&CALLS, call)?;
     Some(match call {
@@ -124,7 +124,7 @@ pub fn answer(case: &Case<'_>, call: &str) -> Option<Result<String, CaseFault>> 
     })
 }
 
-/// Returns the cells of a part, or `Invalid`.
+/// Returns the cells of a part, or the text `Invalid` if `made` is the error `Invalid`.
 fn made_text(alloc: Global, made: Result<Part, Failed<Invalid>>) -> Result<String, CaseFault> {
     match made {
         Ok(part) => cells_text(alloc, &part),
@@ -133,7 +133,7 @@ fn made_text(alloc: Global, made: Result<Part, Failed<Invalid>>) -> Result<Strin
     }
 }
 
-/// Returns the part of cells in any order.
+/// Makes a part from cells in any order. Returns its cells, or `Invalid` if they don't form a part.
 fn part_call(case: &Case<'_>) -> Result<String, CaseFault> {
     let Some(id) = Id::read(case.text_or("id", ALICE)) else {
         return Err(CaseFault::Missing("id"));
@@ -142,7 +142,7 @@ fn part_call(case: &Case<'_>) -> Result<String, CaseFault> {
     made_text(case.alloc, Part::of(case.alloc, case.kind(), id, cells))
 }
 
-/// Returns the part of cells in order of place.
+/// Makes a part from cells in order of place. Returns its cells, or `Invalid` if they don't form a part.
 fn sorted_part_call(case: &Case<'_>) -> Result<String, CaseFault> {
     let Some(id) = Id::read(case.text_or("id", ALICE)) else {
         return Err(CaseFault::Missing("id"));
@@ -187,13 +187,13 @@ fn part_copy_text(alloc: Global, part: &Part) -> Result<String, CaseFault> {
     cells_text(alloc, &copy)
 }
 
-/// Returns the part's rows of the attribute of a leaf.
+/// Returns those rows of the part that belong to the attribute of the argument `leaf`.
 fn attribute_rows_text(case: &Case<'_>, part: &Part) -> Result<String, CaseFault> {
     let leaf = case.leaf("leaf")?;
     rows_text(case.alloc, part.attribute_rows(leaf.attribute))
 }
 
-/// Returns the part's rows of the unit of a leaf.
+/// Returns those rows of the part that belong to the unit of the argument `leaf`.
 fn values_text(case: &Case<'_>, part: &Part) -> Result<String, CaseFault> {
     let unit = unit_of(case.leaf("leaf")?);
     rows_text(case.alloc, part.values(unit))
@@ -203,7 +203,7 @@ fn cells_text(alloc: Global, part: &Part) -> Result<String, CaseFault> {
     Ok(part_text(alloc, part)?)
 }
 
-/// Returns rows as text, with a bar between two.
+/// Returns the rows as text, separated by ` | `.
 fn rows_text(alloc: Global, rows: &[Row]) -> Result<String, CaseFault> {
     let mut text = String::new(alloc);
     for row in rows {
@@ -220,25 +220,25 @@ fn push_row(alloc: Global, row: &Row, text: &mut String) -> Result<(), CaseFault
     Ok(text.push_str(cells.as_str())?)
 }
 
-/// Returns the atom at a position of a leaf; `none` if there is none.
+/// Returns the part's atom at the arguments `leaf` and `position`, or `none` if the part has no atom there.
 fn atom_told(case: &Case<'_>, part: &Part) -> Result<String, CaseFault> {
     let atom = part.get(case.leaf("leaf")?, position(case));
     Ok(atom_text(case.alloc, atom)?)
 }
 
-/// Returns the number of positions of a leaf's attribute.
+/// Returns how many positions the attribute of the argument `leaf` has in the part.
 fn positions_text(case: &Case<'_>, part: &Part) -> Result<String, CaseFault> {
     let positions = part.positions(case.leaf("leaf")?.attribute);
     shown(case.alloc, &positions)
 }
 
-/// Whether the part equals the part of a user with Alice's id and the cells in `other`.
+/// Whether the part equals the part of a user with the id of Alice and the cells in the argument `other`.
 fn same_part(case: &Case<'_>, one: &Part) -> Result<String, CaseFault> {
     let other = part(case.alloc, Kind::User, ALICE, case.text("other")?)?;
     truth(case.alloc, *one == other)
 }
 
-/// Returns the kind and the rows that the part is taken apart into.
+/// Returns the kind and the rows of the part, taken out by `into_parts`.
 fn taken_apart(case: &Case<'_>) -> Result<String, CaseFault> {
     let (kind, _, rows) = case.part()?.into_parts();
     kind_and_rows(case.alloc, kind, rows.as_slice())
@@ -265,7 +265,8 @@ fn without_call(case: &Case<'_>) -> Result<String, CaseFault> {
     cells_text(case.alloc, &left)
 }
 
-/// Returns the part with the given values of a leaf's unit; `no values` if the rows aren't values of it.
+/// Replaces the values of the unit of the argument `leaf` in the part by the rows in the list `rows`. Returns
+/// the cells of the new part, or `no values` if the rows aren't values of the unit.
 fn put_call(case: &Case<'_>) -> Result<String, CaseFault> {
     let unit = unit_of(case.leaf("leaf")?);
     let values = rows(case)?;
@@ -281,13 +282,14 @@ fn put_text(alloc: Global, part: Part, unit: Unit, values: Vec<Row>) -> Result<S
     cells_text(alloc, &changed)
 }
 
-/// Returns the part restricted to the fields of one sub-attribute.
+/// Returns the cells of the part restricted to the sub-attribute of the leaf in the argument `keep`.
 fn restricted_text(case: &Case<'_>, part: &Part) -> Result<String, CaseFault> {
     let rest = restricted(case, part)?;
     cells_text(case.alloc, &rest)
 }
 
-/// Returns the number of positions of a leaf's attribute in the part restricted to one sub-attribute.
+/// Restricts the part to the sub-attribute of the leaf in the argument `keep`. Returns how many positions the
+/// attribute of the argument `leaf` has in the restricted part.
 fn restricted_positions(case: &Case<'_>, part: &Part) -> Result<String, CaseFault> {
     let rest = restricted(case, part)?;
     positions_text(case, &rest)
@@ -299,15 +301,15 @@ fn restricted(case: &Case<'_>, part: &Part) -> Result<Part, CaseFault> {
     Ok(part.restrict(case.alloc, &test)?)
 }
 
-/// Returns the part restricted to the values that have the atom of a cell.
+/// Returns the cells of those values of the part that have the leaf and the atom of the argument `cell`.
 fn restrict_by_atom(case: &Case<'_>, part: &Part) -> Result<String, CaseFault> {
     let Cell { leaf, atom, .. } = cell(case, "cell")?;
     let rest = part.restrict(case.alloc, &WithAtom { leaf, atom })?;
     cells_text(case.alloc, &rest)
 }
 
-/// Returns `ok` if the part is a resource below the base, by default that of the samples; otherwise
-/// `Invalid`.
+/// Returns `ok` if the part is a resource located below the argument `base`, by default the base URL of the
+/// samples. Returns `Invalid` otherwise.
 fn resource_call(case: &Case<'_>) -> Result<String, CaseFault> {
     match Resource::of(case.part()?, case.text_or("base", BASE)) {
         Ok(_) => said(case.alloc, "ok"),
@@ -315,7 +317,7 @@ fn resource_call(case: &Case<'_>) -> Result<String, CaseFault> {
     }
 }
 
-/// Returns the cells of a resource, or `Invalid`.
+/// Returns the cells of a resource, or the text `Invalid` if `made` is the error `Invalid`.
 fn resource_text(
     alloc: Global,
     made: Result<Resource, Failed<Invalid>>,
@@ -346,7 +348,8 @@ fn resource_without(case: &Case<'_>) -> Result<String, CaseFault> {
     )
 }
 
-/// Returns `ok` if a resource may have a location below a base of `length` letters `x`; otherwise `refused`.
+/// Returns `ok` if a resource may have a location below a base of `length` letters `x`, or `refused` if it
+/// may not.
 fn resource_far_away(case: &Case<'_>) -> Result<String, CaseFault> {
     let resource = case.resource()?;
     let place = far_location(case, &resource)?;
@@ -376,7 +379,7 @@ fn resource_told(case: &Case<'_>, told: OfResource) -> Result<String, CaseFault>
     }
 }
 
-/// Returns the cells of a copy of the resource; `another resource` if the copy differs.
+/// Returns the cells of a copy of the resource, or `another resource` if the copy differs from the resource.
 fn copy_text(alloc: Global, resource: &Resource) -> Result<String, CaseFault> {
     let copy = resource.try_copy(alloc)?;
     if copy != *resource {
@@ -385,8 +388,8 @@ fn copy_text(alloc: Global, resource: &Resource) -> Result<String, CaseFault> {
     cells_text(alloc, &copy.into_part())
 }
 
-/// Returns the kind, the id, the number of positions of a leaf's attribute, and the atom at its first
-/// position.
+/// Returns the kind and the id of the resource, the number of positions of the attribute of the argument
+/// `leaf` in it, and its atom at this leaf and position 0.
 fn told_of_resource(case: &Case<'_>, resource: &Resource) -> Result<String, CaseFault> {
     let id = resource.id().text(case.alloc)?;
     let rest = told_of_leaf(case, resource)?;
@@ -425,7 +428,7 @@ fn location_call(case: &Case<'_>) -> Result<String, CaseFault> {
     Ok(place.into_string())
 }
 
-/// Returns the leaves of a kind with unique names, with a space after each.
+/// Returns the leaves whose values are unique names in the kind, with a space after each.
 fn unique_leaves_call(case: &Case<'_>) -> Result<String, CaseFault> {
     let mut text = String::new(case.alloc);
     for leaf in unique_leaves(case.kind()) {
@@ -444,7 +447,8 @@ fn known_text_call(case: &Case<'_>) -> Result<String, CaseFault> {
     Ok(known_text(case.alloc, case.kind(), leaf, case.text("text")?)?)
 }
 
-/// Returns the text of the fault in the argument `name`.
+/// Returns the text of the error `Invalid` if the argument `name` is `Invalid`, or else of the error
+/// `NoMemory`.
 fn fault_call(case: &Case<'_>) -> Result<String, CaseFault> {
     let fault = match case.text("name")? {
         "Invalid" => Failed::Because(Invalid),

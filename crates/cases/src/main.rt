@@ -1,11 +1,12 @@
 //! `cases`: runs examples given as data.
 //!
-//! Each line of a folder's `.jsonl` files names a call, its arguments and the expected result; each item of
-//! its `.json` files has whole requests with their replies, or events with their outputs. The program runs
-//! the cases and prints each one whose result differs, and the numbers of cases.
+//! In the `.jsonl` files of a folder, each line is a case: a call, its arguments and the expected result. In
+//! the `.json` files, each item of the list is a case: whole requests and their replies, or events and their
+//! outputs. The program runs the cases and prints each case whose result differs from the expected one. Then
+//! it prints the number of cases, and the number of cases with the expected result.
 //!
-//! The exit status is 0 if all results are as expected, 1 if one isn't, and 2 if there are no cases or a file
-//! can't be read.
+//! The exit status is 0 if every result is as expected and 1 if a result isn't. It is 2 if there are no
+//! cases, or if the run fails, for example because a file can't be read.
 #![tactic(auto)]
 
 use case_runs::{Calls, FolderFault, Tally, go_through};
@@ -13,7 +14,7 @@ use case_values::{Case, CaseFault};
 use std::env;
 use std::process::ExitCode;
 
-/// Runs the cases, prints a fault on standard error, and returns the exit status.
+/// Runs the cases and returns the exit status. If the run fails, prints the error on standard error.
 fn main(rt: HostRuntime) -> ExitCode {
     match run(&rt) {
         Ok(tally) => tally.exit_code(),
@@ -30,7 +31,7 @@ fn run(rt: &HostRuntime) -> Result<Tally, FolderFault> {
     go_through(rt, rt.alloc(), folder.as_str(), &AllCalls { rt })
 }
 
-/// Returns the last argument of the command line. NoFolder if there is none.
+/// Returns the last argument of the command line. Fails with `NoFolder` if there are no arguments.
 fn folder_named(rt: &HostRuntime) -> Result<String, FolderFault> {
     match env::args(rt)?.skip(1).last() {
         Some(folder) => Ok(folder),

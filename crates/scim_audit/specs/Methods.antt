@@ -3,7 +3,7 @@ use Rattle.std.specs.Prelude.{ℕ, List, codes}
 use Rattle.scim_audit.specs.declared.allowed_methods.Methods.{Methods}
 use Rattle.scim_audit.specs.declared.allowed_methods.Methods.TheVariants.{Collection, Search, Resource, Discovery}
 
--- the methods as in the header `Allow` (RFC 9110 section 10.2.1)
+-- the methods as the header `Allow` lists them (RFC 9110 section 10.2.1)
 abbrev pub allow_text : Methods → List ℕ
 allow_text Collection = codes "GET, POST"
 allow_text Search = codes "POST"

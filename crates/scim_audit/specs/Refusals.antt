@@ -30,7 +30,7 @@ number_of Widens = 19
 number_of IdInUse = 20
 number_of Store = 21
 
--- one refusal for each number, in order; that of a method that an endpoint lacks names the methods of a collection
+-- one refusal for each number, in order; `BadMethod` is listed with the methods of a collection
 unfoldable pub refusals : List Refusal
 refusals = BadHead ∷ TooLarge ∷ BadFraming ∷ UnknownCoding ∷ NoRoute ∷ NotSupported ∷ BadMethod Collection ∷ NoToken ∷ Syntax ∷ Filter ∷ Path ∷ MessageValue ∷ NotFound ∷ Denied ∷ Mutability ∷ NoTarget ∷ ResultValue ∷ Taken ∷ Widens ∷ IdInUse ∷ Store ∷ []
 
@@ -58,7 +58,7 @@ status_of Widens = 403
 status_of IdInUse = 503
 status_of Store = 500
 
--- the detail error keyword, if the standard has one (RFC 7644 table 9)
+-- the detail error keyword (`scimType`), if the standard defines one (RFC 7644 table 9)
 abbrev pub scim_type_of : Refusal → Option (List ℕ)
 scim_type_of Syntax = Some (codes "invalidSyntax")
 scim_type_of Filter = Some (codes "invalidFilter")
@@ -70,7 +70,7 @@ scim_type_of ResultValue = Some (codes "invalidValue")
 scim_type_of Taken = Some (codes "uniqueness")
 scim_type_of _ = None
 
--- the description for people
+-- the description of the error in English
 abbrev pub detail_of : Refusal → List ℕ
 detail_of BadHead = codes "Malformed request head."
 detail_of TooLarge = codes "Request body too large."
@@ -94,7 +94,7 @@ detail_of Widens = codes "The change would widen access."
 detail_of IdInUse = codes "The identifier is in use."
 detail_of Store = codes "The server could not complete the request."
 
--- the member `scimType` of an error message, or nothing
+-- the member `scimType` of an error message, or the empty text if there is no keyword
 abbrev pub scim_type_member : Option (List ℕ) → List ℕ
 scim_type_member None = codes ""
 scim_type_member (Some scim_type) = codes ",\"scimType\":\"" ++ scim_type ++ codes "\""

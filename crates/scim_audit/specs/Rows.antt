@@ -42,19 +42,19 @@ leaf_path leaf = path_of leaf.attribute leaf.sub_attribute
 abbrev pub refusal_mark : Refusal → List ℕ
 refusal_mark refusal = codes "F" ++ decimal (number_of refusal)
 
--- the text of an id, or `-`
+-- the text of an id, or `-` if there is none
 abbrev pub id_word : Option (List ℕ) → List ℕ
 id_word id = unwrap_or (option_map id_text id) no_word
 
--- the number of a rule, or `-`
+-- the number of a rule, or `-` if there is none
 abbrev pub rule_word : Option ℕ → List ℕ
 rule_word rule = unwrap_or (option_map decimal rule) no_word
 
--- the path of a leaf, or `-`
+-- the path of a leaf, or `-` if there is none
 abbrev pub leaf_word : Option Leaf → List ℕ
 leaf_word leaf = unwrap_or (option_map leaf_path leaf) no_word
 
--- `F` and the number of a refusal, or `-`
+-- `F` and the number of a refusal, or `-` if there is none
 abbrev pub refusal_word : Option Refusal → List ℕ
 refusal_word refusal = unwrap_or (option_map refusal_mark refusal) no_word
 

@@ -16,7 +16,7 @@ pub enum Methods {
 }
 
 impl Methods {
-    /// The methods as in the header `Allow` (RFC 9110 section 10.2.1).
+    /// The methods as the header `Allow` lists them (RFC 9110 section 10.2.1).
     pub fn allow(self) -> &'static str
         ensures { result.now ≡ spec.allow_text self }
     {

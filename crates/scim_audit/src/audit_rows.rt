@@ -19,7 +19,7 @@ pub enum Decided {
     Hidden,
     /// The resource doesn't exist.
     Absent,
-    /// The request was refused for its content or for its result.
+    /// The request was refused because of its content or its result.
     Refused,
 }
 
@@ -52,7 +52,7 @@ impl Decided {
     }
 }
 
-/// The audit's record of a client's request. Its number is its place among the rows, from 1.
+/// The audit record of a request from a client. The number of a row is its position in the audit, from 1.
 pub struct AuditRow {
     /// When the request was received.
     pub moment: Moment,
@@ -62,17 +62,17 @@ pub struct AuditRow {
     pub op: Op,
     /// The kind of the resources.
     pub kind: Kind,
-    /// The id of the resource; None if the request names none, or a text that isn't an id.
+    /// The id of the resource. `None` if the request contains no id, or a text that isn't a valid id.
     pub id: Option<Id>,
     /// The decision.
     pub decided: Decided,
-    /// The number of the rule that decided, or 0 if no rule applied. None if the decision isn't
-    /// that of a single rule.
+    /// The number of the rule that decided, or 0 if no rule applied. `None` if the decision wasn't
+    /// made by a single rule.
     pub rule: Option<u32>,
-    /// The leaf that the rule denied, or would have allowed in addition. None if the rule allowed
-    /// the request, or the decision isn't that of a single rule.
+    /// The leaf at which the rule denied the request, or to which the change would have widened
+    /// access. `None` if the rule allowed the request, or the decision wasn't made by a single rule.
     pub leaf: Option<Leaf>,
-    /// The refusal in the reply; None if the request was carried out.
+    /// The refusal in the reply; `None` if the request was carried out.
     pub refusal: Option<Refusal>,
 }
 
@@ -112,7 +112,7 @@ impl AuditRow {
 }
 
 /// Returns the path of a leaf as in policies: `userName`, `emails.value` (RFC 7644 section 3.10).
-/// It has no URN, also for an attribute of an extension.
+/// It has no URN, even for an attribute of an extension.
 pub fn leaf_path(alloc: Global, leaf: Leaf) -> Result<String, NoMemory>
     ensures { IfOk result (λ text. string_bytes text ≡ spec.leaf_path leaf) }
 {
@@ -126,14 +126,14 @@ pub fn leaf_path(alloc: Global, leaf: Leaf) -> Result<String, NoMemory>
     }
 }
 
-/// The word for a value that a row doesn't have.
+/// Returns the word for a value that a row doesn't have.
 fn no_word(alloc: Global) -> Result<String, NoMemory>
     ensures { IfOk result (λ text. string_bytes text ≡ spec.no_word) }
 {
     Ok(String::from_str(alloc, "-")?)
 }
 
-/// The number of a rule, or `-`.
+/// The number of a rule, or `-` if there is none.
 fn rule_word(alloc: Global, rule: Option<u32>) -> Result<String, NoMemory>
     ensures { IfOk result (λ text. string_bytes text ≡ spec.rule_word rule) }
 {
@@ -143,7 +143,7 @@ fn rule_word(alloc: Global, rule: Option<u32>) -> Result<String, NoMemory>
     }
 }
 
-/// The path of a leaf, or `-`.
+/// The path of a leaf, or `-` if there is none.
 fn leaf_word(alloc: Global, leaf: Option<Leaf>) -> Result<String, NoMemory>
     ensures { IfOk result (λ text. string_bytes text ≡ spec.leaf_word leaf) }
 {
@@ -153,7 +153,7 @@ fn leaf_word(alloc: Global, leaf: Option<Leaf>) -> Result<String, NoMemory>
     }
 }
 
-/// `F` and the number of a refusal, or `-`.
+/// `F` and the number of a refusal, or `-` if there is none.
 fn refusal_word(alloc: Global, refusal: Option<Refusal>) -> Result<String, NoMemory>
     ensures { IfOk result (λ text. string_bytes text ≡ spec.refusal_word refusal) }
 {
@@ -166,7 +166,7 @@ fn refusal_word(alloc: Global, refusal: Option<Refusal>) -> Result<String, NoMem
     }
 }
 
-/// The text of an id, or `-`.
+/// The text of an id, or `-` if there is none.
 fn id_word(buffer: &mut [u8; Id::TEXT_LENGTH], id: Option<Id>) -> &str
     ensures { result.now ≡ spec.id_word id }
 {

@@ -5,7 +5,7 @@ ghost use Rattle.scim_audit.specs.Refusals as spec;
 
 use crate::allowed_methods::Methods;
 
-/// The reason why a request is refused. The checks are made in this order.
+/// The reason why a request is refused. The server checks for the reasons in this order.
 #[derive(Clone, Copy, Debug, PartialEq, Eq)]
 pub enum Refusal {
     /// The input isn't the head of an HTTP request (RFC 9112 sections 2 and 3), or the head is too
@@ -19,15 +19,15 @@ pub enum Refusal {
     UnknownCoding,
     /// There is no such endpoint.
     NoRoute,
-    /// A SCIM endpoint that this server doesn't support, such as `/Bulk` and `/Me` (RFC 7644 sections 3.7 and
-    /// 3.11).
+    /// The request is for a SCIM endpoint that this server doesn't support, such as `/Bulk` or `/Me` (RFC
+    /// 7644 sections 3.7 and 3.11).
     NotSupported,
     /// The endpoint allows only these methods, which the header `Allow` lists (RFC 9110 section
     /// 15.5.6).
     BadMethod(Methods),
-    /// The request has no token, or one that no client has (RFC 6750 section 3).
+    /// The request has no token, or a token that belongs to no client (RFC 6750 section 3).
     NoToken,
-    /// The body isn't of the required form.
+    /// The body doesn't have the required form.
     Syntax,
     /// The filter isn't valid, or compares values that can't be compared.
     Filter,
@@ -35,7 +35,7 @@ pub enum Refusal {
     Path,
     /// A value in the message isn't valid for its attribute.
     MessageValue,
-    /// The resource doesn't exist, or the client may not see it; the reply is the same.
+    /// The resource doesn't exist, or the client may not see it. The reply is the same in both cases.
     NotFound,
     /// The policy denies the request.
     Denied,
@@ -49,7 +49,7 @@ pub enum Refusal {
     Taken,
     /// The change would give the client more rights on the resource than before.
     Widens,
-    /// The id drawn for the new resource is in use.
+    /// The id that the server generated for the new resource is already in use.
     IdInUse,
     /// An allocation or the store failed.
     Store,
@@ -166,7 +166,7 @@ impl Refusal {
         }
     }
 
-    /// The detail error keyword, if the standard has one (RFC 7644 table 9).
+    /// The detail error keyword (`scimType`), if the standard defines one (RFC 7644 table 9).
     pub fn scim_type(self) -> Option<&'static str>
         ensures { option_copied result ≡ spec.scim_type_of self }
     {

@@ -1,4 +1,4 @@
--- The draft of a resource that a request's body gives (RFC 7644 sections 3.3 and 3.5.1).
+-- The draft of a resource that is read from the body of a request (RFC 7644 sections 3.3 and 3.5.1).
 use Rattle.std.specs.Prelude.{◌≡◌, List, [], ◌∷◌, ◌&&◌, Option, Some, None, Result, Ok, Err, option_map, option_and_then, map, if◌then◌else◌}
 use Rattle.std.specs.List.{flat_map}
 use denote.Enum.Bare.{sameb}
@@ -35,22 +35,22 @@ pub record Given : Type 0 where
   pub unit : AttributeUnit
   pub values : List Row
 
--- the unit of a single-valued field, without values if the field is writeOnly, as a password
+-- the unit of a single-valued field, without values if the field is writeOnly, such as a password
 abbrev pub field_given : Kind → Field → Given
 field_given kind f =
     record { unit = unit_of f.leaf; values = if is_write_only kind f.leaf then [] else record { unit = unit_of f.leaf; fields = f ∷ [] } ∷ [] }
 
--- the unit that an atom of a simple attribute gives; an empty `userName` is refused (RFC 7643 section
--- 4.1.1)
+-- the unit of a simple attribute with this atom; None for an empty `userName`, which is refused (RFC 7643
+-- section 4.1.1)
 abbrev pub named_given : Kind → Attribute → Atom → Option (List Given)
 named_given kind a atom =
     if sameb the_attribute a UserName && is_empty atom then None else Some (field_given kind (record { leaf = simple a; atom = atom }) ∷ [])
 
--- the unit that a value of a simple attribute gives; None if it is refused
+-- the unit read from a value of a simple attribute; None if it is refused
 abbrev pub simple_given : Kind → Attribute → Data → Option (List Given)
 simple_given kind a d = option_and_then (named_given kind a) (given_atom (characteristics_of kind (simple a)).attribute_type d)
 
--- the units that a value of a complex attribute gives, one for each sub-attribute; None if it is refused
+-- the units read from a value of a complex attribute, one for each sub-attribute; None if it is refused
 abbrev pub complex_given : Kind → Attribute → Data → Option (List Given)
 complex_given kind a d = option_map (map (field_given kind)) (fields_of kind a d)
 
@@ -59,38 +59,37 @@ abbrev pub whole_given : Attribute → List Row → List Given
 whole_given a [] = []
 whole_given a (r ∷ rs) = record { unit = whole a; values = r ∷ rs } ∷ []
 
--- the units that a value of an attribute gives, by the attribute's shape; None if it is refused
+-- the units read from a value of an attribute, by the attribute's shape; None if it is refused
 abbrev pub shaped_given : Kind → Attribute → JsonShape → Data → Option (List Given)
 shaped_given kind a Simple d = simple_given kind a d
 shaped_given kind a Complex d = complex_given kind a d
 shaped_given kind a MultiValued d = option_map (whole_given a) (values_of kind a d)
 
--- the units that an object gives for an attribute; a readOnly one is ignored (RFC 7643 section 2.2)
+-- the units of an attribute in an object; a readOnly attribute is ignored (RFC 7643 section 2.2)
 abbrev pub attribute_given : Kind → Attribute → Members → Option (List Given)
 attribute_given kind a ms =
     if is_read_only kind (simple a) then Some [] else if_given (shaped_given kind a (shape_of a)) (given_named (attribute_name a) ms)
 
--- the members of an extension's object, without members if the extension isn't given; None if it isn't an
--- object
+-- the members of an extension's value; no members if there is no value, None if the value isn't an object
 abbrev pub extension_members : Option Data → Option Members
 extension_members None = Some no_members
 extension_members (Some d) = as_object d
 
--- the members that may hold a schema's attributes: the body's own for the core schema (None), else those of
--- the extension's object (RFC 7643 section 3.3)
+-- the members of the object that holds a schema's attributes: the body itself for the core schema (None),
+-- else the extension's object (RFC 7643 section 3.3)
 abbrev pub schema_members : Option Schema → Members → Option Members
 schema_members None ms = Some ms
 schema_members (Some s) ms = extension_members (given_named (urn s) ms)
 
--- the units that a body gives for an attribute; None if a value is refused
+-- the units of an attribute in a body; None if a value is refused
 abbrev pub given_of : Kind → Members → Attribute → Option (List Given)
 given_of kind ms a = option_and_then (attribute_given kind a) (schema_members (extension_of a) ms)
 
--- all units that a body gives, in the order of the attribute table; None if a value is refused
+-- all units in a body, in the order of the attribute table; None if a value is refused
 unfoldable pub all_given : Kind → Members → Option (List Given)
 all_given kind ms = collected (given_of kind ms) (attributes kind)
 
--- the outcome of reading a body: malformed, with a wrong value, or a draft
+-- the outcome of reading a body: it is malformed, it has a wrong value, or it is a draft
 pub data Body : Type 0 where
   malformed : Body
   wrong : Body
@@ -105,21 +104,21 @@ abbrev pub judged : UseFor → Draft → Body
 judged Creating d = if lacks_required d.kind d.rows then wrong else drafted d
 judged Replacing d = drafted d
 
--- the outcome for the units that a body gives; None means that a value was refused
+-- the outcome for the units in a body; None means that a value was refused
 abbrev pub body_with : Kind → UseFor → Option (List Given) → Body
 body_with kind use_for None = wrong
 body_with kind use_for (Some gs) = judged use_for (draft_of kind use_for gs)
 
--- the outcome for the members of a body; None is no object, and clashes of keys are judged before values
+-- the outcome for the members of a body, which is None if it isn't an object; clashing keys are checked first
 abbrev pub body_in : Kind → UseFor → Option Members → Body
 body_in kind use_for None = malformed
 body_in kind use_for (Some ms) = if body_clashes kind ms then malformed else body_with kind use_for (all_given kind ms)
 
--- the outcome for a body with this JSON value; None is a text that isn't JSON
+-- the outcome for a body with this JSON value, which is None if the text isn't JSON
 abbrev pub body_of : Kind → UseFor → Option Data → Body
 body_of kind use_for d = body_in kind use_for (option_and_then as_object d)
 
--- the result of reading a body is the draft or the fault that its JSON value gives
+-- the result of reading a body is the draft, or the fault, specified for its JSON value
 abbrev pub GivesDraft : Kind → UseFor → Option Data → Result Draft BodyFault → Type 0
 GivesDraft kind use_for d (Ok draft) = body_of kind use_for d ≡ drafted draft
 GivesDraft kind use_for d (Err Syntax) = body_of kind use_for d ≡ malformed

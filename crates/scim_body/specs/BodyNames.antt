@@ -17,7 +17,7 @@ use Rattle.scim_schema.specs.Units.{simple}
 use Rattle.scim_schema.specs.Mutability.{is_read_only}
 use Rattle.scim_text.specs.Names.{is_same_name}
 
--- the values of the members whose key is the name, in order
+-- the values of the members whose key is the name in any case, in order
 abbrev pub values_named : List ℕ → Members → List Data
 values_named name no_members = []
 values_named name (member k d ms) = if is_same_name name k then d ∷ values_named name ms else values_named name ms
@@ -31,7 +31,7 @@ first (d ∷ ds) = Some d
 abbrev pub value_named : List ℕ → Members → Option Data
 value_named name ms = first (values_named name ms)
 
--- whether two keys are the name
+-- whether more than one key matches the name
 abbrev pub is_twice : List ℕ → Members → Bool
 is_twice name ms = nat_lt 1 (length (values_named name ms))
 
@@ -45,7 +45,7 @@ abbrev pub items_list : Items → List Data
 items_list no_items = []
 items_list (item d ds) = d ∷ items_list ds
 
--- the values meant where a list is expected: the items of an array, or else the value itself
+-- the values of a multi-valued attribute: the items of an array, or the value itself if it isn't an array
 abbrev pub listed : Option Items → Data → List Data
 listed None d = d ∷ []
 listed (Some ds) d = items_list ds
@@ -58,20 +58,21 @@ sub_attributes_clash a ms = list_any (λ b. is_twice (sub_attribute_name b) ms) 
 abbrev pub value_clashes : Attribute → Data → Bool
 value_clashes a d = is_there_and (sub_attributes_clash a) (as_object d)
 
--- whether two keys clash in a body's value of the attribute; for a multi-valued one in any of its values,
--- also one that counts as absent
+-- whether two keys of one object in the value of the attribute name the same sub-attribute; for a
+-- multi-valued attribute, every item is checked, including items that count as absent
 abbrev pub values_clash : Attribute → Data → Bool
 values_clash a d = if is_multi_valued a then list_any (value_clashes a) (listed (as_array d) d) else value_clashes a d
 
--- whether two keys name the attribute, or, unless it is readOnly, the same sub-attribute in its value
+-- whether two keys name the attribute or, unless it is readOnly, two keys in its value name the same
+-- sub-attribute
 unfoldable pub attribute_clashes : Kind → Members → Attribute → Bool
 attribute_clashes kind ms a = is_twice (attribute_name a) ms || (not (is_read_only kind (simple a)) && is_there_and (values_clash a) (value_named (attribute_name a) ms))
 
--- whether two keys clash among the attributes of an extension, or of the core schema for None
+-- whether keys clash for any attribute of an extension, or of the core schema for None
 abbrev pub schema_clashes : Kind → Option Schema → Members → Bool
 schema_clashes kind s ms = list_any (λ a. option_eq (sameb the_schema) (extension_of a) s && attribute_clashes kind ms a) (attributes kind)
 
--- whether two keys are the extension's URN, or clash in its object (RFC 7643 section 3.3)
+-- whether two keys are the extension's URN, or keys clash in its object (RFC 7643 section 3.3)
 abbrev pub extension_clashes : Kind → Members → Schema → Bool
 extension_clashes kind ms s = is_twice (urn s) ms || is_there_and (λ d. is_there_and (schema_clashes kind (Some s)) (as_object d)) (value_named (urn s) ms)
 

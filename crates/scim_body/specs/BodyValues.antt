@@ -50,11 +50,11 @@ abbrev pub present : Option Data → Option Data
 present None = None
 present (Some d) = if is_absent d then None else Some d
 
--- the value that an object gives under a name, unless it counts as absent
+-- the value under a name in an object, unless it counts as absent
 abbrev pub given_named : List ℕ → Members → Option Data
 given_named name ms = present (value_named name ms)
 
--- the result of reading a value if one is given, else nothing
+-- the result of reading a value, or an empty list if there is none
 abbrev pub if_given : {X : Type 0} → (Data → Option (List X)) → Option Data → Option (List X)
 if_given read None = Some []
 if_given read (Some d) = read d
@@ -82,23 +82,23 @@ is_short (Moment m) = true
 abbrev pub short : Atom → Option Atom
 short atom = if is_short atom then Some atom else None
 
--- the atom of a type that a value gives; None if it has another type or is over the limit
+-- the value as an atom of the type; None if it has another type or is over the limit
 abbrev pub given_atom : AttributeType → Data → Option Atom
 given_atom t d = if sameb the_attribute_type t Boolean then option_map Truth (truth_of d) else option_and_then short (atom_of t d)
 
 -- ---- complex values
 
--- the field of a sub-attribute with this value
+-- the field of a sub-attribute with this value; None if the value is refused
 abbrev pub field_with : Kind → Attribute → SubAttribute → Data → Option (List Field)
 field_with kind a b d =
     option_map (λ atom. record { leaf = leaf_at a b; atom = atom } ∷ []) (given_atom (characteristics_of kind (leaf_at a b)).attribute_type d)
 
--- the field that an object gives for a sub-attribute; a readOnly one is ignored (RFC 7643 section 2.2)
+-- the field of a sub-attribute in an object, if present; a readOnly one is ignored (RFC 7643 section 2.2)
 abbrev pub field_in : Kind → Attribute → Members → SubAttribute → Option (List Field)
 field_in kind a ms b =
     if is_read_only kind (leaf_at a b) then Some [] else if_given (field_with kind a b) (given_named (sub_attribute_name b) ms)
 
--- the fields that an object gives, in order of place; keys that name no sub-attribute are ignored
+-- the fields in an object, in the order in which their cells are stored; unknown keys are ignored
 abbrev pub fields_in : Kind → Attribute → Members → Option (List Field)
 fields_in kind a ms = collected (field_in kind a ms) (sub_attributes_by_place a)
 
@@ -106,12 +106,11 @@ fields_in kind a ms = collected (field_in kind a ms) (sub_attributes_by_place a)
 abbrev pub has_value : Attribute → Bool
 has_value a = list_any (λ b. sameb the_sub_attribute b sub_attribute.Value) (sub_attributes a)
 
--- the field of a value that isn't an object: its `value`, or None if the attribute has no such
--- sub-attribute
+-- the field of a value that isn't an object: its `value`; None if the attribute has no sub-attribute `value`
 abbrev pub value_alone : Kind → Attribute → Data → Option (List Field)
 value_alone kind a d = if has_value a then field_with kind a sub_attribute.Value d else None
 
--- the fields of a value of a complex attribute, by its members if it is an object
+-- the fields of a value of a complex attribute with these members, or None if the value isn't an object
 abbrev pub fields_with : Kind → Attribute → Data → Option Members → Option (List Field)
 fields_with kind a d None = value_alone kind a d
 fields_with kind a d (Some ms) = fields_in kind a ms
@@ -127,11 +126,11 @@ abbrev pub value_with : Attribute → List Field → List Row
 value_with a [] = []
 value_with a (f ∷ fs) = record { unit = whole a; fields = f ∷ fs } ∷ []
 
--- the value that an item of a list gives; no value if the item counts as absent
+-- the value read from an item of a list; no value if the item counts as absent
 abbrev pub value_of : Kind → Attribute → Data → Option (List Row)
 value_of kind a d = if is_absent d then Some [] else option_map (value_with a) (fields_of kind a d)
 
--- whether the values are refused: two are primary, there are over 10,000, or a member has no `value`
+-- whether the values are refused: two are primary, there are over 10,000, or a group member has no `value`
 abbrev pub are_refused : Attribute → List Row → Bool
 are_refused a rs = nat_lt 1 (count_by is_primary rs) || nat_lt MOST_VALUES (length rs) || list_any (is_nameless a) rs
 
@@ -139,10 +138,10 @@ are_refused a rs = nat_lt 1 (count_by is_primary rs) || nat_lt MOST_VALUES (leng
 abbrev pub checked : Attribute → List Row → Option (List Row)
 checked a rs = if are_refused a rs then None else Some rs
 
--- the values given for a multi-valued attribute: those of a list, or a single one; repeated ones are kept
+-- the values of a multi-valued attribute, from a list or a single value; repeated values are kept
 abbrev pub listed_values : Kind → Attribute → Data → Option (List Row)
 listed_values kind a d = collected (value_of kind a) (listed (as_array d) d)
 
--- the values of a multi-valued attribute, without repeated ones; None if they are refused
+-- the values of a multi-valued attribute, without repeated values; None if they are refused
 abbrev pub values_of : Kind → Attribute → Data → Option (List Row)
 values_of kind a d = option_and_then (λ rs. checked a (with_values a [] rs)) (listed_values kind a d)

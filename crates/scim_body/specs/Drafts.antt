@@ -52,8 +52,8 @@ pub record MayBeGiven (kind : Kind) (f : Field) : Type 0 where
   pub short : IsShort f.atom
   pub filled : f.leaf ≡ simple UserName → is_empty f.atom ≡ false
 
--- the invariant of a draft: its rows are valid, may be given, and keep the limits of a resource; a draft
--- for Creating has all that the kind requires
+-- the invariant of a draft: its rows are valid, have only fields that a body may give, and keep the limits of
+-- a resource; a draft for Creating has all attributes that the kind requires
 pub record IsDraft (d : Draft) : Type 0 where
   pub sound : AreSound d.kind d.rows
   pub may_be_given : All (λ r. All (MayBeGiven d.kind) r.fields) d.rows

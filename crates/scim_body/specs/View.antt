@@ -6,12 +6,12 @@ use Rattle.serde_json.specs.View.{number_view, items_of}
 use Rattle.scim_body.specs.declared.trees.Tree.{Tree, fold-Tree}
 use Rattle.scim_body.specs.declared.trees.Tree.TheOpen.{Tree-F}
 
--- the members of an object, whose values are JSON values already
+-- the members of an object, from pairs of a key and a JSON value
 abbrev pub members_of : List (Bor (List ℕ) × Data) → Members
 members_of [] = no_members
 members_of (m ∷ ms) = member m.0.now m.1 (members_of ms)
 
--- the JSON value of one level of a tree, whose inner trees are JSON values already
+-- the JSON value of one level of a tree, from the JSON values of its inner trees
 abbrev pub view_step : Tree-F Data → Data
 view_step Tree-F.Null = null
 view_step (Tree-F.Bool b) = boolean b

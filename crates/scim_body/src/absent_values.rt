@@ -1,4 +1,4 @@
-//! Absent values: null, `[]` and a missing member are one thing to SCIM (RFC 7643 section 2.5).
+//! Absent values: null, `[]` and a missing member are equivalent in SCIM (RFC 7643 section 2.5).
 ghost use Rattle.std.specs.Prelude.{◌≡◌, option_map};
 ghost use Rattle.scim_body.specs.View.{view, members_view};
 ghost use Rattle.scim_body.specs.BodyValues as values;
@@ -17,7 +17,7 @@ pub fn is_absent(value: &Tree<'_>) -> bool
     }
 }
 
-/// The value that an object gives under `name`. `None` if there is none, or if it counts as absent.
+/// The value under the key `name`, in any case. `None` if there is none, or if it counts as absent.
 pub fn given_named<'a, 'b>(members: &'a [Member<'b>], name: &str) -> Option<&'a Tree<'b>>
     ensures { option_map (λ v. view v.now) result
         ≡ values.given_named name.now (members_view members.now) }

@@ -32,8 +32,8 @@ use thiserror::Error;
 /// Why a body is refused.
 #[derive(Clone, Copy, Debug, PartialEq, Eq, Error)]
 pub enum BodyFault {
-    /// The body isn't a JSON object, or two different keys of one object are the same name (RFC 7644
-    /// section 3.12, invalidSyntax).
+    /// The body isn't a JSON object, or two different keys of one object name the same attribute,
+    /// sub-attribute or extension (RFC 7644 section 3.12, invalidSyntax).
     #[error("not a JSON object whose keys are each a name of its own")]
     Syntax,
     /// A value has the wrong type or is over a limit, or a required attribute is missing (RFC 7644 section
@@ -55,17 +55,17 @@ pub struct UnitGiven {
 
 /// Reads the body of a create or a replace into a draft of a resource of `kind` (RFC 7643 sections 2 to 4).
 ///
-/// Names match in any case. readOnly attributes, unknown keys and `schemas` are ignored. A boolean may be
-/// the text `true` or `false` in any case; a single value may stand for a list of one, and a text for a
-/// complex value that has only `value`. null, `[]`, values without known sub-attributes and repeated values
-/// of one list count as absent.
+/// Names match in any case. readOnly attributes, unknown keys and `schemas` are ignored. A boolean may be the
+/// text `true` or `false` in any case. A single value is accepted as a list with one item, and a text as a
+/// complex value that has only the sub-attribute `value`. These count as absent: null, `[]`, values without
+/// known sub-attributes, and repeated values in a list.
 ///
-/// Syntax: the text isn't a JSON object, or two different keys name one attribute, one extension, or one
-/// sub-attribute in a value of an attribute that isn't readOnly, anywhere in the body.
+/// Fails with `Syntax` if the text isn't a JSON object, or if two different keys name one attribute, one
+/// extension, or one sub-attribute in a value of an attribute that isn't readOnly, anywhere in the body.
 ///
-/// Value, if the syntax is right: a value has the wrong type, a text is over 65,536 bytes, `userName` is
-/// empty, a member has no `value`, an attribute has two primary values or more than 10,000 values, or, for
-/// `Creating`, a required attribute is missing.
+/// Fails with `Value` if the syntax is right, but a value has the wrong type, a text is over 65,536 bytes,
+/// `userName` is empty, a group member has no `value`, an attribute has two primary values or more than
+/// 10,000 values, or, for `Creating`, a required attribute is missing.
 pub fn read_body(
     alloc: Global,
     kind: Kind,
@@ -95,7 +95,7 @@ pub fn read_body(
 
 /// Reads the draft from the members of the body.
 ///
-/// Fails with WrongValue if a value is refused, or if a create lacks a required attribute.
+/// Fails with `WrongValue` if a value is refused, or if a create lacks a required attribute.
 fn read_draft(
     alloc: Global,
     members: &[Member<'_>],
@@ -113,9 +113,9 @@ fn read_draft(
     draft_of(alloc, kind, use_for, given)
 }
 
-/// Reads all units that the body gives, in the order of the attribute table.
+/// Reads all units for which the body has values, in the order of the attribute table.
 ///
-/// Errors: those of `read_attributes`.
+/// Fails with `WrongValue` if a value is refused.
 #[tactic(auto, unfolding(crate::specs::Bodies::all_given))]
 fn read_all(
     alloc: Global,
@@ -131,9 +131,9 @@ fn read_all(
     Ok(given)
 }
 
-/// Appends the units that the body gives for `attributes` to `given`.
+/// Appends to `given` the units of `attributes` for which the body has values.
 ///
-/// Fails with WrongValue if a value is refused. On an error `given` keeps the units read before it.
+/// Fails with `WrongValue` if a value is refused. On an error `given` keeps the units read before it.
 fn read_attributes(
     alloc: Global,
     members: &[Member<'_>],
@@ -154,10 +154,10 @@ fn read_attributes(
     Ok(())
 }
 
-/// Appends the units that the body gives for one attribute, from the body itself or from the object of its
-/// extension.
+/// Appends the units of one attribute for which the body has values, read from the body itself or from the
+/// object of the attribute's extension.
 ///
-/// Errors: those of `read_attributes`.
+/// Fails with `WrongValue` if a value is refused.
 fn read_given(
     alloc: Global,
     members: &[Member<'_>],
@@ -180,7 +180,7 @@ fn read_given(
 /// The object that holds the attributes of `schema`: the body itself for the core schema (`None`), else the
 /// object under the extension's URN.
 ///
-/// `None` if the body doesn't give the extension. Fails with WrongValue if its value isn't an object.
+/// `None` if the body doesn't have the extension. Fails with `WrongValue` if its value isn't an object.
 fn schema_members<'a, 'b>(
     members: &'a [Member<'b>],
     schema: Option<Schema>,
@@ -201,9 +201,9 @@ fn schema_members<'a, 'b>(
     }
 }
 
-/// Appends the units that an object gives for `attribute`, which is ignored if it is readOnly.
+/// Appends the units of `attribute` for which an object has values. Ignores a readOnly attribute.
 ///
-/// Errors: those of `read_attributes`.
+/// Fails with `WrongValue` if a value is refused.
 fn read_attribute(
     alloc: Global,
     members: &[Member<'_>],
@@ -226,9 +226,9 @@ fn read_attribute(
     read_shaped(alloc, value, kind, attribute, given)
 }
 
-/// Appends the units that a value of `attribute` gives, by the attribute's shape.
+/// Appends the units read from a value of `attribute`, by its shape: simple, complex or multi-valued.
 ///
-/// Errors: those of `read_attributes`.
+/// Fails with `WrongValue` if the value is refused.
 fn read_shaped(
     alloc: Global,
     value: &Tree<'_>,
@@ -250,13 +250,14 @@ fn read_shaped(
     }
 }
 
-/// Reads the units that a value of an attribute gives (RFC 7643 section 2.3).
+/// Reads the units in a value of an attribute (RFC 7643 section 2.3).
 ///
-/// A simple attribute gives one unit, a complex one a unit for each sub-attribute given that isn't
-/// readOnly, and a multi-valued one a unit with all its values, if it has any. It isn't checked whether
-/// `attribute` itself is readOnly.
+/// For a simple attribute, returns one unit. For a complex attribute, returns a unit for each sub-attribute
+/// in the value that isn't readOnly. For a multi-valued attribute, returns one unit with all values, or no
+/// unit if there are no values. Doesn't check whether `attribute` itself is readOnly.
 ///
-/// Fails with WrongValue if the value is refused, for the reasons that `read_body` lists as Value.
+/// Fails with `WrongValue` if a value has the wrong type, a text is over 65,536 bytes, `userName` is empty, a
+/// group member has no `value`, or the attribute has two primary values or more than 10,000 values.
 pub fn read_units(
     alloc: Global,
     value: &Tree<'_>,
@@ -274,9 +275,10 @@ pub fn read_units(
     Ok(given)
 }
 
-/// Appends the unit of a simple attribute. An empty `userName` is refused.
+/// Appends the unit of a simple attribute.
 ///
-/// Errors: those of `read_attributes`.
+/// Fails with `WrongValue` if the value has the wrong type, is a text over 65,536 bytes, or is an empty
+/// `userName`.
 fn read_simple(
     alloc: Global,
     value: &Tree<'_>,
@@ -323,9 +325,9 @@ pub fn field_given(alloc: Global, kind: Kind, field: Field) -> Result<UnitGiven,
     Ok(UnitGiven { unit, values })
 }
 
-/// Appends a unit for each sub-attribute of a complex attribute.
+/// Appends a unit for each sub-attribute in a value of a complex attribute.
 ///
-/// Errors: those of `read_attributes`.
+/// Fails with `WrongValue` if the value is refused.
 fn read_complex(
     alloc: Global,
     value: &Tree<'_>,
@@ -359,9 +361,9 @@ fn push_fields(
     Ok(())
 }
 
-/// Appends the unit of a multi-valued attribute, unless no value is left.
+/// Appends the unit of a multi-valued attribute, unless it has no values.
 ///
-/// Errors: those of `read_attributes`.
+/// Fails with `WrongValue` if a value is refused.
 fn read_multi_valued(
     alloc: Global,
     value: &Tree<'_>,
@@ -383,9 +385,9 @@ fn read_multi_valued(
     Ok(())
 }
 
-/// The draft of the given units.
+/// Makes the draft with the given units.
 ///
-/// Fails with WrongValue if the draft is for `Creating` and lacks a required attribute.
+/// Fails with `WrongValue` if the draft is for `Creating` and lacks a required attribute.
 fn draft_of(
     alloc: Global,
     kind: Kind,

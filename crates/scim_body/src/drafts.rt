@@ -16,11 +16,11 @@ pub enum UseFor {
     Replacing,
 }
 
-/// A resource as a body gives it: its kind, the purpose, the units given, and the rows to store.
+/// A resource as read from a body: its kind, the purpose of the body, the units given, and the rows to store.
 ///
-/// Values that aren't stored, such as a password, are among the units but not among the rows. Invariant:
-/// the rows are valid values of a resource of the kind, and a draft for `Creating` has all that the kind
-/// requires.
+/// The unit of a value that isn't stored, such as a password, is among the units given, but has no row.
+/// Invariant: the rows are valid values of a resource of the kind, and a draft for `Creating` has all
+/// attributes that the kind requires.
 pub struct Draft {
     kind: Kind,
     use_for: UseFor,

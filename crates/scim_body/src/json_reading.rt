@@ -24,9 +24,10 @@ const MAX_DEPTH: usize = 127;
 pub struct NotJson;
 
 impl<'a> Tree<'a> {
-    /// Reads the JSON value of a text (RFC 8259).
+    /// Reads a text as a JSON value (RFC 8259).
     ///
-    /// Fails with NotJson if it has none.
+    /// Fails with `NotJson` if it isn't one, nests deeper than 127 levels, or has a number that is too large
+    /// for a float.
     pub fn read(
         alloc: Global,
         text: &'a str,
@@ -48,7 +49,8 @@ impl<'a> Tree<'a> {
 
 /// Reads the value that begins at the next token, with at most `depth` more levels of nesting.
 ///
-/// Fails with NotJson if there is none.
+/// Fails with `NotJson` if there is no value, it nests deeper, or it has a number that is too large for a
+/// float.
 #[cycle(read_value)]
 fn read_value<'a>(
     alloc: Global,
@@ -87,9 +89,10 @@ fn read_value<'a>(
     }
 }
 
-/// Reads the items of an array, after its opening bracket.
+/// Reads the items of an array, after its opening bracket. Each may have at most `depth` levels of nesting.
 ///
-/// Errors: those of `read_value`.
+/// Fails with `NotJson` if an item or the closing bracket is missing or invalid, an item nests deeper, or a
+/// number is too large for a float.
 #[cycle(read_value)]
 fn read_items<'a>(
     alloc: Global,
@@ -111,9 +114,11 @@ fn read_items<'a>(
     Ok(found)
 }
 
-/// Reads the members of an object, after its opening brace, keyed by name.
+/// Reads the members of an object, after its opening brace, keyed by name. Each value may have at most
+/// `depth` levels of nesting.
 ///
-/// Errors: those of `read_value`.
+/// Fails with `NotJson` if a member or the closing brace is missing or invalid, a value nests deeper, or a
+/// number is too large for a float.
 #[cycle(read_value)]
 fn read_members<'a>(
     alloc: Global,
@@ -139,7 +144,7 @@ fn read_members<'a>(
 
 /// Reads the next key, or `None` after the last member.
 ///
-/// Fails with NotJson if there is neither.
+/// Fails with `NotJson` if neither a key nor the closing brace follows.
 fn next_key<'a>(reader: &mut Reader<'a>) -> Result<Option<&'a str>, Failed<NotJson>>
     ensures key { IfOk result (λ k. read_key reader.old
         ≡ Some (option_map (λ s. s.now) k, reader.new)) }
@@ -151,7 +156,7 @@ fn next_key<'a>(reader: &mut Reader<'a>) -> Result<Option<&'a str>, Failed<NotJs
     }
 }
 
-/// Inserts a member, replacing one that has its key.
+/// Inserts a member, replacing any member with the same key.
 fn put<'a>(
     members: &mut BTreeMap<&'a str, Tree<'a>>,
     key: &'a str,

@@ -1,4 +1,4 @@
-//! Finds members of a JSON object by name, in any case of the letters of their keys (RFC 7643 section 2.1).
+//! Finds members of a JSON object by name. Keys match in any case (RFC 7643 section 2.1).
 ghost use Rattle.std.specs.Prelude.{◌≡◌, option_map};
 ghost use Rattle.scim_body.specs.View.{view, members_view};
 ghost use Rattle.scim_body.specs.BodyNames as spec;
@@ -6,7 +6,7 @@ ghost use Rattle.scim_body.specs.BodyNames as spec;
 use crate::trees::{Member, Tree};
 use scim_text::same_name;
 
-/// The value under `name`. If two keys are the name, the first.
+/// The value under the first key that is `name` in any case. `None` if there is no such key.
 pub fn value_named<'a, 'b>(members: &'a [Member<'b>], name: &str) -> Option<&'a Tree<'b>>
     ensures { option_map (λ v. view v.now) result
         ≡ spec.value_named name.now (members_view members.now) }
@@ -19,9 +19,9 @@ pub fn value_named<'a, 'b>(members: &'a [Member<'b>], name: &str) -> Option<&'a 
     None
 }
 
-/// Whether two keys are `name`.
+/// Whether more than one key is `name`, in any case.
 ///
-/// An object with one key returns at once; most values of a long list are such objects.
+/// Returns at once for an object with fewer than two keys. Most items of long lists are such objects.
 pub fn is_twice(members: &[Member<'_>], name: &str) -> bool
     ensures { result ≡ spec.is_twice name.now (members_view members.now) }
 {

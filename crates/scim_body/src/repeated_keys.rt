@@ -1,5 +1,5 @@
-//! Finds keys of a body that clash: two keys of one object that spell one name in different cases, so that it
-//! isn't clear which value counts. Of equal keys the last counts (`trees`).
+//! Finds clashing keys in a body: two keys of one object that differ only in case, so that it isn't clear
+//! which value counts. If a key is repeated exactly, the last value counts (`trees`).
 ghost use Rattle.std.specs.Prelude.{◌≡◌};
 ghost use Rattle.std.specs.List.{list_any};
 ghost use Rattle.scim_body.specs.View.{view, items_view, members_view};
@@ -24,7 +24,7 @@ fn sub_attributes_clash(members: &[Member<'_>], attribute: Attribute) -> bool
     false
 }
 
-/// Whether two keys of a value name the same sub-attribute of `attribute`.
+/// Whether `value` is an object in which two keys name the same sub-attribute of `attribute`.
 pub fn value_clashes(value: &Tree<'_>, attribute: Attribute) -> bool
     ensures { result ≡ spec.value_clashes attribute (view value.now) }
 {
@@ -34,7 +34,7 @@ pub fn value_clashes(value: &Tree<'_>, attribute: Attribute) -> bool
     }
 }
 
-/// Whether `value_clashes` holds for any of `values`.
+/// Whether any of `values` is an object in which two keys name the same sub-attribute of `attribute`.
 fn any_clashes(values: &[Tree<'_>], attribute: Attribute) -> bool
     ensures { result ≡ list_any (spec.value_clashes attribute)
         (spec.items_list (items_view values.now)) }
@@ -47,9 +47,9 @@ fn any_clashes(values: &[Tree<'_>], attribute: Attribute) -> bool
     false
 }
 
-/// Whether two keys clash in the body's value of `attribute`.
+/// Whether two keys of one object in the value of `attribute` name the same sub-attribute.
 ///
-/// For a multi-valued attribute each item of the list is checked, also one that counts as absent.
+/// For a multi-valued attribute, every item of the list is checked, including items that count as absent.
 pub fn values_clash(value: &Tree<'_>, attribute: Attribute) -> bool
     ensures { result ≡ spec.values_clash attribute (view value.now) }
 {
@@ -62,7 +62,7 @@ pub fn values_clash(value: &Tree<'_>, attribute: Attribute) -> bool
     }
 }
 
-/// Whether two keys name `attribute`, or the same sub-attribute in its value.
+/// Whether two keys name `attribute`, or two keys in its value name the same sub-attribute.
 ///
 /// The value of a readOnly attribute is ignored, so it isn't checked.
 #[tactic(auto, unfolding(crate::specs::BodyNames::attribute_clashes))]
@@ -81,7 +81,7 @@ fn attribute_clashes(members: &[Member<'_>], kind: Kind, attribute: Attribute) -
     }
 }
 
-/// Whether two keys clash among the attributes of an extension, or of the core schema for `None`.
+/// Whether keys clash for any attribute of the extension `schema`, or of the core schema if it is `None`.
 fn schema_clashes(members: &[Member<'_>], kind: Kind, schema: Option<Schema>) -> bool
     ensures { result ≡ spec.schema_clashes kind schema (members_view members.now) }
 {
@@ -93,7 +93,7 @@ fn schema_clashes(members: &[Member<'_>], kind: Kind, schema: Option<Schema>) ->
     false
 }
 
-/// Whether two keys are the extension's URN, or clash in its object.
+/// Whether two keys are the URN of the extension `schema`, or keys clash in the extension's object.
 fn extension_clashes(members: &[Member<'_>], kind: Kind, schema: Schema) -> bool
     ensures { result ≡ spec.extension_clashes kind (members_view members.now) schema }
 {
@@ -106,7 +106,7 @@ fn extension_clashes(members: &[Member<'_>], kind: Kind, schema: Schema) -> bool
     }
 }
 
-/// Whether `extension_clashes` holds for any of `schemas`.
+/// Whether keys clash for any of the extensions `schemas`.
 fn any_extension_clashes(members: &[Member<'_>], kind: Kind, schemas: &[Schema]) -> bool
     ensures { result ≡ list_any (spec.extension_clashes kind (members_view members.now))
         schemas.now }

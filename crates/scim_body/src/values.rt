@@ -21,11 +21,12 @@ use scim_text::{Failed, push, same_name};
 use std::alloc::Global;
 use std::slice;
 
-/// A value of a body is refused: it has the wrong type or is over a limit.
+/// The error for a refused value in a body: it has the wrong type, is over a limit, or is required but
+/// missing.
 #[derive(Clone, Copy, PartialEq, Eq)]
 pub struct WrongValue;
 
-/// Reads a boolean, or a text that is `true` or `false` in any case.
+/// Reads a boolean, or a text that is `true` or `false` in any case. `None` for any other value.
 fn read_truth(value: &Tree<'_>) -> Option<bool>
     ensures { result ≡ spec.truth_of (view value.now) }
 {
@@ -42,7 +43,7 @@ fn read_truth(value: &Tree<'_>) -> Option<bool>
     None
 }
 
-/// Whether an atom is within the limit for texts.
+/// Whether an atom is within the size limit: a text has at most 65,536 bytes.
 fn is_short(atom: &Atom) -> bool
     ensures { result ≡ spec.is_short atom.now }
 {
@@ -54,7 +55,7 @@ fn is_short(atom: &Atom) -> bool
 
 /// Reads a value as an atom of the given type.
 ///
-/// Fails with WrongValue if it isn't one, or is a text over 65,536 bytes.
+/// Fails with `WrongValue` if the value has another type, or is a text over 65,536 bytes.
 pub(crate) fn read_atom(
     alloc: Global,
     value: &Tree<'_>,
@@ -81,7 +82,7 @@ pub(crate) fn read_atom(
 
 /// Reads the field of `sub_attribute` from its value.
 ///
-/// Errors: those of `read_atom`.
+/// Fails with `WrongValue` if the value has the wrong type or is a text over 65,536 bytes.
 pub fn read_field(
     alloc: Global,
     value: &Tree<'_>,
@@ -99,9 +100,10 @@ pub fn read_field(
     Ok(Field { leaf, atom })
 }
 
-/// Appends the field that an object gives for `sub_attribute`, which is ignored if it is readOnly.
+/// Appends the field of `sub_attribute` that an object has, if any. Ignores a readOnly sub-attribute.
 ///
-/// Errors: those of `read_atom`; `fields` is unchanged then.
+/// Fails with `WrongValue` if its value has the wrong type or is a text over 65,536 bytes; `fields` is then
+/// unchanged.
 fn read_sub_attribute(
     alloc: Global,
     members: &[Member<'_>],
@@ -128,9 +130,9 @@ fn read_sub_attribute(
     Ok(())
 }
 
-/// Reads the fields that an object gives, in order of place. Unknown keys are ignored.
+/// Reads the fields of an object, in the order in which their cells are stored. Ignores unknown keys.
 ///
-/// Errors: those of `read_atom`.
+/// Fails with `WrongValue` if a value has the wrong type or is a text over 65,536 bytes.
 fn read_object(
     alloc: Global,
     members: &[Member<'_>],
@@ -163,7 +165,8 @@ fn has_value(attribute: Attribute) -> bool
 
 /// Reads a value that isn't an object as the sub-attribute `value`.
 ///
-/// Errors: those of `read_atom`; also WrongValue if the attribute has no such sub-attribute.
+/// Fails with `WrongValue` if the value has the wrong type or is a text over 65,536 bytes, or if the
+/// attribute has no sub-attribute `value`.
 fn read_alone(
     alloc: Global,
     value: &Tree<'_>,
@@ -183,9 +186,9 @@ fn read_alone(
     Ok(fields)
 }
 
-/// Reads the fields of a value of a complex attribute, in order of place.
+/// Reads the fields of a value of a complex attribute, in the order in which their cells are stored.
 ///
-/// Fails with WrongValue if the value or one of its fields has the wrong type, or a text is over 65,536
+/// Fails with `WrongValue` if the value or one of its fields has the wrong type, or a text is over 65,536
 /// bytes.
 pub fn read_fields(
     alloc: Global,
@@ -203,10 +206,11 @@ pub fn read_fields(
     }
 }
 
-/// Appends the value that an item of a list gives, unless it counts as absent or has no known
+/// Appends the value read from an item of a list, unless the item counts as absent or has no known
 /// sub-attribute.
 ///
-/// Errors: those of `read_fields`; `values` is unchanged then.
+/// Fails with `WrongValue` if the item or one of its fields has the wrong type, or a text is over 65,536
+/// bytes; `values` is then unchanged.
 fn read_value(
     alloc: Global,
     value: &Tree<'_>,
@@ -230,12 +234,11 @@ fn read_value(
     Ok(())
 }
 
-/// Reads the values given for a multi-valued attribute (RFC 7643 section 2.4): those of a list, or a single
-/// one.
+/// Reads the values of a multi-valued attribute (RFC 7643 section 2.4) from a list or a single value.
 ///
-/// null, `[]` and values without known sub-attributes are left out; repeated values are kept.
+/// Skips null, `[]` and values without known sub-attributes, but keeps repeated values.
 ///
-/// Fails with WrongValue if a value has the wrong type, or a text is over 65,536 bytes.
+/// Fails with `WrongValue` if a value has the wrong type, or a text is over 65,536 bytes.
 pub fn read_listed(
     alloc: Global,
     value: &Tree<'_>,
@@ -252,9 +255,10 @@ pub fn read_listed(
     }
 }
 
-/// Reads the values that the items of a list give.
+/// Reads the items of a list as values of a multi-valued attribute.
 ///
-/// Errors: those of `read_fields`.
+/// Fails with `WrongValue` if an item or one of its fields has the wrong type, or a text is over 65,536
+/// bytes.
 fn read_items(
     alloc: Global,
     items: &[Tree<'_>],
@@ -275,7 +279,7 @@ fn read_items(
 }
 
 /// Whether the values of an attribute are refused: two are primary (RFC 7643 section 2.4), there are more
-/// than 10,000, or a member has no `value` (section 4.2).
+/// than 10,000, or a group member has no `value` (section 4.2).
 fn are_refused(attribute: Attribute, values: &[Row]) -> bool
     ensures { result ≡ spec.are_refused attribute values.now }
 {
@@ -289,7 +293,7 @@ fn count_primary(values: &[Row]) -> usize
     values.iter().filter(|value| value.is_primary()).count()
 }
 
-/// Whether any value is a member without a `value`.
+/// Whether any value is a group member without a `value`.
 fn any_nameless(attribute: Attribute, values: &[Row]) -> bool
     ensures { result ≡ list_any (is_nameless attribute) values.now }
 {
@@ -301,10 +305,10 @@ fn any_nameless(attribute: Attribute, values: &[Row]) -> bool
     false
 }
 
-/// Reads the values of a multi-valued attribute from a list or a single value, without repeated ones.
+/// Reads the values of a multi-valued attribute from a list or a single value, and drops repeated values.
 ///
-/// Fails with WrongValue if a value has the wrong type, a text is over 65,536 bytes, two values are primary,
-/// there are more than 10,000, or a member has no `value`.
+/// Fails with `WrongValue` if a value has the wrong type, a text is over 65,536 bytes, two values are
+/// primary, there are more than 10,000, or a group member has no `value`.
 pub(crate) fn read_values(
     alloc: Global,
     value: &Tree<'_>,

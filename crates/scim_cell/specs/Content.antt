@@ -49,11 +49,11 @@ HasType _ _ = ⊥
 abbrev pub IsOfKind : Kind → Entry → Type 0
 IsOfKind kind e = HasLeaf kind (leaf_of e.0) × HasType (characteristics_of kind (leaf_of e.0)).attribute_type e.1
 
--- the entries have a cell of the attribute at the position before this place
+-- the entries contain a cell of the same attribute as the place, at the previous position
 abbrev pub HasOneBefore : List Entry → Place → Type 0
 HasOneBefore es p = Any (λ f. (f.0.attribute ≡ p.attribute) × (f.0.position + 1 ≡ p.position)) es
 
--- the position is 0, or the attribute is multi-valued and has a cell at the position before
+-- the position of the place is 0, or its attribute is multi-valued and has a cell at the previous position
 abbrev pub StandsInLine : List Entry → Place → Type 0
 StandsInLine es p = (p.position ≡ 0) ⊎ ((is_multi_valued p.attribute ≡ true) × HasOneBefore es p)
 

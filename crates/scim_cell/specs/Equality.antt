@@ -23,7 +23,7 @@ is_same_field f g = is_same_leaf f.leaf g.leaf && is_same_atom f.atom g.atom
 abbrev pub is_same_row : Row → Row → Bool
 is_same_row r s = is_same_unit r.unit s.unit && pointwise is_same_field r.fields s.fields
 
--- if p decides P, q decides Q, and R is equivalent to both P and Q, then p && q decides R
+-- if p decides P, q decides Q, and R is equivalent to P and Q together, then p && q decides R
 pub both : {P Q R : Type 0} (p q : Bool) → Decides p P → Decides q Q → (P → Q → R) → (R → P) → (R → Q) → Decides (p && q) R
 both p q first second make one two = (λ t. make (first.0 (and_first p q t)) (second.0 (and_second p q t)), λ r. rw (first.1 (one r), second.1 (two r)) refl)
 

@@ -19,7 +19,7 @@ id_text id = hyphenated_text lower id
 abbrev pub IsLowerHexDigit : ℕ → Type 0
 IsLowerHexDigit c = ((48 ≤ c) × (c ≤ 57)) ⊎ ((97 ≤ c) × (c ≤ 102))
 
--- a valid character at a place of an id's text: a hyphen at 8, 13, 18 and 23, a hexadecimal digit elsewhere
+-- a valid character at an index of an id's text: a hyphen at 8, 13, 18 and 23, a hexadecimal digit elsewhere
 abbrev pub IsIdCharacter : ℕ → ℕ → Type 0
 IsIdCharacter place c = MatchBool (is_hyphen_place place) (c ≡ hyphen) (IsLowerHexDigit c)
 
@@ -36,6 +36,6 @@ IdTextsHaveTheForm = (id : List ℕ) → IsId id → IsIdText (id_text id)
 abbrev pub IdTextsAreApart : Type 0
 IdTextsAreApart = (a b : List ℕ) → IsId a → IsId b → id_text a ≡ id_text b → a ≡ b
 
--- the comparison orders ids as their texts, by the first byte that differs
+-- the comparison of ids agrees with the byte order of their texts
 abbrev pub OrdersIdsAsTexts : (List ℕ → List ℕ → Ordering) → Type 0
 OrdersIdsAsTexts compare = (a b : List ℕ) → IsId a → IsId b → compare a b ≡ slice_cmp nat_cmp (id_text a) (id_text b)

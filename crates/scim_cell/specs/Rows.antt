@@ -21,12 +21,12 @@ use Rattle.scim_cell.specs.declared.rows.Field.{Field}
 use Rattle.scim_cell.specs.Place.{unit_cmp, leaf_of, place_at, sub_attribute_number}
 use Rattle.scim_cell.specs.Content.{Content, Entry, HasType}
 
--- one value of a unit, with its fields in order of sub-attribute; if the unit is a leaf, it has one field
+-- one value of a unit, with its fields in order of sub-attribute; it has one field if the unit is a leaf
 pub record Row : Type 0 where
   pub unit : AttributeUnit
   pub fields : List Field
 
--- a test of a row and a leaf, which selects fields
+-- a test that selects fields by their row and leaf
 abbrev pub Test : Type 0
 Test = Row → Leaf → Bool
 
@@ -47,7 +47,7 @@ abbrev pub is_led : Entry → List Entry → Bool
 is_led e [] = false
 is_led e (f ∷ es) = goes_with e.0 f.0
 
--- rows after a cell is put before them: into the first row if the flag is true, otherwise in a row of its own
+-- adds a cell in front of rows: to the first row if the flag is true and there is one, otherwise as a new row
 abbrev pub led : Bool → Entry → List Row → List Row
 led true e (r ∷ rs) = record { unit = unit_at e.0; fields = field_of e ∷ r.fields } ∷ rs
 led _ e rs = record { unit = unit_at e.0; fields = field_of e ∷ [] } ∷ rs
@@ -57,17 +57,18 @@ abbrev pub rows_of : List Entry → List Row
 rows_of [] = []
 rows_of (e ∷ es) = led (is_led e es) e (rows_of es)
 
--- the rows of a part, in order of unit; the position of a cell is the index of its row among those of the
--- unit
+-- the rows of a part, in order of unit; the position of a cell is the index of its row among the rows of
+-- its unit
 abbrev pub rows : Content → List Row
 rows c = rows_of (entries c.cells)
 
--- the position of a row of a unit, given unit and position of the row before it
+-- the position of a row of a unit, given the unit and the position of the previous row, if any
 abbrev pub next_position : Option (AttributeUnit × ℕ) → AttributeUnit → ℕ
 next_position None u = 0
 next_position (Some last) u = if sameb the_attribute last.0.attribute u.attribute && is_multi_valued u.attribute then last.1 + 1 else 0
 
--- the cells of rows, each at the position of its row, given unit and position of the row before them
+-- the cells of rows, each at the position of its row, given the unit and the position of the previous row,
+-- if any
 abbrev pub numbered : Option (AttributeUnit × ℕ) → List Row → List Entry
 numbered last [] = []
 numbered last (r ∷ rs) =
@@ -85,7 +86,7 @@ values u rs = filter (λ (r : Row). is_eq (unit_cmp r.unit u)) rs
 abbrev pub attribute_rows : Attribute → List Row → List Row
 attribute_rows a rs = filter (λ (r : Row). sameb the_attribute r.unit.attribute a) rs
 
--- the rows with the values of a unit replaced
+-- the rows `rs`, with the values of the unit `u` replaced by `vs`
 abbrev pub put_values : AttributeUnit → List Row → List Row → List Row
 put_values u vs rs = filter (λ (r : Row). is_lt (unit_cmp r.unit u)) rs ++ (vs ++ filter (λ (r : Row). is_gt (unit_cmp r.unit u)) rs)
 
@@ -102,7 +103,7 @@ atom_in l (f ∷ fs) = by (is_same_leaf f.leaf l) f.atom (atom_in l fs)
     by true a o = Some a
     by false a o = o
 
--- whether the atom is there and is true
+-- whether the option contains the Boolean true
 abbrev pub is_truth : Option Atom → Bool
 is_truth (Some (Truth b)) = b
 is_truth _ = false
@@ -130,7 +131,7 @@ is_empty (f ∷ fs) = false
 abbrev pub has_fields : Row → Bool
 has_fields r = not (is_empty r.fields)
 
--- a row with only the fields that a test of row and leaf keeps
+-- a row with only the fields that a test keeps
 abbrev pub restricted_row : Test → Row → Row
 restricted_row keeps r = record { unit = r.unit; fields = filter (λ (f : Field). keeps r f.leaf) r.fields }
 
@@ -139,7 +140,7 @@ restricted_row keeps r = record { unit = r.unit; fields = filter (λ (f : Field)
 abbrev pub restricted : Test → List Row → List Row
 restricted keeps rs = filter has_fields (map (restricted_row keeps) rs)
 
--- a valid field: it belongs to the unit and the kind, with an atom of its type
+-- a valid field: it belongs to the unit and the kind, and its atom has the type of its leaf
 abbrev pub IsSoundField : Kind → AttributeUnit → Field → Type 0
 IsSoundField kind u f = (unit_of f.leaf ≡ u) × HasLeaf kind f.leaf × HasType (characteristics_of kind f.leaf).attribute_type f.atom
 
@@ -148,12 +149,12 @@ pub record IsSoundRow (kind : Kind) (r : Row) : Type 0 where
   pub own : All (IsSoundField kind r.unit) r.fields
   pub in_order : AllPairs (λ f g. sub_attribute_number f.leaf.sub_attribute < sub_attribute_number g.leaf.sub_attribute) r.fields
 
--- a row of the one unit may come before a row of the other
+-- a row of the unit `u` may come before a row of the unit `v`
 abbrev pub Precedes : AttributeUnit → AttributeUnit → Type 0
 Precedes u v = (is_gt (unit_cmp u v) ≡ false) × (is_eq (unit_cmp u v) ≡ true → is_multi_valued u.attribute ≡ true)
 
 -- valid rows of a part: each is valid and has a field, they are in order of unit, and a unit that isn't
--- multi-valued has at most one
+-- multi-valued has at most one row
 pub record AreSound (kind : Kind) (rs : List Row) : Type 0 where
   pub full : All (λ r. has_fields r ≡ true) rs
   pub own : All (IsSoundRow kind) rs

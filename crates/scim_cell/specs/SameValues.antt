@@ -1,4 +1,5 @@
--- Same values of a multi-valued attribute, and appending without duplicates (RFC 7643 sections 2.4 and 4.2).
+-- When values of a multi-valued attribute are the same, and appending without duplicates (RFC 7643 sections
+-- 2.4 and 4.2).
 use Rattle.std.specs.Prelude.{Bool, ◌&&◌, is_none, List, [], ◌∷◌, ◌++◌, Option, if◌then◌else◌}
 use Rattle.std.specs.List.{list_any}
 use Rattle.std.specs.Option.{option_eq}
@@ -25,15 +26,16 @@ is_members a = sameb the_attribute a Members
 abbrev pub is_nameless : Attribute → Row → Bool
 is_nameless a r = is_members a && is_none (member_value r)
 
--- whether two values are the same: members with one `value` (RFC 7643 section 4.2), others with equal cells
+-- whether two values are the same: for members, if they have the same `value` or both have none (RFC 7643
+-- section 4.2); for other values, if their cells are equal
 abbrev pub is_same_value : Attribute → Row → Row → Bool
 is_same_value a r s = if is_members a then option_eq is_same_atom (member_value r) (member_value s) else is_same_row r s
 
--- values with one more appended, unless one of them is the same
+-- the values, with one value appended unless the list already contains the same value
 abbrev pub with_value : Attribute → List Row → Row → List Row
 with_value a rs r = if list_any (λ s. is_same_value a s r) rs then rs else rs ++ r ∷ []
 
--- values with each of the given ones appended, unless it is the same as one before it
+-- the values, with each given value appended unless an earlier value is the same
 abbrev pub with_values : Attribute → List Row → List Row → List Row
 with_values a rs [] = rs
 with_values a rs (r ∷ more) = with_values a (with_value a rs r) more

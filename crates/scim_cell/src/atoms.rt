@@ -25,7 +25,7 @@ impl Model for Text {
 }
 
 impl Text {
-    /// The text of a string.
+    /// Converts a string into a text.
     pub fn new(text: String) -> Text
         ensures { result ≡ string_bytes text }
     {
@@ -62,7 +62,7 @@ impl Text {
     }
 }
 
-/// Texts are equal if their bytes are.
+/// Texts are equal if their bytes are equal.
 impl PartialEq for Text {
     ghost use Rattle.std.specs.Prelude.{nat_eq};
     ghost use Rattle.std.specs.Cmp.{partial_equiv_from_equiv};

@@ -7,11 +7,11 @@ use crate::places::Place;
 use scim_schema::{AttributeType, Leaf};
 use scim_text::Moment;
 
-/// A cell of a part or a resource: the atom at a position of a leaf.
+/// A cell of a part or a resource: an atom with its leaf and its position.
 #[derive(Drop)]
 pub struct Cell {
     pub leaf: Leaf,
-    /// The index of the value among those of its attribute; 0 for a single-valued attribute.
+    /// The index of the value among the values of its attribute; 0 for a single-valued attribute.
     pub position: usize,
     pub atom: Atom,
 }

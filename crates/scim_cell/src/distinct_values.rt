@@ -1,4 +1,4 @@
-//! Appends values to a list, leaving out those that it already has.
+//! Appends values to a list, except values that it already contains.
 ghost use Rattle.std.specs.Prelude.{◌≡◌, ◌++◌, ◌∷◌, [], IfOk, OnOk, string_bytes};
 ghost use Rattle.std.specs.List.{list_any};
 ghost use Rattle.scim_cell.specs.SameValues as spec;
@@ -12,14 +12,14 @@ use scim_text::{NoMemory, push};
 use std::alloc::Global;
 use std::collections::HashMap;
 
-/// Up to this many given values are compared with each value of the list. More are looked up by
-/// keys, which costs a text for each value for the time of the call.
+/// The largest number of given values that are compared with each value of the list. More values are
+/// looked up by keys, which needs a temporary text for each value.
 const FEW: usize = 8;
 
-/// Appends the given values to the list, in order, each unless it is the same as one before it (RFC
-/// 7644 section 3.5.2.1).
+/// Appends the given values to the list, in order, except a value that is the same as an earlier one
+/// (RFC 7644 section 3.5.2.1).
 ///
-/// The time is nearly linear in the number of all values. No text is copied for a few given values.
+/// The time is nearly linear in the number of all values. If few values are given, no text is copied.
 pub fn with_values(
     alloc: Global,
     attribute: Attribute,
@@ -68,8 +68,8 @@ fn with_many(
     Ok(values)
 }
 
-/// A map from the keys of the values to their indexes, the last one if several values have the same
-/// key. It has room for `more` further keys.
+/// Returns a map from the key of each value to its index. If several values have the same key, the map
+/// contains the last index. It has room for `more` further keys.
 fn places_of(
     alloc: Global,
     attribute: Attribute,
@@ -85,7 +85,7 @@ fn places_of(
     Ok(places)
 }
 
-/// Whether one of the values is the same as this one. The value at `place` is compared first.
+/// Whether one of `values` is the same as `value`. Compares the value at `place` first.
 fn has_same(attribute: Attribute, values: &[Row], place: usize, value: &Row) -> bool
     ensures { result ≡ list_any (λ other. spec.is_same_value attribute other value.now) values.now }
 {

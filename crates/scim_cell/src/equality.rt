@@ -3,7 +3,7 @@ ghost use Rattle.std.specs.Prelude.{◌≡◌, ◌↔◌, IsTrue};
 
 use crate::rows::{Field, Row};
 
-/// Fields are equal if their leaves and their atoms are.
+/// Fields are equal if their leaves and their atoms are equal.
 impl PartialEq for Field {
     ghost use Rattle.std.specs.Cmp.{partial_equiv_from_equiv};
     ghost use Rattle.scim_cell.specs.Equality.{is_same_field, is_same_field-IsEquivalence};
@@ -26,7 +26,7 @@ impl Eq for Field {
     ghost laws = { is_same_field-IsEquivalence };
 }
 
-/// Rows are equal if their units and their fields are.
+/// Rows are equal if their units and their fields are equal.
 impl PartialEq for Row {
     ghost use Rattle.std.specs.Cmp.{partial_equiv_from_equiv};
     ghost use Rattle.scim_cell.specs.Equality.{is_same_row, is_same_row-IsEquivalence};

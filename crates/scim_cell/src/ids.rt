@@ -37,7 +37,7 @@ impl Id {
 
     /// Reads the text of an id: the hyphenated form with lower-case letters.
     ///
-    /// Returns None for any other text, such as one in upper case, in braces, with the prefix
+    /// Returns `None` for any other text, such as one in upper case, in braces, with the prefix
     /// `urn:uuid:` or without hyphens.
     pub fn read(text: &str) -> Option<Id>
         ensures form { IsSome result ↔ IsIdText text.now }
@@ -58,7 +58,7 @@ impl Id {
         Text::copy_of(alloc, self.write(&mut buffer))
     }
 
-    /// Writes the text of this id to the start of `buffer`, and returns it.
+    /// Writes the text of this id to the start of `buffer`, and returns the text.
     ///
     /// `buffer` must have at least `TEXT_LENGTH` bytes.
     #[tactic(auto, unfolding(crate::specs::Ids::id_text))]
@@ -95,20 +95,20 @@ pub fn uuid_of(id: Id) -> Uuid
     Uuid::from_bytes(id.bytes)
 }
 
-/// Lemma: each byte of a slice is below 256. Proofs have this fact for slices, but not for arrays.
+/// Lemma: each byte of a slice is below 256. Proofs can use this fact for slices, but not for arrays.
 fn bytes_fit(bytes: &[u8])
     requires { length bytes.now ≡ 16 }
     ensures { IsId bytes.now }
 {}
 
 /// Lemma: the text of an id has the form that [`Id::read`] accepts, and different ids have
-/// different texts. So an id reads back from its text.
+/// different texts. So [`Id::read`] reads back the text of each id.
 pub fn ids_read_back()
     ensures form { IdTextsHaveTheForm }
     ensures apart { IdTextsAreApart }
 {}
 
-/// Lemma: ids are ordered as their texts are, byte by byte.
+/// Lemma: the order of ids is the byte order of their texts.
 pub fn ids_ordered_as_texts()
     ensures { OrdersIdsAsTexts ⟦<Id as Ord>⟧.cmp }
 {}

@@ -45,7 +45,7 @@ pub fn compare_units(a: Unit, b: Unit) -> Ordering
     by_attribute.then(number_of(a.sub_attribute).cmp(&number_of(b.sub_attribute)))
 }
 
-/// The rank of a sub-attribute in the order of places; 0 for None.
+/// The rank of a sub-attribute in the order of places; 0 for `None`.
 pub(crate) fn number_of(sub_attribute: Option<SubAttribute>) -> u8
     ensures { result ≡ sub_attribute_number sub_attribute }
 {

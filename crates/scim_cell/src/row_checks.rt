@@ -8,14 +8,14 @@ use crate::places::number_of;
 use crate::rows::{Field, Row};
 use scim_schema::{Kind, Unit, characteristics_of, has_leaf, is_multi_valued, unit_of};
 
-/// Equality of units, with a contract about equality instead of `==`.
+/// Whether two units are equal. The contract uses the equality `≡` instead of the function `==`.
 fn is_same_unit(a: Unit, b: Unit) -> bool
     ensures { IsTrue result ↔ (a ≡ b) }
 {
     a == b
 }
 
-/// Whether the field belongs to the unit and the kind, with an atom of its type.
+/// Whether the field belongs to the unit and the kind, and its atom has the type of its leaf.
 fn is_sound_field(kind: Kind, unit: Unit, field: &Field) -> bool
     ensures { IsTrue result ↔ IsSoundField kind unit field.now }
 {
@@ -27,7 +27,7 @@ fn is_sound_field(kind: Kind, unit: Unit, field: &Field) -> bool
         )
 }
 
-/// Whether the number is greater than the one before it, if there is one.
+/// Whether `number` is greater than `before`, or `before` is `None`.
 fn rises(before: Option<u8>, number: u8) -> bool
     ensures { IsTrue result ↔ Rises before number }
 {
@@ -38,16 +38,17 @@ fn rises(before: Option<u8>, number: u8) -> bool
 }
 
 /// Whether the row may be part of a resource of the kind: each field belongs to the row's unit and
-/// to the kind, with an atom of its type, and the fields are in order of sub-attribute, each once.
+/// to the kind, its atom has the type of its leaf, and the fields are in order of sub-attribute, each
+/// once.
 ///
-/// A row without fields passes, though no part has one.
+/// A row without fields passes, although no part contains such a row.
 pub(crate) fn is_sound_row(kind: Kind, row: &Row) -> bool
     ensures { IsTrue result ↔ IsSoundRow kind row.now }
 {
     are_sound_fields(kind, row.unit(), row.fields())
 }
 
-/// Whether the fields belong to the unit and the kind, and are in order of sub-attribute, each
+/// Whether the fields are valid for the unit and the kind, and are in order of sub-attribute, each
 /// once.
 fn are_sound_fields(kind: Kind, unit: Unit, fields: &[Field]) -> bool
     ensures { IsTrue result ↔ AreRising kind unit None fields.now }
@@ -71,7 +72,7 @@ fn is_value(kind: Kind, unit: Unit, row: &Row) -> bool
 }
 
 /// Whether the rows may be put into a part of the kind as the values of the unit: each is a valid
-/// row of that unit with at least one field, and there is at most one unless the unit is
+/// row of that unit with at least one field, and there is at most one row unless the unit is
 /// multi-valued.
 pub fn are_values(kind: Kind, unit: Unit, values: &[Row]) -> bool
     ensures { IsTrue result ↔ AreValues kind unit values.now }

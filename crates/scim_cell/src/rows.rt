@@ -10,7 +10,7 @@ use scim_text::{NoMemory, push};
 use std::alloc::Global;
 use std::marker::Model;
 
-/// A leaf of a value, and its atom.
+/// A leaf of a value, with its atom.
 pub struct Field {
     pub leaf: Leaf,
     pub atom: Atom,
@@ -25,8 +25,8 @@ impl Drop for Field {
     }
 }
 
-/// One value of a unit: a value of a multi-valued attribute, with its fields in order of
-/// sub-attribute, or the only field of a leaf that is a unit of its own.
+/// One value of a unit. A value of a multi-valued attribute has its fields in order of sub-attribute;
+/// a value of any other unit has one field.
 pub struct Row {
     unit: Unit,
     fields: Vec<Field>,
@@ -56,7 +56,7 @@ impl Model for Row {
     ghost view = { row_of };
 }
 
-/// A test of a row and a leaf, by which `Part::restrict` keeps fields.
+/// A test that decides which fields `Part::restrict` keeps, by the row and the leaf of a field.
 pub trait RowTest {
     /// Whether a row's field at a leaf is kept.
     ghost keeps: { Self → spec.Test };
@@ -88,7 +88,7 @@ impl Field {
 }
 
 impl Row {
-    /// A row of these fields. [`crate::are_values`] checks whether it may be a value of a part.
+    /// Returns a row with these fields. [`crate::are_values`] checks whether it may be a value of a part.
     pub fn new(unit: Unit, fields: Vec<Field>) -> Row
         ensures unit { result.unit ≡ unit }
         ensures fields { result.fields ≡ fields.items }
@@ -110,7 +110,7 @@ impl Row {
         self.fields.as_slice()
     }
 
-    /// The fields, owned.
+    /// Converts the row into its fields.
     pub fn into_fields(self) -> Vec<Field>
         ensures { result.items ≡ self.fields }
     {
@@ -118,7 +118,7 @@ impl Row {
         fields
     }
 
-    /// The atom at a leaf, or None if the value has no field there.
+    /// The atom at a leaf, or `None` if the value has no field there.
     pub fn get(&self, leaf: Leaf) -> Option<&Atom>
         ensures { option_copied result ≡ spec.atom_in leaf self.now.fields }
     {

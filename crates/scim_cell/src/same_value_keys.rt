@@ -8,8 +8,8 @@ use scim_schema::{Attribute, Leaf, SubAttribute};
 use scim_text::NoMemory;
 use std::alloc::Global;
 
-/// Returns the key of a value: the text of its `value` for a member, all fields for any other
-/// value. Values that aren't the same can have the same key.
+/// Returns the key of a value: the text of its `value` for a member, the texts of all fields for any
+/// other value. Values that aren't the same can have the same key.
 pub(crate) fn key(alloc: Global, attribute: Attribute, value: &Row) -> Result<String, NoMemory>
     ensures { IfOk result (λ k. string_bytes k ≡ key_of attribute value.now) }
 {
@@ -34,8 +34,8 @@ fn text_of(atom: &Atom) -> &str
     }
 }
 
-/// The text of a field in a key: its sub-attribute, the length of its text and its text. With the length
-/// two different lists of fields never join to the same text, even if a client tries.
+/// The text of a field in a key: its sub-attribute, the length of its text and its text. The length
+/// marks where the text ends, so that a client can't make the texts of different fields join to the same key.
 #[tactic(auto, unfolding(crate::specs::code::Keys::field_key))]
 fn field_text(alloc: Global, field: &Field) -> Result<String, NoMemory>
     ensures { IfOk result (λ k. string_bytes k ≡ field_key field.now) }

@@ -6,8 +6,9 @@ ghost use Rattle.scim_cell.specs.SameValues as spec;
 use crate::rows::Row;
 use scim_schema::{Attribute, Leaf, SubAttribute};
 
-/// Whether two values of the attribute are the same: members with the same `value` (RFC 7643
-/// section 4.2), other values with equal cells. Comparisons of texts are case-sensitive.
+/// Whether two values of the attribute are the same. Members are the same if they have the same
+/// `value` or both have none (RFC 7643 section 4.2); other values are the same if their cells are
+/// equal. Comparisons of texts are case-sensitive.
 pub fn is_same_value(attribute: Attribute, a: &Row, b: &Row) -> bool
     ensures { result ≡ spec.is_same_value attribute a.now b.now }
 {
@@ -32,7 +33,7 @@ pub fn is_nameless(attribute: Attribute, value: &Row) -> bool
             .is_none()
 }
 
-/// Whether one of the values is the same as this one. Compares each.
+/// Whether one of `values` is the same as `value`. Compares them one by one.
 pub(crate) fn has_same_among(attribute: Attribute, values: &[Row], value: &Row) -> bool
     ensures { result ≡ list_any (λ other. spec.is_same_value attribute other value.now) values.now }
 {

@@ -15,7 +15,7 @@ use Rattle.scim_cell.specs.Rows.{Row, content}
 use Rattle.scim_value.specs.Resource.{location}
 use Rattle.scim_body.specs.Drafts.{Draft}
 
--- the value of a leaf that is a unit of its own
+-- the value with this atom at the leaf, which is a unit of its own
 abbrev pub row_of : Leaf → Atom → Row
 row_of l atom = record { unit = unit_of l; fields = record { leaf = l; atom = atom } ∷ [] }
 

@@ -16,24 +16,24 @@ use Rattle.scim_change.specs.Replace.{changes, replaced}
 abbrev pub AgreeAt : List AttributeUnit → Content → Content → Type 0
 AgreeAt us a b = All (λ u. values u (rows a) ≡ values u (rows b)) us
 
--- a unit is none of these, nor `meta.lastModified`
+-- the unit isn't one of these units and isn't `meta.lastModified`
 pub record IsApart (us : List AttributeUnit) (v : AttributeUnit) : Type 0 where
   pub none : All (λ u. u ≢ v) us
   pub unstamped : unit_of (leaf_at Meta LastModified) ≢ v
 
--- after the change the resource has the values of before, except at the units and at `meta.lastModified`
+-- the change keeps the resource's values, except at these units and at `meta.lastModified`
 abbrev pub Stays : List AttributeUnit → Content → Content → Type 0
 Stays us before after = (v : AttributeUnit) → IsApart us v → values v (rows after) ≡ values v (rows before)
 
--- after the change `meta.lastModified` is the moment if something changed, otherwise what it was (RFC 7643
--- section 3.1)
+-- after the change `meta.lastModified` is the moment if something changed, otherwise it is unchanged (RFC
+-- 7643 section 3.1)
 abbrev pub IsStamped : Bool → ℕ → Content → Content → Type 0
 IsStamped changed moment before after =
     values (unit_of (leaf_at Meta LastModified)) (rows after)
     ≡ (if changed then meta_row LastModified (Moment moment) ∷ [] else values (unit_of (leaf_at Meta LastModified)) (rows before))
 
--- a change of the units at the moment keeps a resource's kind, id and other values, and stamps
--- `meta.lastModified`
+-- a change of the units at the moment keeps a resource's kind, id and other values, and sets
+-- `meta.lastModified` if something changed
 pub record IsLeft (us : List AttributeUnit) (changed : Bool) (moment : ℕ) (before after : Content) : Type 0 where
   pub kind : after.kind ≡ before.kind
   pub id : after.id ≡ before.id
@@ -47,7 +47,8 @@ AreAlike us changed moment a b None None = Unit {0}
 AreAlike us changed moment a b (Some x) (Some y) = AgreeAt us x y × IsLeft us changed moment a x × IsLeft us changed moment b y
 AreAlike us changed moment a b _ _ = ⊥
 
--- replacing the units of two resources with equal values there has alike outcomes, and changes both or none
+-- replacing the units of two resources that have equal values of these units has alike outcomes, and changes
+-- both resources or neither
 abbrev pub ReplacingRestsOnItsUnits : Type 0
 ReplacingRestsOnItsUnits =
     (d : Draft) (us : List AttributeUnit) (moment : ℕ) (a b : Content)

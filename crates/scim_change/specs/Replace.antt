@@ -18,7 +18,8 @@ abbrev pub with_units : Draft → List AttributeUnit → List Row → List Row
 with_units d [] rs = rs
 with_units d (u ∷ us) rs = with_units d us (put_values u (values u d.rows) rs)
 
--- whether the draft has other values of a unit than the rows, or gives the unit and it is writeOnly
+-- whether the draft's values of a unit differ from those in the rows, or the unit is writeOnly and the draft
+-- gives it
 abbrev pub changes_unit : Draft → List Row → AttributeUnit → Bool
 changes_unit d rs u = not (are_same_values (values u rs) (values u d.rows)) || (is_secret d.kind u && gives d u)
 
@@ -30,11 +31,12 @@ changes d us rs = list_any (changes_unit d rs) us
 abbrev pub modified_at : ℕ → List Row → List Row
 modified_at moment rs = put_values (unit_of (leaf_at Meta LastModified)) (meta_row LastModified (Moment moment) ∷ []) rs
 
--- the content with these rows, modified at the moment; None if a required attribute is missing
+-- the content with these rows and `meta.lastModified` set to the moment; None if a required attribute is
+-- missing
 abbrev pub if_complete : ℕ → Content → List Row → Option Content
 if_complete moment c rs = if lacks_required c.kind rs then None else Some (content c.kind c.id (modified_at moment rs))
 
--- the resource with the draft's values of these units, modified at `moment`; the same resource if the draft changes
--- nothing; None if a required attribute would be missing
+-- the resource with the draft's values of these units and `meta.lastModified` set to `moment`; the unchanged
+-- resource if the draft changes nothing; None if a required attribute would be missing
 unfoldable pub replaced : Draft → List AttributeUnit → ℕ → Content → Option Content
 replaced d us moment c = if changes d us (rows c) then if_complete moment c (with_units d us (rows c)) else Some c

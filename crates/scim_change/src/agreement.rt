@@ -1,4 +1,4 @@
-//! Whether the values that a body gives for a unit are those that a part has.
+//! Compares the values that a body gives for a unit with the values that a part has.
 ghost use Rattle.std.specs.Prelude.{◌≡◌, IfOk};
 ghost use Rattle.scim_change.specs.Agreement as spec;
 
@@ -9,9 +9,10 @@ use scim_text::NoMemory;
 use scim_value::{Part, copy_rows};
 use std::alloc::Global;
 
-/// Whether the body gives the unit the values that the part has there.
-/// Both are read by the rules of bodies: of equal values only the first counts. A writeOnly unit (RFC 7643
-/// section 2.2) can't be compared, so it never agrees if the body gives it.
+/// Whether the body gives the same values of the unit as the part has.
+/// The part's values are read as a body's: only the first of equal values counts, and a readOnly unit has no
+/// values. A writeOnly unit (RFC 7643 section 2.2) can't be compared, so it never agrees if the body gives
+/// it.
 #[tactic(auto, unfolding(crate::specs::Agreement::agrees))]
 pub fn agrees(alloc: Global, draft: &Draft, unit: Unit, part: &Part) -> Result<bool, NoMemory>
     ensures { IfOk result (λ b. b ≡ spec.agrees draft.now unit part.now) }
@@ -25,7 +26,7 @@ pub fn agrees(alloc: Global, draft: &Draft, unit: Unit, part: &Part) -> Result<b
 }
 
 /// Returns the values that a body with `values` would give for the unit.
-/// A readOnly unit gives no values (RFC 7643 section 2.2), any other each distinct value once.
+/// Each distinct value is returned once. A readOnly unit has no values in a body (RFC 7643 section 2.2).
 fn as_given(alloc: Global, kind: Kind, unit: Unit, values: &[Row]) -> Result<Vec<Row>, NoMemory>
     ensures { IfOk result (λ v. v.items ≡ spec.as_given kind unit values.now) }
 {

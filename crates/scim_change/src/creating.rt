@@ -35,7 +35,7 @@ pub fn create(
     Ok(Resource::of_whole(Part::of_rows(kind, id, rows)))
 }
 
-/// Returns the value of a leaf that is a unit of its own.
+/// Returns the value with this atom at the leaf, which is a unit of its own.
 fn row_of(alloc: Global, leaf: Leaf, atom: Atom) -> Result<Row, NoMemory>
     ensures { IfOk result (λ r. r ≡ spec.row_of leaf atom) }
 {
@@ -53,7 +53,7 @@ pub(crate) fn moment_row(
     ensures row { IfOk result (λ r. r ≡ spec.meta_row sub_attribute (Atom.Moment moment)) }
     ensures bound { moment ≤ last_moment }
 {
-    // The call tells the proof that the moment is within its bound.
+    // This call lets the proof use that the moment is within its bound.
     let _seconds = moment.seconds();
     let leaf = Leaf::of(Attribute::Meta, sub_attribute);
     row_of(alloc, leaf, Atom::Moment(moment))
@@ -90,7 +90,7 @@ fn meta_rows(
     Ok(rows)
 }
 
-/// Returns `id`, copies of the draft's values, and `meta`, which is the order of their units.
+/// Returns `id`, copies of the draft's values, and `meta`, in the order of units.
 fn all_rows(alloc: Global, id: Id, values: &[Row], mut meta: Vec<Row>) -> Result<Vec<Row>, NoMemory>
     ensures rows { IfOk result (λ rs. rs.items ≡ spec.id_row id ∷ (values.now ++ meta.items)) }
     ensures id { IfOk result (λ rs. IsId id) }

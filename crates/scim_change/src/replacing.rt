@@ -1,4 +1,4 @@
-//! Replaces a resource by the values that a body gives (RFC 7644 section 3.5.1).
+//! Replaces a resource's values by the values that a body gives (RFC 7644 section 3.5.1).
 ghost use Rattle.std.specs.Prelude.{◌≡◌, ◌≤◌, List, ℕ, All, Some, None, false, IfOk};
 ghost use Rattle.scim_text.specs.Failures.{OnFault};
 ghost use Rattle.scim_text.specs.Moments.{last_moment};
@@ -30,13 +30,13 @@ pub struct Changed {
 #[error("a required attribute would be missing")]
 pub struct MissingRequired;
 
-/// Replaces the resource's values of `units` by the draft's (RFC 7644 section 3.5.1).
+/// Replaces the resource's values of `units` by the draft's values (RFC 7644 section 3.5.1).
 /// A unit without a value in the draft is cleared; other units stay, and `meta.lastModified` becomes
-/// `moment`. If the draft has the values that the resource has already, and gives no writeOnly unit, the
-/// resource is returned unchanged, including `meta.lastModified`.
+/// `moment`. If the draft has the same values of `units` as the resource, and gives no writeOnly unit
+/// among them, the resource is returned unchanged, including `meta.lastModified`.
 ///
 /// The draft must be of the resource's kind, and none of the units may be readOnly. Fails with
-/// MissingRequired if an attribute that the kind requires would be missing. On an error the resource is
+/// `MissingRequired` if an attribute that the kind requires would be missing. On an error the resource is
 /// dropped.
 pub fn replace(
     alloc: Global,
@@ -84,7 +84,8 @@ fn changes(draft: &Draft, units: &[Unit], part: &Part) -> bool
     false
 }
 
-/// Whether the draft has other values of the unit than the part, or gives the unit and it is writeOnly.
+/// Whether the draft's values of the unit differ from the part's, or the unit is writeOnly and the draft
+/// gives it.
 fn changes_unit(draft: &Draft, part: &Part, unit: Unit) -> bool
     ensures { result ≡ spec.changes_unit draft.now (rows part.now) unit }
 {
@@ -92,7 +93,7 @@ fn changes_unit(draft: &Draft, part: &Part, unit: Unit) -> bool
         || (mutability_of(draft.kind(), unit) == Mutability::WriteOnly && draft.gives(unit))
 }
 
-/// Returns the part with its values of `units` replaced by the draft's.
+/// Returns the part with its values of `units` replaced by the draft's values.
 fn with_units(
     alloc: Global,
     mut part: Part,
@@ -105,7 +106,7 @@ fn with_units(
     ensures id { IfOk result (λ p. p.id ≡ part.id) }
     ensures valid { IfOk result (λ p. IsDraft draft.now) }
 {
-    // The call tells the proof that the draft is valid.
+    // This call lets the proof use that the draft is valid.
     let given = draft.rows();
     for unit in units {
         part = put_given(alloc, part, given, *unit)?;
@@ -113,7 +114,7 @@ fn with_units(
     Ok(part)
 }
 
-/// Returns the part with its values of the unit replaced by those among the rows `given`.
+/// Returns the part with its values of the unit replaced by the values of the unit in `given`.
 fn put_given(alloc: Global, part: Part, given: &[Row], unit: Unit) -> Result<Part, NoMemory>
     requires { AreSound part.kind given.now }
     ensures rows { IfOk result (λ p. rows p ≡ put_values unit (values unit given.now) (rows part)) }

@@ -6,11 +6,11 @@ use Rattle.scim_policy_sentences.specs.Sentences.{rule_sentences}
 use Rattle.scim_command.specs.declared.faults.RunFault.{RunFault}
 use Rattle.scim_command.specs.declared.faults.RunFault.TheVariants.{Policy, Output, NoMemory}
 
--- the description of the rules, if it is asked for: each as a sentence, then those that can never decide
+-- each rule as a sentence, then the rules that can never decide, if `verbose` is true; otherwise empty
 abbrev pub description : Bool → List Rule → List ℕ
 description verbose rules = if verbose then rule_sentences rules ++ idle_lines (idle_rules rules) else []
 
--- the text of `check`: the number of rules, and their description if it is asked for
+-- the text that `check` writes: the number of rules, and their description if `verbose` is true
 abbrev pub check_text : Bool → List Rule → List ℕ
 check_text verbose rules = codes "ok, " ++ decimal (length rules) ++ codes " rules\n" ++ description verbose rules
 

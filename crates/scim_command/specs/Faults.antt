@@ -23,7 +23,7 @@ abbrev pub of_shelf : Failed ShelfFault → RunFault
 of_shelf (failed.Because fault) = Database Unusable
 of_shelf failed.NoMemory = NoMemory
 
--- the fault is in the users file, or `NoMemory`
+-- the fault is `Users` or `NoMemory`
 abbrev pub IsOfUsers : RunFault → Type 0
 IsOfUsers (Users n) = Unit {0}
 IsOfUsers NoMemory = Unit {0}

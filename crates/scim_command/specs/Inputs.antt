@@ -22,7 +22,7 @@ pub record IsFirstOf (items : List Item) (first : Result Message Refusal) : Type
   pub split : items ≡ waits ++ item_of first ∷ rest
   pub waited : All IsContinue waits
 
--- a prefix of the input has this message or refusal as its first one
+-- the first message or refusal that is read from the input is this one
 pub record OpensWith (input : List ℕ) (first : Result Message Refusal) : Type 0 where
   pub front : List ℕ
   pub after : List ℕ
@@ -31,7 +31,7 @@ pub record OpensWith (input : List ℕ) (first : Result Message Refusal) : Type 
   pub gives : HasItems front items
   pub is_first : IsFirstOf items first
 
--- the input ends before it has a message or a refusal
+-- the input ends before a message or a refusal could be read from it
 pub record IsUnended (input : List ℕ) : Type 0 where
   pub items : List Item
   pub gives : HasItems input items

@@ -16,38 +16,39 @@ use Rattle.scim_exchange.specs.Exchanges.{Exchanged}
 use Rattle.scim_command.specs.declared.run_once.Setting.{Setting}
 use Rattle.scim_command.specs.Inputs.{OpensWith}
 
--- the text is a users file of resources below the base, and the store is the new one with these
+-- the text is a users file of resources below the base URL, and the store is the new store with these
+-- resources
 pub record IsStoreOf (base text : List ℕ) (store : Store) : Type 0 where
   pub resources : List Content
   pub documents : IsDocumentsText base text resources
   pub is_new : IsNewStore resources store
 
--- the arrival of the message: from the setting's client, whatever token it has, at the setting's time and
--- with its id
+-- the arrival of the message: it is sent by the setting's client, whatever token it has, at the setting's
+-- time, and a new resource gets the setting's id
 abbrev pub arrival_of : Setting → Arrival
 arrival_of s = record { client = Some s.client; moment = s.at; fresh = s.first }
 
--- the text is the answer to the message with this arrival, by the policy, over a store of resources below the
--- base; the service may fail for any cause
+-- the text is the answer to the message with this arrival, under the policy and with a store of resources
+-- below the base URL; the service may fail for any cause
 abbrev pub IsReplyTo : List Rule → List ℕ → Arrival → Store → Message → List ℕ → Type 0
 IsReplyTo policy base arrival store message text =
     (answer : Answer) × (next : Store)
     × Exchanged policy base (λ _. ⊤) arrival message store answer next
     × (text ≡ answer_text answer (form_of message))
 
--- the text is the reply to the input's first message, or the refusal
+-- the text is the reply to this first message, or the reply for this refusal, which closes the connection
 abbrev pub IsReplyToFirst : List Rule → List ℕ → Arrival → Store → Result Message Refusal → List ℕ → Type 0
 IsReplyToFirst policy base arrival store (Ok message) text = IsReplyTo policy base arrival store message text
 IsReplyToFirst policy base arrival store (Err refusal) text = text ≡ refusal_text refusal (whole_form true)
 
--- the text is the answer to the input: the reply to its first message or refusal, or the refusal `Store`, with
--- its body, if memory runs out
+-- the text is the answer to the input: the reply to its first message or refusal, or, if memory runs out, the
+-- reply for the refusal `Store`, with its body
 abbrev pub IsAnswer : List Rule → List ℕ → Arrival → Store → List ℕ → List ℕ → Type 0
 IsAnswer policy base arrival store input text =
     ((first : Result Message Refusal) × OpensWith input first × IsReplyToFirst policy base arrival store first text)
     ⊎ (text ≡ refusal_text NoStore (whole_form false))
 
--- both files of the setting are valid: the policy file, and the users file of resources below the base
+-- both files of the setting are valid: the policy file, and the users file of resources below the base URL
 pub record AreSound (s : Setting) : Type 0 where
   pub policy : IsOk (policy_of s.policy.now)
   pub resources : List Content

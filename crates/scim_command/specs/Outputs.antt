@@ -6,12 +6,12 @@ use Rattle.scim_hub.specs.declared.events.HubFault.{HubFault}
 use Rattle.scim_hub.specs.declared.events.HubFault.TheVariants.{AlreadyJoined, Unknown, Closed, NoMemory}
 use Rattle.scim_hub.specs.Events.{HubOutput, writing, shutting, HubEvent}
 
--- the line of an output: a text that is written to a connection, in hex, or a connection that is shut
+-- the line for an output: `write` with the connection and the text in hex, or `close` with the connection
 abbrev pub deed_line : HubOutput → List ℕ
 deed_line (writing n text) = codes "write " ++ decimal n ++ codes " " ++ encode_lower text ++ codes "\n"
 deed_line (shutting n) = codes "close " ++ decimal n ++ codes "\n"
 
--- the reason why an event isn't answered
+-- the words that describe the error of an event
 abbrev pub fault_words : HubFault → List ℕ
 fault_words AlreadyJoined = codes "already joined"
 fault_words Unknown = codes "unknown"

@@ -12,15 +12,15 @@ use Rattle.scim_command.specs.EventFiles.{IsEventFile}
 use Rattle.scim_command.specs.Outputs.{results_text}
 
 module _ (policy : List Rule) (base : List ℕ) (entries : List Entry) (state : HubState) where
-  -- the text is the lines for the results of these events, one after another, from the hub's state on
+  -- the text is the lines for the results of these events, which a hub in this state handles in order
   pub record AreResultsOf (events : List HubEvent) (text : List ℕ) : Type 0 where
     pub results : List (Result (List HubOutput) HubFault)
     pub next : HubState
     pub runs : Runs policy base entries state events results next
     pub text_is : text ≡ results_text events results
 
--- the text is the lines for the results of the events file, by the policy, the resources and the tokens of
--- the other files, from no connections on
+-- the text is the lines for the results of the events in the events file, handled in order by a hub that has
+-- no connections at first and has the policy, the resources and the tokens of the other files
 pub record Replays (r : Recording) (text : List ℕ) : Type 0 where
   pub policy : List Rule
   pub allows : policy_of r.policy.now ≡ Ok policy

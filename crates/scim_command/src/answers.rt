@@ -34,8 +34,8 @@ pub(crate) fn reply_text(
     answer.text(alloc, ReplyForm::of(message))
 }
 
-/// Returns the text of a refusal in a form, with `Connection: close` also if the refusal closes the
-/// connection.
+/// Returns the text of the reply for a refusal, printed in the given form. It has the header
+/// `Connection: close` if the form or the refusal closes the connection.
 pub(crate) fn refusal_text(
     alloc: Global,
     refusal: Refusal,

@@ -6,7 +6,7 @@ use scim_hub::{Event, OwnedEvent};
 use scim_text::NoMemory;
 use std::alloc::Global;
 
-/// Returns the events, borrowed for a hub, in the same order.
+/// Returns events for a hub that borrow the pieces of these events, in their order.
 pub fn events_of(alloc: Global, owned: &[OwnedEvent]) -> Result<Vec<Event<'_>>, NoMemory>
     ensures { IfOk result (λ events. map event_of events.items ≡ map owned_event_of owned.now) }
 {

@@ -19,11 +19,11 @@ use scim_text::NoMemory;
 use std::alloc::Global;
 use std::io::Write;
 
-/// Validates a policy file, and writes a line with the number of rules. With `verbose`, lines with each rule
-/// as a sentence and with the rules that can never decide follow.
+/// Validates a policy file, and writes a line with the number of rules. If `verbose` is true, writes further
+/// lines with each rule as a sentence, and with the rules that can never decide.
 ///
-/// Fails with Policy if the file is invalid. Fails with Output if a write fails; a prefix of the lines has been
-/// written then, perhaps empty or whole, and nothing else. After any other error nothing is written.
+/// Fails with `Policy` if the file is invalid. Fails with `Output` if a write fails; then a prefix of the
+/// lines' text, which may be empty or all of it, has been written. After any other error nothing is written.
 pub fn check<W: Write>(
     alloc: Global,
     policy: &str,
@@ -47,7 +47,7 @@ pub fn check<W: Write>(
 
 /// Returns the text that `check` writes for a policy file.
 ///
-/// Fails with Policy if the file is invalid.
+/// Fails with `Policy` if the file is invalid.
 fn check_text(alloc: Global, policy: &str, verbose: bool) -> Result<String, RunFault>
     ensures text { IfOk result (λ text. (rules : List Rule) × (policy_of policy.now ≡ Ok rules)
         × (string_bytes text ≡ spec.check_text verbose rules)) }
@@ -68,7 +68,8 @@ fn policy_text(alloc: Global, policy: &Policy, verbose: bool) -> Result<String, 
     Ok(format!(in alloc; "ok, {count} rules\n{description}")?)
 }
 
-/// Returns each rule as a sentence, then the rules that can never decide, if `verbose`; else the empty text.
+/// If `verbose` is true, returns each rule as a sentence, then the rules that can never decide. Otherwise
+/// returns the empty text.
 fn description(alloc: Global, policy: &Policy, verbose: bool) -> Result<String, NoMemory>
     ensures { IfOk result (λ text. string_bytes text ≡ spec.description verbose policy.now) }
 {

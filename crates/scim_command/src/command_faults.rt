@@ -1,9 +1,9 @@
-//! The faults of the program's command line and commands.
+//! The errors of the program's command line and commands.
 use crate::faults::RunFault;
 use std::alloc::Global;
 use std::fmt;
 
-/// The fault that ends the program. Its `Display` text is one line for the user.
+/// The error that ends the program. Its `Display` text is one line for the user.
 pub enum CommandFault {
     /// An argument isn't UTF-8.
     NotText,
@@ -13,8 +13,8 @@ pub enum CommandFault {
     CannotRead(String),
     /// The server can't listen on the port.
     CannotListen,
-    /// The server can't go on: the system can't report events of connections, tell the time or give random
-    /// bytes.
+    /// The server can't serve its connections any more: the system can't report their events or measure
+    /// time.
     CannotServe,
     /// The command failed.
     Run(RunFault),
@@ -34,7 +34,7 @@ impl Drop for CommandFault {
 }
 
 impl CommandFault {
-    /// Returns the fault that the file at this path can't be read.
+    /// Returns the error `CannotRead` for the file at this path, or `NoMemory` if the path can't be copied.
     pub fn cannot_read(alloc: Global, path: &str) -> CommandFault {
         match String::from_str(alloc, path) {
             Ok(path) => CommandFault::CannotRead(path),
@@ -42,7 +42,7 @@ impl CommandFault {
         }
     }
 
-    /// Returns the exit status: 2 for a fault of the command line, else 1.
+    /// Returns the exit status: 2 for an error in the command line, and 1 for any other error.
     pub fn exit_status(&self) -> u8 {
         match self {
             CommandFault::NotText | CommandFault::BadOption => 2,

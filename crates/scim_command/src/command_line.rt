@@ -58,16 +58,16 @@ struct OptionText {
     help: &'static str,
 }
 
-/// The form of an option. The first text is the value's name in the help.
+/// The form of an option. The first text of a variant is the name of the option's value in the help.
 #[derive(Clone, Copy)]
 enum OptionForm {
     /// The option must be given with a value.
     Required(&'static str),
     /// The option may be given with a value.
     Optional(&'static str),
-    /// The option has a value, by default the second text.
+    /// The option has a value. If it isn't given, the value is the second text.
     WithDefault(&'static str, &'static str),
-    /// The option is given without a value, or not given.
+    /// The option has no value; it is either given or not.
     Flag,
 }
 
@@ -259,7 +259,7 @@ pub fn command<'a>(alloc: Global) -> Result<Command<'a>, AllocError> {
     Ok(root)
 }
 
-/// Adds a command to the command line, or returns the error of building it.
+/// Adds a command to the command line. If the command couldn't be built, returns its error.
 fn with<'a>(
     root: Command<'a>,
     command: Result<Command<'a>, AllocError>,

@@ -31,7 +31,7 @@ pub struct ImportOptions<'a> {
 }
 
 impl<'a> AuditOptions<'a> {
-    /// Reads the options of `audit`. Fails with BadOption if a number isn't digits or exceeds 64 bits.
+    /// Reads the options of `audit`. Fails with `BadOption` if a number isn't digits or exceeds 64 bits.
     pub fn of(matches: &ArgMatches<'a>) -> Result<AuditOptions<'a>, CommandFault> {
         Ok(AuditOptions {
             database: text_of(matches, "db")?,
@@ -60,7 +60,8 @@ impl<'a> ImportOptions<'a> {
     }
 }
 
-/// Parses a number of at most 64 bits. Fails with BadOption if the text isn't digits or the number is larger.
+/// Parses a number of at most 64 bits. Fails with `BadOption` if the text isn't digits or the number is
+/// larger.
 pub(crate) fn number_of(text: &str) -> Result<u64, CommandFault> {
     if matches!(text.as_bytes(), [b'+', ..]) {
         return Err(CommandFault::BadOption);

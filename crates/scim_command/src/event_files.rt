@@ -21,12 +21,12 @@ pub struct FaultyLine(pub usize);
 ///     MOMENT FIRST piece N HEX
 ///     MOMENT FIRST left N
 ///
-/// with one space between two words: the time, as the server prints it; the id for the resource that the
-/// event's first whole message creates; the connection's number, in digits and at most 64 bits; and the bytes
-/// of a piece, at least one, in hex digits of either case. Lines end in LF, the last perhaps without one; a
-/// CR before it belongs to the line, and makes it invalid.
+/// with one space between two words. MOMENT is the time, in the form in which the server prints it. FIRST is
+/// the id for the resource that the event's first whole message creates. N is the connection's number, in
+/// decimal digits and at most 64 bits. HEX is the piece of at least one byte, in hex digits of either case.
+/// Each line ends in LF, which may be missing from the last line; a CR before the LF makes the line invalid.
 ///
-/// Fails with the first invalid line.
+/// Fails with [`FaultyLine`], which has the number of the first invalid line.
 pub fn read_events(alloc: Global, text: &str) -> Result<Vec<OwnedEvent>, Failed<FaultyLine>>
     ensures events { IfOk result (λ events.
         IsEventFile text.now (map owned_event_of events.items)) }
@@ -51,7 +51,7 @@ fn before_empty_last<'a, 'b>(lines: &'a [&'b str]) -> &'a [&'b str]
     }
 }
 
-/// Reads the events of the lines. Fails with the first invalid line.
+/// Reads the events of the lines. Fails with [`FaultyLine`], which has the number of the first invalid line.
 fn events_of_lines(alloc: Global, lines: &[&str]) -> Result<Vec<OwnedEvent>, Failed<FaultyLine>>
     ensures events { IfOk result (λ events.
         AreEventLines (map (λ l. l.now) lines.now) (map owned_event_of events.items)) }

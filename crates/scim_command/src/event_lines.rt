@@ -11,14 +11,14 @@ use scim_hub::{OwnedEvent, OwnedEventKind, Stamp};
 use scim_text::{NoMemory, read_printed_moment};
 use std::alloc::Global;
 
-/// What occurred on which connection.
+/// The number of a connection, and what occurred on it.
 #[derive(Drop)]
 struct ToldEvent {
     connection: u64,
     kind: OwnedEventKind,
 }
 
-/// Splits a text at its first space; all of it and the empty text if there is no space.
+/// Splits a text at its first space. Without a space, returns the whole text and the empty text.
 fn cut(text: &str) -> (&str, &str)
     ensures word { result.0.now ≡ spec.word text.now }
     ensures behind { result.1.now ≡ spec.behind text.now }
@@ -42,7 +42,7 @@ fn number_in(text: &str) -> Option<u64>
     }
 }
 
-/// Decodes one or more bytes in hex digits; `None` for any other text.
+/// Decodes hex digits to one or more bytes; `None` for any other text.
 fn bytes_in(alloc: Global, text: &str) -> Result<Option<Vec<u8>>, NoMemory>
     ensures { IfOk result (Finds (λ bytes. bytes.items) (IsHexText text.now)) }
 {
@@ -54,7 +54,7 @@ fn bytes_in(alloc: Global, text: &str) -> Result<Option<Vec<u8>>, NoMemory>
     }
 }
 
-/// Parses the time and the id of a stamp; `None` if one of them is invalid.
+/// Parses the time and the id of a stamp; `None` if either is invalid.
 fn stamp_in(alloc: Global, moment: &str, first: &str) -> Result<Option<Stamp>, NoMemory>
     ensures { IfOk result (Finds (λ stamp. stamp) (IsStampText moment.now first.now)) }
 {
@@ -67,7 +67,8 @@ fn stamp_in(alloc: Global, moment: &str, first: &str) -> Result<Option<Stamp>, N
     }
 }
 
-/// Parses the words after `piece`: a number, and the piece in hex digits. `None` if one of them is invalid.
+/// Parses the words after `piece`: a connection number, and the piece in hex digits. `None` if either is
+/// invalid.
 fn piece_in(alloc: Global, text: &str) -> Result<Option<ToldEvent>, NoMemory>
     ensures { IfOk result (Finds told_event_of (IsToldBy (codes "piece") text.now)) }
 {
@@ -84,7 +85,8 @@ fn piece_in(alloc: Global, text: &str) -> Result<Option<ToldEvent>, NoMemory>
     }
 }
 
-/// Returns the occurrence on the connection with the number in `text`; `None` if `text` isn't a number.
+/// Returns an event of this kind on the connection with the number in `text`; `None` if `text` isn't a
+/// number.
 fn told_event(text: &str, kind: OwnedEventKind) -> Option<ToldEvent>
     ensures { Finds told_event_of (IsAlone (owned_event_kind_of kind) text.now) result }
 {
@@ -94,7 +96,7 @@ fn told_event(text: &str, kind: OwnedEventKind) -> Option<ToldEvent>
     }
 }
 
-/// Parses the name of an occurrence and the text after it; `None` if they are invalid.
+/// Parses an event from its name and the text after the name; `None` if they are invalid.
 fn told_event_in(alloc: Global, name: &str, text: &str) -> Result<Option<ToldEvent>, NoMemory>
     ensures { IfOk result (Finds told_event_of (IsToldBy name.now text.now)) }
 {

@@ -22,15 +22,16 @@ pub struct ExplainOptions<'a> {
     pub kind: Kind,
     /// The id of the resource.
     pub id: Id,
-    /// The leaf of the resource; `None` for the whole resource.
+    /// The leaf to explain; `None` for all leaves of the resource.
     pub leaf: Option<Leaf>,
 }
 
 impl<'a> ExplainOptions<'a> {
     /// Reads the options of `explain`.
     ///
-    /// Fails with BadOption if the client's name isn't valid, no operation or kind has the name, the id
-    /// doesn't have the form in which the server prints ids, or the path doesn't name one leaf of the kind.
+    /// Fails with `BadOption` if the client's name isn't valid, if there is no such operation or kind, if the
+    /// id doesn't have the form in which the server prints ids, or if the path doesn't name one leaf of the
+    /// kind.
     pub fn of(matches: &ArgMatches<'a>) -> Result<ExplainOptions<'a>, CommandFault> {
         let client = text_of(matches, "client")?;
         if !is_client_name(client) {
@@ -57,8 +58,8 @@ impl<'a> ExplainOptions<'a> {
     }
 }
 
-/// Returns the leaf that the option `path` names; `None` if it isn't given. Fails with BadOption if it names
-/// no leaf.
+/// Returns the leaf that the option `path` names; `None` if the option isn't given. Fails with `BadOption` if
+/// the path doesn't name one leaf of the kind.
 fn leaf_given(matches: &ArgMatches<'_>, kind: Kind) -> Result<Option<Leaf>, CommandFault> {
     match matches.get_str("path") {
         Some(path) => match leaf_at(kind, path) {

@@ -38,11 +38,10 @@ pub enum RunFault {
 pub enum DatabaseFault {
     /// The tables have another version.
     WrongVersion,
-    /// The tables are damaged: this is the smallest id that has rows which aren't those of one valid
-    /// resource.
+    /// The tables are damaged: the rows of this id don't form one valid resource. It is the smallest such id.
     Damaged(Id),
     /// The database belongs to another program, can't be read or written, or is damaged although the rows of
-    /// each id are valid.
+    /// each id form a valid resource.
     Unusable,
     /// `import` needs an empty database, and this one has a table, an index or a view.
     NotEmpty,

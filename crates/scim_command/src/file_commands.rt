@@ -10,7 +10,8 @@ use std::rt::Files;
 
 /// Runs `once`: answers one request of the reader.
 ///
-/// Errors: those of the options, then of the first file that has one, then of [`once`].
+/// Fails with the first error in this order: an invalid option, an unreadable or invalid policy file, an
+/// unreadable users file, and the errors of [`once`].
 pub fn once_over_files<R: Read, W: Write>(
     rt: &(impl Files + AllocGlobal),
     matches: &ArgMatches<'_>,
@@ -27,7 +28,8 @@ pub fn once_over_files<R: Read, W: Write>(
 
 /// Runs `check`: writes the report on a policy file.
 ///
-/// Errors: those of the options, then of [`read_file`], then of [`check`].
+/// Fails with the first error in this order: an invalid option, an unreadable policy file, and the errors of
+/// [`check`].
 pub fn check_over_files<W: Write>(
     rt: &(impl Files + AllocGlobal),
     matches: &ArgMatches<'_>,

@@ -15,13 +15,13 @@ pub enum FileKind {
     Policy,
     /// A file of the clients' tokens.
     Tokens,
-    /// A users file, which holds resources.
+    /// A users file, which contains resources.
     Users,
     /// An events file of connections.
     Events,
 }
 
-/// Returns the fault of a file of this kind that isn't UTF-8.
+/// Returns the error for a file of this kind that isn't UTF-8.
 fn not_text(kind: FileKind) -> CommandFault {
     CommandFault::Run(match kind {
         FileKind::Policy => RunFault::Policy {
@@ -36,8 +36,8 @@ fn not_text(kind: FileKind) -> CommandFault {
 
 /// Returns the text of the file at a path.
 ///
-/// Fails with CannotRead if the file can't be read. If it isn't UTF-8, fails with the fault of this kind of
-/// file for the file as a whole, such as `Users(0)`.
+/// Fails with `CannotRead` if the file can't be read. If the file isn't UTF-8, fails with the error for its
+/// kind and with the number 0, such as `Users(0)`.
 pub fn read_file(
     rt: &(impl Files + AllocGlobal),
     kind: FileKind,
@@ -52,7 +52,7 @@ pub fn read_file(
     }
 }
 
-/// Checks that a file exists. Fails with CannotRead if it doesn't or if the check fails.
+/// Checks that a file exists. Fails with `CannotRead` if it doesn't or if the check fails.
 pub fn find_file(rt: &(impl Files + AllocGlobal), path: &str) -> Result<(), CommandFault> {
     match fs::exists(rt, path) {
         Ok(true) => Ok(()),
@@ -62,7 +62,8 @@ pub fn find_file(rt: &(impl Files + AllocGlobal), path: &str) -> Result<(), Comm
 
 /// Returns the policy in the file at a path.
 ///
-/// Errors: those of [`read_file`], and Policy if the policy is invalid.
+/// Fails with `CannotRead` if the file can't be read, and with `Policy` if it isn't UTF-8 or isn't a valid
+/// policy.
 pub fn policy_at(rt: &(impl Files + AllocGlobal), path: &str) -> Result<Policy, CommandFault> {
     let text = read_file(rt, FileKind::Policy, path)?;
     match read_policy(rt.alloc(), text.as_str()) {
@@ -81,8 +82,8 @@ pub(crate) struct OnceTexts {
 impl OnceTexts {
     /// Reads the files that the options name.
     ///
-    /// Returns the fault of the first file that has one: an invalid policy comes before a users file that
-    /// can't be read.
+    /// Fails if a file can't be read or isn't UTF-8. If the policy is invalid and the users file can't be
+    /// read or isn't UTF-8, the error is `Policy`.
     pub(crate) fn read(
         rt: &(impl Files + AllocGlobal),
         options: &OnceOptions<'_>,

@@ -11,7 +11,7 @@ use scim_wire::{Item, Message, Wire};
 use std::alloc::Global;
 use std::io::Read;
 
-/// The reason why an input has no message or refusal.
+/// The reason why no message or refusal could be read from an input.
 #[derive(Clone, Copy)]
 pub(crate) enum InputFault {
     /// The input ended before the message did.
@@ -20,7 +20,7 @@ pub(crate) enum InputFault {
     ReadFailed,
 }
 
-/// Returns the first message or refusal among the items; `None` if all are [`Item::Continue`], which is
+/// Returns the first message or refusal among the items; `None` if there is none. [`Item::Continue`] is
 /// ignored.
 fn first_of(items: Vec<Item>) -> Option<Result<Message, Refusal>>
     ensures first { IfSome result (IsFirstOf items.items) }
@@ -38,7 +38,8 @@ fn first_of(items: Vec<Item>) -> Option<Result<Message, Refusal>>
 
 /// Reads the first message of an input, or the refusal of bytes that aren't a message.
 ///
-/// Reads in blocks, so bytes after the message may be consumed and dropped.
+/// Reads in blocks, so bytes after the message may be consumed and dropped. Fails with `Ended` if the input
+/// ends before the message does, and with `ReadFailed` if a read fails.
 pub(crate) fn read_first<R: Read>(
     alloc: Global,
     reader: &mut R,
@@ -52,8 +53,11 @@ pub(crate) fn read_first<R: Read>(
     first_through(alloc, &mut wire, reader)
 }
 
-/// Like [`read_first`], through a borrowed wire that has read no bytes: its exits drop nothing, which keeps
-/// the proof short.
+/// Reads the first message of an input, or the refusal of bytes that aren't a message, with a wire that has
+/// read no bytes. Fails with the errors of [`read_first`].
+///
+/// The wire is borrowed so that this function doesn't drop it at each of its exits, which keeps the proof
+/// short.
 fn first_through<R: Read>(
     alloc: Global,
     wire: &mut Wire,

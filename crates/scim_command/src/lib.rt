@@ -1,5 +1,5 @@
 //! The commands `once`, `check` and `replay` over files, a reader and a writer; the command line and options
-//! of all commands; and the messages of their faults.
+//! of all commands; and their error messages.
 #![tactic(auto)]
 
 mod answers;

@@ -15,9 +15,10 @@ use scim_service::Service;
 use scim_shelf::{MemoryShelf, Shelf};
 use std::alloc::Global;
 
-/// Returns a service with the policy over the resources of a users file, below the base.
+/// Returns a service with the policy and with the resources of a users file, which are located below the base
+/// URL.
 ///
-/// Fails with Users if the users file is invalid.
+/// Fails with `Users` if the users file is invalid.
 pub fn service_over(
     alloc: Global,
     policy: Policy,
@@ -39,7 +40,7 @@ pub fn service_over(
 
 /// Returns a shelf with the resources of a users file.
 ///
-/// Fails with Users if the users file is invalid.
+/// Fails with `Users` if the users file is invalid.
 fn read_shelf(alloc: Global, base: &str, text: &str) -> Result<MemoryShelf, RunFault>
     ensures shelf { IfOk result (λ shelf. (store : Store)
         × IsStoreOf base.now text.now store × ⟦<MemoryShelf as Shelf>⟧.stands shelf store) }

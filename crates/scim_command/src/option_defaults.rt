@@ -1,19 +1,19 @@
-//! The values of options that aren't given.
+//! The default values of options.
 
-/// `--base`: the URL below which the resources have their locations.
+/// The default of `--base`: the URL below which the resources have their locations.
 pub const DEFAULT_BASE: &str = "http://127.0.0.1:8080";
 
-/// `serve --port`: the port to listen on.
+/// The default of `serve --port`: the port to listen on.
 pub(crate) const DEFAULT_PORT: &str = "8080";
 
-/// `once --at`: the time of the request.
+/// The default of `once --at`: the time of the request.
 pub(crate) const DEFAULT_AT: &str = "1970-01-01T00:00:00Z";
 
-/// `once --first`: the id of the resource that the request creates.
+/// The default of `once --first`: the id of the resource that the request creates.
 pub(crate) const DEFAULT_FIRST: &str = "00000000-0000-0000-0000-000000000000";
 
-/// `audit --from`: the number of the first row to print.
+/// The default of `audit --from`: the number of the first row to print.
 pub(crate) const DEFAULT_FROM: &str = "1";
 
-/// `audit --count`: the greatest number of rows to print.
+/// The default of `audit --count`: the maximum number of rows to print.
 pub(crate) const DEFAULT_COUNT: &str = "100";

@@ -36,8 +36,8 @@ pub struct CheckOptions<'a> {
 impl<'a> OnceOptions<'a> {
     /// Reads the options of `once`.
     ///
-    /// Fails with BadOption if the client's name isn't valid, or if the time or the id doesn't have the form
-    /// in which the server prints it.
+    /// Fails with `BadOption` if the client's name isn't valid, or if the time or the id doesn't have the
+    /// form in which the server prints it.
     pub fn of(alloc: Global, matches: &ArgMatches<'a>) -> Result<OnceOptions<'a>, CommandFault> {
         let client = text_of(matches, "client")?;
         if !is_client_name(client) {
@@ -67,7 +67,7 @@ impl<'a> CheckOptions<'a> {
     }
 }
 
-/// Returns the text of an option. Fails with BadOption if it isn't given.
+/// Returns the text of an option. Fails with `BadOption` if the option isn't given.
 pub(crate) fn text_of<'a>(matches: &ArgMatches<'a>, name: &str) -> Result<&'a str, CommandFault> {
     match matches.get_str(name) {
         Some(text) => Ok(text),
@@ -75,7 +75,7 @@ pub(crate) fn text_of<'a>(matches: &ArgMatches<'a>, name: &str) -> Result<&'a st
     }
 }
 
-/// Parses a time. Fails with BadOption if it doesn't have the form in which the server prints times.
+/// Parses a time. Fails with `BadOption` if it doesn't have the form in which the server prints times.
 fn moment_of(alloc: Global, text: &str) -> Result<Moment, CommandFault> {
     match read_printed_moment(alloc, text) {
         Ok(Some(moment)) => Ok(moment),

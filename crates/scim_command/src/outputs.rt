@@ -8,7 +8,7 @@ use scim_hub::{Event, HubFault, Output};
 use scim_text::NoMemory;
 use std::alloc::Global;
 
-/// Returns the reason why an event isn't answered.
+/// Returns the words that describe the error of an event.
 fn fault_words(fault: HubFault) -> &'static str
     ensures { result.now ≡ spec.fault_words fault }
 {
@@ -20,7 +20,7 @@ fn fault_words(fault: HubFault) -> &'static str
     }
 }
 
-/// Returns the line of an output.
+/// Returns the line that describes an output.
 fn output_line(alloc: Global, output: &Output) -> Result<String, NoMemory>
     ensures { IfOk result (λ line. string_bytes line ≡ spec.deed_line (output_of output.now)) }
 {
@@ -33,7 +33,7 @@ fn output_line(alloc: Global, output: &Output) -> Result<String, NoMemory>
     }
 }
 
-/// Returns the lines of outputs, in order.
+/// Returns the lines that describe the outputs, in order.
 fn output_lines(alloc: Global, outputs: &[Output]) -> Result<String, NoMemory>
     ensures { IfOk result (λ text. string_bytes text
         ≡ flat_map spec.deed_line (map output_of outputs.now)) }
@@ -66,9 +66,9 @@ fn result_lines(
 
 /// Returns the lines for the results of events, in order.
 ///
-/// `write N HEX` for a text written to connection N, `close N` if it is shut, and `fault N` with the reason
-/// if the event isn't answered. `events` and `results` have the same length; further entries of the longer
-/// one are ignored.
+/// The line is `write N HEX` for a text written to connection N, `close N` if connection N is shut, and
+/// `fault N` followed by the reason if an event of connection N failed. `events` and `results` should have
+/// the same length; further entries of the longer list are ignored.
 pub(crate) fn results_text(
     alloc: Global,
     events: &[Event<'_>],

@@ -75,8 +75,8 @@ impl Texts {
 
 /// Runs `replay`: answers the events of a file, and writes the outputs for each.
 ///
-/// Errors: those of the options, then of the first file that can't be read, isn't UTF-8 or is invalid, then
-/// the others of [`replay`].
+/// Fails with the first error in this order: an invalid option; for each file in turn, that it can't be
+/// read, isn't UTF-8 or is invalid; and the other errors of [`replay`].
 pub fn replay_over_files<W: Write>(
     rt: &(impl Files + AllocGlobal),
     matches: &ArgMatches<'_>,
@@ -99,7 +99,8 @@ pub fn replay_over_files<W: Write>(
 
 /// Returns the tokens in the file at a path.
 ///
-/// Errors: those of [`read_file`] and [`read_tokens`].
+/// Fails with `CannotRead` if the file can't be read, and with `Tokens` if it isn't UTF-8 or a line is
+/// invalid.
 pub fn tokens_at(rt: &(impl Files + AllocGlobal), path: &str) -> Result<Tokens, CommandFault> {
     let text = read_file(rt, FileKind::Tokens, path)?;
     match read_tokens(rt.alloc(), text.as_str()) {

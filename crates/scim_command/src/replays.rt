@@ -1,4 +1,4 @@
-//! The command `replay`: answers the events of a file by a hub over a users file in memory.
+//! The command `replay`: answers the events of a file with a hub over a users file in memory.
 ghost use Rattle.std.specs.Prelude.{◌≡◌, ◌≢◌, ℕ, List, Ok, Err, IfOk, IfErr, OnOk, map, string_bytes};
 ghost use Rattle.std.specs.Io.KnownBytes.{Appends};
 ghost use Rattle.scim_json.specs.Documents.{IsDamagedAt};
@@ -31,14 +31,14 @@ use scim_text::{Failed, NoMemory};
 use std::alloc::Global;
 use std::io::Write;
 
-/// The texts of the files of `replay`, and the base.
+/// The texts of the files of `replay`, and the base URL.
 #[derive(Clone, Copy)]
 pub struct Recording<'a> {
     /// The text of the policy file.
     pub policy: &'a str,
     /// The text of the token file.
     pub tokens: &'a str,
-    /// The text of the users file, which holds users and groups.
+    /// The text of the users file, which contains users and groups.
     pub users: &'a str,
     /// The text of the events file.
     pub events: &'a str,
@@ -49,9 +49,9 @@ pub struct Recording<'a> {
 /// Answers the events of a file one after another, and writes the results as lines: `write N HEX`, `close N`,
 /// or `fault N` with the reason.
 ///
-/// The fault of the first invalid file, in this order: Policy, Tokens, Users, Events. After these and
-/// `NoMemory` nothing is written. Fails with Output if a write fails; a prefix of the lines has been written
-/// then, perhaps empty or whole, and nothing else.
+/// Fails for the first invalid file, in this order, with `Policy`, `Tokens`, `Users` or `Events`. After these
+/// errors and `NoMemory` nothing is written. Fails with `Output` if a write fails; then a prefix of the
+/// lines' text, which may be empty or all of it, has been written.
 pub fn replay<W: Write>(
     alloc: Global,
     recording: &Recording<'_>,
@@ -81,7 +81,8 @@ pub(crate) fn first_fault(alloc: Global, recording: &Recording<'_>) -> Option<Ru
     hub_over(alloc, recording).err()
 }
 
-/// Returns the lines for the events. Errors: those of [`replay`], except Output.
+/// Returns the lines that [`replay`] writes. Fails for the first invalid file, in this order, with `Policy`,
+/// `Tokens`, `Users` or `Events`.
 fn replayed(alloc: Global, recording: &Recording<'_>) -> Result<String, RunFault>
     ensures told { IfOk result (λ text. Replays recording.now (string_bytes text)) }
     ensures policy { (rule : ℕ) (cause : Cause) → result ≡ Err (RunFault.Policy rule cause)
@@ -101,7 +102,7 @@ fn replayed(alloc: Global, recording: &Recording<'_>) -> Result<String, RunFault
 
 /// Returns a hub without connections, with the policy, the resources and the tokens of the files.
 ///
-/// The fault of the first invalid file, in this order: Policy, Tokens, Users.
+/// Fails for the first invalid file, in this order, with `Policy`, `Tokens` or `Users`.
 fn hub_over(alloc: Global, recording: &Recording<'_>) -> Result<Hub<MemoryShelf>, RunFault>
     ensures hub { IfOk result (IsHubOver ⟦<MemoryShelf as Shelf>⟧.stands recording.now) }
     ensures policy { (rule : ℕ) (cause : Cause) → result ≡ Err (RunFault.Policy rule cause)
@@ -119,7 +120,7 @@ fn hub_over(alloc: Global, recording: &Recording<'_>) -> Result<Hub<MemoryShelf>
     Ok(Hub::new(alloc, routes, service, tokens))
 }
 
-/// Returns the events of a file. Fails with Events if a line is invalid.
+/// Returns the events of a file. Fails with `Events` if a line is invalid.
 fn owned_events_in(alloc: Global, text: &str) -> Result<Vec<OwnedEvent>, RunFault>
     ensures events { IfOk result (λ events.
         IsEventFile text.now (map owned_event_of events.items)) }
@@ -134,7 +135,7 @@ fn owned_events_in(alloc: Global, text: &str) -> Result<Vec<OwnedEvent>, RunFaul
     }
 }
 
-/// Returns the lines for the results of events by a hub.
+/// Passes the events to the hub, and returns the lines for their results.
 fn answered(
     alloc: Global,
     hub: &mut Hub<MemoryShelf>,

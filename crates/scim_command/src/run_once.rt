@@ -34,12 +34,13 @@ use std::alloc::Global;
 use std::io::{Read, Write};
 use uuid::Uuid;
 
-/// The texts of the files of `once`, and the circumstances of the request.
+/// The input of `once` besides the request: the texts of its files, and the request's client, base URL, time
+/// and id.
 #[derive(Clone, Copy)]
 pub struct Setting<'a> {
     /// The text of the policy file.
     pub policy: &'a str,
-    /// The text of the users file, which holds users and groups.
+    /// The text of the users file, which contains users and groups.
     pub users: &'a str,
     /// The name of the client that sends the request.
     pub client: &'a str,
@@ -79,19 +80,21 @@ fn first_moment() -> Moment
 
 /// Reads one message and writes its reply, and nothing else.
 ///
-/// The message counts as the client's, whatever token it has, and is answered by [`scim_exchange::answer`].
-/// Bytes that aren't a message are answered by a refusal with `Connection: close`. No 100 (Continue) is
-/// written. If memory runs out while the message is read or answered, the reply is 500, with its body.
+/// The message counts as sent by the client, whatever token it has, and is answered by
+/// [`scim_exchange::answer`]. Bytes that aren't a message are answered by a refusal with `Connection: close`.
+/// No 100 (Continue) is written. If memory runs out while the message is read or answered, the reply has
+/// status 500 and a body.
 ///
-/// - Policy: the policy file is invalid.
-/// - Users: the policy file is valid, and the users file isn't.
-/// - InputEnded: the input ends before the message does.
-/// - InputFailed: a read fails.
-/// - NoMemory: memory runs out before the message is read.
-/// - Output: a write fails; a prefix of the reply has been written, perhaps empty or whole, and nothing
-///   else.
+/// Errors:
 ///
-/// After any error but Output nothing is written.
+/// - `Policy`: the policy file is invalid.
+/// - `Users`: the policy file is valid, and the users file isn't.
+/// - `InputEnded`: the input ends before the message does.
+/// - `InputFailed`: a read fails.
+/// - `NoMemory`: memory runs out before the message is read.
+/// - `Output`: a write fails; a prefix of the reply, which may be empty or the whole reply, has been written.
+///
+/// After any error except `Output` nothing is written.
 pub fn once<R: Read, W: Write>(
     alloc: Global,
     setting: &Setting<'_>,
@@ -132,7 +135,8 @@ pub fn once<R: Read, W: Write>(
 
 /// Returns a service with the policy and the resources of the files.
 ///
-/// Fails with Policy if the policy file is invalid; otherwise Users if the users file is invalid.
+/// Fails with `Policy` if the policy file is invalid. Otherwise fails with `Users` if the users file is
+/// invalid.
 fn service_by(alloc: Global, setting: &Setting<'_>) -> Result<Service<MemoryShelf>, RunFault>
     ensures service { IfOk result (λ service. (store : Store)
         × IsStoreOf setting.now.base.now setting.now.users.now store
@@ -150,9 +154,10 @@ fn service_by(alloc: Global, setting: &Setting<'_>) -> Result<Service<MemoryShel
     service_over(alloc, policy, setting.users, setting.base)
 }
 
-/// Returns the reply to the first message of the reader; the inner `NoMemory` means the reply 500.
+/// Returns the reply to the first message of the reader. `Ok(Err(NoMemory))` means that memory ran out, and
+/// the caller must reply with status 500.
 ///
-/// Fails with InputEnded if the input ends before the message does, and InputFailed if a read fails.
+/// Fails with `InputEnded` if the input ends before the message does, and with `InputFailed` if a read fails.
 fn reply_to<R: Read>(
     alloc: Global,
     routes: &Routes,
@@ -178,9 +183,9 @@ fn reply_to<R: Read>(
     }
 }
 
-/// Writes the reply; or `store`, the refusal [`Refusal::Store`], if memory ran out.
+/// Writes the reply, or, if memory ran out, `store`, which is the text of the refusal [`Refusal::Store`].
 ///
-/// Fails with Output if a write fails; a prefix of the text has been written then, and nothing else.
+/// Fails with `Output` if a write fails; then a prefix of the text has been written, and nothing else.
 fn write_reply<W: Write>(
     reply: Result<String, NoMemory>,
     store: &str,

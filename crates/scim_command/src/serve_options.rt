@@ -13,19 +13,19 @@ pub struct ServeOptions<'a> {
     pub tokens: &'a str,
     /// The path of the database.
     pub database: &'a str,
-    /// The port on 127.0.0.1; 0 for any free one.
+    /// The port on 127.0.0.1 to listen on; 0 selects a free port.
     pub port: u16,
     /// The URL below which the resources have their locations.
     pub base: &'a str,
-    /// The number of connections after which the server ends; `None` for never.
+    /// The number of connections after which the server ends; if `None`, it runs until stopped.
     pub connections: Option<u64>,
     /// Whether resources are also cached in memory.
     pub has_cache: bool,
 }
 
 impl<'a> ServeOptions<'a> {
-    /// Reads the options of `serve`. Fails with BadOption if a number isn't digits, exceeds 64 bits, or is a
-    /// port above 65,535.
+    /// Reads the options of `serve`. Fails with `BadOption` if a number isn't digits, exceeds 64 bits, or is
+    /// a port above 65,535.
     pub fn of(matches: &ArgMatches<'a>) -> Result<ServeOptions<'a>, CommandFault> {
         Ok(ServeOptions {
             policy: text_of(matches, "policy")?,
@@ -39,7 +39,7 @@ impl<'a> ServeOptions<'a> {
     }
 }
 
-/// Parses a port. Fails with BadOption if the text isn't digits or the number exceeds 65,535.
+/// Parses a port. Fails with `BadOption` if the text isn't digits or the number exceeds 65,535.
 fn port_of(text: &str) -> Result<u16, CommandFault> {
     match u16::try_from(number_of(text)?) {
         Ok(port) => Ok(port),
@@ -47,7 +47,8 @@ fn port_of(text: &str) -> Result<u16, CommandFault> {
     }
 }
 
-/// Returns the number of connections after which the server ends, if given.
+/// Returns the number of connections after which the server ends, if given. Fails with `BadOption` if the
+/// text isn't digits or the number exceeds 64 bits.
 fn connections_of(matches: &ArgMatches<'_>) -> Result<Option<u64>, CommandFault> {
     match matches.get_str("connections") {
         Some(text) => Ok(Some(number_of(text)?)),

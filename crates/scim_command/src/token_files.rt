@@ -13,7 +13,7 @@ use std::alloc::Global;
 
 /// Reads the tokens of a file.
 ///
-/// Fails with Tokens, which has the first invalid line.
+/// Fails with `Tokens`, which has the number of the first invalid line.
 pub(crate) fn read_tokens(alloc: Global, text: &str) -> Result<Tokens, RunFault>
     ensures tokens { IfOk result (λ tokens. (entries : List Entry)
         × (entries_in text.now ≡ Ok entries) × Knows entries tokens) }

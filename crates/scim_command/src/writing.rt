@@ -8,7 +8,7 @@ use crate::faults::RunFault;
 use scim_wire::write_text;
 use std::io::Write;
 
-/// Writes the text. Fails with Output if a write fails; a prefix of the text has been written then, and
+/// Writes the text. Fails with `Output` if a write fails; then a prefix of the text has been written, and
 /// nothing else.
 pub fn write_or_fault<W: Write>(text: &str, writer: &mut W) -> Result<(), RunFault>
     ensures whole { OnOk result (Appends (W.contents writer.old) (W.contents writer.new) text.now) }

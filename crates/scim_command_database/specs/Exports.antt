@@ -21,8 +21,8 @@ documents_text cs = codes "[" ++ join_by stored_text (codes ",\n") cs ++ codes "
 abbrev pub export_text : List Content → List ℕ
 export_text cs = documents_text (users_and_groups cs)
 
--- the export of a store below a base is a users file below this base, and the new store that `import` makes
--- from it has the same resources
+-- the export of a store whose resources are below a base URL is a users file of these resources, and the new
+-- store that `import` creates from this file has the same resources
 abbrev pub ExportsAreImported : Type 0
 ExportsAreImported =
     (base : List ℕ) (store : Store) → IsStore base store

@@ -1,4 +1,4 @@
--- The faults of a command over a database.
+-- The errors of a command over a database.
 use Rattle.scim_store.specs.declared.sql_shelf.OpenFault.{OpenFault}
 use Rattle.scim_store.specs.declared.sql_shelf.OpenFault.TheVariants as opening
 use Rattle.scim_store.specs.declared.importing.ImportFault.{ImportFault}
@@ -16,7 +16,7 @@ of_opening (opening.Damaged id) = Database (Damaged id)
 of_opening opening.Store = Database Unusable
 of_opening opening.NoMemory = NoMemory
 
--- the fault of a command for a failed import; a users file never gives `OtherBase`
+-- the fault of a command for a failed import; `OtherBase` never occurs for a users file
 abbrev pub of_importing : ImportFault → RunFault
 of_importing importing.NotEmpty = Database NotEmpty
 of_importing (importing.Database (SqliteFailure OutOfMemory)) = NoMemory
@@ -24,16 +24,16 @@ of_importing (importing.Database error) = Database Unusable
 of_importing importing.OtherBase = Database Unusable
 of_importing importing.NoMemory = NoMemory
 
--- the fault is one of a command that reads a store and writes a text: an unusable database, a failed write,
--- or `NoMemory`
+-- the fault is one that a command which reads a store and writes a text returns: an unusable database, a
+-- failed write, or `NoMemory`
 abbrev pub IsDatabaseFault : RunFault → Type 0
 IsDatabaseFault (Database Unusable) = Unit {0}
 IsDatabaseFault Output = Unit {0}
 IsDatabaseFault NoMemory = Unit {0}
 IsDatabaseFault _ = ⊥
 
--- the fault is one of `import`: an invalid users file, a database that isn't empty or is unusable, or
--- `NoMemory`
+-- the fault is one that `import` returns: an invalid users file, a database that isn't empty or is unusable,
+-- or `NoMemory`
 abbrev pub IsImportFault : RunFault → Type 0
 IsImportFault (Users n) = Unit {0}
 IsImportFault (Database NotEmpty) = Unit {0}

@@ -6,7 +6,8 @@ use Rattle.scim_cell.specs.Content.{Content}
 use Rattle.scim_json.specs.Documents.{IsDocumentsText}
 use Rattle.scim_store.specs.Importing.{LeavesImported}
 
--- the trees that a crash during an import of a users file may leave, besides those that it could leave
--- before: only if the database was empty, and then the tables with all resources of the file
+-- the contents (trees) that a database may have after a crash during the import of a users file, in addition
+-- to those that were possible before the import: the tables with all resources of the file, if the database
+-- was empty
 abbrev pub LeavesUsers : List ℕ → List ℕ → State → Trees → Type 0
 LeavesUsers base users s trees = (resources : List Content) × IsDocumentsText base users resources × LeavesImported base resources s trees

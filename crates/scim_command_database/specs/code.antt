@@ -1,3 +1,3 @@
--- How private functions of the commands end, and the state of the visitor of `export`.
+-- The errors of private functions of the commands, and the state of the visitor of `export`.
 pub mod Exits
 pub mod Documents

@@ -18,11 +18,11 @@ use sqlite::Alter;
 use std::alloc::Global;
 use std::io::Write;
 
-/// Writes at most `count` rows of the audit, one per line, from the row with number `from` on.
+/// Writes at most `count` rows of the audit, one per line, starting with the row with number `from`.
 ///
-/// Rows are numbered from 1, and 0 counts as 1. Fails with Database if the store can't be read. Fails with
-/// Output if a write fails; a prefix of the lines has been written then, perhaps empty or whole, and nothing
-/// else. After any other error nothing is written.
+/// Rows are numbered from 1, and 0 counts as 1. Fails with `Database` if the store can't be read. Fails with
+/// `Output` if a write fails; then a prefix of the lines' text, which may be empty or all of it, has been
+/// written. After any other error nothing is written.
 pub fn print_audit<S: Alter, W: Write>(
     alloc: Global,
     shelf: &mut SqlShelf<S>,
@@ -49,9 +49,9 @@ pub fn print_audit<S: Alter, W: Write>(
     write_or_fault(text.as_str(), writer)
 }
 
-/// Returns the lines of at most `count` rows, starting with row number `from`.
+/// Returns the lines of at most `count` rows of the audit, starting with the row with number `from`.
 ///
-/// Fails with Database if the store can't be read.
+/// Fails with `Database` if the store can't be read.
 fn audit_text<S: Alter>(
     alloc: Global,
     shelf: &mut SqlShelf<S>,
@@ -72,7 +72,7 @@ fn audit_text<S: Alter>(
 
 /// Returns the lines of rows, numbered from `first`.
 ///
-/// The numbers must fit in 64 bits, which those of a store's rows do.
+/// The row numbers must fit in 64 bits. The row numbers of a store always do.
 fn audit_lines(alloc: Global, first: u64, rows: &[AuditRow]) -> Result<String, NoMemory>
     ensures { first + length rows.now ≤ 2 ^ 64
         → IfOk result (λ text. string_bytes text ≡ spec.audit_lines first rows.now) }

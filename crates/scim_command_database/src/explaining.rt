@@ -30,7 +30,7 @@ pub struct Question<'a> {
     pub kind: Kind,
     /// The id of the resource.
     pub id: Id,
-    /// The leaf to explain; None for a table of the decisions on all leaves.
+    /// The leaf to explain; `None` for a table of the decisions on all leaves.
     pub leaf: Option<Leaf>,
 }
 
@@ -50,9 +50,9 @@ impl<'a> Question<'a> {
 /// Writes the explanation of the policy's decision on the question's leaf: why each earlier rule doesn't fit,
 /// and which rule decides. Without a leaf, writes a table of the decisions on all leaves.
 ///
-/// Decisions are on the resource as it is stored. Absent if no resource of the kind has the id. Fails with
-/// Database if the store can't be read. Fails with Output if a write fails; a prefix of the text has been
-/// written then, perhaps empty or whole, and nothing else. After any other error nothing is written.
+/// The policy decides on the resource as it is stored. Fails with `Absent` if no resource of the kind has the
+/// id. Fails with `Database` if the store can't be read. Fails with `Output` if a write fails; then a prefix
+/// of the text, which may be empty or all of it, has been written. After any other error nothing is written.
 pub fn explain<H: Shelf, W: Write>(
     alloc: Global,
     policy: &Policy,

@@ -23,7 +23,8 @@ use std::io::Write;
 #[derive(Drop)]
 struct Documents {
     text: String,
-    /// The text that goes before the next document: empty for the first, then a comma and a line feed.
+    /// The text that is written before the next document: empty before the first document, and a comma and a
+    /// line feed before each further document.
     separator: &'static str,
 }
 
@@ -39,7 +40,7 @@ impl Documents {
         })
     }
 
-    /// Returns the whole list, with its end.
+    /// Returns the whole list, with its closing bracket and a line feed.
     fn finish(self) -> Result<String, NoMemory>
         ensures { IfOk result (λ text. string_bytes text ≡ string_bytes self.text ++ codes "]\n") }
     {
@@ -66,10 +67,11 @@ impl Visitor for Documents {
     }
 }
 
-/// Writes the users file of a store, which `import` reads back: its users, then its groups, each by id.
+/// Writes a users file with the resources of a store: the users, then the groups, both in order of id. The
+/// command `import` can read this file.
 ///
-/// Fails with Database if the store can't be read. Fails with Output if a write fails; a prefix of the file
-/// has been written then, perhaps empty or whole, and nothing else. After any other error nothing is written.
+/// Fails with `Database` if the store can't be read. Fails with `Output` if a write fails; then a prefix of
+/// the file, which may be empty or all of it, has been written. After any other error nothing is written.
 pub fn export<H: Shelf, W: Write>(
     alloc: Global,
     shelf: &mut H,
@@ -91,7 +93,7 @@ pub fn export<H: Shelf, W: Write>(
     write_or_fault(text.as_str(), writer)
 }
 
-/// Returns the text of the users file of a store. Fails with Database if it can't be read.
+/// Returns the text of the users file of a store. Fails with `Database` if the store can't be read.
 fn export_text<H: Shelf>(alloc: Global, shelf: &mut H) -> Result<String, RunFault>
     ensures text { IfOk result (Answers H.stands H.is_honest shelf.old shelf.new (λ store text.
         string_bytes text ≡ spec.export_text store.resources)) }
@@ -104,7 +106,8 @@ fn export_text<H: Shelf>(alloc: Global, shelf: &mut H) -> Result<String, RunFaul
     Ok(documents.finish()?)
 }
 
-/// Shows the visitor all users and then all groups. Errors: those of [`Shelf::each`].
+/// Passes all users and then all groups to the visitor. Fails if a call of [`Shelf::each`] fails, with its
+/// error.
 fn show_all<H: Shelf, V: Visitor>(
     alloc: Global,
     shelf: &mut H,

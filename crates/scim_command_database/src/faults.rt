@@ -1,4 +1,4 @@
-//! Converts faults of a database to faults of a command.
+//! Converts errors of a database to errors of a command.
 ghost use Rattle.std.specs.Prelude.{◌≡◌};
 ghost use Rattle.scim_command_database.specs.Faults.{of_opening};
 
@@ -6,7 +6,7 @@ use scim_command::{DatabaseFault, RunFault};
 use scim_store::OpenFault;
 use sqlite::{Error, ErrorCode};
 
-/// Returns the fault of a command for a database that can't be opened as a store.
+/// Returns the error of a command for a database that can't be opened as a store.
 pub(crate) fn open_fault(fault: OpenFault) -> RunFault
     ensures { result ≡ of_opening fault }
 {
@@ -18,7 +18,7 @@ pub(crate) fn open_fault(fault: OpenFault) -> RunFault
     }
 }
 
-/// Returns the fault of a command for a connection that can't be opened.
+/// Returns the error of a command for a database connection that can't be opened.
 pub fn unopened(error: Error) -> RunFault {
     match error {
         Error::SqliteFailure(ErrorCode::OutOfMemory) => RunFault::NoMemory,

@@ -23,11 +23,12 @@ use std::alloc::Global;
 /// Stores the resources of a users file in an empty database, in one transaction. The audit has no rows
 /// afterwards.
 ///
-/// Fails with Users if the file is invalid; the database isn't read then. Fails with NotEmpty
-/// if the database has a table, an index or a view, and with Unusable if it can't be read or written. After
-/// an error the database is as before or as the last commit left it, or the connection is closed.
+/// Fails with `Users` if the file is invalid; the database isn't read then. Fails with `NotEmpty` if the
+/// database has a table, an index or a view, and with `Unusable` if it can't be read or written. After an
+/// error the database is unchanged or in the state of the last commit, or the connection is closed.
 ///
-/// A crash during the call leaves what was there before, or the tables with all resources of the file.
+/// After a crash during the call, the database is in its earlier state, or it has the tables with all
+/// resources of the file.
 pub fn import<S: Alter>(
     alloc: Global,
     connection: &mut Connection<S>,
@@ -59,7 +60,8 @@ pub fn import<S: Alter>(
     }
 }
 
-/// Returns the fault of a command for a failed import. Resources of a users file never give OtherBase.
+/// Returns the error of a command for a failed import. The error `OtherBase` must not occur; for resources of
+/// a users file it never does.
 fn import_fault(fault: ImportFault) -> RunFault
     requires { fault ≢ ImportFault.OtherBase }
     ensures { result ≡ of_importing fault }

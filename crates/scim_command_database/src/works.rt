@@ -17,8 +17,8 @@ use std::io::Write;
 
 /// A command that works on an open database.
 ///
-/// It is generic in the database's storage and returns the connection, so that only one function has to be
-/// proved with a connection to the system's files, which costs a minute of proof.
+/// Its function is generic in the database's storage and returns the connection. So only one function has to
+/// be proved with a connection to the system's files; that proof takes a minute.
 pub trait DatabaseWork {
     /// Runs the command on the connection, writes its output, and returns the connection with the result.
     fn over<S: Alter + Drop, W: Write>(
@@ -112,7 +112,7 @@ impl DatabaseWork for Importing<'_> {
 
 /// Opens the store in a database, with resources located below the base URL.
 ///
-/// The fault is that of [`SqlShelf::open`]; the connection is given back with it.
+/// If [`SqlShelf::open`] fails, returns its error, as an error of the program, and the connection.
 fn open_store<S: Alter + Drop>(
     alloc: Global,
     connection: Connection<S>,
@@ -126,7 +126,7 @@ fn open_store<S: Alter + Drop>(
     }
 }
 
-/// Returns the result with its fault as a fault of the program.
+/// Converts the error of a command, if any, to an error of the program.
 fn of_run(done: Result<(), RunFault>) -> Result<(), CommandFault> {
     match done {
         Ok(()) => Ok(()),
@@ -137,8 +137,8 @@ fn of_run(done: Result<(), RunFault>) -> Result<(), CommandFault> {
 /// Opens the store in a database, with resources located below the base URL, and with a cache of all
 /// resources if `has_cache` is true and memory suffices.
 ///
-/// The fault is that of [`SqlShelf::open`], or Database if the resources can't be read; the connection is
-/// given back with it.
+/// If [`SqlShelf::open`] fails, returns its error, as an error of the program, and the connection. If the
+/// resources can't be read into the cache, returns `Database` and the connection.
 pub fn open_cached<S: Alter + Drop>(
     alloc: Global,
     connection: Connection<S>,
@@ -159,8 +159,8 @@ pub fn open_cached<S: Alter + Drop>(
     }
 }
 
-/// Fills the cache if `has_cache` is true. If memory runs out the cache stays as it was, and reads go to the
-/// database.
+/// Fills the cache if `has_cache` is true. If memory runs out, the cache is unchanged, and reads go to the
+/// database. Fails with `Database` if the resources can't be read.
 fn fill_if<S: Shelf>(
     alloc: Global,
     shelf: &mut CachedShelf<S>,

@@ -1,4 +1,4 @@
--- Lists of pages, in the form of a search's reply (RFC 7644 sections 3.4.2 and 4).
+-- Lists of resource types or schemas, in the form of a reply to a search (RFC 7644 sections 3.4.2 and 4).
 use Rattle.std.specs.Prelude.{ℕ, List, length, codes}
 use Rattle.serde_json.specs.Data.{Data, number, unsigned, string, array, object, no_items, item, no_members, member}
 use Rattle.serde_json.specs.View.{items_of}
@@ -7,7 +7,7 @@ use Rattle.serde_json.specs.View.{items_of}
 abbrev pub count_data : ℕ → Data
 count_data n = number (unsigned n)
 
--- the list of these resources, all on one page
+-- the list response with these resources, all on one page
 unfoldable pub list_data : List Data → Data
 list_data resources = object
     (member (codes "Resources") (array (items_of resources))

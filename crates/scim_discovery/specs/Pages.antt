@@ -1,4 +1,4 @@
--- The replies of discovery (RFC 7644 section 4).
+-- The replies to requests for discovery pages (RFC 7644 section 4).
 use Rattle.std.specs.Prelude.{◌≡◌, ℕ, Bool, false, not, List, ◌==◌, map, Option, None, Some, Result, Ok, Err, if◌then◌else◌}
 use Rattle.std.specs.List.{list_any}
 use Rattle.serde_json.specs.Data.{Data}
@@ -36,7 +36,7 @@ is_given_in (Some text) = is_given text
 abbrev pub has_filter : Option (List ℕ) → Bool
 has_filter query = is_given_in (parameters_of query).filter
 
--- the body of the reply to a request for a page; a filter is refused
+-- the body of the reply to a request for a page; the error `Denied` if the query string has a filter
 abbrev pub reply_of : DiscoveryPage → Option (List ℕ) → Result (List ℕ) Refusal
 reply_of page query = if has_filter query then Err Denied else Ok (compact_text (page_data page))
 

@@ -8,17 +8,17 @@ use Rattle.scim_schema.specs.Names.{kind_name, endpoint}
 use Rattle.scim_schema.specs.Schemas.{urn, core_schema, extensions}
 use Rattle.scim_discovery.specs.Members.{with_member}
 
--- the description of an extension, which is never required
+-- the description of a schema extension; extensions are never required
 abbrev pub extension_data : Schema → Data
 extension_data s = object (member (codes "required") (boolean false) (member (codes "schema") (string (urn s)) no_members))
 
--- the descriptions of extensions; None if there are none
+-- the descriptions of schema extensions; `None` if there are none
 abbrev pub extensions_data : List Schema → Option Data
 extensions_data [] = None
 extensions_data (s ∷ ss) = Some (array (items_of (map extension_data (s ∷ ss))))
 
--- the members of a resource type: the endpoint of its resources, its names, and the schemas that describe
--- them
+-- the members of a resource type: the endpoint of its resources, its id and name, the core schema and the
+-- schema extensions of its resources, and the schema of resource types
 abbrev pub members_for : Kind → Option Data → Members
 members_for kind extended =
     member (codes "endpoint") (string (endpoint kind))

@@ -10,7 +10,7 @@ bearer_tokens = object
     (member (codes "name") (string (codes "OAuth Bearer Token"))
     (member (codes "type") (string (codes "oauthbearertoken")) no_members)))
 
--- the ways to authenticate: bearer tokens
+-- the supported authentication schemes: only bearer tokens
 abbrev pub authentication_schemes : Data
 authentication_schemes = array (item bearer_tokens no_items)
 
@@ -18,18 +18,19 @@ authentication_schemes = array (item bearer_tokens no_items)
 abbrev pub config_schemas : Data
 config_schemas = array (item (string (codes "urn:ietf:params:scim:schemas:core:2.0:ServiceProviderConfig")) no_items)
 
--- whether a feature is supported
+-- the JSON that tells whether a feature is supported
 abbrev pub supported : Bool → Data
 supported b = object (member (codes "supported") (boolean b) no_members)
 
--- bulk operations, which aren't supported (RFC 7644 section 3.7)
+-- the description of bulk operations, which aren't supported (RFC 7644 section 3.7)
 abbrev pub bulk : Data
 bulk = object
     (member (codes "maxOperations") (number (unsigned 0))
     (member (codes "maxPayloadSize") (number (unsigned 0))
     (member (codes "supported") (boolean false) no_members)))
 
--- filters, which are supported, with at most 200 resources on a page (RFC 7644 section 3.4.2)
+-- the description of filters, which are supported, with at most 200 resources on a page (RFC 7644 section
+-- 3.4.2)
 abbrev pub filter : Data
 filter = object (member (codes "maxResults") (number (unsigned MOST_SHOWN)) (member (codes "supported") (boolean true) no_members))
 

@@ -14,7 +14,7 @@ use scim_text::{NoMemory, push};
 use serde_json::{Map, Value, put};
 use std::alloc::Global;
 
-/// The members that describe a name and its characteristics.
+/// Returns the members that describe a name and its characteristics.
 fn members_for(
     alloc: Global,
     name: &str,
@@ -60,7 +60,7 @@ fn put_members(
     put_text(map, alloc, "uniqueness", uniqueness.name())
 }
 
-/// The description of a sub-attribute.
+/// Returns the description of a sub-attribute.
 fn sub_attribute_value(
     alloc: Global,
     attribute: Attribute,
@@ -73,7 +73,7 @@ fn sub_attribute_value(
     Ok(Value::Object(map))
 }
 
-/// The descriptions of a complex attribute's sub-attributes, in the order of the attribute table.
+/// Returns the descriptions of a complex attribute's sub-attributes, in the order of the attribute table.
 fn sub_attribute_values(alloc: Global, attribute: Attribute) -> Result<Vec<Value>, NoMemory>
     ensures { IfOk result (λ values. map view values.items
         ≡ map (spec.sub_attribute_data attribute) (sub_attributes attribute)) }
@@ -86,8 +86,8 @@ fn sub_attribute_values(alloc: Global, attribute: Attribute) -> Result<Vec<Value
     Ok(values)
 }
 
-/// The description of an attribute of the kind: its name, its characteristics, and its sub-attributes if it
-/// is complex.
+/// Returns the description of an attribute of the kind: its name, its characteristics, and its sub-attributes
+/// if it is complex.
 pub(crate) fn attribute_value(
     alloc: Global,
     kind: Kind,

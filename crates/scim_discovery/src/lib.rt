@@ -1,9 +1,9 @@
-//! The pages of discovery, in which the server describes itself (RFC 7644 section 4, RFC 7643 sections 5, 6
-//! and 7).
+//! The discovery pages, in which the server describes itself (RFC 7644 section 4, RFC 7643 sections 5, 6 and
+//! 7).
 //!
 //! Schemas are generated from the attribute table that the server itself uses.
 //!
-//! Cases: `crates/cases/data/requests_discovery.json`.
+//! Test cases: `crates/cases/data/requests_discovery.json`.
 #![tactic(auto)]
 
 mod attributes;

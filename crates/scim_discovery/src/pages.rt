@@ -1,4 +1,4 @@
-//! The replies of discovery (RFC 7644 section 4).
+//! The replies to requests for discovery pages (RFC 7644 section 4).
 ghost use Rattle.std.specs.Prelude.{◌≡◌, IfOk};
 ghost use Rattle.std.specs.Option.{option_copied};
 ghost use Rattle.serde_json.specs.View.{view};
@@ -36,7 +36,7 @@ fn has_filter(alloc: Global, query: Option<&[u8]>) -> Result<bool, NoMemory>
     })
 }
 
-/// The JSON of a page.
+/// Returns the JSON value of a page.
 fn page_value(alloc: Global, page: DiscoveryPage) -> Result<Value, NoMemory>
     ensures { IfOk result (λ v. view v ≡ spec.page_data page) }
 {
@@ -49,7 +49,7 @@ fn page_value(alloc: Global, page: DiscoveryPage) -> Result<Value, NoMemory>
     }
 }
 
-/// The text of a page.
+/// Returns the JSON text of a page.
 #[tactic(auto, using(crate::proofs::FloatLemmas::page_has_no_float))]
 fn page_text(alloc: Global, page: DiscoveryPage) -> Result<Text, NoMemory>
     ensures { IfOk result (λ text. text ≡ compact_text (spec.page_data page)) }
@@ -63,8 +63,8 @@ fn page_text(alloc: Global, page: DiscoveryPage) -> Result<Text, NoMemory>
 /// `query` is the query string of the request's target, if it has one. The body is JSON without spaces, and
 /// the keys of each object are in byte order.
 ///
-/// Fails with Denied if the query string has a filter. The first parameter with that name, in any ASCII case,
-/// counts; one that is empty or only spaces counts as no filter.
+/// Fails with `Denied` if the query string has a filter. Only the first parameter named `filter`, in any
+/// ASCII case, counts. If its value is empty or only spaces, there is no filter.
 pub fn page_reply(
     alloc: Global,
     page: DiscoveryPage,

@@ -10,14 +10,14 @@ use scim_text::{NoMemory, push};
 use serde_json::{Map, Value, json, put};
 use std::alloc::Global;
 
-/// The description of an extension, which is never required.
+/// Returns the description of a schema extension. Extensions are never required.
 fn extension_value(alloc: Global, schema: Schema) -> Result<Value, NoMemory>
     ensures { IfOk result (λ v. view v ≡ spec.extension_data schema) }
 {
     Ok(json!(in alloc; {"required": false, "schema": schema.urn()})?)
 }
 
-/// The descriptions of extensions.
+/// Returns the descriptions of schema extensions.
 fn extension_values(alloc: Global, schemas: &[Schema]) -> Result<Vec<Value>, NoMemory>
     ensures { IfOk result (λ values. map view values.items ≡ map spec.extension_data schemas.now) }
 {
@@ -28,7 +28,7 @@ fn extension_values(alloc: Global, schemas: &[Schema]) -> Result<Vec<Value>, NoM
     Ok(values)
 }
 
-/// The members of a resource type, without its extensions.
+/// Returns the members of a resource type, without its schema extensions.
 fn members_for(alloc: Global, kind: Kind) -> Result<Map<String, Value>, NoMemory>
     ensures { IfOk result (λ map. members_view map.entries ≡ spec.members_for kind None) }
 {
@@ -42,7 +42,7 @@ fn members_for(alloc: Global, kind: Kind) -> Result<Map<String, Value>, NoMemory
     Ok(map)
 }
 
-/// The resource type of a kind.
+/// Returns the resource type of a kind.
 #[tactic(auto, unfolding(crate::specs::ResourceTypes::resource_type_data))]
 pub(crate) fn resource_type_value(alloc: Global, kind: Kind) -> Result<Value, NoMemory>
     ensures { IfOk result (λ v. view v ≡ spec.resource_type_data kind) }
@@ -57,7 +57,7 @@ pub(crate) fn resource_type_value(alloc: Global, kind: Kind) -> Result<Value, No
     Ok(Value::Object(map))
 }
 
-/// All resource types.
+/// Returns all resource types.
 pub(crate) fn resource_type_values(alloc: Global) -> Result<Vec<Value>, NoMemory>
     ensures { IfOk result (λ values. map view values.items ≡ map spec.resource_type_data kinds) }
 {

@@ -12,7 +12,7 @@ use scim_text::{NoMemory, push};
 use serde_json::{Value, json};
 use std::alloc::Global;
 
-/// The kind whose resources have the schema.
+/// Returns the kind whose resources have the schema.
 fn kind_with(schema: Schema) -> Kind
     ensures { result ≡ spec.kind_with schema }
 {
@@ -43,7 +43,8 @@ fn is_common(attribute: Attribute) -> bool
     )
 }
 
-/// The descriptions of the schema's attributes, in the order of the attribute table.
+/// Returns the descriptions of the schema's attributes, in the order of the attribute table. Leaves out the
+/// attributes that every resource has.
 fn attribute_values(alloc: Global, schema: Schema) -> Result<Vec<Value>, NoMemory>
     ensures { IfOk result (λ values. map view values.items
         ≡ map (attribute_data (spec.kind_with schema)) (spec.attributes_in schema)) }
@@ -58,7 +59,7 @@ fn attribute_values(alloc: Global, schema: Schema) -> Result<Vec<Value>, NoMemor
     Ok(values)
 }
 
-/// The schema with its attributes.
+/// Returns the description of a schema, with its attributes.
 #[tactic(auto, unfolding(crate::specs::Schemas::schema_data))]
 pub(crate) fn schema_value(alloc: Global, schema: Schema) -> Result<Value, NoMemory>
     ensures { IfOk result (λ v. view v ≡ spec.schema_data schema) }
@@ -72,7 +73,7 @@ pub(crate) fn schema_value(alloc: Global, schema: Schema) -> Result<Value, NoMem
     })?)
 }
 
-/// All schemas.
+/// Returns the descriptions of all schemas.
 #[tactic(auto, unfolding(crate::specs::Schemas::schema_data))]
 pub(crate) fn schema_values(alloc: Global) -> Result<Vec<Value>, NoMemory>
     ensures { IfOk result (λ values. map view values.items ≡ map spec.schema_data schemas) }

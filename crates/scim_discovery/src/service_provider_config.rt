@@ -8,7 +8,7 @@ use scim_text::NoMemory;
 use serde_json::{Map, Value, json, put};
 use std::alloc::Global;
 
-/// The ways to authenticate: bearer tokens.
+/// Returns the supported authentication schemes: only bearer tokens.
 fn authentication_schemes_value(alloc: Global) -> Result<Value, NoMemory>
     ensures { IfOk result (λ v. view v ≡ spec.authentication_schemes) }
 {
@@ -19,21 +19,21 @@ fn authentication_schemes_value(alloc: Global) -> Result<Value, NoMemory>
     }])?)
 }
 
-/// The list with the URN of this page's schema.
+/// Returns the list with the URN of this page's schema.
 fn schemas_value(alloc: Global) -> Result<Value, NoMemory>
     ensures { IfOk result (λ v. view v ≡ spec.config_schemas) }
 {
     Ok(json!(in alloc; ["urn:ietf:params:scim:schemas:core:2.0:ServiceProviderConfig"])?)
 }
 
-/// Bulk operations, which aren't supported.
+/// Returns the description of bulk operations, which aren't supported.
 fn bulk_value(alloc: Global) -> Result<Value, NoMemory>
     ensures { IfOk result (λ v. view v ≡ spec.bulk) }
 {
     Ok(json!(in alloc; {"maxOperations": 0u64, "maxPayloadSize": 0u64, "supported": false})?)
 }
 
-/// Filters, which are supported, with the most resources on a page.
+/// Returns the description of filters, which are supported, with the maximum number of resources on a page.
 fn filter_value(alloc: Global) -> Result<Value, NoMemory>
     ensures { IfOk result (λ v. view v ≡ spec.filter) }
 {
@@ -54,7 +54,7 @@ fn put_supported(
     Ok(put(map, alloc, key, value)?)
 }
 
-/// The page about the server's features.
+/// Returns the page about the server's features.
 #[tactic(auto, unfolding(crate::specs::ServiceProviderConfig::service_provider_config))]
 pub(crate) fn service_provider_config_value(alloc: Global) -> Result<Value, NoMemory>
     ensures { IfOk result (λ v. view v ≡ spec.service_provider_config) }

@@ -9,8 +9,8 @@ use Rattle.scim_query.specs.SortKeys.{sort_leaf}
 use Rattle.scim_exchange.specs.declared.paging.Arrangement.{Arrangement}
 use Rattle.scim_exchange.specs.Refused.{◌>>=◌}
 
--- whether the order is descending, by `sortOrder` in any ASCII case; ascending if it isn't given (RFC 7644
--- section 3.4.2.3)
+-- whether `sortOrder` is `descending`, in any ASCII case; false if it isn't given, and the refusal
+-- `MessageValue` if it is neither `ascending` nor `descending` (RFC 7644 section 3.4.2.3)
 abbrev pub is_descending : Option (List ℕ) → Result Bool Refusal
 is_descending None = Ok false
 is_descending (Some text) =
@@ -18,7 +18,7 @@ is_descending (Some text) =
     else if is_same_name text (codes "ascending") then Ok false
     else Err MessageValue
 
--- the 1-based position of the first resource on the page, by `startIndex`; 1 if it is below 1 or not given
+-- the 1-based position of the first resource on the page: `startIndex`, or 1 if that is below 1 or not given
 -- (RFC 7644 section 3.4.2.4)
 abbrev pub first_shown : Option ℤ → ℕ
 first_shown None = 1
@@ -26,15 +26,15 @@ first_shown (Some (pos zero)) = 1
 first_shown (Some (pos (suc n))) = suc n
 first_shown (Some (negsuc n)) = 1
 
--- the page size, by `count`: 0 if it is negative, at most 200, and 100 if it isn't given (RFC 7644 section
--- 3.4.2.4)
+-- the page size: `count` limited to at most 200, 0 if it is negative, and 100 if it isn't given (RFC 7644
+-- section 3.4.2.4)
 abbrev pub most_shown : Option ℤ → ℕ
 most_shown None = USUALLY_SHOWN
 most_shown (Some (pos n)) = min n MOST_SHOWN
 most_shown (Some (negsuc n)) = 0
 
--- the arrangement by `sortBy`, `sortOrder`, `startIndex` and `count`; a `sortBy` that names no leaf is
--- ignored
+-- the arrangement that `sortBy`, `sortOrder`, `startIndex` and `count` select; a `sortBy` that names no leaf
+-- is ignored
 abbrev pub arranged : Kind → Option (List ℕ) → Option (List ℕ) → Option ℤ → Option ℤ → Result Arrangement Refusal
 arranged kind sort_by sort_order start_index count =
     is_descending sort_order >>= λ descending. Ok (record {

@@ -27,8 +27,8 @@ use Rattle.scim_exchange.specs.Searches.{Sought, sought, sought_of, IsQuery}
 use Rattle.scim_exchange.specs.QueryStrings.{lists_of, search_of}
 use Rattle.scim_exchange.specs.SearchBodies.{search_of_body}
 
--- what a request asks for: to show a resource, search, create one from a draft, replace one by a draft, patch one, or
--- remove one
+-- the operation that a request asks for: show a resource, search, create a resource from a draft, replace a
+-- resource by a draft, patch a resource, or remove a resource
 pub data Asked : Type 0 where
   showing : Lists → Asked
   searching : Sought → Asked
@@ -37,11 +37,11 @@ pub data Asked : Type 0 where
   patching : Patch → Lists → Asked
   removing : Asked
 
--- the attribute lists of a query string, or the refusal
+-- the attribute lists of a query string, or the refusal `MessageValue` if both are given
 abbrev pub lists_asked : Option (List ℕ) → Result Lists Refusal
 lists_asked query = one_of (lists_of (parameters_of query))
 
--- the draft of a body, or its refusal
+-- the draft in a body; the refusal `Syntax` or `MessageValue` if the body isn't valid
 abbrev pub as_draft : Body → Result Draft Refusal
 as_draft malformed = Err Syntax
 as_draft wrong = Err MessageValue
@@ -55,7 +55,7 @@ draft_in use_for kind text = as_draft (body_of kind use_for (read text))
 unfoldable pub draft_asked : UseFor → Kind → List ℕ → Result Draft Refusal
 draft_asked use_for kind body = if is_utf8 body then draft_in use_for kind body else Err Syntax
 
--- the patch, or the refusal for its fault
+-- the patch, or the refusal for the fault that reading it returned
 abbrev pub as_patch : Result Patch PatchFault → Result Patch Refusal
 as_patch (Ok p) = Ok p
 as_patch (Err fault.Syntax) = Err Syntax
@@ -70,8 +70,8 @@ patch_in_text kind text = as_patch (patch_in kind (read text))
 unfoldable pub patch_asked : Kind → List ℕ → Result Patch Refusal
 patch_asked kind body = if is_utf8 body then patch_in_text kind body else Err Syntax
 
--- what a request of this form asks for, by its query string and body: the query string gives the attribute lists, and
--- the whole search of a list; the body gives a draft, a patch, or the whole of a posted search
+-- what a request of this form asks for: the query string contains the attribute lists, or the whole search
+-- for a GET of a list; the body contains the draft, the patch, or the whole posted search
 abbrev pub asked : Form → Kind → Option (List ℕ) → List ℕ → Result Asked Refusal
 asked form.Get kind query body = lists_asked query >>= λ lists. Ok (showing lists)
 asked form.ListGet kind query body = sought kind (search_of kind (parameters_of query)) >>= λ s. Ok (searching s)
@@ -81,7 +81,7 @@ asked form.Remove kind query body = lists_asked query >>= λ lists. Ok removing
 asked form.Replace kind query body = draft_asked Replacing kind body >>= λ draft. lists_asked query >>= λ lists. Ok (replacing draft lists)
 asked form.Patch kind query body = patch_asked kind body >>= λ patch. lists_asked query >>= λ lists. Ok (patching patch lists)
 
--- the ask of the program is this ask of the definitions
+-- the program's `Ask` represents this operation
 abbrev pub IsAsk : Kind → Asked → Ask → Type 0
 IsAsk kind (showing lists) (Get wanted) = Wants kind lists wanted
 IsAsk kind (searching s) (Search query) = IsQuery kind s query
@@ -91,6 +91,6 @@ IsAsk kind (patching patch lists) (to.Patch p wanted) = (patch_of p ≡ patch) �
 IsAsk kind removing Remove = ⊤
 IsAsk kind _ _ = ⊥
 
--- the result for a route and a body is what they ask for, or the refusal
+-- the result is what the route and the body ask for, or the refusal if they are invalid
 abbrev pub Asks : Route → List ℕ → Result Ask Refusal → Type 0
 Asks route body result = Tells (IsAsk route.kind) (asked route.form route.kind (option_copied route.query) body) result

@@ -21,7 +21,7 @@ abbrev pub is_given : List (List ℕ) → Bool
 is_given [] = false
 is_given (text ∷ texts) = true
 
--- the lists, or the refusal if both are given (RFC 7644 section 3.9)
+-- the lists, or the refusal `MessageValue` if both are given (RFC 7644 section 3.9)
 abbrev pub one_of : Lists → Result Lists Refusal
 one_of lists = if is_given lists.attributes && is_given lists.excluded then Err MessageValue else Ok lists
 

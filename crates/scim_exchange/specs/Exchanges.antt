@@ -23,7 +23,7 @@ use Rattle.scim_exchange.specs.declared.exchanges.Arrival.{Arrival}
 use Rattle.scim_exchange.specs.declared.answers.Answer.{Answer}
 use Rattle.scim_exchange.specs.declared.answers.Answer.TheVariants.{Refused, Page as APage, Served}
 
--- the turn of the client's message, by its arrival, route and body
+-- the turn is the service's input for the client's message with this arrival, route and body
 pub record IsTurnOf (client : List ℕ) (arrival : Arrival) (route : Route) (body : List ℕ) (turn : Turn) : Type 0 where
   pub client_is : turn.request.client ≡ client
   pub op_is : turn.request.op ≡ route.op
@@ -33,16 +33,16 @@ pub record IsTurnOf (client : List ℕ) (arrival : Arrival) (route : Route) (bod
   pub moment_is : turn.moment ≡ arrival.moment
   pub fresh_is : turn.fresh ≡ arrival.fresh
 
--- the answer is this one, and the store is unchanged
+-- the answer is `told`, and the store is unchanged
 abbrev pub IsTold : Answer → Store → Answer → Store → Type 0
 IsTold told store answer next = (answer ≡ told) × (next ≡ store)
 
--- the answer with a discovery page, or with its refusal
+-- the answer to a request for a discovery page: the page, or the refusal of the request
 abbrev pub page_or : Result (List ℕ) Refusal → Answer
 page_or (Ok text) = APage text
 page_or (Err refusal) = Refused refusal
 
--- the answer is the discovery page or its refusal, for this query string
+-- the answer to a request for a discovery page with this query string is the page or a refusal
 abbrev pub IsPageOr : DiscoveryPage → Option (List ℕ) → Answer → Type 0
 IsPageOr page query answer = (told : Result (List ℕ) Refusal) × Replies page query told × (answer ≡ page_or told)
 
@@ -59,7 +59,8 @@ abbrev pub IsServedTo : Option (List ℕ) → List Rule → List ℕ → (Failed
 IsServedTo None policy base Cause arrival route message store answer next = IsTold (Refused NoToken) store answer next
 IsServedTo (Some client) policy base Cause arrival route message store answer next = IsServed client policy base Cause arrival route message store answer next
 
--- the answer for a found endpoint: the refusal, the discovery page for anyone, or the service's reply
+-- the answer, given the endpoint that was found: the refusal if none was found, a discovery page (which needs
+-- no token) or its refusal, or the service's reply
 abbrev pub ComesOf : Result Found Refusal → List Rule → List ℕ → (Failed ShelfFault → Type 0) → Arrival → Message → Store → Answer → Store → Type 0
 ComesOf (Err refusal) policy base Cause arrival message store answer next = IsTold (Refused refusal) store answer next
 ComesOf (Ok (Discovery page query)) policy base Cause arrival message store answer next =
@@ -67,8 +68,8 @@ ComesOf (Ok (Discovery page query)) policy base Cause arrival message store answ
 ComesOf (Ok (Resource route)) policy base Cause arrival message store answer next =
     IsServedTo (option_copied arrival.client) policy base Cause arrival route message store answer next
 
--- the answer to a message by the policy, over a store of resources below the base, and the store after it: by
--- the endpoint that its method and target name; or the refusal `Store` if memory runs out
+-- the answer to a message and the store after it, under this policy and with resources below this base URI:
+-- the answer of the endpoint that the method and target name, or the refusal `Store` if memory runs out
 abbrev pub Exchanged : List Rule → List ℕ → (Failed ShelfFault → Type 0) → Arrival → Message → Store → Answer → Store → Type 0
 Exchanged policy base Cause arrival message store answer next =
     ((found : Result Found Refusal)

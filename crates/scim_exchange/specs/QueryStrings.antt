@@ -17,7 +17,7 @@ use Rattle.scim_exchange.specs.Searches.{is_blank, Settings, Search}
 unfoldable pub parts : List ℕ → List (List ℕ)
 parts text = filter (λ part. not (is_blank part)) (slice_split (λ b. b == 44) text)
 
--- the parts of a list that aren't blank, if the list is given
+-- the parts of a comma-separated list that aren't blank; empty if the list isn't given
 abbrev pub parts_of : Option (List ℕ) → List (List ℕ)
 parts_of None = []
 parts_of (Some text) = parts text
@@ -26,11 +26,12 @@ parts_of (Some text) = parts text
 abbrev pub lists_of : Parameters → Lists
 lists_of parameters = record { attributes = parts_of parameters.attributes; excluded = parts_of parameters.excluded_attributes }
 
--- the signed 64-bit number that a text writes: digits, perhaps after a `-`
+-- the signed 64-bit number in a text, written as decimal digits with an optional `-` before them; `None` if
+-- the text isn't one
 unfoldable pub integer_in : List ℕ → Option ℤ
 integer_in text = if is_integer text then Some (signed_digits_value 10 text) else None
 
--- the number of a parameter, if it is given
+-- the number of a parameter, if it is given; the refusal `MessageValue` if it isn't a signed 64-bit number
 unfoldable pub integer_of : Option (List ℕ) → Result (Option ℤ) Refusal
 integer_of None = Ok None
 integer_of (Some text) = ok_or (option_map Some (integer_in text)) MessageValue

@@ -2,7 +2,7 @@
 use Rattle.std.specs.Prelude.{◌≡◌, Result, Ok, Err}
 use Rattle.scim_audit.specs.declared.refusals.Refusal.{Refusal}
 
--- the next step on the value, or the first refusal
+-- the result of applying `f` to the value, or the refusal if there is no value
 infixl 10 ◌>>=◌
 abbrev pub ◌>>=◌ : {A B : Type 0} → Result A Refusal → (A → Result B Refusal) → Result B Refusal
 (Ok x) >>= f = f x

@@ -1,4 +1,4 @@
--- The texts of replies (RFC 7644 sections 3.4.1 and 3.12), in a form.
+-- The texts of HTTP replies (RFC 7644 sections 3.4.1 and 3.12).
 use Rattle.std.specs.Prelude.{ℕ, ◌||◌, false, List, Option, None, Some}
 use Rattle.scim_wire.specs.declared.replies.ReplyForm.{ReplyForm}
 use Rattle.scim_wire.specs.Replies.{text_of}
@@ -9,7 +9,8 @@ use Rattle.scim_service.specs.Replies as replies
 use Rattle.scim_exchange.specs.declared.answers.Answer.{Answer}
 use Rattle.scim_exchange.specs.declared.answers.Answer.TheVariants.{Refused, Page, Served}
 
--- the text of a refusal, with `Connection: close` also if the refusal closes the connection
+-- the text of the reply for a refusal; it has the header `Connection: close` if the form or the refusal
+-- closes the connection
 unfoldable pub refusal_text : Refusal → ReplyForm → List ℕ
 refusal_text r form =
     text_of

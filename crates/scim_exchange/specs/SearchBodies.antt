@@ -24,21 +24,22 @@ keys = codes "attributes" ∷ codes "excludedAttributes" ∷ codes "filter" ∷ 
 unfoldable pub keys_clash : Members → Bool
 keys_clash ms = list_any (λ key. is_twice key ms) keys
 
--- the text under a key, if given
+-- the text under a key, if given; the refusal `MessageValue` if the value isn't a text
 unfoldable pub text_given : Option Data → Result (Option (List ℕ)) Refusal
 text_given None = Ok None
 text_given (Some d) = ok_or (option_map Some (as_str d)) MessageValue
 
--- the signed 64-bit integer under a key, if given
+-- the signed 64-bit integer under a key, if given; the refusal `MessageValue` if the value isn't one
 unfoldable pub integer_given : Option Data → Result (Option ℤ) Refusal
 integer_given None = Ok None
 integer_given (Some d) = ok_or (option_map Some (option_and_then as_i64 (as_number d))) MessageValue
 
--- the text of a list's item; empty for null and `[]`
+-- the text of a list's item, as a list; empty for null and `[]`, and `None` for any other JSON value
 abbrev pub text_item : Data → Option (List (List ℕ))
 text_item d = if is_absent d then Some [] else option_map (λ text. text ∷ []) (as_str d)
 
--- the texts under a key: those of a list, or a single one
+-- the texts under a key, whose value is a list of texts or a single text; the refusal `MessageValue` if it is
+-- neither
 unfoldable pub texts_given : Option Data → Result (List (List ℕ)) Refusal
 texts_given given = ok_or (if_given (λ d. collected text_item (listed (as_array d) d)) given) MessageValue
 
@@ -51,7 +52,7 @@ arrangement_in kind ms = do
   count ← integer_given (given_named (codes "count") ms)
   arranged kind sort_by sort_order start_index count
 
--- the arrangement of the search, if its filter is a text or isn't given
+-- the arrangement of the search; the refusal `MessageValue` if its filter is given but isn't a text
 unfoldable pub words_in : Kind → Members → Result Arrangement Refusal
 words_in kind ms = text_given (given_named (codes "filter") ms) >>= λ filter. arrangement_in kind ms
 

@@ -16,7 +16,8 @@ pub record Settings : Type 0 where
   pub lists : Lists
   pub arrangement : Arrangement
 
--- a search as written: the filter's text, and the settings or the refusal of a value
+-- a search before its filter is parsed: the filter's text, and the settings or the refusal of an invalid
+-- value
 pub record Search : Type 0 where
   pub filter : Option (List ℕ)
   pub settings : Result Settings Refusal
@@ -25,7 +26,8 @@ pub record Search : Type 0 where
 abbrev pub is_blank : List ℕ → Bool
 is_blank text = list_all (λ b. b == 32) text
 
--- the filter of a text, none if it is blank (RFC 7644 section 3.4.2.2)
+-- the filter in a text; `None` if the text is blank or isn't given, and the refusal `Filter` if it isn't
+-- valid (RFC 7644 section 3.4.2.2)
 unfoldable pub filter_of : Kind → Option (List ℕ) → Result (Option Tree) Refusal
 filter_of kind None = Ok None
 filter_of kind (Some text) = if is_blank text then Ok None else ok_or (option_map Some (filter_in kind text)) Filter
@@ -35,15 +37,16 @@ pub record Sought : Type 0 where
   pub filter : Option Tree
   pub settings : Settings
 
--- the search with this filter and these settings, or the refusal if both attribute lists are given
+-- the search with this filter and these settings, or the refusal `MessageValue` if both attribute lists are
+-- given
 abbrev pub sought_with : Option Tree → Settings → Result Sought Refusal
 sought_with filter settings = one_of settings.lists >>= λ lists. Ok (record { filter = filter; settings = settings })
 
--- the search after parsing; the refusal of the filter comes before that of another value
+-- the search after parsing, or its refusal; an invalid filter is refused before any other invalid value
 abbrev pub sought : Kind → Search → Result Sought Refusal
 sought kind search = filter_of kind search.filter >>= λ filter. search.settings >>= λ settings. sought_with filter settings
 
--- the search after parsing, or the refusal of the text that it was read from
+-- the search after parsing, or its refusal if it couldn't be read
 abbrev pub sought_of : Kind → Result Search Refusal → Result Sought Refusal
 sought_of kind search = search >>= sought kind
 

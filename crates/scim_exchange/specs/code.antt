@@ -1,3 +1,3 @@
--- The values of the program's types, and its refusals for faults.
+-- Conversions of the program's values to the specification's types, and the refusals for faults.
 pub mod Faults
 pub mod Views

@@ -31,9 +31,10 @@ impl Drop for Answer {
 }
 
 impl Answer {
-    /// Returns the text of the reply in a form (RFC 9112 section 4).
+    /// Returns the text of the HTTP reply, printed in the given form (RFC 9112 section 4).
     ///
-    /// It has the header `Connection: close` also if the answer is a refusal that closes the connection.
+    /// The reply has the header `Connection: close` if the form closes the connection, or if the answer is a
+    /// refusal that closes it.
     pub fn text(&self, alloc: Global, form: ReplyForm) -> Result<String, NoMemory>
         ensures { IfOk result (λ t. string_bytes t ≡ spec.answer_text self.now form) }
     {

@@ -28,9 +28,9 @@ use scim_view::Wanted;
 use std::alloc::Global;
 use std::str;
 
-/// Returns the attributes that the client wants by the parameters' attribute lists.
+/// Returns the attributes that the parameters' attribute lists select.
 ///
-/// Fails with MessageValue if both lists are given.
+/// Fails with `MessageValue` if both lists are given.
 fn wanted_of(alloc: Global, kind: Kind, parameters: &Parameters) -> Result<Wanted, Failed<Refusal>>
     ensures { UnlessMemory (Tells (Wants kind) (one_of (lists_of parameters.now))) result }
 {
@@ -40,7 +40,7 @@ fn wanted_of(alloc: Global, kind: Kind, parameters: &Parameters) -> Result<Wante
 
 /// Returns the attributes that the client asks for in the attribute lists of the query string.
 ///
-/// Fails with MessageValue if both lists are given.
+/// Fails with `MessageValue` if both lists are given.
 fn wanted_by_query(
     alloc: Global,
     kind: Kind,
@@ -55,7 +55,8 @@ fn wanted_by_query(
 
 /// Returns the query that a query string asks for.
 ///
-/// Errors: those of `search_by`.
+/// Fails with `Filter` if the filter is invalid. Otherwise fails with `MessageValue` if another value isn't
+/// allowed for its parameter, or if both attribute lists are given.
 fn listed(alloc: Global, kind: Kind, query: Option<&[u8]>) -> Result<Query, Failed<Refusal>>
     ensures { UnlessMemory (Tells (IsQuery kind)
         (sought kind (search_of kind (parameters_of (option_copied query.entry))))) result }
@@ -66,7 +67,8 @@ fn listed(alloc: Global, kind: Kind, query: Option<&[u8]>) -> Result<Query, Fail
 
 /// Reads the draft of a resource from a JSON text.
 ///
-/// Fails with Syntax and MessageValue for the faults Syntax and Value of [`read_body`].
+/// Fails with `Syntax` if [`read_body`] fails with `BodyFault::Syntax`, and with `MessageValue` if it fails
+/// with `BodyFault::Value`.
 #[tactic(auto, unfolding(crate::specs::Asks::draft_in))]
 fn draft_in(
     alloc: Global,
@@ -86,7 +88,8 @@ fn draft_in(
 
 /// Reads the draft of a resource from a body.
 ///
-/// Errors: Syntax if the body isn't UTF-8; otherwise those of `draft_in`.
+/// Fails with `Syntax` if the body isn't UTF-8, or if [`read_body`] fails with `BodyFault::Syntax`. Fails
+/// with `MessageValue` if [`read_body`] fails with `BodyFault::Value`.
 fn draft_of(
     alloc: Global,
     use_for: UseFor,
@@ -104,7 +107,8 @@ fn draft_of(
 
 /// Reads a request that creates a resource.
 ///
-/// Errors: first those of `draft_of`, then those of `wanted_by_query`.
+/// Fails with `Syntax` or `MessageValue` if the body isn't a valid draft. Otherwise fails with `MessageValue`
+/// if the query string contains both attribute lists.
 fn creation(
     alloc: Global,
     kind: Kind,
@@ -120,7 +124,8 @@ fn creation(
 
 /// Reads a request that replaces a resource.
 ///
-/// Errors: first those of `draft_of`, then those of `wanted_by_query`.
+/// Fails with `Syntax` or `MessageValue` if the body isn't a valid draft. Otherwise fails with `MessageValue`
+/// if the query string contains both attribute lists.
 fn replacement(
     alloc: Global,
     kind: Kind,
@@ -136,7 +141,8 @@ fn replacement(
 
 /// Reads a patch from a JSON text.
 ///
-/// Syntax, Path and MessageValue for the faults Syntax, Path and Value of [`read_patch`].
+/// Fails with `Syntax`, `Path` or `MessageValue` if [`read_patch`] fails with `PatchFault::Syntax`,
+/// `PatchFault::Path` or `PatchFault::Value`.
 #[tactic(auto, unfolding(crate::specs::Asks::patch_in_text))]
 fn patch_in_text(alloc: Global, kind: Kind, text: &str) -> Result<Patch, Failed<Refusal>>
     ensures { UnlessMemory (Tells (λ due p. patch_of p ≡ due) (spec.patch_in_text kind text.now))
@@ -153,7 +159,8 @@ fn patch_in_text(alloc: Global, kind: Kind, text: &str) -> Result<Patch, Failed<
 
 /// Reads a patch from a body.
 ///
-/// Errors: Syntax if the body isn't UTF-8; otherwise those of `patch_in_text`.
+/// Fails with `Syntax` if the body isn't UTF-8. Otherwise fails with `Syntax`, `Path` or `MessageValue` if
+/// [`read_patch`] fails with `PatchFault::Syntax`, `PatchFault::Path` or `PatchFault::Value`.
 fn patch_by(alloc: Global, kind: Kind, body: &[u8]) -> Result<Patch, Failed<Refusal>>
     ensures { UnlessMemory (Tells (λ due p. patch_of p ≡ due) (spec.patch_asked kind body.now))
         result }
@@ -166,7 +173,8 @@ fn patch_by(alloc: Global, kind: Kind, body: &[u8]) -> Result<Patch, Failed<Refu
 
 /// Reads a request that patches a resource.
 ///
-/// Errors: first those of `patch_by`, then those of `wanted_by_query`.
+/// Fails with `Syntax`, `Path` or `MessageValue` if the body isn't a valid patch. Otherwise fails with
+/// `MessageValue` if the query string contains both attribute lists.
 fn change(
     alloc: Global,
     kind: Kind,
@@ -188,18 +196,18 @@ fn change(
 /// searches.
 ///
 /// Parameters and keys match in any ASCII case. An attribute list whose texts name no attribute counts as
-/// given: with such `attributes` the client gets only what is always returned. A list without a text counts
-/// as not given; in a query string, blank parts of a list are dropped. A blank filter and a `sortBy` that
-/// names no leaf count as not given. `startIndex` below 1 or missing is 1. `count` below 0 is 0, above 200 is
-/// 200, and 100 if missing.
+/// given: if `attributes` names none, the client gets only the attributes that are always returned. A list
+/// without a text counts as not given; in a query string, blank parts of a list are dropped. A blank filter
+/// and a `sortBy` that names no leaf count as not given. A `startIndex` that is missing or below 1 counts as
+/// 1. A `count` below 0 counts as 0, a `count` above 200 as 200, and a missing `count` as 100.
 ///
-/// The first of these refusals that applies:
+/// Fails with the first of these refusals that applies:
 ///
-/// - Syntax: a body that is read isn't UTF-8 or isn't a JSON object of the expected form, or has a key in
+/// - `Syntax`: a body that is read isn't UTF-8 or isn't a JSON object of the expected form, or has a key in
 ///   two spellings;
-/// - Filter: the filter is invalid;
-/// - Path: a path of a patch is invalid or names no attribute;
-/// - MessageValue: another value has the wrong type or isn't allowed for its parameter, both attribute
+/// - `Filter`: the filter is invalid;
+/// - `Path`: a path of a patch is invalid or names no attribute;
+/// - `MessageValue`: another value has the wrong type or isn't allowed for its parameter, both attribute
 ///   lists are given, or the body isn't a valid draft.
 pub fn ask(alloc: Global, route: &Route<'_>, body: &[u8]) -> Result<Ask, Failed<Refusal>>
     ensures { UnlessMemory (Asks route.now body.now) result }

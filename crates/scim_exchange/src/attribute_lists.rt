@@ -25,9 +25,9 @@ fn names_of(alloc: Global, kind: Kind, texts: &Vec<&str>) -> Result<Names, NoMem
     Names::of(alloc, kind, texts.as_slice())
 }
 
-/// Returns the attributes that the client wants by the lists.
+/// Returns the attributes that the lists select.
 ///
-/// Fails with MessageValue if both lists are given.
+/// Fails with `MessageValue` if both lists are given.
 pub(crate) fn wanted_by(
     alloc: Global,
     kind: Kind,

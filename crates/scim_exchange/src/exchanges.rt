@@ -28,7 +28,8 @@ use std::alloc::Global;
 /// The sender and the time of a message, and the id for the resource that it may create.
 #[derive(Clone, Copy)]
 pub struct Arrival<'a> {
-    /// The name of the client that has the message's token; `None` without a token or if no client has it.
+    /// The name of the client that has the message's token; `None` if the message has no token or if no
+    /// client has it.
     pub client: Option<&'a str>,
     /// The time at which the message arrived.
     pub moment: Moment,
@@ -36,7 +37,7 @@ pub struct Arrival<'a> {
     pub fresh: Id,
 }
 
-/// Returns what the route and the body ask for, or the refusal.
+/// Returns what the route and the body ask for, or the refusal if they are invalid.
 fn asked(alloc: Global, route: &Route<'_>, body: &[u8]) -> Result<Result<Ask, Refusal>, NoMemory>
     ensures { IfOk result (Asks route.now body.now) }
 {
@@ -47,7 +48,7 @@ fn asked(alloc: Global, route: &Route<'_>, body: &[u8]) -> Result<Result<Ask, Re
     }
 }
 
-/// Returns the turn of the service for the client's message.
+/// Returns the service's input for the client's message: the request, the time and the id for a new resource.
 fn turn_of(
     alloc: Global,
     client: &str,
@@ -72,7 +73,7 @@ fn turn_of(
     })
 }
 
-/// Returns the refusal, which is `Store` for `NoMemory`.
+/// Returns the refusal that the fault contains, or `Refusal::Store` for `NoMemory`.
 fn refusal_for(fault: Failed<Refusal>) -> Refusal
     ensures { result ≡ spec.refusal_for fault }
 {
@@ -84,7 +85,8 @@ fn refusal_for(fault: Failed<Refusal>) -> Refusal
 
 /// Returns the endpoint that the message's method and target name.
 ///
-/// Fails with the refusal if there is no such endpoint or it doesn't support the method.
+/// Fails with a refusal if the target names no supported endpoint, or if the endpoint doesn't allow the
+/// method.
 fn found_in<'m>(
     alloc: Global,
     routes: &Routes,
@@ -96,7 +98,8 @@ fn found_in<'m>(
     routes.find(alloc, message.method.as_slice(), message.target.as_slice())
 }
 
-/// Answers a request for a discovery page: the page, its refusal, or `Refusal::Store` if memory runs out.
+/// Answers a request for a discovery page with the page, with a refusal if the query string has a filter, or
+/// with `Refusal::Store` if memory runs out.
 fn page_answer(alloc: Global, page: DiscoveryPage, query: Option<&[u8]>) -> Answer
     ensures { IsPageOr page (option_copied query.entry) result
         ⊎ (result ≡ Answer.Refused Refusal.Store) }
@@ -108,7 +111,8 @@ fn page_answer(alloc: Global, page: DiscoveryPage, query: Option<&[u8]>) -> Answ
     }
 }
 
-/// Answers a message for resources: refuses it without a client, else calls the service.
+/// Answers a request for resources: refuses it with `NoToken` if it has no known client, and otherwise calls
+/// the service. If memory runs out before the call, the answer is the refusal `Store`.
 fn served<S: Shelf>(
     alloc: Global,
     service: &mut Service<S>,
@@ -143,12 +147,12 @@ fn served<S: Shelf>(
 
 /// Answers one message.
 ///
-/// The steps, in this order: find the endpoint by target and method; for a discovery page, answer it without
-/// a token and without an audit row; refuse a message without a known client; read what the body and the
-/// query string ask; call the service.
+/// The steps, in this order: find the endpoint by target and method; answer a request for a discovery page
+/// without a token and without an audit row; refuse a message without a known client; read what the body and
+/// the query string ask for; call the service.
 ///
-/// If memory runs out before or in the service, the client is told [`Refusal::Store`], and neither a change
-/// nor an audit row is committed.
+/// If memory runs out before or in the service, the client gets the refusal [`Refusal::Store`], and neither a
+/// change nor an audit row is committed.
 pub fn answer<S: Shelf>(
     alloc: Global,
     routes: &Routes,

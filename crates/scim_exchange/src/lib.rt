@@ -1,5 +1,5 @@
-//! Answers one message of a client (RFC 7644 section 3): its endpoint, the client's token, what it asks for,
-//! and then the policy and the store.
+//! Answers one message of a client (RFC 7644 section 3): finds its endpoint, checks that a client has its
+//! token, reads what it asks for, and calls the service.
 #![tactic(auto)]
 
 mod answers;

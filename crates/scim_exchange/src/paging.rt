@@ -18,8 +18,8 @@ pub(crate) struct Arrangement {
     pub(crate) count: usize,
 }
 
-/// Whether `sortOrder` is `descending`, in any ASCII case; false for `None`. Fails with MessageValue if it
-/// names no order.
+/// Whether `sortOrder` is `descending`, in any ASCII case; false for `None`. Fails with `MessageValue` if it
+/// is neither `ascending` nor `descending`.
 fn is_descending(sort_order: Option<&str>) -> Result<bool, Refusal>
     ensures { result ≡ spec.is_descending (option_copied sort_order.entry) }
 {
@@ -35,7 +35,8 @@ fn is_descending(sort_order: Option<&str>) -> Result<bool, Refusal>
     Err(Refusal::MessageValue)
 }
 
-/// Returns the 1-based position of the first resource on the page; at least 1, and 1 for `None`.
+/// Returns the 1-based position of the first resource on the page: `start_index`, but at least 1, and 1 for
+/// `None`.
 fn first_shown(start_index: Option<i64>) -> usize
     ensures { result ≡ spec.first_shown start_index }
 {
@@ -45,7 +46,7 @@ fn first_shown(start_index: Option<i64>) -> usize
     }
 }
 
-/// Returns the page size: `count` limited to 0 to 200, and 100 for `None`.
+/// Returns the page size: `count` clamped to the range 0 to 200, and 100 for `None`.
 fn most_shown(count: Option<i64>) -> usize
     ensures { result ≡ spec.most_shown count }
 {
@@ -55,8 +56,8 @@ fn most_shown(count: Option<i64>) -> usize
     }
 }
 
-/// Returns the arrangement of a search by its parameters. Fails with MessageValue if `sort_order` names no
-/// order.
+/// Returns the arrangement that the parameters of a search select. Fails with `MessageValue` if `sort_order`
+/// is neither `ascending` nor `descending`.
 pub(crate) fn arranged(
     kind: Kind,
     sort_by: Option<&str>,

@@ -39,7 +39,7 @@ fn parts<'r>(alloc: Global, text: &'r str) -> Result<Vec<&'r str>, NoMemory>
     )
 }
 
-/// Returns the parts of a list that aren't blank; none for `None`.
+/// Returns the parts of a comma-separated list that aren't blank; empty for `None`.
 fn parts_of<'r>(alloc: Global, text: Option<&'r str>) -> Result<Vec<&'r str>, NoMemory>
     ensures { IfOk result (λ v. texts_in v ≡ spec.parts_of (option_copied text.entry)) }
 {
@@ -64,7 +64,7 @@ pub(crate) fn lists_of(
     })
 }
 
-/// Whether a text begins with `+`, which `parse` accepts and a parameter may not have.
+/// Whether a text begins with `+`. A number in a parameter must not, although `parse` accepts it.
 fn starts_with_plus(text: &str) -> bool
     ensures { result ≡ (slice_index text.now 0 == 43) }
 {
@@ -84,7 +84,7 @@ fn integer_in(text: &str) -> Option<i64>
     }
 }
 
-/// Parses the number of a parameter, if given. Fails with MessageValue if it isn't a signed 64-bit number.
+/// Parses the number of a parameter, if given. Fails with `MessageValue` if it isn't a signed 64-bit number.
 #[tactic(auto, unfolding(crate::specs::QueryStrings::integer_of))]
 fn integer_of(text: Option<&str>) -> Result<Option<i64>, Refusal>
     ensures { result ≡ spec.integer_of (option_copied text.entry) }
@@ -98,8 +98,8 @@ fn integer_of(text: Option<&str>) -> Result<Option<i64>, Refusal>
     }
 }
 
-/// Returns the arrangement that the parameters ask for. Fails with MessageValue if a value isn't allowed for
-/// its parameter.
+/// Returns the arrangement that the parameters ask for. Fails with `MessageValue` if a value isn't allowed
+/// for its parameter.
 #[tactic(auto, unfolding(crate::specs::QueryStrings::arrangement_of))]
 fn arrangement_of(kind: Kind, parameters: &Parameters) -> Result<Arrangement, Refusal>
     ensures { result ≡ spec.arrangement_of kind parameters.now }
@@ -113,7 +113,7 @@ fn arrangement_of(kind: Kind, parameters: &Parameters) -> Result<Arrangement, Re
 
 /// Returns the settings of the search: everything but the filter.
 ///
-/// Fails with MessageValue if a value isn't allowed for its parameter.
+/// Fails with `MessageValue` if a value isn't allowed for its parameter.
 #[tactic(auto, unfolding(crate::specs::QueryStrings::settings_of))]
 fn settings_of(
     alloc: Global,
@@ -134,7 +134,7 @@ fn settings_of(
 
 /// Returns the query that the parameters ask for.
 ///
-/// Fails with Filter if the filter is invalid. Otherwise fails with MessageValue if another value isn't
+/// Fails with `Filter` if the filter is invalid. Otherwise fails with `MessageValue` if another value isn't
 /// allowed for its parameter, or if both attribute lists are given.
 pub(crate) fn search_by(
     alloc: Global,

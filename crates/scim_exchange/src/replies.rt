@@ -8,8 +8,8 @@ use scim_text::NoMemory;
 use scim_wire::{HttpReply, ReplyForm, print_reply};
 use std::alloc::Global;
 
-/// Returns the text of a refusal in a form, with `Connection: close` also if the refusal closes the
-/// connection.
+/// Returns the text of the reply for a refusal, printed in the given form. It has the header
+/// `Connection: close` if the form or the refusal closes the connection.
 #[tactic(auto, unfolding(crate::specs::Replies::refusal_text))]
 pub(crate) fn refusal_text(
     alloc: Global,
@@ -32,7 +32,7 @@ pub(crate) fn refusal_text(
     print_reply(alloc, &reply, form)
 }
 
-/// Returns the text of a reply of the service in a form.
+/// Returns the text of a reply of the service, printed in the given form.
 pub(crate) fn reply_text(alloc: Global, reply: &Reply, form: ReplyForm) -> Result<String, NoMemory>
     ensures { IfOk result (λ t. string_bytes t ≡ spec.reply_text reply.now form) }
 {
@@ -42,7 +42,7 @@ pub(crate) fn reply_text(alloc: Global, reply: &Reply, form: ReplyForm) -> Resul
     }
 }
 
-/// Returns the text of a successful reply in a form.
+/// Returns the text of a successful reply, printed in the given form.
 #[tactic(auto, unfolding(crate::specs::Replies::success_text))]
 fn success_text(alloc: Global, reply: &Reply, form: ReplyForm) -> Result<String, NoMemory>
     ensures { IfOk result (λ t. string_bytes t ≡ spec.success_text reply.now form) }
@@ -57,7 +57,7 @@ fn success_text(alloc: Global, reply: &Reply, form: ReplyForm) -> Result<String,
     print_reply(alloc, &reply, form)
 }
 
-/// Returns the text of a reply with a discovery page in a form.
+/// Returns the text of a reply with a discovery page, printed in the given form.
 #[tactic(auto, unfolding(crate::specs::Replies::page_text))]
 pub(crate) fn page_text(alloc: Global, page: &str, form: ReplyForm) -> Result<String, NoMemory>
     ensures { IfOk result (λ t. string_bytes t ≡ spec.page_text page.now form) }

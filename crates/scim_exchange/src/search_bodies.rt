@@ -39,7 +39,7 @@ fn keys_clash(members: &[Member<'_>]) -> bool
         || is_twice(members, "count")
 }
 
-/// Returns the text under a key, if given. Fails with MessageValue if it is another JSON value.
+/// Returns the text under a key, if given. Fails with `MessageValue` if the value isn't a text.
 #[tactic(auto, unfolding(crate::specs::SearchBodies::text_given))]
 fn text_given<'r>(members: &[Member<'r>], name: &str) -> Result<Option<&'r str>, Refusal>
     ensures { Tells (λ due text. option_copied text ≡ due)
@@ -54,7 +54,7 @@ fn text_given<'r>(members: &[Member<'r>], name: &str) -> Result<Option<&'r str>,
     }
 }
 
-/// Returns the number under a key, if given. Fails with MessageValue if it isn't a signed 64-bit integer.
+/// Returns the number under a key, if given. Fails with `MessageValue` if it isn't a signed 64-bit integer.
 #[tactic(auto, unfolding(crate::specs::SearchBodies::integer_given))]
 fn integer_given(members: &[Member<'_>], name: &str) -> Result<Option<i64>, Refusal>
     ensures { result ≡ spec.integer_given (given_named name.now (members_view members.now)) }
@@ -70,7 +70,7 @@ fn integer_given(members: &[Member<'_>], name: &str) -> Result<Option<i64>, Refu
 
 /// Appends the text of a list's item; null and `[]` append nothing.
 ///
-/// Fails with MessageValue if the item is another JSON value. After an error `texts` is unchanged.
+/// Fails with `MessageValue` if the item is another JSON value. After an error `texts` is unchanged.
 fn add_item<'r>(value: &Tree<'r>, texts: &mut Vec<&'r str>) -> Result<(), Failed<Refusal>>
     ensures given { OnOk result (after (texts_in texts.old) (spec.text_item (view value.now))
         ≡ Some (texts_in texts.new)) }
@@ -88,9 +88,9 @@ fn add_item<'r>(value: &Tree<'r>, texts: &mut Vec<&'r str>) -> Result<(), Failed
     }
 }
 
-/// Returns the texts of a list's items.
+/// Returns the texts of a list's items, without the items that are null or `[]`.
 ///
-/// Errors: those of `add_item`.
+/// Fails with `MessageValue` if an item is another JSON value.
 fn texts_of<'r>(alloc: Global, items: &[Tree<'r>]) -> Result<Vec<&'r str>, Failed<Refusal>>
     ensures given { IfOk result (λ v. collected spec.text_item (items_list (items_view items.now))
         ≡ Some (texts_in v)) }
@@ -103,9 +103,9 @@ fn texts_of<'r>(alloc: Global, items: &[Tree<'r>]) -> Result<Vec<&'r str>, Faile
     Ok(texts)
 }
 
-/// Returns the texts of a value: those of a list, or a single one.
+/// Returns the texts of a value, which is a list of texts or a single text; null and `[]` add no text.
 ///
-/// Errors: those of `add_item`.
+/// Fails with `MessageValue` if the value or an item of the list is another JSON value.
 fn texts_in_value<'r>(alloc: Global, value: &Tree<'r>) -> Result<Vec<&'r str>, Failed<Refusal>>
     ensures given { IfOk result
         (λ v. collected spec.text_item (listed (as_array (view value.now)) (view value.now))
@@ -119,9 +119,9 @@ fn texts_in_value<'r>(alloc: Global, value: &Tree<'r>) -> Result<Vec<&'r str>, F
     }
 }
 
-/// Returns the texts under a key; none if the key isn't given.
+/// Returns the texts under a key; empty if the key isn't given.
 ///
-/// Errors: those of `add_item`.
+/// Fails with `MessageValue` if the value is neither a text nor a list of texts.
 #[tactic(auto, unfolding(crate::specs::SearchBodies::texts_given))]
 fn texts_given<'r>(
     alloc: Global,
@@ -137,7 +137,7 @@ fn texts_given<'r>(
     }
 }
 
-/// Returns the arrangement of the search. Fails with MessageValue if a value isn't allowed for its key.
+/// Returns the arrangement of the search. Fails with `MessageValue` if a value isn't allowed for its key.
 #[tactic(auto, unfolding(crate::specs::SearchBodies::arrangement_in))]
 fn arrangement_in(kind: Kind, members: &[Member<'_>]) -> Result<Arrangement, Refusal>
     ensures { result ≡ spec.arrangement_in kind (members_view members.now) }
@@ -151,7 +151,7 @@ fn arrangement_in(kind: Kind, members: &[Member<'_>]) -> Result<Arrangement, Ref
 
 /// Returns the attribute lists of the search.
 ///
-/// Fails with MessageValue if one is neither a text nor a list of texts.
+/// Fails with `MessageValue` if the value of one is neither a text nor a list of texts.
 #[tactic(auto, unfolding(crate::specs::SearchBodies::lists_in))]
 fn lists_in<'r>(
     alloc: Global,
@@ -170,7 +170,7 @@ fn lists_in<'r>(
 
 /// Returns the arrangement of the search, after a check that its filter, if given, is a text.
 ///
-/// Fails with MessageValue if the filter isn't a text or another value isn't allowed for its key.
+/// Fails with `MessageValue` if the filter isn't a text or another value isn't allowed for its key.
 #[tactic(auto, unfolding(crate::specs::SearchBodies::words_in))]
 fn words_in(kind: Kind, members: &[Member<'_>]) -> Result<Arrangement, Refusal>
     ensures { result ≡ spec.words_in kind (members_view members.now) }
@@ -181,7 +181,7 @@ fn words_in(kind: Kind, members: &[Member<'_>]) -> Result<Arrangement, Refusal>
 
 /// Returns the settings of the search: everything but the filter.
 ///
-/// Fails with MessageValue if a value isn't allowed for its key.
+/// Fails with `MessageValue` if a value isn't allowed for its key.
 #[tactic(auto, unfolding(crate::specs::SearchBodies::settings_in))]
 fn settings_in<'r>(
     alloc: Global,
@@ -200,7 +200,7 @@ fn settings_in<'r>(
     }
 }
 
-/// Returns the text of the filter; `None` if none is given or if it isn't a text.
+/// Returns the text of the filter; `None` if the filter isn't given or isn't a text.
 fn filter_text<'r>(members: &[Member<'r>]) -> Option<&'r str>
     ensures { option_copied result
         ≡ option_and_then as_str (given_named (codes "filter") (members_view members.now)) }
@@ -208,9 +208,9 @@ fn filter_text<'r>(members: &[Member<'r>]) -> Option<&'r str>
     given_named(members, "filter")?.as_str()
 }
 
-/// Returns the query of a search whose keys occur once.
+/// Returns the query that the members of a search ask for. No key of a search may occur twice in them.
 ///
-/// Fails with Filter if the filter is invalid. Otherwise fails with MessageValue if another value isn't
+/// Fails with `Filter` if the filter is invalid. Otherwise fails with `MessageValue` if another value isn't
 /// allowed for its key, or if both attribute lists are given.
 fn search_in(alloc: Global, kind: Kind, members: &[Member<'_>]) -> Result<Query, Failed<Refusal>>
     ensures { UnlessMemory (Tells (IsQuery kind)
@@ -221,10 +221,11 @@ fn search_in(alloc: Global, kind: Kind, members: &[Member<'_>]) -> Result<Query,
     query_of(alloc, kind, filter, &settings)
 }
 
-/// Returns the query of a JSON value.
+/// Returns the query that a JSON value asks for.
 ///
-/// Fails with Syntax if the value isn't an object, or if a key of a search occurs twice. Otherwise the
-/// errors are those of `search_in`.
+/// Fails with `Syntax` if the value isn't an object, or if a key of a search occurs twice. Otherwise fails
+/// with `Filter` if the filter is invalid. Otherwise fails with `MessageValue` if another value isn't allowed
+/// for its key, or if both attribute lists are given.
 fn search_of(alloc: Global, kind: Kind, value: &Tree<'_>) -> Result<Query, Failed<Refusal>>
     ensures { UnlessMemory (Tells (IsQuery kind)
         (sought_of kind (spec.search_of_members kind (as_object (view value.now))))) result }
@@ -240,7 +241,7 @@ fn search_of(alloc: Global, kind: Kind, value: &Tree<'_>) -> Result<Query, Faile
 
 /// Parses a JSON text.
 ///
-/// Fails with Syntax if the text isn't JSON.
+/// Fails with `Syntax` if the text isn't JSON.
 fn tree_of<'a>(
     alloc: Global,
     text: &'a str,
@@ -256,7 +257,7 @@ fn tree_of<'a>(
     }
 }
 
-/// Parses the JSON text of a body. Fails with Syntax also if the body isn't UTF-8.
+/// Parses the JSON text of a body. Fails with `Syntax` if the body isn't UTF-8 or isn't JSON.
 fn parse<'a>(
     alloc: Global,
     body: &'a [u8],
@@ -272,8 +273,8 @@ fn parse<'a>(
 
 /// Returns the query that a search's body asks for.
 ///
-/// Fails with Syntax if the body isn't a JSON object in UTF-8, or if a key of a search occurs twice, in any
-/// spelling. Otherwise fails with Filter if the filter is invalid. Otherwise fails with MessageValue if
+/// Fails with `Syntax` if the body isn't a JSON object in UTF-8, or if a key of a search occurs twice, in any
+/// spelling. Otherwise fails with `Filter` if the filter is invalid. Otherwise fails with `MessageValue` if
 /// another value isn't allowed for its key, or if both attribute lists are given.
 #[tactic(auto, unfolding(crate::specs::SearchBodies::search_of_body))]
 pub(crate) fn search_by_body(

@@ -34,7 +34,7 @@ pub(crate) fn is_blank(text: &str) -> bool
 
 /// Parses a filter.
 ///
-/// Refusal Filter if the text isn't a valid filter.
+/// Fails with `Filter` if the text isn't a valid filter.
 fn spelled(alloc: Global, kind: Kind, text: &str) -> Result<Filter, Failed<Refusal>>
     ensures { UnlessMemory (Tells (λ tree f. tree_of f ≡ tree)
         (ok_or (filter_in kind text.now) FilterRefused)) result }
@@ -46,9 +46,9 @@ fn spelled(alloc: Global, kind: Kind, text: &str) -> Result<Filter, Failed<Refus
     }
 }
 
-/// Parses the filter of a search; `None` if it isn't given or blank.
+/// Parses the filter of a search. Returns `None` if the filter isn't given or is blank.
 ///
-/// Refusal Filter if the text isn't a valid filter.
+/// Fails with `Filter` if the text isn't a valid filter.
 #[tactic(auto, unfolding(crate::specs::Searches::filter_of))]
 pub(crate) fn filter_of(
     alloc: Global,
@@ -69,7 +69,7 @@ pub(crate) fn filter_of(
 
 /// Returns the query with this filter and these settings.
 ///
-/// Fails with MessageValue if both attribute lists are given.
+/// Fails with `MessageValue` if both attribute lists are given.
 pub(crate) fn query_of(
     alloc: Global,
     kind: Kind,

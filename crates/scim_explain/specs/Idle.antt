@@ -16,14 +16,15 @@ use Rattle.scim_policy.specs.Decide.{paths_on}
 use Rattle.scim_explain.specs.declared.never_deciding.IdleRule.{IdleRule}
 use Rattle.scim_explain.specs.Texts.{rule_line}
 
--- whether a client name covers every client that another covers: `*` covers all, and a name covers itself
+-- whether a client name covers every client that another name covers: `*` covers all, and a name
+-- covers itself
 abbrev pub covers_client : ClientName → ClientName → Bool
 covers_client Everyone other = true
 covers_client (Named name) Everyone = false
 covers_client (Named name) (Named other) = pointwise nat_eq name other
 
--- whether a path covers every leaf that another covers: `*` covers all, an attribute covers itself and its
--- sub-attributes, and a sub-attribute covers itself
+-- whether a path covers every leaf that another path covers: `*` covers all, an attribute covers itself
+-- and its sub-attributes, and a sub-attribute covers itself
 abbrev pub covers_path : PolicyPath → PolicyPath → Bool
 covers_path Everything other = true
 covers_path (Attribute a) Everything = false
@@ -33,23 +34,24 @@ covers_path (SubAttribute a sub) Everything = false
 covers_path (SubAttribute a sub) (Attribute b) = false
 covers_path (SubAttribute a sub) (SubAttribute b other) = is_same_leaf (leaf_at a sub) (leaf_at b other)
 
--- whether each element is covered by one of the others
+-- whether each element of the second list is covered by an element of the first list
 abbrev pub are_covered : {X : Type 0} → (X → X → Bool) → List X → List X → Bool
 are_covered covers others xs = list_all (λ x. list_any (λ y. covers y x) others) xs
 
--- whether a rule covers all leaves that another covers on a kind
+-- whether a rule covers, on a kind, all leaves that another rule covers
 abbrev pub covers_on_kind : Rule → Rule → Kind → Bool
 covers_on_kind e r k = are_covered covers_path (paths_on k e.paths) (paths_on k r.paths)
 
--- whether a rule has no target and covers the clients, operations and kinds of another, and the paths on
--- each kind
+-- whether a rule has no target and covers the clients, operations and kinds of another rule, and its paths
+-- on each of its kinds
 abbrev pub covers_rule : Rule → Rule → Bool
 covers_rule e r =
     (length e.targets == 0)
     && (are_covered covers_client e.clients r.clients
     && (are_covered (sameb the_op) e.ops r.ops && (are_covered (sameb the_kind) e.kinds r.kinds && list_all (covers_on_kind e r) r.kinds)))
 
--- the entry for a numbered rule after earlier rules, if one of them covers it; it names the first that does
+-- the entry for the rule with this number, which follows the earlier rules: it has the number of the first of
+-- them that covers the rule; None if none of them covers it
 abbrev pub idle_behind : List Rule → ℕ → Rule → Option IdleRule
 idle_behind earlier number r = option_map (λ i. record { rule = number; covered_by = i + 1 }) (position (λ e. covers_rule e r) earlier)
 

@@ -15,7 +15,7 @@ use Rattle.scim_explain.specs.Texts.{effect_word}
 abbrev pub decision_line : Leaf → Decision → List ℕ
 decision_line l d = leaf_path l ++ codes " rule " ++ decimal d.rule ++ codes " " ++ effect_word d.allow ++ codes "\n"
 
--- the lines of leaves
+-- a line for each leaf, with the decision on it
 abbrev pub decision_lines : (Leaf → Decision) → List Leaf → List ℕ
 decision_lines decided ls = flat_map (λ l. decision_line l (decided l)) ls
 

@@ -5,7 +5,7 @@ use Rattle.scim_policy.specs.declared.misfits.Misfit.{Misfit}
 use Rattle.scim_policy.specs.declared.misfits.Misfit.TheVariants as misfit
 use Rattle.scim_explain.specs.Explain.{Explanation}
 
--- the word for the part of a rule that doesn't fit, as in policy files if they have a word for it
+-- the word for the part of a rule that doesn't fit
 abbrev pub misfit_word : Misfit → List ℕ
 misfit_word misfit.Client = codes "client"
 misfit_word misfit.Op = codes "op"
@@ -17,11 +17,11 @@ misfit_word misfit.Target = codes "target"
 abbrev pub effect_word : Bool → List ℕ
 effect_word allow = if allow then codes "allow" else codes "deny"
 
--- the line with a word or sentence about a rule
+-- the line for a rule: its number and a word or sentence about it
 abbrev pub rule_line : ℕ → List ℕ → List ℕ
 rule_line number word = codes "rule " ++ decimal number ++ codes ": " ++ word ++ codes "\n"
 
--- the lines of misfits, of the rules from a number on
+-- a line for each misfit, with the rules numbered from `first`
 abbrev pub misfit_lines : ℕ → List Misfit → List ℕ
 misfit_lines first misfits = flat_map (λ (numbered : ℕ × Misfit). rule_line numbered.0 (misfit_word numbered.1)) (enumerate_from first misfits)
 

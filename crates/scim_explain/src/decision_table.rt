@@ -30,7 +30,7 @@ pub fn table(
     decision_lines(alloc, &decisions, leaves(resource.kind()))
 }
 
-/// The lines of `leaves`.
+/// Prints a line with the decision on each of `leaves`.
 fn decision_lines(alloc: Global, decisions: &Decisions, leaves: &[Leaf]) -> Result<String, NoMemory>
     ensures { IfOk result (λ text. string_bytes text
         ≡ spec.decision_lines (decision decisions.now) leaves.now) }
@@ -43,7 +43,7 @@ fn decision_lines(alloc: Global, decisions: &Decisions, leaves: &[Leaf]) -> Resu
     Ok(text)
 }
 
-/// The line of a leaf, with its line feed.
+/// Prints the line for a leaf, with a line feed at its end.
 fn decision_line(alloc: Global, leaf: Leaf, decision: Decision) -> Result<String, NoMemory>
     ensures { IfOk result (λ line. string_bytes line ≡ spec.decision_line leaf decision) }
 {

@@ -11,7 +11,8 @@ use std::marker::Model;
 
 /// A decision with its reason: for each rule before the one that decided, the first part that doesn't fit.
 ///
-/// If no rule decided, there is a misfit for every rule. Contracts see the list and the decision.
+/// If no rule decided, there is a misfit for every rule. In contracts it is the list of misfits and the
+/// decision.
 #[derive(Drop)]
 pub struct Explanation {
     misfits: Vec<Misfit>,

@@ -13,7 +13,7 @@ pub fn each_earlier_rule_has_its_misfit()
 
 /// A rule that `idle_rules` returns never decides, for any client, operation, resource and leaf.
 ///
-/// The rule that covers it fits wherever it fits.
+/// The earlier rule that covers it fits wherever the idle rule fits.
 pub fn idle_rules_never_decide()
     ensures covered { law.CoveringRulesFit }
     ensures never { law.IdleRulesNeverDecide }

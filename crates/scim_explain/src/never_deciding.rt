@@ -17,17 +17,18 @@ use std::alloc::Global;
 pub struct IdleRule {
     /// The rule's number, from 1.
     pub rule: u32,
-    /// The number of the first rule that covers all that it covers.
+    /// The number of the first rule without a target that covers all that it covers.
     pub covered_by: u32,
 }
 
 /// Finds the rules that can never decide, in order of their numbers.
 ///
 /// They are the rules for which one earlier rule without a target covers the clients, the operations, the
-/// types and, on each type, the paths. Other idle rules aren't found, such as one that two rules cover
-/// together, or one whose target matches no resource.
+/// types and, on each type, the paths. Other idle rules aren't found, such as one that is only covered
+/// by two rules together, or one whose target matches no resource.
 ///
-/// Each rule is compared with those before it, which is quadratic; a policy has at most 1,000 rules.
+/// Each rule is compared with all rules before it, which takes quadratic time; a policy has at most
+/// 1,000 rules.
 pub fn idle_rules(alloc: Global, policy: &Policy) -> Result<Vec<IdleRule>, NoMemory>
     ensures { IfOk result (λ idle. idle.items ≡ spec.idle_rules policy.now) }
 {
@@ -41,7 +42,7 @@ pub fn idle_rules(alloc: Global, policy: &Policy) -> Result<Vec<IdleRule>, NoMem
     Ok(idle)
 }
 
-/// The entry for `rule` after the `earlier` rules, if one of them covers it.
+/// The entry for `rule`, which follows the `earlier` rules. `None` if none of them covers it.
 fn idle_behind(earlier: &[Rule], rule: &Rule) -> Option<IdleRule>
     requires { length earlier.now < 1000 }
     ensures { result ≡ spec.idle_behind earlier.now (length earlier.now + 1) rule.now }
@@ -53,7 +54,7 @@ fn idle_behind(earlier: &[Rule], rule: &Rule) -> Option<IdleRule>
     })
 }
 
-/// The index of the first rule that covers all that `rule` covers.
+/// The index of the first rule without a target that covers all that `rule` covers. `None` if there is none.
 fn first_covering(rules: &[Rule], rule: &Rule) -> Option<usize>
     ensures { result ≡ position (λ e. spec.covers_rule e rule.now) rules.now }
 {
@@ -156,7 +157,7 @@ pub fn print_idle_rules(alloc: Global, idle: &[IdleRule]) -> Result<String, NoMe
     Ok(text)
 }
 
-/// The line of an idle rule, with its line feed.
+/// Prints the line for an idle rule, with a line feed at its end.
 fn idle_line(alloc: Global, idle: IdleRule) -> Result<String, NoMemory>
     ensures { IfOk result (λ line. string_bytes line ≡ spec.idle_line idle) }
 {

@@ -34,7 +34,7 @@ pub fn rule_line(alloc: Global, number: usize, word: &str) -> Result<String, NoM
     Ok(format!(in alloc; "rule {number}: {word}\n")?)
 }
 
-/// The lines of misfits, of the rules from 1 on.
+/// Prints a line for each misfit, with the rules numbered from 1.
 fn misfit_lines(alloc: Global, misfits: &[Misfit]) -> Result<String, NoMemory>
     ensures { IfOk result (λ text. string_bytes text ≡ spec.misfit_lines 1 misfits.now) }
 {
@@ -49,8 +49,8 @@ fn misfit_lines(alloc: Global, misfits: &[Misfit]) -> Result<String, NoMemory>
 /// Prints an explanation, each entry on a line.
 ///
 /// For each rule before the one that decided, or for each rule if none decided: `rule N: ` and the part
-/// that doesn't fit, `client`, `op`, `type`, `path` or `target`. Then the rule that decided, or 0, with
-/// `allow` or `deny`.
+/// that doesn't fit, `client`, `op`, `type`, `path` or `target`. On the last line: the number of
+/// the rule that decided, or 0, with `allow` or `deny`.
 pub fn print(alloc: Global, explanation: &Explanation) -> Result<String, NoMemory>
     ensures { IfOk result (λ text. string_bytes text ≡ spec.explanation_text explanation.now) }
 {

@@ -20,7 +20,7 @@ abbrev pub contains_text : List ℕ → List ℕ → Bool
 contains_text [] part = starts_with nat_eq [] part
 contains_text (b ∷ bs) part = starts_with nat_eq (b ∷ bs) part || contains_text bs part
 
--- whether two values in this order satisfy the operator; false for `co`, `sw` and `ew`
+-- whether two values that compare as the ordering satisfy the operator; false for `co`, `sw` and `ew`
 abbrev pub is_ordered : Operator → Ordering → Bool
 is_ordered Eq order = is_eq order
 is_ordered Ne order = not (is_eq order)
@@ -37,7 +37,7 @@ text_stands Sw a b = starts_with nat_eq a b
 text_stands Ew a b = ends_with nat_eq a b
 text_stands op a b = is_ordered op (slice_cmp nat_cmp a b)
 
--- the text as it is compared: as it is if case counts, else folded
+-- the text in the form in which it is compared: unchanged if case matters, else case-folded
 abbrev pub cased : Bool → List ℕ → List ℕ
 cased true text = text
 cased false text = folded text
@@ -47,23 +47,24 @@ abbrev pub same_truth : Bool → Bool → Bool
 same_truth true b = b
 same_truth false b = not b
 
--- whether a boolean meets `eq` or `ne` with another, if there is another
+-- whether two booleans satisfy the operator; false if the second is None, or for operators other than `eq`
+-- and `ne`
 abbrev pub truth_stands : Operator → Bool → Option Bool → Bool
 truth_stands Eq a (Some b) = same_truth a b
 truth_stands Ne a (Some b) = not (same_truth a b)
 truth_stands _ _ _ = false
 
--- the order of a moment and a reading: by second, and a reading with a fraction is later
+-- the order of a moment and the date and time in a literal: by second, and a fraction makes the literal later
 abbrev pub moment_cmp : ℕ → Reading → Ordering
 moment_cmp m r = ordering_then (int_cmp (pos m) r.second) (bool_cmp false r.later)
 
--- whether a moment satisfies the operator with a reading; false if there is no reading
+-- whether a moment satisfies the operator with the date and time in a literal; false if the literal has none
 abbrev pub moment_stands : Operator → ℕ → Option Reading → Bool
 moment_stands op m (Some r) = is_ordered op (moment_cmp m r)
 moment_stands op m None = false
 
--- whether an atom satisfies the operator with a literal, with regard to case if `exact`; false if the literal doesn't
--- suit the atom's type
+-- whether an atom satisfies the operator with a literal; texts are compared as they are if `exact`, else
+-- case-folded; false if the literal doesn't suit the atom's type
 abbrev pub stands : Bool → Operator → Atom → Literal → Bool
 stands exact op (atom.Text a) (literal.Text b) = text_stands op (cased exact a) (cased exact b)
 stands exact op (atom.Truth a) (literal.Truth b) = truth_stands op a (Some b)

@@ -23,11 +23,12 @@ use Rattle.scim_filter_grammar.specs.Tree.{Tree, Or, And, Not, Present, Compare,
 abbrev pub some_cell : (Field → Bool) → Attribute → List Row → Bool
 some_cell passes a rs = list_any (λ (r : Row). list_any passes r.fields) (attribute_rows a rs)
 
--- whether the atom of a cell of the leaf passes the test
+-- whether a cell of the leaf has an atom that passes the test
 abbrev pub some_atom : (Atom → Bool) → Leaf → List Row → Bool
 some_atom passes leaf rs = some_cell (λ (f : Field). is_same_leaf f.leaf leaf && passes f.atom) leaf.attribute rs
 
--- whether `pr` holds: there is a cell, for a complex attribute of any sub-attribute
+-- whether `pr` is true: the named attribute or sub-attribute has a cell; for a complex attribute, one of its
+-- sub-attributes has one
 abbrev pub is_present : Meant → List Row → Bool
 is_present meant.Nothing rs = false
 is_present (meant.Attribute a) rs = some_cell (λ f. true) a rs
@@ -43,13 +44,13 @@ abbrev pub leaf_compares : Option Leaf → Operator → Literal → List Row →
 leaf_compares None op x rs = is_unlike op false
 leaf_compares (Some leaf) op x rs = is_unlike op (some_atom (λ a. true) leaf rs) || some_atom (λ a. stands (is_case_exact leaf) op a x) leaf rs
 
--- whether a comparison holds; null means that there is no cell
+-- whether a comparison is true; a comparison with null tests whether there is a cell
 abbrev pub compares : Meant → Operator → Literal → List Row → Bool
 compares m Eq literal.Null rs = not (is_present m rs)
 compares m Ne literal.Null rs = is_present m rs
 compares m op x rs = leaf_compares (compared_leaf m) op x rs
 
--- whether the test holds at some position of the attribute; a single-valued attribute has one position
+-- whether the test is true at some position of the attribute; a single-valued attribute has one position
 abbrev pub some_position : (List Row → Bool) → Meant → List Row → Bool
 some_position holds (meant.Attribute a) rs = if is_multi_valued a then list_any (λ (r : Row). holds (r ∷ [])) (attribute_rows a rs) else holds (attribute_rows a rs)
 some_position holds _ rs = false
@@ -63,12 +64,13 @@ truth (Present path) rs = is_present path.meant rs
 truth (Compare path op x) rs = compares path.meant op x rs
 truth (Values path inner) rs = some_position (truth inner) path.meant rs
 
--- the rows at a position of an attribute, from 0
+-- the rows of an attribute at a position, counted from 0
 abbrev pub rows_at : Meant → ℕ → List Row → List Row
 rows_at (meant.Attribute a) k rs = if is_multi_valued a then take 1 (drop k (attribute_rows a rs)) else if k == 0 then attribute_rows a rs else []
 rows_at _ k rs = []
 
--- whether the filter in the brackets of a value path holds at a position; false for any other filter
+-- whether the filter in the brackets of a value path matches the value at a position; false for any other
+-- filter
 abbrev pub truth_at : Tree → ℕ → List Row → Bool
 truth_at (Values path inner) k rs = truth inner (rows_at path.meant k rs)
 truth_at _ k rs = false

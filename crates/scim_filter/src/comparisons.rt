@@ -15,7 +15,7 @@ fn contains(text: &str, part: &str) -> bool
     text.contains(part)
 }
 
-/// Whether two values in this order satisfy the operator. False for `co`, `sw` and `ew`.
+/// Whether two values that compare as `order` satisfy the operator. False for `co`, `sw` and `ew`.
 fn is_ordered(op: Operator, order: Ordering) -> bool
     ensures { result ≡ spec.is_ordered op order }
 {
@@ -42,7 +42,7 @@ fn texts_stand(op: Operator, a: &str, b: &str) -> bool
     }
 }
 
-/// Whether the comparison of a cell's text with a literal holds. The texts are compared as they are if
+/// Whether a cell's text satisfies the operator with a literal. The texts are compared as they are if
 /// `exact`, else case-folded.
 fn text_stands(
     alloc: Global,
@@ -61,7 +61,8 @@ fn text_stands(
     Ok(texts_stand(op, folded.as_str(), literal.folded()))
 }
 
-/// Whether two booleans satisfy the operator. Only `eq` and `ne` compare booleans.
+/// Whether two booleans satisfy the operator. False if the second is `None`, or for operators other than `eq`
+/// and `ne`.
 fn truths_stand(op: Operator, a: bool, b: Option<bool>) -> bool
     ensures { result ≡ spec.truth_stands op a b }
 {
@@ -72,7 +73,8 @@ fn truths_stand(op: Operator, a: bool, b: Option<bool>) -> bool
     }
 }
 
-/// Compares a moment with one read from a literal, whose fraction of a second makes it later.
+/// Compares a moment, in whole seconds, with the date and time in a literal. A fraction of a second makes the
+/// literal later.
 fn compare_moments(moment: Moment, reading: Reading) -> Ordering
     ensures { result ≡ spec.moment_cmp moment reading }
 {
@@ -81,8 +83,8 @@ fn compare_moments(moment: Moment, reading: Reading) -> Ordering
         .then(false.cmp(&reading.later))
 }
 
-/// Whether a moment satisfies a comparison with the moment of a literal. False if the literal isn't a
-/// moment.
+/// Whether a moment satisfies the operator with the date and time in a literal. False if the literal has
+/// none.
 fn moments_stand(op: Operator, moment: Moment, reading: Option<Reading>) -> bool
     ensures { result ≡ spec.moment_stands op moment reading }
 {

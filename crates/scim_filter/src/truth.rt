@@ -25,14 +25,14 @@ use std::slice;
 enum Cells<'a> {
     /// All cells of a part.
     All(&'a Part),
-    /// The cells of an attribute among the rows: all its rows, or one value's.
+    /// The cells of this attribute in these rows.
     Of(Attribute, &'a [Row]),
     /// No cells.
     None,
 }
 
 impl<'a> Cells<'a> {
-    /// Rows that include all rows of `attribute`.
+    /// Rows that include all rows of `attribute` in these cells.
     #[tactic(auto, using(crate::proofs::RowLemmas::none_of_another))]
     fn around(self, attribute: Attribute) -> &'a [Row]
         ensures { attribute_rows attribute result.now
@@ -83,7 +83,7 @@ fn has_leaf<T: RowTest>(look: &Look<'_, T>, leaf: Leaf, rows: &[Row]) -> bool
     false
 }
 
-/// Evaluates `pr`.
+/// Evaluates `pr`: whether the filter sees a cell of the named attribute or sub-attribute.
 fn is_present<T: RowTest>(look: &Look<'_, T>, meant: Meant, cells: Cells<'_>) -> bool
     ensures { result ≡ spec.is_present meant (looked T.keeps look.now (rows_in cells.entry)) }
 {
@@ -98,7 +98,7 @@ fn is_present<T: RowTest>(look: &Look<'_, T>, meant: Meant, cells: Cells<'_>) ->
     }
 }
 
-/// Whether a cell of the leaf that the filter sees in the row satisfies the operator.
+/// Whether the filter sees a cell of the leaf in the row that satisfies the comparison.
 fn fields_stand<T: RowTest>(
     alloc: Global,
     look: &Look<'_, T>,
@@ -123,7 +123,7 @@ fn fields_stand<T: RowTest>(
     Ok(false)
 }
 
-/// Whether a cell of the leaf that the filter sees in the rows satisfies the operator.
+/// Whether the filter sees a cell of the leaf in the rows that satisfies the comparison.
 fn leaf_stands<T: RowTest>(
     alloc: Global,
     look: &Look<'_, T>,
@@ -155,7 +155,8 @@ fn is_unlike<T: RowTest>(look: &Look<'_, T>, op: Operator, leaf: Leaf, rows: &[R
     op == Operator::Ne && !has_leaf(look, leaf, rows)
 }
 
-/// Whether a cell of the leaf satisfies the operator, or there is none and the operator is `ne`.
+/// Whether the filter sees a cell of the leaf that satisfies the comparison, or the operator is `ne` and
+/// there is no leaf or no visible cell.
 fn leaf_compares<T: RowTest>(
     alloc: Global,
     look: &Look<'_, T>,
@@ -177,7 +178,7 @@ fn leaf_compares<T: RowTest>(
     leaf_stands(alloc, look, leaf, op, literal, is_case_exact(leaf), rows)
 }
 
-/// Evaluates a comparison. `eq null` holds if the filter sees no cell, and `ne null` if it sees one.
+/// Evaluates a comparison. `eq null` is true if the filter sees no cell, and `ne null` if it sees a cell.
 fn compares<T: RowTest>(
     alloc: Global,
     look: &Look<'_, T>,
@@ -196,9 +197,9 @@ fn compares<T: RowTest>(
     }
 }
 
-/// Whether the filter matches one of the attribute's values on its own.
+/// Whether the filter matches at least one value of the attribute, with each value evaluated on its own.
 ///
-/// A value without a visible field is skipped, since a `not` would match it.
+/// A value without a visible field is skipped, since a filter with `not` could match it.
 #[cycle(truth)]
 fn some_value_holds<T: RowTest>(
     alloc: Global,
@@ -227,7 +228,7 @@ fn some_value_holds<T: RowTest>(
     Ok(false)
 }
 
-/// Whether the filter in the brackets of a value path matches a value of the attribute before them.
+/// Whether the filter in the brackets of a value path matches a value of the attribute before the brackets.
 #[cycle(truth)]
 fn some_position_holds<T: RowTest>(
     alloc: Global,
@@ -278,7 +279,7 @@ fn node_holds<T: RowTest>(
     }
 }
 
-/// The row at `position`, or no rows.
+/// The row at `position`, counted from 0, or an empty slice if there is none.
 #[tactic(auto, using(crate::proofs::RowLemmas::one_taken))]
 fn row_at(rows: &[Row], position: usize) -> &[Row]
     ensures { result.now ≡ take 1 (drop position rows.now) }
@@ -289,7 +290,8 @@ fn row_at(rows: &[Row], position: usize) -> &[Row]
     }
 }
 
-/// The rows at a position of an attribute, from 0. A single-valued attribute has only position 0.
+/// Rows that hold the value of `attribute` at a position, counted from 0. A single-valued attribute has only
+/// position 0.
 #[tactic(auto, using(crate::proofs::RowLemmas::own_again, crate::proofs::RowLemmas::one_again))]
 fn rows_at(part: &Part, attribute: Attribute, position: usize) -> &[Row]
     ensures { attribute_rows attribute result.now
@@ -307,8 +309,7 @@ fn rows_at(part: &Part, attribute: Attribute, position: usize) -> &[Row]
 
 /// Whether a filter matches the cells of a part (RFC 7644 section 3.4.2.2).
 ///
-/// Each term looks its attribute up, and goes through the rows of that attribute only; in a value path,
-/// through those of one value.
+/// Each term reads only the rows of its attribute or, in a value path, the rows of one value.
 #[tactic(auto, unfolding(crate::specs::code::Looks::looked))]
 pub fn holds(alloc: Global, filter: &Filter, part: &Part) -> Result<bool, NoMemory>
     ensures { IfOk result (λ b. b ≡ spec.truth (tree_of filter.now) (rows part.now)) }
@@ -321,10 +322,9 @@ pub fn holds(alloc: Global, filter: &Filter, part: &Part) -> Result<bool, NoMemo
     )
 }
 
-/// Whether a filter matches a part when only the fields that the test admits are kept, as [`Part::restrict`]
-/// does.
+/// Whether a filter matches a part reduced to the fields that the test admits, as by [`Part::restrict`].
 ///
-/// Values without an admitted field are left out, and the positions after them move down. Nothing is copied.
+/// Values without an admitted field are skipped, and positions are counted without them. Nothing is copied.
 #[tactic(auto, unfolding(crate::specs::code::Looks::looked))]
 pub fn holds_where<T: RowTest>(
     alloc: Global,
@@ -358,8 +358,8 @@ pub fn holds_of(alloc: Global, filter: &Filter, value: &Row) -> Result<bool, NoM
     node_holds(alloc, &Look::<NoTest>::Everything, inner, cells)
 }
 
-/// Whether the filter in the brackets of a value path holds at a position of its attribute, from 0 (RFC
-/// 7644 sections 3.4.2.2 and 3.5.2).
+/// Whether the filter in the brackets of a value path matches the value at a position of its attribute,
+/// counted from 0 (RFC 7644 sections 3.4.2.2 and 3.5.2).
 ///
 /// The filter sees no cells at a position past the last value. False if `filter` isn't a value path.
 #[tactic(auto, unfolding(crate::specs::code::Looks::looked))]

@@ -12,7 +12,7 @@ use scim_schema::Leaf;
 pub(crate) enum Look<'a, T> {
     /// All fields.
     Everything,
-    /// The fields that the test admits. A row without such a field counts as absent.
+    /// The fields that the test admits. A row without an admitted field counts as absent.
     Admitted(&'a T),
 }
 
@@ -41,7 +41,8 @@ impl<T: RowTest> Look<'_, T> {
         }
     }
 
-    /// The fields of a row to go through: no fields if the test rules out the whole row, else all.
+    /// The fields of a row that must be checked one by one: no fields if the test rules out the whole row,
+    /// else all fields.
     ///
     /// An empty slice for a hidden row saves reading the row's fields from memory.
     pub(crate) fn fields<'r>(&self, row: &'r Row) -> &'r [Field]
@@ -68,7 +69,7 @@ impl<T: RowTest> Look<'_, T> {
         false
     }
 
-    /// Whether the row counts as present.
+    /// Whether the row counts as present. With a test, a row counts only if it has an admitted field.
     #[tactic(auto, unfolding(crate::specs::code::Looks::stays))]
     pub(crate) fn stays(&self, row: &Row) -> bool
         ensures { result ≡ stays T.keeps self.now row.now }

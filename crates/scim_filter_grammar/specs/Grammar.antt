@@ -43,7 +43,7 @@ pub record IsJoin (keyword text : List ℕ) : Type 0 where
   pub after_gap : IsGap after
   pub whole : text ≡ before ++ (word ++ after)
 
--- the text is the inner text in brackets, with spaces around it
+-- the text is the inner text in brackets, with optional spaces just inside the brackets
 pub record Encloses (open_byte close_byte : ℕ) (inner text : List ℕ) : Type 0 where
   pub before : List ℕ
   pub after : List ℕ
@@ -51,14 +51,14 @@ pub record Encloses (open_byte close_byte : ℕ) (inner text : List ℕ) : Type 
   pub after_blank : IsBlank after
   pub whole : text ≡ open_byte ∷ (before ++ (inner ++ (after ++ close_byte ∷ [])))
 
--- the levels of binding of `or`, `and` and terms, loosest first
+-- the precedence levels of `or`, `and` and terms, lowest first
 pub data Level : Type 0 where
   Disjunction : Level
   Conjunction : Level
   Term : Level
 
 -- `Spells scope level n text tree`: the text spells the tree, with brackets nested at most n deep; `not`
--- binds before `and`, and `and` before `or`, and rows of `and` or of `or` nest to the right
+-- binds before `and`, and `and` before `or`, and chains of `and` or of `or` nest to the right
 pub data Spells : Scope → Level → ℕ → List ℕ → Tree → Type 0 where
   one_conjunction : {i : Scope} {n : ℕ} {a : List ℕ} {t : Tree} → Spells i Conjunction n a t → Spells i Disjunction n a t
   either : {i : Scope} {n : ℕ} {a w b : List ℕ} {t u : Tree} → Spells i Conjunction n a t → IsJoin (codes "or") w → Spells i Disjunction n b u

@@ -26,11 +26,11 @@ pub record IsString (text value : List ℕ) : Type 0 where
 abbrev pub are_digits : List ℕ → Bool
 are_digits text = list_all (λ c. nat_lt (digit_value c) 10) text
 
--- whether an absolute value fits a signed 64-bit integer, with a minus or without
+-- whether the number with this sign and absolute value fits a signed 64-bit integer
 abbrev pub is_within : Bool → ℕ → Bool
 is_within negative n = nat_le n (if negative then 9223372036854775808 else 9223372036854775807)
 
--- whether a word is an integer: one or more digits, after a minus or none, that fit a signed 64-bit integer
+-- whether a word is an integer: an optional minus and one or more digits, fitting a signed 64-bit integer
 abbrev pub is_integer : List ℕ → Bool
 is_integer w =
     not (slice_index w 0 == 43) && nat_lt 0 (length (without_leading_sign w)) && are_digits (without_leading_sign w)

@@ -9,7 +9,7 @@ use Rattle.scim_filter_grammar.specs.Types.{is_some}
 use Rattle.scim_filter_grammar.specs.Names.{names_text, path_text}
 use Rattle.scim_filter_grammar.specs.Tree.{Tree, Or, And, Not, Present, Compare, Values}
 
--- the attribute named, or the one whose sub-attribute is named
+-- the named attribute, or the attribute of the named sub-attribute; None if the kind doesn't have the name
 abbrev pub mentioned_attribute : Meant → Option Attribute
 mentioned_attribute meant.Nothing = None
 mentioned_attribute (meant.Attribute a) = Some a

@@ -29,11 +29,11 @@ is_plain_name (b ∷ bs) = is_letter b && list_all is_name_byte bs
 abbrev pub is_name : List ℕ → Bool
 is_name text = is_plain_name text || is_word (codes "$ref") text
 
--- whether the byte may be part of a URN: one of a name, "." or ":"
+-- whether the byte may be part of a URN: a byte that may be part of a name, "." or ":"
 abbrev pub is_urn_byte : ℕ → Bool
 is_urn_byte b = is_name_byte b || b == 46 || b == 58
 
--- whether the text is a URN: "urn" before the first colon, and only bytes of URNs
+-- whether the text is a URN: it has "urn" before the first colon, and all its bytes may be part of a URN
 abbrev pub is_urn : List ℕ → Bool
 is_urn text = is_word (codes "urn") (front is_no_colon text) && list_all is_urn_byte text
 
@@ -47,12 +47,12 @@ abbrev pub path_text : Option (List ℕ) → List ℕ → List ℕ
 path_text None names = names
 path_text (Some urn) names = urn ++ 58 ∷ names
 
--- the text passes the test, if there is one
+-- the text, if there is one, passes the test
 abbrev pub IsPassed : (List ℕ → Bool) → Option (List ℕ) → Type 0
 IsPassed test None = Unit {0}
 IsPassed test (Some text) = test text ≡ true
 
--- whether names may be combined so in a scope: in brackets a name stands alone
+-- whether a path may have this URN and sub-attribute in a scope; in brackets it may have neither
 abbrev pub fits_scope : Scope → Option (List ℕ) → Option (List ℕ) → Bool
 fits_scope (Attributes kind) urn sub = true
 fits_scope (SubAttributes a) None None = true
@@ -65,12 +65,12 @@ abbrev pub attribute_by : Kind → Option (List ℕ) → List ℕ → Option Att
 attribute_by kind None name = attribute_named kind name
 attribute_by kind (Some urn) name = option_and_then (λ s. attribute_named_in kind s name) (schema_named urn)
 
--- the sub-attribute of an attribute, if the look-up found one
+-- the sub-attribute of an attribute that a look-up found; Nothing if it found none
 abbrev pub sub_meant : Attribute → Option SubAttribute → Meant
 sub_meant a None = meant.Nothing
 sub_meant a (Some b) = meant.SubAttribute a b
 
--- the attribute, or its sub-attribute with this name
+-- the attribute, or its sub-attribute with this name if one is given; Nothing if it doesn't exist
 abbrev pub meant_in : Option Attribute → Option (List ℕ) → Meant
 meant_in None sub = meant.Nothing
 meant_in (Some a) None = meant.Attribute a
@@ -81,7 +81,7 @@ abbrev pub meant_by : Scope → Option (List ℕ) → List ℕ → Option (List 
 meant_by (Attributes kind) urn name sub = meant_in (attribute_by kind urn name) sub
 meant_by (SubAttributes a) urn name sub = meant_in a (Some name)
 
--- the attribute whose sub-attributes may be named in brackets after a path
+-- the attribute whose sub-attributes may be named in brackets after a path; None if there is none
 abbrev pub attribute_meant : Meant → Option Attribute
 attribute_meant meant.Nothing = None
 attribute_meant (meant.Attribute a) = Some a

@@ -8,12 +8,12 @@ use Rattle.scim_filter_grammar.specs.Tree.{Tree}
 use Rattle.scim_filter_grammar.specs.Reading.{Fault, Syntax, ◌>>=◌, name_of, path_of, listed_at, filter_at}
 use Rattle.scim_filter_grammar.specs.WrittenPaths.{Written, Plain, Filtered}
 
--- the path, if no bytes are left
+-- the path if there are no more bytes, else Syntax
 abbrev pub nothing_left : Written → List ℕ → Result Written Fault
 nothing_left w [] = Ok w
 nothing_left w (b ∷ bs) = Err Syntax
 
--- the path, if only spaces are left
+-- the path if all remaining bytes are spaces, else Syntax
 unfoldable pub ended_at : Written → List ℕ → Result Written Fault
 ended_at w bytes = nothing_left w (behind is_space bytes)
 
@@ -21,11 +21,11 @@ ended_at w bytes = nothing_left w (behind is_space bytes)
 unfoldable pub sub_at : Tree → List ℕ → Result Written Fault
 sub_at tree bytes = if slice_index bytes 0 == 46 then (name_of (front is_word_byte (drop 1 bytes)) >>= λ name. ended_at (Filtered tree (Some name)) (behind is_word_byte (drop 1 bytes))) else ended_at (Filtered tree None) bytes
 
--- the value path that continues after an attribute path and an opening bracket
+-- the value path, read from the bytes after its attribute path and opening bracket
 unfoldable pub filtered_at : ℕ → Kind → AttributePath → List ℕ → Result Written Fault
 filtered_at depth kind path bytes = listed_at (filter_at depth) (Attributes kind) path bytes >>= λ x. sub_at x.0 x.1
 
--- the path that continues after an attribute path: a filter in brackets, or nothing
+-- the path, read from the bytes after its attribute path: a filter in brackets, or nothing
 unfoldable pub behind_names_at : ℕ → Kind → AttributePath → List ℕ → Result Written Fault
 behind_names_at depth kind path bytes = if slice_index bytes 0 == 91 then filtered_at depth kind path (drop 1 bytes) else ended_at (Plain path) bytes
 

@@ -26,19 +26,19 @@ pub data Fault : Type 0 where
   Syntax : Fault
   TooDeep : Fault
 
--- the second step on the result of the first, or the first step's fault
+-- applies the second step to the result of the first step, or returns the fault of the first step
 infixl 10 ◌>>=◌
 abbrev pub ◌>>=◌ : {A B : Type 0} → Result A Fault → (A → Result B Fault) → Result B Fault
 (Ok x) >>= f = f x
 (Err e) >>= f = Err e
 
--- an error that a function returned is the fault of reading, or is NoMemory
+-- the error that the code returned is NoMemory, or the fault of the specified reading
 abbrev pub Fails : {Y : Type 0} → Failed ReadError → Result Y Fault → Type 0
 Fails NoMemory read = Unit {0}
 Fails (Because (errors.Syntax left)) read = read ≡ Err Syntax
 Fails (Because errors.TooDeep) read = read ≡ Err TooDeep
 
--- a function returned the result of reading, seen through `view`, or NoMemory
+-- the code returned NoMemory, or the specified result of reading, once `view` is applied to its value
 abbrev pub Gives : {X Y : Type 0} → (X → Y) → Result X (Failed ReadError) → Result Y Fault → Type 0
 Gives view (Ok x) read = read ≡ Ok (view x)
 Gives view (Err e) read = Fails e read
@@ -150,12 +150,12 @@ relation_at path bytes =
 abbrev pub mapped : (Tree → Tree) → Read Tree → Read Tree
 mapped f read = read >>= λ x. Ok (f x.0, x.1)
 
--- the value path on a path, after its opening bracket
+-- the value path on an attribute path, read from the bytes after its opening bracket
 unfoldable pub listed_at : (Scope → Reader) → Scope → AttributePath → Reader
 listed_at filter (Attributes kind) path bytes = mapped (Values path) (enclosed_at 93 (filter (SubAttributes (attribute_meant path.meant))) bytes)
 listed_at filter (SubAttributes a) path bytes = Err Syntax
 
--- the tree that continues after a path: a filter in brackets, or a space and a test
+-- the tree, read from the bytes after an attribute path: a filter in brackets, or a space and a test
 unfoldable pub behind_path_at : (Scope → Reader) → Scope → AttributePath → Reader
 behind_path_at filter scope path bytes =
     if slice_index bytes 0 == 91 then listed_at filter scope path (drop 1 bytes) else do
@@ -176,12 +176,12 @@ unfoldable pub term_at : (Scope → Reader) → Scope → Reader
 term_at filter scope bytes =
     if slice_index bytes 0 == 40 then enclosed_at 41 (filter scope) (drop 1 bytes) else worded_at filter scope bytes
 
--- the tree read first, joined with the rest if the keyword follows it
+-- the tree read first, joined with the tree of the remaining items if the keyword follows it
 abbrev pub joined_at : Reader → (Tree → Tree → Tree) → Tree × List ℕ → Option (List ℕ) → Read Tree
 joined_at others join x None = Ok x
 joined_at others join x (Some rest) = mapped (join x.0) (others rest)
 
--- at most n items joined by a keyword
+-- a chain of at most n items joined by a keyword, at the start of bytes
 abbrev pub chain_at : ℕ → Reader → List ℕ → (Tree → Tree → Tree) → Reader
 chain_at zero item keyword join bytes = Err Syntax
 chain_at (suc n) item keyword join bytes = item bytes >>= λ x. joined_at (chain_at n item keyword join) join x (past_join keyword x.1)
@@ -199,7 +199,7 @@ unfoldable pub filter_at : ℕ → Scope → Reader
 filter_at zero scope bytes = Err TooDeep
 filter_at (suc n) scope bytes = disjunction_at (filter_at n) scope bytes
 
--- the tree, if no bytes are left
+-- the tree if there are no more bytes, else Syntax
 abbrev pub ended : Tree → List ℕ → Result Tree Fault
 ended t [] = Ok t
 ended t (b ∷ bs) = Err Syntax

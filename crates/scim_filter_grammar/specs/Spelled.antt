@@ -12,7 +12,7 @@ use Rattle.scim_filter_grammar.specs.Tree.{Tree}
 use Rattle.scim_filter_grammar.specs.Types.{fits}
 use Rattle.scim_filter_grammar.specs.WrittenPaths.{Written, IsWritten, Plain}
 
--- the tree, if it passes `fits`
+-- the tree, if its comparisons and value paths have the right types
 abbrev pub fitting : Option Tree → Option Tree
 fitting None = None
 fitting (Some tree) = if fits tree then Some tree else None
@@ -25,11 +25,12 @@ filter_in kind text = if nat_le (length text) LONGEST_FILTER then fitting (resul
 unfoldable pub path_in : Kind → List ℕ → Option AttributePath
 path_in kind text = if nat_le (length text) LONGEST_FILTER then option_and_then (λ word. result_ok (path_of (Attributes kind) word)) (lone_word text) else None
 
--- `filter_in` agrees with the grammar
+-- `filter_in` returns a tree exactly if the text spells it by the grammar, within the limits, with the right
+-- types
 abbrev pub FiltersAreSpelled : Type 0
 FiltersAreSpelled = (kind : Kind) (text : List ℕ) (tree : Tree) → (filter_in kind text ≡ Some tree) ↔ ((length text ≤ LONGEST_FILTER) × IsFilter kind 32 text tree × (fits tree ≡ true))
 
--- `path_in` agrees with the grammar
+-- `path_in` returns a path exactly if the text spells it by the grammar, within 4,096 bytes
 abbrev pub PathsAreSpelled : Type 0
 PathsAreSpelled = (kind : Kind) (text : List ℕ) (path : AttributePath) → (path_in kind text ≡ Some path) ↔ ((length text ≤ LONGEST_FILTER) × IsWritten kind 0 text (Plain path))
 

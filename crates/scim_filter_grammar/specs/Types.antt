@@ -27,8 +27,8 @@ use Rattle.scim_filter_grammar.specs.Tree.{Tree, Or, And, Not, Present, Compare,
 abbrev pub type_of : Leaf → AttributeType
 type_of leaf = (characteristics_of User leaf).attribute_type
 
--- the leaf compared for an attribute with these sub-attributes: the attribute itself if it has none, else
--- its `value`
+-- the leaf compared for an attribute with these sub-attributes: the attribute itself if it has none, else its
+-- `value`; None if no sub-attribute is `value`
 abbrev pub leaf_for : Attribute → List SubAttribute → Option Leaf
 leaf_for a [] = Some (simple a)
 leaf_for a (b ∷ bs) = if list_any (sameb the_sub_attribute Value) (b ∷ bs) then Some (leaf_at a Value) else None
@@ -76,8 +76,8 @@ abbrev pub suits_leaf : Option Leaf → Operator → Literal → Bool
 suits_leaf None op x = false
 suits_leaf (Some leaf) op x = suits (type_of leaf) op x
 
--- whether a comparison suits the type of the named attribute or sub-attribute: null may only be tested with `eq` and
--- `ne`, and a name that the kind doesn't have may be compared with any other value
+-- whether a comparison suits the type of the named attribute or sub-attribute: null may only be tested with
+-- `eq` and `ne`, and a name that the kind doesn't have may be compared with any other value
 abbrev pub fits_comparison : Meant → Operator → Literal → Bool
 fits_comparison m op literal.Null = is_equality op
 fits_comparison meant.Nothing op x = true
@@ -88,8 +88,8 @@ abbrev pub is_empty : List SubAttribute → Bool
 is_empty [] = true
 is_empty (b ∷ bs) = false
 
--- whether a value path may be on the named attribute or sub-attribute: a simple attribute or a sub-attribute has no
--- sub-attributes
+-- whether a value path may be on the named attribute or sub-attribute; false for a simple attribute and for a
+-- sub-attribute, since they have no sub-attributes
 abbrev pub may_have_values : Meant → Bool
 may_have_values meant.Nothing = true
 may_have_values (meant.Attribute a) = not (is_empty (sub_attributes a))

@@ -9,12 +9,12 @@ use Rattle.scim_filter_grammar.specs.Names.{IsPath, IsPassed, is_name, names_tex
 use Rattle.scim_filter_grammar.specs.Grammar.{IsBlank, Encloses, Spells, Disjunction}
 use Rattle.scim_filter_grammar.specs.Tree.{Tree, Values, tree_of}
 
--- a path: that of an attribute or sub-attribute, or a value path with an optional sub-attribute after it
+-- the path of an attribute or sub-attribute, or a value path with an optional sub-attribute after it
 pub data Written : Type 0 where
   Plain : AttributePath → Written
   Filtered : Tree → Option (List ℕ) → Written
 
--- the path as specified, without pointers
+-- the path in the form of the specification, without pointers
 abbrev pub written_of : WrittenPath → Written
 written_of (written.Plain path) = Plain path
 written_of (written.Filtered filter sub) = Filtered (tree_of filter) sub

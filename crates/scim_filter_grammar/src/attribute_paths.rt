@@ -91,7 +91,8 @@ pub(crate) fn name(word: &[u8]) -> Option<&str>
     }
 }
 
-/// The text before a colon as a URN, if there is a colon. `None` if it isn't a URN.
+/// Returns the bytes before a colon as a URN, or `Some(None)` if there is no colon. `None` if the bytes
+/// aren't a URN.
 #[tactic(auto, unfolding(crate::specs::Reading::urn_of))]
 fn urn(before: Option<&[u8]>) -> Option<Option<&str>>
     ensures { ok_or (option_map (λ o. option_map (λ t. t.now) o) result) Syntax
@@ -122,7 +123,8 @@ fn sub_name(behind: &[u8]) -> Option<Option<&str>>
     }
 }
 
-/// Whether names may be combined so in `scope`: in the brackets of a value path a name stands alone.
+/// Whether a path in `scope` may have this URN and this sub-attribute. In the brackets of a value path, it
+/// may have neither.
 fn may_stand(scope: Scope, urn: Option<&str>, sub: Option<&str>) -> bool
     ensures { result ≡ fits_scope scope (option_map (λ t. t.now) urn.entry)
         (option_map (λ t. t.now) sub.entry) }
@@ -133,7 +135,8 @@ fn may_stand(scope: Scope, urn: Option<&str>, sub: Option<&str>) -> bool
     }
 }
 
-/// The attribute with this name, in the schema of the URN if there is one.
+/// The attribute of `kind` with this name, in the schema with this URN if one is given. `None` if there is
+/// none.
 fn attribute_of(kind: Kind, urn: Option<&str>, name: &str) -> Option<Attribute>
     ensures { result ≡ attribute_by kind (option_map (λ t. t.now) urn.entry) name.now }
 {
@@ -143,7 +146,7 @@ fn attribute_of(kind: Kind, urn: Option<&str>, name: &str) -> Option<Attribute>
     }
 }
 
-/// The sub-attribute with this name in `attribute`.
+/// The sub-attribute of `attribute` with this name. `Nothing` if there is none.
 fn sub_attribute_of(attribute: Attribute, name: &str) -> Meant
     ensures { result ≡ sub_meant attribute (sub_attribute_named attribute name.now) }
 {
@@ -153,7 +156,8 @@ fn sub_attribute_of(attribute: Attribute, name: &str) -> Meant
     }
 }
 
-/// Returns what an attribute and a sub-attribute's name refer to.
+/// Returns the attribute, or its sub-attribute named `sub` if a name is given. `Nothing` if the attribute or
+/// the sub-attribute doesn't exist.
 fn named_in(attribute: Option<Attribute>, sub: Option<&str>) -> Meant
     ensures { result ≡ meant_in attribute (option_map (λ t. t.now) sub.entry) }
 {
@@ -164,7 +168,7 @@ fn named_in(attribute: Option<Attribute>, sub: Option<&str>) -> Meant
     }
 }
 
-/// Returns what the names of a path refer to in `scope`.
+/// Returns the attribute or sub-attribute that the names of a path refer to in `scope`.
 fn named(scope: Scope, urn: Option<&str>, name: &str, sub: Option<&str>) -> Meant
     ensures { result ≡ meant_by scope (option_map (λ t. t.now) urn.entry) name.now
         (option_map (λ t. t.now) sub.entry) }
@@ -200,7 +204,7 @@ fn parts(scope: Scope, word: &[u8]) -> Option<(Option<&str>, &str, Option<&str>)
     may_stand(scope, urn, sub).then_some((urn, name, sub))
 }
 
-/// Returns what a path refers to. `None` if the word isn't a path.
+/// Returns the attribute or sub-attribute that a path refers to. `None` if the word isn't a path.
 pub(crate) fn meant(scope: Scope, word: &[u8]) -> Option<Meant>
     ensures { result ≡ option_map (λ (path : AttributePath). path.meant)
         (result_ok (path_of scope word.now)) }

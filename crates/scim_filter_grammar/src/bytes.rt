@@ -24,7 +24,7 @@ pub fn skip_spaces(bytes: &[u8]) -> &[u8]
     rest
 }
 
-/// Splits off the longest word at the start.
+/// Splits off the longest word at the start. Returns the word and the bytes after it.
 pub fn split_word(bytes: &[u8]) -> (&[u8], &[u8])
     ensures word { result.0.now ≡ front is_word_byte bytes.now }
     ensures rest { result.1.now ≡ behind is_word_byte bytes.now }
@@ -37,7 +37,7 @@ pub fn split_word(bytes: &[u8]) -> (&[u8], &[u8])
     bytes.split_at(end)
 }
 
-/// Splits before the first dot; the rest begins with the dot, or is empty.
+/// Splits before the first dot. The second part begins with the dot, or is empty if there is no dot.
 pub fn split_name(bytes: &[u8]) -> (&[u8], &[u8])
     ensures name { result.0.now ≡ front is_no_dot bytes.now }
     ensures rest { result.1.now ≡ behind is_no_dot bytes.now }

@@ -6,8 +6,8 @@ use thiserror::Error;
 pub enum FilterFault {
     /// The text isn't a filter.
     ///
-    /// From `read_tokens` the byte is where an unclosed string begins. From `read_filter` it hints at where
-    /// reading stopped; only that it is at most the length of the text is guaranteed.
+    /// From `read_tokens`, the number is the byte where an unclosed string begins. From `read_filter`, it
+    /// hints at where reading stopped; it is only guaranteed to be at most the length of the text.
     #[error("the text is no filter, about byte {0}")]
     Syntax(usize),
     /// A comparison doesn't suit the type of its attribute, or a value path is on an attribute without
@@ -22,10 +22,10 @@ pub enum FilterFault {
     TooLong,
 }
 
-/// Why a reader of a rule of the grammar stopped.
+/// Why a function for a rule of the grammar failed.
 #[derive(Clone, Copy)]
 pub(crate) enum ReadError {
-    /// The bytes left, this many, don't begin with what the rule needs.
+    /// The unread bytes don't begin with what the rule requires. The number is how many bytes are unread.
     Syntax(usize),
     /// More than 32 brackets are open.
     TooDeep,

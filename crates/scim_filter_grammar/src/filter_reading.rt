@@ -99,7 +99,7 @@ fn enclosed(
 
 /// Reads the filter in the brackets of a value path, after the opening bracket.
 ///
-/// Fails with Syntax within another value path, since brackets of value paths don't nest.
+/// Fails with `Syntax` within another value path, since brackets of value paths don't nest.
 #[cycle(filter)]
 #[tactic(auto, unfolding(crate::specs::Reading::listed_at))]
 pub(crate) fn listed(
@@ -251,7 +251,7 @@ fn disjunction(
 
 /// Reads a filter, with fewer than `depth` brackets open at one place.
 ///
-/// Fails with TooDeep if `depth` or more are open.
+/// Fails with `TooDeep` if `depth` or more are open.
 #[cycle(filter)]
 fn filter(
     alloc: Global,
@@ -280,23 +280,24 @@ fn all(alloc: Global, scope: Scope, bytes: &[u8]) -> Result<Node, Failed<ReadErr
     Ok(node)
 }
 
-/// Reads the filter that a text spells on resources of `kind`, within 4,096 bytes and 32 open brackets (RFC
-/// 7644 section 3.4.2.2).
+/// Reads a text as a filter on resources of `kind`, with at most 4,096 bytes and 32 open brackets (RFC 7644
+/// section 3.4.2.2).
 ///
-/// Fails with Syntax if the text isn't a filter at any depth; the byte hints at where reading stopped and is
-/// at most the length of the text. Fails with WrongType if a comparison doesn't suit the type of its
-/// attribute, or a value path is on an attribute without sub-attributes. Fails with TooDeep or TooLong
-/// beyond the limits.
+/// Fails with `Syntax` if the text isn't a filter, whatever the number of open brackets; its number hints at
+/// where reading stopped and is at most the length of the text. Fails with `WrongType` if a comparison
+/// doesn't suit the type of its attribute, or a value path is on an attribute without sub-attributes. Fails
+/// with `TooDeep` above 32 open brackets, and with `TooLong` above 4,096 bytes.
 #[tactic(auto, using(crate::proofs::NestingLemmas::all_deep))]
 pub fn read_filter(alloc: Global, kind: Kind, text: &str) -> Result<Filter, Failed<FilterFault>>
     // The text spells the tree returned, which has the right types.
     ensures found { IfOk result (λ f. (length text.now ≤ LONGEST_FILTER)
         × IsFilter kind 32 text.now (tree_of f) × (fits (tree_of f) ≡ true)) }
-    // A tree that the text spells within the limits, with the right types, is returned, or NoMemory.
+    // If the text spells a tree within the limits and with the right types, that tree or `NoMemory` is
+    // returned.
     ensures only { (tree : Tree) → length text.now ≤ LONGEST_FILTER → IsFilter kind 32 text.now tree
         → fits tree ≡ true
         → MatchResult result (λ f. tree_of f ≡ tree) (λ e. e ≡ Failed.NoMemory) }
-    // Each fault is returned only if its cause holds.
+    // A fault is returned only if its condition is true.
     ensures syntax { IfFault result (λ e. (at : ℕ) → e ≡ FilterFault.Syntax at
         → (at ≤ length text.now) × ((n : ℕ) (tree : Tree) → ¬ (IsFilter kind n text.now tree))) }
     ensures wrong_type { IsErrOf result (Failed.Because FilterFault.WrongType) → (tree : Tree)

@@ -1,7 +1,8 @@
 //! Laws about all texts of filters and paths.
 ghost use Rattle.scim_filter_grammar.specs.Spelled.{FiltersAreSpelled, PathsAreSpelled, OnePathIsSpelled};
 
-/// The function `filter_in` returns a tree exactly if the text spells it by the grammar.
+/// The function `filter_in` returns a tree exactly if the text spells it by the grammar, within the limits on
+/// bytes and brackets, and the tree has the right types.
 ///
 /// So [`crate::read_filter`] returns the only filter that the text spells.
 pub fn filters_are_spelled()
@@ -13,7 +14,7 @@ pub fn paths_are_spelled()
     ensures { PathsAreSpelled }
 {}
 
-/// A text spells at most one path of a change, value paths included.
+/// A text spells at most one path of a PATCH operation, including value paths.
 ///
 /// So [`crate::written_path`] returns the only path that the text spells.
 pub fn one_path_is_spelled()

@@ -103,7 +103,7 @@ fn quoted(alloc: Global, bytes: &[u8]) -> Result<(Literal, &[u8]), Failed<ReadEr
 
 /// Reads the literal at the start, and returns it with the bytes after it.
 ///
-/// Fails with Syntax if there is none.
+/// Fails with `Syntax` if there is none.
 #[tactic(auto, unfolding(crate::specs::Reading::literal_at))]
 pub fn literal(alloc: Global, bytes: &[u8]) -> Result<(Literal, &[u8]), Failed<ReadError>>
     ensures gives { Gives (λ x. (x.0, x.1.now)) result (literal_at bytes.now) }

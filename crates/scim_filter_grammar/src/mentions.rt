@@ -14,14 +14,16 @@ use std::alloc::Global;
 /// A name in a filter, with the attribute that it refers to.
 #[derive(Drop)]
 pub struct Named {
-    /// The name as written, with its URN and its sub-attribute.
+    /// The name as written, with its URN and sub-attribute if it has them.
     pub text: Text,
-    /// The attribute named, or the one whose sub-attribute is named. `None` if the kind doesn't have it.
+    /// The named attribute, or the attribute of the named sub-attribute. `None` if the kind doesn't have the
+    /// name.
     pub attribute: Option<Attribute>,
 }
 
 impl Meant {
-    /// The attribute named, or the one whose sub-attribute is named.
+    /// The named attribute, or the attribute of the named sub-attribute. `None` if the kind doesn't have the
+    /// name.
     pub fn mentioned_attribute(self) -> Option<Attribute>
         ensures { result ≡ spec.mentioned_attribute self }
     {

@@ -8,8 +8,8 @@ use scim_text::{NoMemory, Reading, fold, read_moment};
 use std::alloc::Global;
 use std::marker::Model;
 
-/// A string literal, with its folded text and its moment computed once for all comparisons. Its contracts
-/// speak of the text only.
+/// A string literal, with its folded text and its date and time, if it spells one, computed once for all
+/// comparisons. In contracts it is represented by its text.
 pub struct StringLiteral {
     text: Text,
     folded: Text,
@@ -37,7 +37,7 @@ impl Model for StringLiteral {
     ghost invariant = { IsSoundLiteral };
 }
 
-/// The moment that a text spells, if it is one.
+/// The date and time that a text spells. `None` if it spells none.
 fn moment_of(text: &str) -> Option<Reading>
     ensures { result ≡ moment_in text.now }
 {
@@ -65,7 +65,7 @@ impl StringLiteral {
         self.text.as_str()
     }
 
-    /// The text in full case folding, by which attributes that aren't `caseExact` are compared (RFC 7643
+    /// The text after full case folding, for comparisons with attributes that aren't `caseExact` (RFC 7643
     /// section 2.2).
     pub fn folded(&self) -> &str
         ensures { result.now ≡ folded self.now }
@@ -73,7 +73,7 @@ impl StringLiteral {
         self.folded.as_str()
     }
 
-    /// The moment that the text spells, if it is one (RFC 7643 section 2.3.5).
+    /// The date and time that the text spells (RFC 7643 section 2.3.5). `None` if it spells none.
     pub fn moment(&self) -> Option<Reading>
         ensures { result ≡ moment_in self.now }
     {

@@ -21,7 +21,8 @@ pub struct Token<'a> {
     pub slice: &'a str,
 }
 
-/// The bytes after a token that begins with `first`, which isn't a space, and goes on with `others`.
+/// The bytes after a token whose first byte is `first`, which isn't a space. `others` are the bytes after
+/// `first`.
 ///
 /// `None` if the token is a string that isn't closed.
 fn skip_token(first: u8, others: &[u8]) -> Option<&[u8]>
@@ -37,7 +38,8 @@ fn skip_token(first: u8, others: &[u8]) -> Option<&[u8]>
 
 /// Cuts a text into its tokens, in order: brackets, JSON strings, and runs of other bytes without spaces.
 ///
-/// Fails with Syntax, at the byte where an unclosed string begins. TooLong above 4,096 bytes.
+/// Fails with `Syntax`, at the byte where the string begins, if a string isn't closed. Fails with `TooLong`
+/// above 4,096 bytes.
 pub fn read_tokens<'a>(alloc: Global, text: &'a str) -> Result<Vec<Token<'a>>, Failed<FilterFault>>
     // The tokens returned are all tokens of the text, in order, each with the text of its span.
     ensures found { IfOk result (λ v. (length text.now ≤ LONGEST_FILTER)

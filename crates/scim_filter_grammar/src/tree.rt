@@ -54,8 +54,8 @@ pub enum Meant {
 }
 
 impl Meant {
-    /// The attribute whose sub-attributes may be named in brackets after the path. `None` for a
-    /// sub-attribute.
+    /// The attribute whose sub-attributes may be named in brackets after the path. `None` for a sub-attribute
+    /// or an unknown name.
     pub fn attribute(self) -> Option<Attribute>
         ensures { result ≡ attribute_meant self }
     {
@@ -122,7 +122,7 @@ impl Drop for Node {
     }
 }
 
-/// A filter whose text was read.
+/// A filter that was read from a text.
 pub struct Filter {
     node: Node,
 }
@@ -141,7 +141,7 @@ impl Filter {
         Filter { node }
     }
 
-    /// The tree of the filter. Rows of `or` and of `and` nest to the right.
+    /// The tree of the filter. Chains of `or` and chains of `and` nest to the right.
     pub fn tree(&self) -> &Node
         ensures { view result.now ≡ tree_of self.now }
     {

@@ -17,7 +17,8 @@ fn type_of(leaf: Leaf) -> AttributeType
     characteristics_of(Kind::User, leaf).attribute_type
 }
 
-/// The leaf compared if `attribute` is named alone.
+/// The leaf that is compared if a filter names `attribute` without a sub-attribute. `None` for a complex
+/// attribute without `value`.
 fn leaf_for(attribute: Attribute) -> Option<Leaf>
     ensures { result ≡ spec.leaf_for attribute (table_spec.sub_attributes attribute) }
 {
@@ -32,10 +33,10 @@ fn leaf_for(attribute: Attribute) -> Option<Leaf>
 }
 
 impl Meant {
-    /// The leaf whose cells are compared or sorted by: a simple attribute, a sub-attribute, or the `value`
-    /// of a complex attribute that is named alone (RFC 7644 sections 3.4.2.2 and 3.4.2.3).
+    /// The leaf whose cells are compared or sorted by: a simple attribute, a sub-attribute, or the `value` of
+    /// a complex attribute that is named alone (RFC 7644 sections 3.4.2.2 and 3.4.2.3).
     ///
-    /// `None` if a complex attribute has no `value`, or if nothing is named.
+    /// `None` if a complex attribute has no `value`, or if the kind doesn't have the name.
     pub fn compared_leaf(self) -> Option<Leaf>
         ensures { result ≡ spec.compared_leaf self }
     {
@@ -104,8 +105,8 @@ fn suits_leaf(leaf: Option<Leaf>, operator: Operator, literal: &Literal) -> bool
     }
 }
 
-/// Whether a comparison suits the type of the named attribute or sub-attribute. A name that the kind doesn't
-/// have may be compared with anything.
+/// Whether a comparison suits the type of the named attribute or sub-attribute. null may only be compared by
+/// `eq` and `ne`. A name that the kind doesn't have may be compared with any other value.
 fn fits_comparison(meant: Meant, operator: Operator, literal: &Literal) -> bool
     ensures { result ≡ spec.fits_comparison meant operator literal.now }
 {
@@ -119,8 +120,8 @@ fn fits_comparison(meant: Meant, operator: Operator, literal: &Literal) -> bool
     }
 }
 
-/// Whether a value path may be on the named attribute or sub-attribute: a simple attribute has no
-/// sub-attributes.
+/// Whether a value path may be on the named attribute or sub-attribute. False for a simple attribute and for
+/// a sub-attribute, since they have no sub-attributes.
 fn may_have_values(meant: Meant) -> bool
     ensures { result ≡ spec.may_have_values meant }
 {
@@ -131,8 +132,8 @@ fn may_have_values(meant: Meant) -> bool
     }
 }
 
-/// Whether each comparison in a tree suits the type of its attribute, and each value path is on an
-/// attribute that may have values.
+/// Whether each comparison in a tree suits the type of its attribute, and no value path is on an attribute
+/// without sub-attributes.
 pub(crate) fn fits(node: &Node) -> bool
     ensures { result ≡ spec.fits (view node.now) }
 {
@@ -146,8 +147,8 @@ pub(crate) fn fits(node: &Node) -> bool
 }
 
 impl Filter {
-    /// Whether each comparison suits the type of its attribute, and no value path is on an attribute
-    /// without sub-attributes. So it is in all filters that `read_filter` returns.
+    /// Whether each comparison suits the type of its attribute, and no value path is on an attribute without
+    /// sub-attributes. True for all filters that `read_filter` returns.
     pub fn has_right_types(&self) -> bool
         ensures { result ≡ spec.fits (tree_of self.now) }
     {

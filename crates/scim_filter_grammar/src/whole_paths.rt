@@ -20,8 +20,8 @@ pub fn lone_word(text: &str) -> Option<&[u8]>
     skip_spaces(rest).is_empty().then_some(word)
 }
 
-/// Returns what an attribute path names in the attribute table of `kind`, such as `name.familyName`, with or
-/// without a URN before it and spaces around it.
+/// Returns the attribute or sub-attribute of `kind` that an attribute path names, such as `name.familyName`.
+/// The path may have a URN before it and spaces around it.
 ///
 /// `None` if the text isn't a path, or has more than 4,096 bytes.
 pub fn attribute_path(kind: Kind, text: &str) -> Option<Meant>

@@ -25,9 +25,9 @@ pub enum WrittenPath {
     Filtered(Filter, Option<Text>),
 }
 
-/// Returns the path if only spaces are left.
+/// Returns `path` if `bytes` are only spaces.
 ///
-/// Fails with Syntax if anything else is left.
+/// Fails with `Syntax` if there is any other byte.
 #[tactic(auto, unfolding(crate::specs::PathReading::ended_at))]
 fn ended(path: WrittenPath, bytes: &[u8]) -> Result<WrittenPath, Failed<ReadError>>
     ensures { Gives written_of result (ended_at (written_of path) bytes.now) }
@@ -58,7 +58,8 @@ fn with_sub_attribute(
     ended(WrittenPath::Filtered(filter, Some(sub_name)), rest)
 }
 
-/// Reads what follows a path and an opening bracket.
+/// Reads what follows a path and an opening bracket: the filter, the closing bracket, and possibly a dot and
+/// a name.
 #[tactic(auto, unfolding(crate::specs::PathReading::filtered_at))]
 fn filtered(
     alloc: Global,
@@ -98,15 +99,15 @@ fn written(alloc: Global, kind: Kind, bytes: &[u8]) -> Result<WrittenPath, Faile
     behind_names(alloc, kind, path, behind)
 }
 
-/// Reads the path that a text spells, within 4,096 bytes and 32 open brackets: `path`, `path[filter]` or
-/// `path[filter].name`, with spaces around it. Names in the brackets are those of sub-attributes.
+/// Reads a text as a path with at most 4,096 bytes and 32 open brackets: `path`, `path[filter]` or
+/// `path[filter].name`, with optional spaces around it. Names in the brackets are names of sub-attributes.
 ///
-/// `None` if the text isn't such a path.
+/// `None` if the text isn't a path within these limits.
 pub fn written_path(alloc: Global, kind: Kind, text: &str) -> Result<Option<WrittenPath>, NoMemory>
     // The text spells the path returned.
     ensures found { IfOk result (λ o. IfSome o (λ w. (length text.now ≤ LONGEST_FILTER)
         × IsWritten kind 32 text.now (written_of w))) }
-    // A path that the text spells within the limits is returned.
+    // If the text spells a path within the limits, that path is returned.
     ensures only { (w : Written) → length text.now ≤ LONGEST_FILTER → IsWritten kind 32 text.now w
         → IfOk result (λ o. IsSomeAnd o (λ p. written_of p ≡ w)) }
 {

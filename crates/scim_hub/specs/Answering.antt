@@ -24,18 +24,18 @@ use Rattle.scim_hub.specs.declared.events.Stamp.{Stamp}
 unfoldable pub continue_text : List ℕ
 continue_text = codes "HTTP/1.1 100 Continue" ++ crlf ++ crlf
 
--- the id whose number is that of `first` plus k, modulo 2^128; an id is a number with the high byte first
--- (RFC 9562 section 4)
+-- the id with the number of `first` plus k, modulo 2^128; an id is a number with the high byte first (RFC
+-- 9562 section 4)
 unfoldable pub id_after : List ℕ → ℕ → List ℕ
 id_after first k = to_be_bytes w128 ((from_be_bytes w128 first + k) % 2 ^ 128)
 
--- the client that has the token, if any
+-- the client that has the token; `None` if there is no token or no client has it
 abbrev pub client_of : List Entry → Option (List ℕ) → Option (List ℕ)
 client_of entries None = None
 client_of entries (Some token) = client_with entries (sha256 token)
 
--- the arrival of a message that follows k whole messages of its event: its client by the token, the time of
--- the event, and the id that is k after the event's first
+-- the arrival of a message that follows k whole messages of its event has the client with the message's
+-- token, the time of the event, and the event's first id plus k
 pub record Arrives (entries : List Entry) (stamp : Stamp) (k : ℕ) (message : Message) (arrival : Arrival) : Type 0 where
   pub client : option_copied arrival.client ≡ client_of entries message.token
   pub moment : arrival.moment ≡ stamp.moment
@@ -52,7 +52,8 @@ closes_by_itself (Refused refusal) = closes refusal
 closes_by_itself (Page page) = false
 closes_by_itself (Served reply) = is_closing (refusal_of reply)
 
--- the message has this text as its reply, closes the connection or not, and leaves this store
+-- the reply to the message has this text, `closing` tells whether it closes the connection, and `next` is the
+-- store after it
 pub record IsReplied (policy : List Rule) (base : List ℕ) (arrival : Arrival) (message : Message) (store : Store) (text : List ℕ) (closing : Bool)
     (next : Store) : Type 0 where
   pub answer : Answer
@@ -66,16 +67,17 @@ whole_count (item.Whole message) = 1
 whole_count _ = 0
 
 module _ (policy : List Rule) (base : List ℕ) (entries : List Entry) (stamp : Stamp) where
-  -- an item that follows k whole messages of its event has this reply, closes the connection or not, and
-  -- leaves this store
+  -- the reply to an item that follows k whole messages of its event has this text, `closing` tells whether it
+  -- closes the connection, and `next` is the store after it
   abbrev pub IsAnswered : ℕ → Item → Store → List ℕ → Bool → Store → Type 0
   IsAnswered k item.Continue store text closing next = (text ≡ continue_text) × (closing ≡ false) × (next ≡ store)
   IsAnswered k (item.Refused refusal) store text closing next = (text ≡ refusal_text refusal (whole_form true)) × (closing ≡ true) × (next ≡ store)
   IsAnswered k (item.Whole message) store text closing next =
       (arrival : Arrival) × Arrives entries stamp k message arrival × IsReplied policy base arrival message store text closing next
 
-  -- items that follow k whole messages of their event have these replies: each is answered over the store
-  -- that the one before left, up to the first that closes the connection; the items after it are dropped
+  -- the replies to items that follow k whole messages of their event have these texts: each item is answered
+  -- with the store after the previous one, up to the first whose reply closes the connection; the items after
+  -- that are dropped
   abbrev pub AreAnswered : ℕ → List Item → Store → List (List ℕ) → Bool → Store → Type 0
   AreAnswered k [] store texts closed next = (texts ≡ []) × (closed ≡ false) × (next ≡ store)
   AreAnswered k (item ∷ items) store texts closed next =

@@ -23,8 +23,8 @@ pub record HubEvent : Type 0 where
   pub stamp : Stamp
   pub kind : HubEventKind
 
--- the state of a connection: absent; joined, with the stream read so far and the items that it gave; or shut,
--- with its stream ignored
+-- the state of a connection: absent; joined, with the stream read so far and the items that were read from
+-- it; or shut, with its stream ignored
 pub data Connection : Type 0 where
   absent : Connection
   joined : List ℕ → List Item → Connection
@@ -39,7 +39,7 @@ pub record HubState : Type 0 where
 abbrev pub none_joined : Store → HubState
 none_joined store = record { connections = λ _. absent; store = store }
 
--- the connections, with the one at a number replaced
+-- the connections, except that number n has the given connection
 abbrev pub set : ℕ → Connection → (ℕ → Connection) → ℕ → Connection
 set n connection connections m = if n == m then connection else connections m
 
@@ -48,7 +48,7 @@ pub data HubOutput : Type 0 where
   writing : ℕ → List ℕ → HubOutput
   shutting : ℕ → HubOutput
 
--- the outputs that write the texts to the connection in order, and shut it if it is closed
+-- the outputs that write the texts to connection n in order, and then shut it if `closed` is true
 abbrev pub hub_outputs : ℕ → List (List ℕ) → Bool → List HubOutput
 hub_outputs n texts closed = map (writing n) texts ++ (if closed then shutting n ∷ [] else [])
 
@@ -56,17 +56,17 @@ hub_outputs n texts closed = map (writing n) texts ++ (if closed then shutting n
 abbrev pub IsDenied : HubFault → HubState → Result (List HubOutput) HubFault → HubState → Type 0
 IsDenied fault state result next = (result ≡ Err fault) × (next ≡ state)
 
--- the next state has this store, and this connection at the number; the other connections are as before
+-- the next state has this store and, for number n, this connection; the other connections are unchanged
 abbrev pub Becomes : ℕ → Connection → Store → HubState → HubState → Type 0
 Becomes n connection store state next = next ≡ record { connections = set n connection state.connections; store = store }
 
--- a connection joins under a number: it is added with nothing read if the number is free and memory suffices,
--- else nothing changes
+-- a connection joins with number n: it is added with nothing read if the number is free and memory suffices;
+-- otherwise the result is `AlreadyJoined` or `NoMemory`, and nothing changes
 abbrev pub Joins : Connection → ℕ → HubState → Result (List HubOutput) HubFault → HubState → Type 0
 Joins absent n state result next = ((result ≡ Ok []) × Becomes n (joined [] []) state.store state next) ⊎ IsDenied NoMemory state result next
 Joins _ n state result next = IsDenied AlreadyJoined state result next
 
--- a connection leaves: its number is free afterwards; a fault if no connection has the number
+-- a connection leaves, and its number is free afterwards; the error `Unknown` if no connection has the number
 abbrev pub Leaves : Connection → ℕ → HubState → Result (List HubOutput) HubFault → HubState → Type 0
 Leaves absent n state result next = IsDenied Unknown state result next
 Leaves _ n state result next = (result ≡ Ok []) × Becomes n absent state.store state next
@@ -83,7 +83,7 @@ module _ (policy : List Rule) (base : List ℕ) (entries : List Entry) where
     pub result_is : result ≡ Ok (hub_outputs n texts closed)
     pub becomes : Becomes n (if closed then shut else joined stream (items ++ new)) store state next
 
-  -- a prefix of the new items of the stream has been answered and left this store
+  -- a prefix of the new items of the stream has been answered, and `store` is the store after it
   pub record AreBegun (stamp : Stamp) (stream : List ℕ) (items : List Item) (old store : Store) : Type 0 where
     pub front : List Item
     pub back : List Item
@@ -92,15 +92,16 @@ module _ (policy : List Rule) (base : List ℕ) (entries : List Entry) where
     pub closed : Bool
     pub answered : AreAnswered policy base entries stamp 0 front old texts closed store
 
-  -- memory ran out: the connection is shut and the outputs are lost; the store is unchanged or as a prefix of
-  -- the items left it
+  -- memory ran out: the connection is shut and the outputs are lost; the store is unchanged, or it is the
+  -- store after a prefix of the new items was answered
   pub record IsCutOff (stamp : Stamp) (n : ℕ) (stream : List ℕ) (items : List Item) (state : HubState) (result : Result (List HubOutput) HubFault) (next : HubState) : Type 0 where
     pub store : Store
     pub changed : (store ≡ state.store) ⊎ AreBegun stamp stream items state.store store
     pub result_is : result ≡ Err NoMemory
     pub becomes : Becomes n shut store state next
 
-  -- the next piece of a connection's stream arrives: it is answered, or fails by the connection's state
+  -- the next piece of a connection's stream arrives: it is answered, or the result is `Unknown` for an absent
+  -- connection, `Closed` for a shut one, or `NoMemory`
   abbrev pub Takes : Connection → Stamp → ℕ → List ℕ → HubState → Result (List HubOutput) HubFault → HubState → Type 0
   Takes absent stamp n bytes state result next = IsDenied Unknown state result next
   Takes shut stamp n bytes state result next = IsDenied Closed state result next

@@ -1,4 +1,5 @@
--- The setting of a hub: the policy and the base of its service, and the tokens; and the shelf of its service.
+-- The setting of a hub: the policy and the base URI of its service, and the clients' tokens. Also the shelf
+-- of its service.
 use Rattle.std.specs.Prelude.{◌≡◌, ℕ, List}
 use Rattle.scim_policy.specs.Rules.{Rule}
 use Rattle.scim_service.specs.Setting.{service_policy, service_base, service_shelf}
@@ -21,7 +22,7 @@ hub_tokens hub = hub.tokens
 abbrev pub hub_shelf : {S : Type 0} → Hub S → S
 hub_shelf hub = service_shelf hub.service
 
--- A hub keeps its policy, its base and its tokens.
+-- A hub keeps its policy, its base URI and its tokens.
 pub record KeepsHubSetting {S : Type 0} (old new : Hub S) : Type 0 where
   pub policy : hub_policy new ≡ hub_policy old
   pub base : hub_base new ≡ hub_base old

@@ -1,4 +1,4 @@
--- The state of a hub and its outputs, as values of the definitions.
+-- The state of a hub and its outputs, in the types of the specification.
 use Rattle.std.specs.Prelude.{ℕ, List, map, Option, None, Some, Result, Ok, Err, string_bytes}
 use Rattle.std.specs.Ordering.{nat_cmp}
 use Rattle.std.specs.BTreeMap.{get}
@@ -20,7 +20,7 @@ use Rattle.scim_hub.specs.declared.owned_events.OwnedEventKind.TheVariants as ke
 use Rattle.scim_hub.specs.declared.owned_events.OwnedEvent.{OwnedEvent}
 use Rattle.scim_hub.specs.Events.{HubEventKind, joining, sending, leaving, HubEvent, Connection, absent, joined, shut, HubState, HubOutput, writing, shutting}
 
--- the program's value for a connection is in this state
+-- the program's connection, if any, is in this state
 abbrev pub IsKept : Option code.Connection → Connection → Type 0
 IsKept None absent = Unit {0}
 IsKept (Some (Open wire)) (joined stream items) = StandsFor wire stream items
@@ -31,39 +31,39 @@ IsKept _ _ = ⊥
 abbrev pub AreConnections : Connections → (ℕ → Connection) → Type 0
 AreConnections kept connections = (n : ℕ) → IsKept (get nat_cmp kept.by_number n) (connections n)
 
--- the hub is in this state: its shelf has the store, whose resources are below its base, and its connections
--- are these
+-- the hub is in this state: its shelf contains the state's store, whose resources are below the hub's base
+-- URI, and each of its connections is in the state that `state.connections` lists for its number
 pub record IsHubState {H : Type 0} (Stands : H → Store → Type 0) (hub : Hub H) (state : HubState) : Type 0 where
   pub store : Stands hub.service.shelf state.store
   pub is_store : IsStore hub.service.base state.store
   pub connections : AreConnections hub.connections state.connections
 
--- the kind of an event, as a value of the definitions; a piece has its bytes
+-- the kind of an event, with the bytes of a piece, in the type of the specification
 abbrev pub event_kind_of : EventKind → HubEventKind
 event_kind_of Joined = joining
 event_kind_of (Piece bytes) = sending bytes.now
 event_kind_of Left = leaving
 
--- the event, with the bytes of a piece
+-- the event, with the bytes of a piece, in the type of the specification
 abbrev pub event_of : Event → HubEvent
 event_of event = record { connection = event.connection; stamp = event.stamp; kind = event_kind_of event.kind }
 
--- what occurs on a connection in an event that owns its piece
+-- the kind of an event that owns its piece, in the type of the specification
 abbrev pub owned_event_kind_of : kept.OwnedEventKind → HubEventKind
 owned_event_kind_of kept_variant.Joined = joining
 owned_event_kind_of (kept_variant.Piece bytes) = sending bytes.items
 owned_event_kind_of kept_variant.Left = leaving
 
--- the event that owns its piece
+-- the event that owns its piece, in the type of the specification
 abbrev pub owned_event_of : OwnedEvent → HubEvent
 owned_event_of r = record { connection = r.connection; stamp = r.stamp; kind = owned_event_kind_of r.kind }
 
--- the output
+-- the output, in the type of the specification
 abbrev pub output_of : Output → HubOutput
 output_of (output.Write n text) = writing n (string_bytes text)
 output_of (output.Shut n) = shutting n
 
--- the outputs for an event, or its fault
+-- the outputs for an event, or its error, in the type of the specification
 abbrev pub done : Result (Vec Output) HubFault → Result (List HubOutput) HubFault
 done (Ok outputs) = Ok (map output_of outputs.items)
 done (Err fault) = Err fault

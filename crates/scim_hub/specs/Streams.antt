@@ -1,4 +1,4 @@
--- Serving one stream: the pieces that were read of it, and the text that was written.
+-- Serving one stream: the pieces that were read from it, and the text that was written.
 use Rattle.std.specs.Prelude.{◌≡◌, ◌≢◌, ◌<◌, ◌⊎◌, ⊤, ℕ, ◌+◌, ◌-◌, ◌^◌, min, Bool, false, true, not, List, [], ◌∷◌, ◌++◌, length, map, Option, None, Some, Result, Ok, Err, All, IsOk, IfOk, MatchResult, count_by}
 use Rattle.std.specs.List.{FoldsTo, flat_map, list_any}
 use Rattle.std.specs.Str.{bytes_eq}
@@ -14,13 +14,13 @@ use Rattle.scim_hub.specs.declared.streams.Served.{Served}
 use Rattle.scim_hub.specs.Answering.{continue_text}
 use Rattle.scim_hub.specs.Events.{HubEventKind, sending, HubEvent, HubState, HubOutput, writing, shutting, Joins, Leaves, Hears}
 
--- the stamps given, if known, grow by these
+-- these stamps are appended to the stamps returned so far, if those are known
 abbrev pub Grows : Option (List Stamp) → Option (List Stamp) → List Stamp → Type 0
 Grows None new stamps = ⊤
 Grows (Some xs) None stamps = ⊥
 Grows (Some xs) (Some ys) stamps = ys ≡ xs ++ stamps
 
--- an event and its result
+-- an event and its result, called a turn
 pub record AnsweredEvent : Type 0 where
   pub event : HubEvent
   pub done : Result (List HubOutput) HubFault
@@ -34,17 +34,17 @@ bytes_in _ = []
 abbrev pub bytes_of : List AnsweredEvent → List ℕ
 bytes_of turns = flat_map (λ t. bytes_in t.event.kind) turns
 
--- the text that an output writes, empty if it shuts the connection
+-- the text that an output writes; empty if it shuts the connection
 abbrev pub text_in : HubOutput → List ℕ
 text_in (writing n text) = text
 text_in (shutting n) = []
 
--- the text that is written for the result of an event
+-- the text that is written for the result of an event; empty after an error
 abbrev pub text_done : Result (List HubOutput) HubFault → List ℕ
 text_done (Ok hub_outputs) = flat_map text_in hub_outputs
 text_done (Err fault) = []
 
--- the text that is written in turns, in order
+-- the concatenated text that is written for the results of the turns, in order
 abbrev pub text_of : List AnsweredEvent → List ℕ
 text_of turns = flat_map (λ t. text_done t.done) turns
 
@@ -58,7 +58,7 @@ abbrev pub replies_done : Result (List HubOutput) HubFault → ℕ
 replies_done (Ok hub_outputs) = count_by is_reply hub_outputs
 replies_done (Err fault) = 0
 
--- the number of replies written in turns
+-- the number of replies written for the results of the turns
 abbrev pub replies_of : List AnsweredEvent → ℕ
 replies_of [] = 0
 replies_of (t ∷ turns) = replies_done t.done + replies_of turns
@@ -73,30 +73,31 @@ abbrev pub shuts : Result (List HubOutput) HubFault → Bool
 shuts (Ok hub_outputs) = list_any is_shutting hub_outputs
 shuts (Err fault) = false
 
--- the occurrence is the next piece of the stream, of at least one byte
+-- what occurs is that a piece of at least one byte arrives
 abbrev pub IsPiece : HubEventKind → Type 0
 IsPiece (sending bytes) = bytes ≢ []
 IsPiece _ = ⊥
 
--- the turn is for a piece of this connection's stream
+-- the turn's event is that a non-empty piece arrives on connection n
 abbrev pub IsPieceOf : ℕ → AnsweredEvent → Type 0
 IsPieceOf n turn = (turn.event.connection ≡ n) × IsPiece turn.event.kind
 
--- after this fault the whole text was written, or a prefix of it if a write failed
+-- after this error the whole text has been written, or only a prefix of it if the error is `Write`
 abbrev pub IsWrittenAt : IoFault → Option (List ℕ) → Option (List ℕ) → List ℕ → Type 0
 IsWrittenAt Write old new text = AppendsFront old new text
 IsWrittenAt _ old new text = Appends old new text
 
--- the whole text was written, or a prefix of it if a write failed
+-- the whole text has been written, or only a prefix of it if the result is the error `Write`
 abbrev pub IsWritten : {T : Type 0} → Option (List ℕ) → Option (List ℕ) → List ℕ → Result T IoFault → Type 0
 IsWritten old new text result = MatchResult result (λ _. Appends old new text) (λ fault. IsWrittenAt fault old new text)
 
--- at this fault these bytes were read and not handled: those for which there was no stamp, or none
+-- the bytes that were read but not handled before this error: the piece without a stamp if the error is
+-- `Stamp`, and no bytes otherwise
 abbrev pub IsLostAt : IoFault → List ℕ → Type 0
 IsLostAt NoStamp lost = lost ≢ []
 IsLostAt _ lost = lost ≡ []
 
--- the bytes are those of the turns and the lost ones
+-- the bytes are the turns' pieces in order, followed by the bytes that were lost because of a missing stamp
 pub record AreBytesOf {T : Type 0} (turns : List AnsweredEvent) (bytes : List ℕ) (result : Result T IoFault) : Type 0 where
   pub lost : List ℕ
   pub split : bytes ≡ bytes_of turns ++ lost
@@ -106,16 +107,16 @@ pub record AreBytesOf {T : Type 0} (turns : List AnsweredEvent) (bytes : List �
 abbrev pub most_reads : ℕ
 most_reads = 1000000
 
--- the hub answered the turn without a fault, and the connection stays open
+-- the hub answered the turn's event without an error, and the connection stays open
 abbrev pub StaysOpen : AnsweredEvent → Type 0
 StaysOpen turn = IsOk turn.done × (shuts turn.done ≡ false)
 
--- after these turns, each by a read, the connection is open and is read once more
+-- after these turns, one for each read, the connection is open and its stream may be read once more
 pub record AreReadOn (turns : List AnsweredEvent) : Type 0 where
   pub stay : All StaysOpen turns
   pub few : length turns < most_reads
 
--- the connection was open up to a last turn, which has this result
+-- the connection was open before the last turn, and that turn's result satisfies `IsLast`
 pub record EndWith (turns : List AnsweredEvent) (IsLast : Result (List HubOutput) HubFault → Type 0) : Type 0 where
   pub earlier : List AnsweredEvent
   pub last : AnsweredEvent
@@ -123,21 +124,22 @@ pub record EndWith (turns : List AnsweredEvent) (IsLast : Result (List HubOutput
   pub read_on : AreReadOn earlier
   pub is_last : IsLast last.done
 
--- the turns before a fault: the hub's fault is that of the last turn, a write fails in the last turn, and no
--- turn before another fault has a fault or shuts the connection
+-- the turns before an error: `Hub` is the error of the last turn, `Write` occurs in the last turn, `Turns`
+-- follows the maximum number of turns, and before `Turns`, `Read` or `Stamp` no turn fails or shuts the
+-- connection
 abbrev pub EndAt : IoFault → List AnsweredEvent → Type 0
 EndAt (Hub fault) turns = EndWith turns (λ done. done ≡ Err fault)
 EndAt Write turns = EndWith turns IsOk
 EndAt Turns turns = All StaysOpen turns × (length turns ≡ most_reads)
 EndAt _ turns = AreReadOn turns
 
--- the turns before a success: the connection was open to the stream's end, or the last turn shut it
+-- the turns before a success: the connection was open until the stream ended, or the last turn shut it
 abbrev pub EndWell : Option (List ℕ) → List AnsweredEvent → Type 0
 EndWell remaining turns = (IsAtEnd remaining × AreReadOn turns) ⊎ EndWith turns (λ done. shuts done ≡ true)
 
 module _ (policy : List Rule) (base : List ℕ) (entries : List Entry) (n : ℕ) where
-  -- the turns of the connection's pieces lead from one state of the hub to the next, with these bytes, stamps
-  -- and written text
+  -- the hub handles the turns' events in order, from `state` to `next`; each event is a piece of connection
+  -- n, and the turns have these bytes, stamps and written text
   pub record AreServed {T : Type 0} (state next : HubState) (turns : List AnsweredEvent) (bytes : List ℕ) (given given_then : Option (List Stamp)) (contents contents_then : Option (List ℕ))
       (result : Result T IoFault) : Type 0 where
     pub runs : FoldsTo (λ h t u. Hears policy base entries t.event h t.done u) state turns next
@@ -146,7 +148,7 @@ module _ (policy : List Rule) (base : List ℕ) (entries : List Entry) (n : ℕ)
     pub stamps : Grows given given_then (map (λ t. t.event.stamp) turns)
     pub written : IsWritten contents contents_then (text_of turns) result
 
-  -- the stream is read and served to its end, until the connection is shut, or up to a fault, in at most
+  -- the stream is read and served until it ends, the connection is shut, or an error occurs, in at most
   -- `most_reads` reads
   pub record IsStreamServed (state next : HubState) (remaining remaining_then : Option (List ℕ)) (given given_then : Option (List Stamp)) (contents contents_then : Option (List ℕ))
       (result : Result Served IoFault) : Type 0 where
@@ -157,7 +159,7 @@ module _ (policy : List Rule) (base : List ℕ) (entries : List Entry) (n : ℕ)
     pub ended : MatchResult result (λ _. EndWell remaining_then turns) (λ fault. EndAt fault turns)
     pub replies : IfOk result (λ s. s.replies ≡ min (2 ^ 64 - 1) (replies_of turns))
 
-  -- the connection can't join, and nothing is read, stamped or written
+  -- the connection can't join: nothing is read or written, and no stamp is used
   pub record IsTurnedAway (state next : HubState) (remaining remaining_then : Option (List ℕ)) (given given_then : Option (List Stamp)) (contents contents_then : Option (List ℕ))
       (result : Result Served IoFault) : Type 0 where
     pub fault : HubFault
@@ -178,7 +180,7 @@ module _ (policy : List Rule) (base : List ℕ) (entries : List Entry) (n : ℕ)
     pub left : Result (List HubOutput) HubFault
     pub leaves : Leaves (served_at.connections n) n served_at left next
 
-  -- the result of serving one stream: the connection can't join, or it is served and leaves
+  -- the result of serving one stream: the connection can't join, or it joins, is served and leaves
   abbrev pub IsVisit : HubState → HubState → Option (List ℕ) → Option (List ℕ) → Option (List Stamp) → Option (List Stamp) → Option (List ℕ) → Option (List ℕ) → Result Served IoFault → Type 0
   IsVisit state next remaining remaining_then given given_then contents contents_then result =
       IsTurnedAway state next remaining remaining_then given given_then contents contents_then result

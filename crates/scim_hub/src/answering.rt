@@ -37,11 +37,11 @@ struct Reply {
 #[derive(Drop)]
 pub(crate) struct Replies {
     pub(crate) outputs: Vec<Output>,
-    /// Whether the connection closes after them.
+    /// Whether the connection closes after the replies.
     pub(crate) closed: bool,
 }
 
-/// Returns the id whose number is that of `first` plus `count`, modulo 2^128.
+/// Returns the id with the number of `first` plus `count`, modulo 2^128.
 #[tactic(auto, unfolding(crate::specs::Answering::id_after))]
 fn id_after(first: Id, count: usize) -> Id
     ensures { result ≡ spec.id_after first count }
@@ -50,7 +50,7 @@ fn id_after(first: Id, count: usize) -> Id
     id_of(Uuid::from_u128(number.wrapping_add(count as u128)))
 }
 
-/// Returns the client that has the message's token; `None` without a token or if no client has it.
+/// Returns the client that has the message's token; `None` if the message has no token or no client has it.
 fn client_of<'t>(tokens: &'t Tokens, message: &Message) -> Option<&'t str>
     ensures { (entries : List Entry) → Knows entries tokens.now
         → option_copied result ≡ spec.client_of entries message.now.token }
@@ -61,7 +61,8 @@ fn client_of<'t>(tokens: &'t Tokens, message: &Message) -> Option<&'t str>
     }
 }
 
-/// Returns the arrival of a message that follows `count` whole messages of its event.
+/// Returns the client, the time and the fresh id of a message that follows `count` whole messages of its
+/// event.
 fn arrival_of<'t>(tokens: &'t Tokens, stamp: &Stamp, count: usize, message: &Message) -> Arrival<'t>
     ensures { (entries : List Entry) → Knows entries tokens.now
         → Arrives entries stamp.now count message.now result }
@@ -88,7 +89,8 @@ fn closes_by_itself(answer: &Answer) -> bool
     }
 }
 
-/// Returns the reply for an answer in a form. The connection closes after it also if the answer requires it.
+/// Returns the reply with an answer, printed in the given form. It closes the connection if the form does, or
+/// if the answer is a refusal that closes the connection.
 fn reply_with(alloc: Global, answer: &Answer, form: ReplyForm) -> Result<Reply, NoMemory>
     ensures { Says result (answer_text answer.now form) (form.closes
         || spec.closes_by_itself answer.now) }
@@ -110,7 +112,8 @@ fn continue_reply(alloc: Global) -> Result<Reply, NoMemory>
     })
 }
 
-/// Answers a message. After `NoMemory`, which is for the reply's text, its changes remain committed.
+/// Answers a message. Fails with `NoMemory` if the reply's text can't be allocated; the message's changes
+/// remain committed then.
 fn answer_message<S: Shelf>(
     alloc: Global,
     routes: &Routes,
@@ -135,7 +138,7 @@ fn answer_message<S: Shelf>(
 
 /// Answers an item that follows `count` whole messages of its event.
 ///
-/// After `NoMemory`, which is for the reply's text, the item's changes remain committed.
+/// Fails with `NoMemory` if the reply's text can't be allocated; the item's changes remain committed then.
 fn answer_item<S: Shelf>(
     alloc: Global,
     routes: &Routes,

@@ -31,7 +31,7 @@ impl Drop for Connection {
 impl Connection {
     /// Reads the next piece of the stream, and returns the items that it completes.
     ///
-    /// Fails with Closed if the connection is shut. After `NoMemory` the connection can't be read further.
+    /// Fails with `Closed` if the connection is shut. After `NoMemory` the connection can't be read further.
     fn read(&mut self, alloc: Global, piece: &[u8]) -> Result<Vec<Item>, HubFault>
         ensures { IsRead self.old piece.now result self.new }
     {
@@ -43,7 +43,7 @@ impl Connection {
 
     /// Reads the next piece of the stream, and returns the items that it completes.
     ///
-    /// Fails with Closed if the connection is shut. After `NoMemory` the connection is shut.
+    /// Fails with `Closed` if the connection is shut. After `NoMemory` the connection is shut.
     fn feed(&mut self, alloc: Global, piece: &[u8]) -> Result<Vec<Item>, HubFault>
         ensures { IsFed self.old piece.now result self.new }
     {
@@ -72,7 +72,7 @@ impl Connections {
 
     /// Adds a connection.
     ///
-    /// Fails with AlreadyJoined if the number is in use. After any fault nothing has changed.
+    /// Fails with `AlreadyJoined` if the number is in use. After any error nothing has changed.
     pub(crate) fn join(&mut self, alloc: Global, number: u64) -> Result<(), HubFault>
         ensures { (connections : ℕ → spec.Connection) → AreConnections self.old connections
             → IsJoined (connections number) number connections result self.new }
@@ -87,8 +87,8 @@ impl Connections {
 
     /// Reads the next piece of a connection's stream, and returns the items that it completes.
     ///
-    /// Fails with Unknown if no connection has the number, and Closed if it is shut; then nothing has
-    /// changed. After `NoMemory` the connection is shut.
+    /// Fails with `Unknown` if no connection has the number, and with `Closed` if the connection is shut;
+    /// then nothing has changed. After `NoMemory` the connection is shut.
     pub(crate) fn feed(
         &mut self,
         alloc: Global,
@@ -116,7 +116,7 @@ impl Connections {
         *connection = Connection::Shut;
     }
 
-    /// Removes a connection. Fails with Unknown if no connection has the number; then nothing has changed.
+    /// Removes a connection. Fails with `Unknown` if no connection has the number; then nothing has changed.
     pub(crate) fn leave(&mut self, number: u64) -> Result<(), HubFault>
         ensures { (connections : ℕ → spec.Connection) → AreConnections self.old connections
             → IsGone (connections number) number connections result self.new }

@@ -10,13 +10,14 @@ use uuid::Uuid;
 pub struct Stamp {
     /// The time at which the event occurred.
     pub moment: Moment,
-    /// The id for the resource that the event's first whole message creates, if any. Each further whole
-    /// message of the event has the next number as its id, whether used or not.
+    /// The id for the resource that the event's first whole message creates, if any. The id for each further
+    /// whole message of the event is the next number, even if the previous id wasn't used.
     pub first: Id,
 }
 
 impl Stamp {
-    /// Returns a stamp for joining and leaving, which don't use it: the first moment and the nil id.
+    /// Returns a stamp for the events `Joined` and `Left`, which don't use it: the first moment and the nil
+    /// id.
     pub fn unused() -> Stamp {
         Stamp {
             moment: Moment::new(0).unwrap(),
@@ -30,7 +31,7 @@ impl Stamp {
 pub enum EventKind<'a> {
     /// The connection was opened.
     Joined,
-    /// The next piece of its stream arrived.
+    /// The next piece of the connection's stream arrived.
     Piece(&'a [u8]),
     /// The connection has ended.
     Left,
@@ -54,7 +55,7 @@ pub enum Output {
     Shut(u64),
 }
 
-/// The fault of an event that isn't answered.
+/// The error of an event that the hub can't answer.
 #[derive(Clone, Copy, Debug, PartialEq, Eq, Error)]
 pub enum HubFault {
     /// A connection joins with a number that is in use; nothing has changed.

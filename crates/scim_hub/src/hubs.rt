@@ -1,4 +1,4 @@
-//! The hub: many connections over one service.
+//! The hub, which serves many connections with one service.
 ghost use Rattle.std.specs.Prelude.{◌≡◌, List, IfOk, OnErr, map};
 ghost use Rattle.scim_token.specs.TokenFile.{Entry};
 ghost use Rattle.scim_token.specs.Tokens.{Knows};
@@ -19,11 +19,11 @@ use scim_text::NoMemory;
 use scim_token::Tokens;
 use std::alloc::Global;
 
-/// Answers the events of many connections by one service.
+/// Answers the events of many connections with one service.
 ///
 /// A connection joins, its stream arrives in pieces, and it leaves. The messages that a piece completes are
-/// answered in order, each for the client that has its token. After a reply that closes the connection the
-/// hub shuts it and ignores the rest of its stream.
+/// answered in order, each on behalf of the client that has its token. After a reply that closes the
+/// connection the hub shuts the connection and ignores the rest of its stream.
 pub struct Hub<S> {
     routes: Routes,
     service: Service<S>,
@@ -61,14 +61,14 @@ impl<S: Shelf> Hub<S> {
 
     /// Handles an event, and returns the outputs for its connection, in order.
     ///
-    /// - Joined: adds the connection, with nothing read of its stream. Fails with AlreadyJoined if the number
-    ///   is in use.
-    /// - Piece: answers the items that the piece completes, in order, up to the first whose reply closes the
-    ///   connection. Then the connection is shut, and further items are dropped. Fails with Unknown if no
-    ///   connection has the number, and Closed if it is shut.
-    /// - Left: removes the connection. Fails with Unknown if no connection has the number.
+    /// - `Joined`: adds the connection, with nothing read of its stream. Fails with `AlreadyJoined` if the
+    ///   number is in use.
+    /// - `Piece`: answers the items that the piece completes, in order, up to the first whose reply closes
+    ///   the connection. Then the connection is shut, and further items are dropped. Fails with `Unknown` if
+    ///   no connection has the number, and with `Closed` if the connection is shut.
+    /// - `Left`: removes the connection. Fails with `Unknown` if no connection has the number.
     ///
-    /// After these faults nothing has changed. After `NoMemory` a joining connection hasn't joined; a
+    /// After these errors nothing has changed. After `NoMemory` a joining connection hasn't joined; a
     /// connection whose piece was read is shut and its outputs are lost, while the changes of its requests
     /// remain committed. Other connections aren't affected.
     pub fn event(&mut self, alloc: Global, event: &Event<'_>) -> Result<Vec<Output>, HubFault>
@@ -96,8 +96,9 @@ impl<S: Shelf> Hub<S> {
 
     /// Handles the next piece of a connection's stream.
     ///
-    /// Fails with Unknown if no connection has the number, and Closed if it is shut; then nothing has
-    /// changed. After `NoMemory` the connection is shut, while the changes of its requests remain committed.
+    /// Fails with `Unknown` if no connection has the number, and with `Closed` if the connection is shut;
+    /// then nothing has changed. After `NoMemory` the connection is shut, while the changes of its requests
+    /// remain committed.
     fn take(
         &mut self,
         alloc: Global,
@@ -143,8 +144,8 @@ impl<S: Shelf> Hub<S> {
 
     /// Handles events one after another, and returns the result of each.
     ///
-    /// Fails with `NoMemory` if the list of results can't be allocated: no event is handled and the hub is
-    /// unchanged.
+    /// Fails with `NoMemory` if the list of results can't be allocated. Then no event has been handled, and
+    /// the hub is unchanged.
     pub fn run(
         &mut self,
         alloc: Global,

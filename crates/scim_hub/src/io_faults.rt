@@ -1,9 +1,9 @@
-//! The faults of serving a stream.
+//! The errors of serving a stream.
 use crate::events::HubFault;
 use crate::stamps::NoStamp;
 use thiserror::Error;
 
-/// The fault that ends the serving of a stream.
+/// The error that ends the serving of a stream.
 #[derive(Clone, Copy, Debug, PartialEq, Eq, Error)]
 pub enum IoFault {
     /// A read failed.
@@ -18,7 +18,7 @@ pub enum IoFault {
     /// No stamp was available for a piece.
     #[error("no stamp")]
     Stamp,
-    /// The hub returned this fault for an event.
+    /// The hub failed with this error for an event.
     #[error("{0}")]
     Hub(HubFault),
 }

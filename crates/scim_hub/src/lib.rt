@@ -1,4 +1,4 @@
-//! Answers the events of many connections by one service, and keeps the state of each connection (RFC 9112
+//! Answers the events of many connections with one service, and keeps the state of each connection (RFC 9112
 //! section 9).
 #![tactic(auto)]
 

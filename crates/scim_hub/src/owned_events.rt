@@ -8,7 +8,7 @@ use crate::events::{Event, EventKind, Stamp};
 pub enum OwnedEventKind {
     /// The connection was opened.
     Joined,
-    /// The next piece of its stream arrived.
+    /// The next piece of the connection's stream arrived.
     Piece(Vec<u8>),
     /// The connection has ended.
     Left,
@@ -33,7 +33,7 @@ pub struct OwnedEvent {
 }
 
 impl OwnedEvent {
-    /// Returns the event for a hub, which borrows the piece.
+    /// Returns the event as a hub takes it, with the piece borrowed.
     pub fn event(&self) -> Event<'_>
         ensures { event_of result ≡ owned_event_of self.now }
     {

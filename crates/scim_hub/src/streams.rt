@@ -1,4 +1,4 @@
-//! Serves one stream by a hub.
+//! Serves one stream with a hub.
 ghost use Rattle.std.specs.Prelude.{◌≡◌, ◌≢◌, List, []};
 ghost use Rattle.scim_token.specs.TokenFile.{Entry};
 ghost use Rattle.scim_token.specs.Tokens.{Knows};
@@ -31,14 +31,14 @@ pub struct Served {
 #[derive(Clone, Copy)]
 struct Written {
     replies: usize,
-    /// Whether the connection is shut after it.
+    /// Whether the connection is shut after the piece.
     shut: bool,
 }
 
 /// Handles the next piece of a connection's stream, and writes the outputs.
 ///
-/// Stamp if no stamp is available; the hub hasn't handled the piece then. Hub for a fault of the hub. Write
-/// if a write fails; a prefix of the replies' text has been written then, and nothing else.
+/// Fails with `Stamp` if no stamp is available; the hub hasn't handled the piece then. Fails with `Hub` if
+/// the hub fails. Fails with `Write` if a write fails; then a prefix of the outputs' text has been written.
 fn serve_piece<W: Write, S: Shelf, T: Stamps>(
     alloc: Global,
     piece: &[u8],
@@ -74,7 +74,8 @@ fn serve_piece<W: Write, S: Shelf, T: Stamps>(
 /// Reads the stream of a connection in pieces and serves each, until the stream ends or the connection is
 /// shut.
 ///
-/// Read if a read fails, and Turns after a million reads that gave bytes; other errors as [`serve_piece`].
+/// Fails with `Read` if a read fails, and with `Turns` after a million reads that returned bytes. If
+/// [`serve_piece`] fails, returns its error.
 fn serve_pieces<R: Read, W: Write, S: Shelf, T: Stamps>(
     alloc: Global,
     reader: &mut R,
@@ -111,19 +112,22 @@ fn serve_pieces<R: Read, W: Write, S: Shelf, T: Stamps>(
     Err(IoFault::Turns)
 }
 
-/// Serves one stream by a hub: the connection joins, each piece of its stream is answered at once, and it
-/// leaves.
+/// Serves one stream with a hub: the connection joins, each piece of its stream is answered at once, and the
+/// connection leaves.
 ///
-/// Stops when the stream ends, right after the piece that shuts the connection, or at a fault. Doesn't flush
+/// Stops when the stream ends, right after the piece that shuts the connection, or at an error. Doesn't flush
 /// the writer.
 ///
-/// - Hub: a fault of the hub, as [`Hub::event`]. If the connection can't join, nothing is read or written.
-/// - Read, Write: a read or a write failed; an interrupted read counts as failed.
-/// - Stamp: no stamp is available for a piece, which is lost.
-/// - Turns: a million reads gave bytes.
+/// Errors:
 ///
-/// After a fault of a connection that had joined, it has left, and the replies to all that was read have been
-/// written, but for the piece that the hub or a missing stamp failed; after Write a prefix of their text.
+/// - `Hub`: [`Hub::event`] failed. If the connection couldn't join, nothing was read or written.
+/// - `Read`, `Write`: a read or a write failed; an interrupted read counts as failed.
+/// - `Stamp`: no stamp was available for a piece, which is lost.
+/// - `Turns`: a million reads returned bytes.
+///
+/// If an error occurs after the connection joined, the connection has left. After `Hub` or `Stamp` the
+/// replies to all pieces before the failed one have been written, after `Read` or `Turns` the replies to all
+/// pieces, and after `Write` a prefix of the replies' text.
 pub fn serve_stream<R: Read, W: Write, S: Shelf, T: Stamps>(
     alloc: Global,
     reader: &mut R,

@@ -12,7 +12,8 @@ use crate::io_faults::IoFault;
 use scim_wire::write_text;
 use std::io::Write;
 
-/// Writes the text of an output, if any. Write if a write fails; a prefix of the text has been written then.
+/// Writes the text of an output, if any. Fails with `Write` if a write fails; then a prefix of the text has
+/// been written.
 fn write_output<W: Write>(output: &Output, writer: &mut W) -> Result<(), IoFault>
     ensures { IsWrittenOut (W.contents writer.old) (W.contents writer.new)
         (text_in (output_of output.now)) result }
@@ -28,7 +29,7 @@ fn write_output<W: Write>(output: &Output, writer: &mut W) -> Result<(), IoFault
 
 /// Writes the texts of the outputs, in order.
 ///
-/// Write if a write fails; a prefix of the texts together has been written then.
+/// Fails with `Write` if a write fails; then a prefix of the concatenated texts has been written.
 pub(crate) fn write_outputs<W: Write>(outputs: &[Output], writer: &mut W) -> Result<(), IoFault>
     ensures { IsWrittenOut (W.contents writer.old) (W.contents writer.new)
         (flat_map text_in (map output_of outputs.now)) result }

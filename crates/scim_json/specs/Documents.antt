@@ -12,7 +12,7 @@ abbrev pub documents_and : List Content → Items → Items
 documents_and [] ds = ds
 documents_and (c ∷ cs) ds = item (stored_data c) (documents_and cs ds)
 
--- resources below the base that may be on one server together
+-- resources below the base that may be on the same server
 pub record AreResourcesBelow (base : List ℕ) (cs : List Content) : Type 0 where
   pub below : All (IsResourceBelow base) cs
   pub apart : AllPairs AreApart cs
@@ -21,7 +21,7 @@ pub record AreResourcesBelow (base : List ℕ) (cs : List Content) : Type 0 wher
 abbrev pub IsDocumentsText : List ℕ → List ℕ → List Content → Type 0
 IsDocumentsText base text cs = AreResourcesBelow base cs × (read text ≡ Some (array (documents_and cs no_items)))
 
--- the value isn't the stored document of a resource that may be on one server with these
+-- the value isn't the stored document of any resource that may be on the same server as these resources
 abbrev pub IsDamagedBeside : List ℕ → List Content → Data → Type 0
 IsDamagedBeside base cs d = (c : Content) → IsDocument base d c → All (λ b. AreApart b c) cs → ⊥
 

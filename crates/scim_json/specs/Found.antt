@@ -29,7 +29,8 @@ use Rattle.scim_schema.specs.declared.json_keys.JsonShape.{JsonShape}
 use Rattle.scim_schema.specs.declared.json_keys.JsonShape.TheVariants.{Simple, Complex, MultiValued}
 use Rattle.scim_schema.specs.JsonKeys.{shape_of}
 
--- the atom of a type with this truth value or this text, or None if it isn't of the type
+-- the atom of a type made from a JSON value, or None if the value doesn't have the type; `truth` is the value
+-- if it is a Boolean, `text` is the value if it is a string
 abbrev pub atom_from : AttributeType → Option Bool → Option (List ℕ) → Option Atom
 atom_from Boolean truth text = option_map Truth truth
 atom_from DateTime truth text = option_map Moment (option_and_then moment_of text)
@@ -38,11 +39,12 @@ atom_from Reference truth text = option_map Text text
 atom_from Binary truth text = option_map Text text
 atom_from ComplexType truth text = None
 
--- the atom of a type that a JSON value represents, or None if the value isn't of the type (RFC 7643 section 2.3)
+-- the atom of a type that a JSON value represents, or None if the value doesn't have the type (RFC 7643
+-- section 2.3)
 abbrev pub atom_of : AttributeType → Data → Option Atom
 atom_of t d = atom_from t (as_bool d) (as_str d)
 
--- the entries of a value, or no entries if there is no value
+-- the entries that `f` returns for a value, or no entries if there is no value
 abbrev pub if_there : {A : Type 0} → (A → List Entry) → Option A → List Entry
 if_there f None = []
 if_there f (Some a) = f a
@@ -70,8 +72,8 @@ found_shaped kind a Simple d = found_value kind (simple a) 0 d
 found_shaped kind a Complex d = found_object kind a 0 d
 found_shaped kind a MultiValued d = if_there (found_items kind a 0) (as_array d)
 
--- the object that has the attributes of a schema: the resource's own object for a core schema (None), and the object
--- under the schema's URN for an extension (RFC 7643 section 3.3)
+-- the object that has the attributes of a schema: the resource's own object for a core schema (None), and the
+-- object under the schema's URN for an extension (RFC 7643 section 3.3)
 abbrev pub object_with : Option Schema → Data → Option Data
 object_with None d = Some d
 object_with (Some s) d = get (urn s) d

@@ -1,4 +1,4 @@
--- The JSON of a part has exactly its cells, and the stored JSON of a resource reads back.
+-- The JSON of a part has exactly its cells, and reading the stored JSON of a resource returns the resource.
 use Rattle.std.specs.Prelude.{◌≡◌, ℕ, List, Some, Result, Ok}
 use Rattle.std.specs.FinMap.{entries}
 use Rattle.serde_json.specs.Read.{read}
@@ -13,7 +13,7 @@ use Rattle.scim_json.specs.Found.{found_cells}
 abbrev pub PartsAreShownWhole : Type 0
 PartsAreShownWhole = (c : Content) → IsPart c → found_cells c.kind (part_data c) ≡ entries c.cells
 
--- the stored text of a part reads back as the JSON that it was written from
+-- reading the stored text of a part returns the JSON that it was written from
 abbrev pub KeptReadsBack : Type 0
 KeptReadsBack = (c : Content) → read (compact_text (stored_data c)) ≡ Some (stored_data c)
 

@@ -12,12 +12,12 @@ count_data n = number (unsigned n)
 unfoldable pub list_schemas : Data
 list_schemas = array (item (string (codes "urn:ietf:params:scim:api:messages:2.0:ListResponse")) no_items)
 
--- the members with the number of parts in the list, the place of the first among all results, from 1, and the
--- number of all results
+-- the members other than `Resources`: the number of parts in the list, `schemas`, the position of the first
+-- part among all results, from 1, and the number of all results
 abbrev pub counts : ℕ → ℕ → ℕ → Members
 counts total start shown =
     member (codes "itemsPerPage") (count_data shown) (member (codes "schemas") list_schemas (member (codes "startIndex") (count_data start) (member (codes "totalResults") (count_data total) no_members)))
 
--- the JSON of a list: its parts, unless there are none, and the counts
+-- the JSON of a list: its parts, unless there are none, and the members of `counts`
 unfoldable pub list_data : ℕ → ℕ → List Content → Data
 list_data total start parts = object (with_member (codes "Resources") (array_of (items_of part_data parts)) (counts total start (length parts)))

@@ -27,12 +27,12 @@ use Rattle.scim_schema.specs.JsonKeys.{key_text, keys, extension_keys, ordered_s
 
 -- ---- objects and arrays
 
--- members with one more at the start, if there is a value for it
+-- the members `ms`, with a member for the key `k` added at the start if it has a value
 abbrev pub with_member : List ℕ → Option Data → Members → Members
 with_member k None ms = ms
 with_member k (Some d) ms = member k d ms
 
--- the members of those keys that have a value, in order
+-- a member for each key that has a value, in order
 abbrev pub members_where : {K : Type 0} → (K → List ℕ) → (K → Option Data) → List K → Members
 members_where name value [] = no_members
 members_where name value (k ∷ ks) = with_member (name k) (value k) (members_where name value ks)
@@ -96,7 +96,7 @@ attribute_data form rs a = shaped_data form (shape_of a) rs a
 
 -- ---- schemas
 
--- whether one of the rows is of an attribute of the extension
+-- whether one of the rows belongs to an attribute of the extension
 unfoldable pub has_extension : List Row → Schema → Bool
 has_extension rs s = list_any (λ r. option_eq (sameb the_schema) (extension_of r.unit.attribute) (Some s)) rs
 
@@ -104,8 +104,8 @@ has_extension rs s = list_any (λ r. option_eq (sameb the_schema) (extension_of 
 abbrev pub urn_data : Schema → Data
 urn_data s = string (urn s)
 
--- the value of `schemas`: the URN of the core schema, and those of the extensions that have cells (RFC 7643
--- section 3)
+-- the value of `schemas`: the URN of the core schema, and the URNs of the extensions that have cells (RFC
+-- 7643 section 3)
 abbrev pub schemas_data : List Row → Schema → List Schema → Data
 schemas_data rs core extended = array (item (urn_data core) (items_of urn_data (filter (has_extension rs) extended)))
 

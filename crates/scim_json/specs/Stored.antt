@@ -24,8 +24,8 @@ IsDocument base d c = IsResourceBelow base c × (d ≡ stored_data c)
 abbrev pub IsDocumentText : List ℕ → List ℕ → Content → Type 0
 IsDocumentText base text c = IsResourceBelow base c × (read text ≡ Some (stored_data c))
 
--- the result of reading a stored document: the resource whose document the text is, or Damaged if it isn't
--- one
+-- the result of reading a text as a stored document: the resource with this document, or the error `Damaged`
+-- if there is none
 abbrev pub GivesStored : List ℕ → List ℕ → Result Content Damaged → Type 0
 GivesStored base text (Ok c) = IsDocumentText base text c
 GivesStored base text (Err damaged) = (c : Content) → ¬ IsDocumentText base text c

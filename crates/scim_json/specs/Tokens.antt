@@ -1,4 +1,4 @@
--- The tokens that the writer of JSON is given for a value.
+-- The tokens that the JSON writer receives for a value.
 use Rattle.std.specs.Prelude.{◌≡◌, ℕ, List, [], ◌∷◌, ◌++◌, Option, Some, None}
 use Rattle.json.specs.Token.{Token, key}
 use Rattle.json.specs.Tree.{json_tokens}

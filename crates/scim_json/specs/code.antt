@@ -1,3 +1,3 @@
--- How the code writes JSON, takes the items of a list, and records the items read before.
+-- How the code writes JSON, reads the items of a list, and records the items that it has read.
 pub mod Listed
 pub mod Taken

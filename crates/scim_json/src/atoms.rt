@@ -1,4 +1,4 @@
-//! Atoms from the values of JSON (RFC 7643 section 2.3).
+//! Makes atoms from JSON values (RFC 7643 section 2.3).
 ghost use Rattle.std.specs.Prelude.{◌≡◌, IfOk, option_map, option_and_then};
 ghost use Rattle.scim_schema.specs.declared.characteristics.AttributeType.{AttributeType};
 ghost use Rattle.scim_cell.specs.declared.atoms.Atom.TheVariants.{Text as text_of, Moment as moment_in};
@@ -10,9 +10,9 @@ use scim_schema::AttributeType;
 use scim_text::{NoMemory, read_printed_moment};
 use std::alloc::Global;
 
-/// Makes an atom of the type from a JSON value, given as its truth value or its text. Returns None
-/// if the value isn't of the type (RFC 7643 section 2.3). A dateTime must be as
-/// [`scim_text::print_moment`] prints it.
+/// Makes an atom of the type from a JSON value. `truth` is the value if it is a Boolean, and `text` is
+/// the value if it is a string. Returns `None` if the value doesn't have the type (RFC 7643 section 2.3).
+/// A dateTime must have the form that [`scim_text::print_moment`] prints.
 pub fn atom_of(
     alloc: Global,
     truth: Option<bool>,
@@ -32,7 +32,7 @@ pub fn atom_of(
     }
 }
 
-/// The moment that the text is printed from, or None.
+/// The moment whose printed form is the text, or `None` if there is no text or no such moment.
 fn moment_atom(alloc: Global, text: Option<&str>) -> Result<Option<Atom>, NoMemory>
     ensures { IfOk result
         (λ o. o ≡ option_map moment_in
@@ -44,7 +44,7 @@ fn moment_atom(alloc: Global, text: Option<&str>) -> Result<Option<Atom>, NoMemo
     }
 }
 
-/// The text, or None.
+/// The text as an atom, or `None` if there is no text.
 fn text_atom(alloc: Global, text: Option<&str>) -> Result<Option<Atom>, NoMemory>
     ensures { IfOk result (λ o. o ≡ option_map text_of (option_map (λ s. s.now) text.entry)) }
 {

@@ -1,8 +1,8 @@
-//! Reads a stored document that is exactly as the server writes it, as nearly all are.
+//! Reads a stored document whose text is exactly what the server writes, which is the usual case.
 //!
-//! The cells are guessed from a JSON tree that borrows from the text. The guess is accepted only if
-//! it is stored as the given text, so the guessing needs no contract. It takes half the time of the
-//! general reading in `stored_documents`.
+//! The cells are guessed from a JSON tree that borrows from the text. The guess is accepted only if the
+//! server would store it as exactly this text, so the functions that guess need no contracts. This
+//! takes half the time of the general reading in `stored_documents`.
 ghost use Rattle.std.specs.Prelude.{◌≡◌, IfOk, IfSome, IsTrue, Some};
 ghost use Rattle.serde_json.specs.Read.{read};
 ghost use Rattle.scim_value.specs.Resource.{HasBase};
@@ -21,8 +21,8 @@ use scim_text::{Failed, NoMemory, push};
 use scim_value::{Invalid, Part, Resource, location};
 use std::alloc::Global;
 
-/// Returns the resource whose stored text this is, or None if the text isn't as [`stored_text`]
-/// writes it.
+/// Returns the resource below the base for which [`stored_text`] writes exactly this text, or `None` if
+/// there is none.
 pub(crate) fn read_as_written(
     alloc: Global,
     base: &str,
@@ -38,8 +38,8 @@ pub(crate) fn read_as_written(
     }
 }
 
-/// Returns the resource below the base that is guessed from the value, if it is stored as this
-/// text.
+/// Guesses a resource below the base from the value. Returns the resource if its stored text is `text`,
+/// otherwise `None`.
 pub(crate) fn resource_with(
     alloc: Global,
     base: &str,
@@ -65,7 +65,8 @@ fn is_stored_text(alloc: Global, resource: &Resource, text: &str) -> Result<bool
     Ok(stored_text(alloc, resource)?.as_str() == text)
 }
 
-/// Returns a resource below the base that the value may be the stored document of.
+/// Makes a resource below the base from the cells in the value. Returns `None` if they don't form one. The
+/// value isn't necessarily the stored document of the resource.
 fn guessed(alloc: Global, base: &str, value: &Value<'_>) -> Result<Option<Resource>, NoMemory>
     ensures { IfOk result (λ found. IfSome found (HasBase base.now)) }
 {
@@ -80,7 +81,7 @@ fn guessed(alloc: Global, base: &str, value: &Value<'_>) -> Result<Option<Resour
     }
 }
 
-/// The kind that `meta.resourceType` names, and the id.
+/// The kind that `meta.resourceType` names, and the id. `None` if one of them is missing or invalid.
 fn kind_and_id(value: &Value<'_>) -> Option<(Kind, Id)> {
     let meta = value.get(Attribute::Meta.name())?;
     let kind = Kind::named(meta.get(SubAttribute::ResourceType.name())?.as_str()?)?;
@@ -122,7 +123,7 @@ fn push_attributes(
     Ok(())
 }
 
-/// The value of an attribute, in the object of the resource or in that of its extension.
+/// The value of an attribute, in the object of the resource or in the object of the attribute's extension.
 fn attribute_in<'a, 'b>(value: &'a Value<'b>, attribute: Attribute) -> Option<&'a Value<'b>> {
     match extension_of(attribute) {
         Some(schema) => value.get(schema.urn())?.get(attribute.name()),
@@ -182,7 +183,7 @@ fn push_object(
     Ok(())
 }
 
-/// Appends the cell of a leaf, unless the value isn't of its type.
+/// Appends the cell of a leaf, if the value has the type of the leaf.
 fn push_cell(
     alloc: Global,
     found: &Value<'_>,

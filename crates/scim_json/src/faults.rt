@@ -1,4 +1,4 @@
-//! The faults of stored documents and of users files.
+//! The errors of reading stored documents and users files.
 use std::error::Error as StdError;
 use std::fmt;
 use thiserror::Error;
@@ -8,13 +8,13 @@ use thiserror::Error;
 #[error("not the stored document of a resource")]
 pub struct Damaged;
 
-/// The place of a fault in a users file: the item with this number, from 1, isn't the stored
-/// document of a resource below the base, or repeats the id or a unique name of one before it. 0 if
+/// The number of a damaged item in a users file, from 1: the item isn't the stored document of a
+/// resource below the base, or repeats the id or a unique name of an earlier item. The number is 0 if
 /// the text isn't a JSON list.
 #[derive(Clone, Copy, Debug, PartialEq, Eq)]
 pub struct DamagedItem(pub usize);
 
-// Written by hand, since there are two texts.
+// Written by hand, because there are two different messages.
 impl fmt::Display for DamagedItem {
     fn fmt<W: fmt::Write>(&self, f: &mut fmt::Formatter<W>) -> fmt::Result {
         match self {

@@ -3,26 +3,25 @@ ghost use Rattle.scim_json.specs.Laws.{PartsAreShownWhole, KeptReadsBack, Stored
 ghost use Rattle.scim_json.specs.Stored.{DocumentsAreApart};
 
 /// Lemma: the JSON that `to_json` writes has each cell of the part at its place, and no other cell.
-/// Looking up the attributes of the kind in turn, each in the object of its schema, finds the cells
-/// of the part in order of place with their values (RFC 7643 sections 2.3 and 3.3).
+/// Looking up each attribute of the kind, in the object of its schema, finds the cells of the part in
+/// order of place with their values (RFC 7643 sections 2.3 and 3.3).
 pub fn parts_are_shown_whole()
     ensures { PartsAreShownWhole }
 {}
 
-/// Lemma: below one base, no two resources have the same stored JSON. So nothing is lost by leaving
-/// out `schemas`, `groups` and `meta.location`.
+/// Lemma: no two resources below the same base have the same stored JSON. So leaving out `schemas`,
+/// `groups` and `meta.location` loses no information.
 pub fn documents_are_apart()
     ensures { DocumentsAreApart }
 {}
 
-/// Lemma: the text that `stored_text` writes reads back as the JSON that it was written from.
+/// Lemma: reading the text that `stored_text` writes returns the JSON that it was written from.
 pub fn documents_read_back()
     ensures { KeptReadsBack }
 {}
 
-/// Lemma: each resource whose `meta.location` is below the base reads back from its stored text,
-/// with every cell. [`crate::read_stored`] returns it for the text of [`crate::stored_text`], and
-/// fails only for lack of memory.
+/// Lemma: for a resource whose `meta.location` is below the base, [`crate::read_stored`] returns the
+/// resource, with every cell, from the text of [`crate::stored_text`]. It fails only if memory runs out.
 pub fn stored_resources_read_back()
     ensures { StoredResourcesReadBack }
 {}

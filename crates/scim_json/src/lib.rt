@@ -1,5 +1,5 @@
-//! The JSON of SCIM: the text of a part for clients, and the stored text of a resource with its
-//! reading (RFC 7643 sections 2.3, 3 and 8, RFC 7644 section 3).
+//! The JSON of SCIM: writes the text of a part for clients, and writes and reads the stored text of a
+//! resource (RFC 7643 sections 2.3, 3 and 8, RFC 7644 section 3).
 #![tactic(auto)]
 
 mod atoms;

@@ -15,9 +15,10 @@ use std::alloc::Global;
 
 /// Returns the JSON text of a list for a client (RFC 7644 section 3.4.2).
 ///
-/// It has the parts, their number as `itemsPerPage`, the place `start` of the first one among all
-/// results, from 1, and the number `total` of all results. The text has no spaces, and the keys of
-/// each object are in byte order. `Resources` is left out if there are no parts.
+/// It contains the parts, their number as `itemsPerPage`, the position `start` of the first part among
+/// all results, from 1, as `startIndex`, and the number `total` of all results as `totalResults`. The
+/// text has no spaces, and the keys of each object are in byte order. `Resources` is omitted if there
+/// are no parts.
 #[tactic(auto, using(crate::proofs::Printed::texts))]
 pub fn to_list_json(
     alloc: Global,
@@ -33,7 +34,7 @@ pub fn to_list_json(
     Ok(unsafe { String::from_utf8_unchecked(out.into_inner()) })
 }
 
-/// Writes the object of a list. After NoMemory `out` has an unfinished text.
+/// Writes the object of a list. If memory runs out, `out` contains an unfinished text.
 #[tactic(auto, unfolding(crate::specs::ListData::list_data))]
 fn write_list(
     alloc: Global,

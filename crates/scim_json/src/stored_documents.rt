@@ -29,13 +29,13 @@ use scim_value::{Invalid, Part, Resource, location};
 use serde_json::Value;
 use std::alloc::Global;
 
-/// Reads a stored document: JSON with the value that [`stored_text`] writes, in which spaces and the order of
-/// keys are free. `meta.location`, which isn't stored, is computed below `base`, such as
+/// Reads a stored document: JSON with the value that [`stored_text`] writes. Spaces, escape sequences
+/// and the order of keys may differ. `meta.location`, which isn't stored, is computed below `base`, such as
 /// `http://127.0.0.1:8080`.
 ///
-/// Fails with Damaged if the text isn't such a document. Faults are keys that are spelled in another way or
-/// aren't stored, null, empty lists and objects, values of another type, moments that aren't as printed, and
-/// cells that don't make up a resource.
+/// Fails with `Damaged` if the text isn't a stored document: for example, because it contains keys that are
+/// spelled differently or aren't stored, null, empty lists or objects, values of a wrong type, moments
+/// in another form than the printed one, or cells that don't form a resource.
 pub fn read_stored(alloc: Global, base: &str, text: &str) -> Result<Resource, Failed<Damaged>>
     ensures { UnlessMemory (GivesStored base.now text.now) result }
 {
@@ -45,9 +45,9 @@ pub fn read_stored(alloc: Global, base: &str, text: &str) -> Result<Resource, Fa
     }
 }
 
-/// Reads a stored document in any spelling.
+/// Reads a stored document with any spaces, escape sequences and order of keys.
 ///
-/// Fails as [`read_stored`] does.
+/// Fails with `Damaged` if the text isn't the stored document of a resource below the base.
 pub(crate) fn read_spelled(
     alloc: Global,
     base: &str,
@@ -59,7 +59,7 @@ pub(crate) fn read_spelled(
     read_document(alloc, base, &value)
 }
 
-/// Parses the JSON value of a text (RFC 8259). Fails with Damaged if the text isn't JSON.
+/// Parses the JSON value of a text (RFC 8259). Fails with `Damaged` if the text isn't JSON.
 pub(crate) fn parse(alloc: Global, text: &str) -> Result<Value, Failed<Damaged>>
     ensures value { IfOk result (λ v. read text.now ≡ Some (view v)) }
     ensures nests { IfOk result (λ v. depth (view v) ≤ max_depth) }
@@ -77,9 +77,9 @@ pub(crate) fn parse(alloc: Global, text: &str) -> Result<Value, Failed<Damaged>>
     }
 }
 
-/// Returns the resource whose stored document has this JSON value.
+/// Returns the resource below the base whose stored document has this JSON value.
 ///
-/// Fails as [`read_stored`] does.
+/// Fails with `Damaged` if there is no such resource.
 pub(crate) fn read_document(
     alloc: Global,
     base: &str,
@@ -97,7 +97,7 @@ pub(crate) fn read_document(
     }
 }
 
-/// Whether the resource is stored as this value.
+/// Whether the value is the stored JSON of the resource.
 fn is_kept_of(alloc: Global, resource: &Resource, value: &Value) -> Result<bool, NoMemory>
     requires { depth (view value.now) ≤ max_depth }
     ensures { IfOk result (λ b. IsTrue b ↔ (view value.now ≡ stored_data resource.now)) }
@@ -107,8 +107,8 @@ fn is_kept_of(alloc: Global, resource: &Resource, value: &Value) -> Result<bool,
     Ok(kept.as_str() == written.as_str())
 }
 
-/// Returns the only resource below the base that may be stored as this value. Fails with Damaged if there is
-/// none.
+/// Returns the only resource below the base whose stored JSON can be this value. Fails with `Damaged` if
+/// there is none. The caller must still check that the value is the stored JSON of the resource.
 fn resource_in(alloc: Global, base: &str, value: &Value) -> Result<Resource, Failed<Damaged>>
     ensures below { IfOk result (HasBase base.now) }
     ensures only { IfOk result
@@ -128,7 +128,7 @@ fn resource_in(alloc: Global, base: &str, value: &Value) -> Result<Resource, Fai
     }
 }
 
-/// The kind that `meta.resourceType` names.
+/// The kind that `meta.resourceType` names, or `None` if it names none.
 fn kind_in(value: &Value) -> Option<Kind>
     ensures { (kind : Kind) → (result ≡ Some kind)
         ↔ (spec.resource_type_in (view value.now) ≡ Some (kind_name kind)) }
@@ -137,7 +137,7 @@ fn kind_in(value: &Value) -> Option<Kind>
     Kind::named(meta.get(SubAttribute::ResourceType.name())?.as_str()?)
 }
 
-/// The id whose text is at `id`.
+/// The id whose text is the value of `id`, or `None` if there is none.
 fn id_in(value: &Value) -> Option<Id>
     ensures { (id : List ℕ) → IsId id → (result ≡ Some id)
         ↔ (spec.id_in (view value.now) ≡ Some (id_text id)) }
@@ -145,7 +145,8 @@ fn id_in(value: &Value) -> Option<Id>
     Id::read(attribute_in(value, Attribute::Id)?.as_str()?)
 }
 
-/// The part with the cells in the value and `meta.location`, which comes after all others.
+/// Makes a part from the cells in the value, followed by the cell of `meta.location`. Fails with
+/// `Damaged` if these aren't the cells of a part in order of place.
 #[tactic(auto, unfolding(crate::specs::Found::found_cells))]
 fn part_in(
     alloc: Global,
@@ -194,7 +195,7 @@ fn read_attributes(
     Ok(())
 }
 
-/// The value of an attribute, in the object of the resource or in that of its extension.
+/// The value of an attribute, in the object of the resource or in the object of the attribute's extension.
 fn attribute_in(value: &Value, attribute: Attribute) -> Option<&Value>
     ensures { option_map (λ v. view v.now) result ≡ spec.attribute_in attribute (view value.now) }
 {
@@ -268,7 +269,7 @@ fn read_object(
     Ok(())
 }
 
-/// Appends the cell of a leaf, unless the value isn't of its type.
+/// Appends the cell of a leaf, if the value has the type of the leaf.
 fn read_cell(
     alloc: Global,
     value: &Value,

@@ -26,10 +26,10 @@ use serde_json::Value;
 use std::alloc::Global;
 use std::collections::HashSet;
 
-/// The maximal nesting of an item, one level less than that of the whole text.
+/// The maximum nesting depth of an item, one less than the maximum depth of the whole text.
 const ITEM_DEPTH: usize = 126;
 
-/// The ids and unique names of the resources read so far, which no later one may have.
+/// The ids and unique names of the resources read so far. No later resource may repeat one of them.
 #[derive(Drop)]
 struct Taken {
     ids: HashSet<Id>,
@@ -37,11 +37,12 @@ struct Taken {
 }
 
 /// Reads a users file: a JSON list of stored documents of resources below `base`. Returns the
-/// resources in the order of the list. No two may have the same id or share a unique name such as
+/// resources in the order of the list. No two resources may have the same id or share a unique name such as
 /// `userName`, which is compared without regard to case (RFC 7643 sections 2.2 and 3.1).
 ///
-/// Fails with a [`DamagedItem`]: the number, from 1, of the first item that isn't such a document or
-/// repeats the id or a unique name of an earlier one. The number is 0 if the text isn't a JSON list.
+/// Fails with [`DamagedItem`]: the number, from 1, of the first item that isn't the stored document of a
+/// resource below `base` or repeats the id or a unique name of an earlier item. The number is 0 if the
+/// text isn't a JSON list.
 pub fn read_documents(
     alloc: Global,
     base: &str,
@@ -56,8 +57,8 @@ pub fn read_documents(
     }
 }
 
-/// Reads a users file item by item, so that the JSON values of only one item are in memory beside
-/// the resources. Returns None if that fails; `read_together` then reads the text again.
+/// Reads a users file item by item, so that only one item at a time is in memory as JSON values. Returns
+/// `None` if this fails; the caller then reads the text again by `read_together`.
 fn read_one_by_one(alloc: Global, base: &str, text: &str) -> Result<Option<Vec<Resource>>, NoMemory>
     ensures { IfOk result (λ found. IfSome found (λ v. IsDocumentsText base.now text.now v.items)) }
 {
@@ -73,8 +74,8 @@ fn read_one_by_one(alloc: Global, base: &str, text: &str) -> Result<Option<Vec<R
     Ok(resources)
 }
 
-/// Reads the remaining items up to the end of the list. Returns None if one isn't a document, or
-/// repeats an id or a unique name.
+/// Reads the remaining items up to the end of the list. Returns `None` if an item isn't the stored
+/// document of a resource below the base, or repeats an id or a unique name.
 fn read_listed(
     alloc: Global,
     base: &str,
@@ -97,7 +98,7 @@ fn read_listed(
     Ok(Some(resources))
 }
 
-/// Reads the next item. Returns None if it isn't the stored document of a resource below the base.
+/// Reads the next item. Returns `None` if it isn't the stored document of a resource below the base.
 fn read_next(
     alloc: Global,
     base: &str,
@@ -113,7 +114,7 @@ fn read_next(
     }
 }
 
-/// Returns the resource whose stored document the item is, or None.
+/// Returns the resource below the base whose stored document is this item, or `None` if there is none.
 fn read_item(
     alloc: Global,
     base: &str,
@@ -128,7 +129,8 @@ fn read_item(
     read_printed(alloc, base, item, text.as_str())
 }
 
-/// Returns the resource whose stored document the item is, or None. `text` is the text of the item.
+/// Returns the resource below the base whose stored document is this item, or `None` if there is none.
+/// `text` is the JSON text of the item.
 fn read_printed(
     alloc: Global,
     base: &str,
@@ -147,10 +149,10 @@ fn read_printed(
     }
 }
 
-/// Reads a users file as [`read_documents`], but parses the whole text first. So it can tell
+/// Reads a users file like [`read_documents`], but parses the whole text first. So it can determine
 /// whether a text with a damaged item is a JSON list at all.
 ///
-/// The errors are those of [`read_documents`].
+/// Fails with the same errors as [`read_documents`].
 fn read_together(
     alloc: Global,
     base: &str,
@@ -172,7 +174,8 @@ fn read_together(
 
 /// Reads the items of a users file.
 ///
-/// The errors are those of [`read_documents`], with a number from 1.
+/// Fails with [`DamagedItem`]: the number, from 1, of the first item that isn't the stored document of a
+/// resource below `base` or repeats the id or a unique name of an earlier item.
 fn read_items(
     alloc: Global,
     base: &str,
@@ -203,7 +206,7 @@ fn read_items(
 }
 
 impl Taken {
-    /// No ids and no names.
+    /// Returns a record without ids and names.
     fn new(alloc: Global) -> Taken
         ensures { Records result [] }
     {
@@ -213,10 +216,10 @@ impl Taken {
         }
     }
 
-    /// Adds the id and the unique names of a resource. Returns whether all of them were free.
+    /// Adds the id and the unique names of a resource. Returns whether all of them were new.
     ///
-    /// After `false` or NoMemory, some of them may have been added, so the set is of no further
-    /// use.
+    /// If it returns `false` or memory runs out, some of them may have been added, so the record must
+    /// not be used again.
     fn add(&mut self, alloc: Global, resource: &Resource) -> Result<bool, NoMemory>
         ensures free { (cs : List Content) → Records self.old cs → IfOk result (λ free. IsTrue free
             → Records self.new (cs ++ resource.now ∷ []) × All (λ b. AreApart b resource.now) cs) }

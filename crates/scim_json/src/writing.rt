@@ -1,6 +1,6 @@
 //! Writes a part as JSON, token by token (RFC 7643 sections 2.3, 3 and 8).
 //!
-//! After NoMemory the private functions leave an unfinished text in `out`, which their caller
+//! If memory runs out, the private functions leave an unfinished text in `out`, which their caller
 //! drops.
 ghost use Rattle.std.specs.Prelude.{◌≡◌, ◌∷◌, filter, IfOk, OnOk, string_bytes, Some, option_map, is_some};
 ghost use Rattle.std.specs.List.{list_any};
@@ -38,8 +38,8 @@ pub fn to_json(alloc: Global, part: &Part) -> Result<String, NoMemory>
     text_of(alloc, part, JsonForm::Shown)
 }
 
-/// Returns the stored JSON text of a resource: that of [`to_json`] without `schemas`, `groups` and
-/// `meta.location`, which are computed from the rest. serde_json reads it back as the value that it
+/// Returns the stored JSON text of a resource: the text of [`to_json`] without `schemas`, `groups` and
+/// `meta.location`, which the server computes. serde_json reads it back as the value that it
 /// was written from.
 #[tactic(auto, unfolding(crate::specs::PartData::stored_data))]
 pub fn stored_text(alloc: Global, resource: &Resource) -> Result<String, NoMemory>
@@ -61,7 +61,7 @@ fn text_of(alloc: Global, part: &Part, form: JsonForm) -> Result<String, NoMemor
     Ok(unsafe { String::from_utf8_unchecked(out.into_inner()) })
 }
 
-/// Writes the object of a part. After NoMemory `out` has an unfinished text.
+/// Writes the object of a part. If memory runs out, `out` contains an unfinished text.
 #[tactic(auto, unfolding(crate::specs::PartData::data_of))]
 pub(crate) fn write_part(
     alloc: Global,
@@ -129,7 +129,7 @@ fn write_schemas(
     write_urns(out, part, core, extensions)
 }
 
-/// Writes the array of schema URNs: that of the core schema, then that of each extension that has cells.
+/// Writes the array of schema URNs: the core schema, then each extension that has cells in the part.
 fn write_urns(
     out: &mut Writer,
     part: &Part,
@@ -160,7 +160,7 @@ fn has_extension(part: &Part, schema: Schema) -> bool
         .any(|row| extension_of(row.unit().attribute) == Some(schema))
 }
 
-/// Writes the member of an extension, if it has a cell.
+/// Writes the member of an extension, if the part has a cell of one of its attributes.
 #[tactic(auto, unfolding(crate::specs::PartData::extension_data))]
 fn write_extension(
     alloc: Global,
@@ -225,7 +225,8 @@ fn write_attribute(
     }
 }
 
-/// The atom of a leaf of a single-valued attribute, among the rows of the attribute.
+/// The atom at a leaf of a single-valued attribute, given the rows of the attribute. `None` if there is no
+/// such cell.
 fn single_atom(own: &[Row], leaf: Leaf) -> Option<&Atom>
     ensures { option_copied result ≡ cell_at leaf 0 own.now }
 {

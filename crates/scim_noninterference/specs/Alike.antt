@@ -14,12 +14,14 @@ use Rattle.scim_shelf.specs.Stores.{has_name}
 abbrev pub is_in_use : List Content → Name → Bool
 is_in_use cs name = list_any (has_name name) cs
 
--- A viewer's view of all resources of a store, with the groups that it sees of each user.
+-- All resources of a store that the viewer sees, each with only the values that the viewer sees, and each
+-- user with the groups that the viewer sees of it.
 abbrev pub whole_view : Viewer → List Content → List Content
 whole_view v cs = views v (of_kind Group cs) cs
 
--- Two stores are alike for a viewer if its views of them are the same, the values of the resources that it
--- sees on which decisions or uniqueness rest are the same, and the same unique names are in use.
+-- Two stores are alike for a viewer if it sees the same in both, the same unique names are in use, and the
+-- resources that it sees have the same control: the values that the policy's targets name or that must be
+-- unique.
 pub record IsAlike (v : Viewer) (s t : List Content) : Type 0 where
   pub same_view : whole_view v s ≡ whole_view v t
   pub same_control : map (control v.policy) (filter (sees v) s) ≡ map (control v.policy) (filter (sees v) t)

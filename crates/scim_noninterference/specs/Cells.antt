@@ -6,8 +6,8 @@ use Rattle.scim_cell.specs.Rows.{rows, cell_at}
 use Rattle.scim_policy.specs.Control.{is_named_in, is_unique}
 use Rattle.scim_view.specs.View.{Viewer, may_read}
 
--- At a leaf and a position the resource is unchanged, or the viewer may not read the leaf there, no target of
--- the policy names its attribute, and its values needn't be unique.
+-- The cell at this leaf and position is unchanged; or the viewer may not read the leaf in the old resource,
+-- no target of the policy names the leaf's attribute, and the values of the attribute needn't be unique.
 abbrev pub IsHiddenAt : Viewer → Content → Content → Leaf → ℕ → Type 0
 IsHiddenAt v old new l k =
     (cell_at l k (rows old) ≡ cell_at l k (rows new))

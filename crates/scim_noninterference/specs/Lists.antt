@@ -28,8 +28,8 @@ replies_to policy base client store [] = []
 replies_to policy base client store (turn ∷ more) =
     (if is_of client turn then (plan policy base turn store).reply ∷ [] else []) ++ replies_to policy base client (next_store policy base turn store) more
 
--- Each turn is valid, and if it is the client's and creates a resource, the id for it is unused at that
--- point.
+-- Each turn is valid. If a turn is the client's and creates a resource, the id for the new resource is unused
+-- before the turn.
 abbrev pub AreTurns : List Rule → List ℕ → List ℕ → Store → List Turn → Type 0
 AreTurns policy base client store [] = ⊤
 AreTurns policy base client store (turn ∷ more) =
@@ -37,8 +37,8 @@ AreTurns policy base client store (turn ∷ more) =
 
 -- ---- two lists with the same turns of a client
 
--- One turn of the client, `own`, and the turns of other clients just before it: `first` in the first list, `second` in
--- the second list.
+-- One turn of the client, `own`, and the turns of other clients just before it: `first` in the first list,
+-- `second` in the second list.
 pub record Round : Type 0 where
   pub first : List Turn
   pub second : List Turn
@@ -58,14 +58,14 @@ second_list rounds last = flat_map (λ (r : Round). r.second ++ r.own ∷ []) ro
 abbrev pub AreOthers : List ℕ → List Turn → Type 0
 AreOthers client turns = All (λ turn. is_of client turn ≡ false) turns
 
--- A round has one turn of the client, and only turns of others before it.
+-- A round has one turn of the client, and only turns of other clients before it.
 pub record IsRound (client : List ℕ) (r : Round) : Type 0 where
   pub own : is_of client r.own ≡ true
   pub first : AreOthers client r.first
   pub second : AreOthers client r.second
 
--- The turns of other clients keep the two stores alike for the viewer: at each point where others have turns, if the
--- stores of the two lists are alike before these turns, they are alike after them.
+-- The turns of other clients keep the two stores alike for the viewer: at each point where other clients have
+-- turns, if the stores of the two lists are alike before these turns, they are alike after them.
 abbrev pub LeadAlike : Viewer → Store → Store → List Round → List Turn → List Turn → Type 0
 LeadAlike v s t [] first second = IsAlike v s.resources t.resources → IsAlike v (run v.policy v.base s first).resources (run v.policy v.base t second).resources
 LeadAlike v s t (r ∷ rounds) first second =
@@ -74,8 +74,8 @@ LeadAlike v s t (r ∷ rounds) first second =
 
 -- ---- changes that are quiet for a client
 
--- One resource is created, changed or removed that the viewer sees neither before nor after, and the same
--- unique names stay in use.
+-- One resource is created, changed or removed. The viewer sees it neither before nor after, and the unique
+-- names in use are the same before and after.
 pub record IsUnseen (v : Viewer) (before after : List Content) : Type 0 where
   pub id : List ℕ
   pub others : without id before ≡ without id after
@@ -83,8 +83,8 @@ pub record IsUnseen (v : Viewer) (before after : List Content) : Type 0 where
   pub unseen_after : All (λ c. c.id ≡ id → sees v c ≡ false) after
   pub names : (name : Name) → is_in_use before name ≡ is_in_use after name
 
--- One resource is changed so that what the viewer sees of it and the values on which decisions or uniqueness
--- rest stay the same.
+-- One resource is changed. What the viewer sees of it is unchanged, and so are its values that the policy's
+-- targets name or that must be unique.
 pub record IsHidden (v : Viewer) (before after : List Content) : Type 0 where
   pub old : Content
   pub new : Content
@@ -95,12 +95,12 @@ pub record IsHidden (v : Viewer) (before after : List Content) : Type 0 where
   pub same_visible : visible v old ≡ visible v new
   pub same_control : control v.policy old ≡ control v.policy new
 
--- A change is quiet for a viewer: it is none, or of a resource that the viewer doesn't see, or of a part that
--- the viewer doesn't see.
+-- A change is quiet for a viewer: nothing changes, or a resource changes that the viewer doesn't see
+-- (`IsUnseen`), or only those values of a resource change that the viewer doesn't see (`IsHidden`).
 abbrev pub IsQuiet : Viewer → List Content → List Content → Type 0
 IsQuiet v before after = (before ≡ after) ⊎ (IsUnseen v before after ⊎ IsHidden v before after)
 
--- At each turn of others, its change is quiet for the viewer.
+-- The change of each turn of another client is quiet for the viewer.
 abbrev pub AreQuiet : Viewer → Store → List Turn → Type 0
 AreQuiet v store [] = ⊤
 AreQuiet v store (turn ∷ more) =

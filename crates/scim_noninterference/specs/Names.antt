@@ -19,29 +19,31 @@ abbrev pub has_name_if : Name → Option Content → Bool
 has_name_if name None = false
 has_name_if name (Some c) = has_name name c
 
--- Whether a unique name is in use after a change, by whether it was before. A resource that is stored brings
--- its names, and `old`, which it replaces or which is removed, takes its own away.
+-- Whether a unique name is in use after a change, where `before` tells whether it was in use before. The
+-- change first frees the names of `old`, the resource that it replaces or removes, and then adds the names of
+-- the resource that it stores.
 abbrev pub in_use_after : Change → Option Content → Name → Bool → Bool
 in_use_after Nothing old name before = before
 in_use_after (Keep c) old name before = has_name name c || (before && not (has_name_if name old))
 in_use_after (Remove kind id) old name before = before && not (has_name_if name old)
 
--- The unique names in use after a turn follow from those in use before and from those of the resource that it
--- changes, before and after.
+-- The unique names in use after a turn depend only on the names in use before the turn, and on the names of
+-- the resource that it changes, before and after the change.
 abbrev pub NamesAfterTurns : Type 0
 NamesAfterTurns =
     (policy : List Rule) (base : List ℕ) (turn : Turn) (store : Store) (old : Option Content) (name : Name)
     → IsStore base store → IsOld store.resources (plan policy base turn store).change old
     → is_in_use (next_store policy base turn store).resources name ≡ in_use_after (plan policy base turn store).change old name (is_in_use store.resources name)
 
--- The unique names of a resource follow from its kind and its control.
+-- The unique names of a resource depend only on its kind and its control: the values that the policy's
+-- targets name or that must be unique.
 abbrev pub NamesRestOnControl : Type 0
 NamesRestOnControl =
     (policy : List Rule) (a b : Content) → IsResource a → IsResource b
     → a.kind ≡ b.kind → control policy a ≡ control policy b → unique_names a ≡ unique_names b
 
--- The control of a changed resource follows from that before and from the values of the units that the change
--- writes.
+-- The control of a changed resource depends only on its kind, its control before the change, the new values
+-- of the units that the change writes, and whether and when it changed.
 abbrev pub ControlRestsOnUnits : Type 0
 ControlRestsOnUnits =
     (policy : List Rule) (us : List AttributeUnit) (changed : Bool) (moment : ℕ) (a b x y : Content)

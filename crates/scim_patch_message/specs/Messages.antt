@@ -30,12 +30,12 @@ abbrev pub is_nothing : Option Meant → Bool
 is_nothing (Some meant.Nothing) = true
 is_nothing _ = false
 
--- whether a key is the path of an attribute that the kind lacks, as `schemas` is
+-- whether a key is the path of an attribute that the kind lacks, such as `schemas`
 abbrev pub names_nothing : Kind → List ℕ → Bool
 names_nothing kind key = is_nothing (option_map (λ (p : FilterPath). p.meant) (path_in kind key))
 
--- the steps at one key: none if its target is readOnly or the kind lacks its attribute, otherwise Path if it
--- isn't a path
+-- the steps at one key: none if its target is readOnly or the kind lacks its attribute; the error `Path` if
+-- it isn't a path
 abbrev pub key_steps : Kind → Operation → List ℕ → Data → Result PathTarget PathFault → Read
 key_steps kind op key d (Ok target) = if is_fixed_target kind target then Ok [] else target_steps kind op target (present (Some d))
 key_steps kind op key d (Err f) = if names_nothing kind key then Ok [] else Err Path
@@ -57,7 +57,7 @@ pathless_steps kind Replace v = object_steps kind Replace (option_and_then as_ob
 
 -- ---- one operation
 
--- the steps of an operation at a target; an add or replace needs a value, which may be null
+-- the steps of an operation at a target; the error `Value` if an add or replace has no value, not even null
 abbrev pub valued_steps : Kind → Operation → PathTarget → Option Data → Read
 valued_steps kind Remove target v = target_steps kind Remove target (present v)
 valued_steps kind Add target None = Err Value
@@ -71,7 +71,7 @@ abbrev pub pathed_steps : Kind → Operation → Option Data → Result PathTarg
 pathed_steps kind op v (Err f) = Err Path
 pathed_steps kind op v (Ok target) = valued_steps kind op target v
 
--- the steps of an operation whose path is this text; the error `Path` if the path isn't a text
+-- the steps of an operation that has this text as its path; the error `Path` if the path isn't a text
 abbrev pub text_steps : Kind → Operation → Option Data → Option (List ℕ) → Read
 text_steps kind op v None = Err Path
 text_steps kind op v (Some text) = pathed_steps kind op v (target_in kind text)
@@ -91,7 +91,7 @@ operation_name Remove = codes "remove"
 abbrev pub operation_named : List ℕ → Option Operation
 operation_named name = find (λ op. is_same_name (operation_name op) name) (Add ∷ Replace ∷ Remove ∷ [])
 
--- the steps of an operation's object with this operation; the error `Syntax` if there is none
+-- the steps of this operation, from the members of its object; the error `Syntax` if there is no operation
 abbrev pub named_steps : Kind → Members → Option Operation → Read
 named_steps kind ms None = Err Syntax
 named_steps kind ms (Some op) = path_steps kind op (value_named (codes "value") ms) (given_named (codes "path") ms)
@@ -104,7 +104,8 @@ keys_clash ms = list_any (λ key. is_twice key ms) (codes "op" ∷ codes "path" 
 abbrev pub member_operation : Members → Option Operation
 member_operation ms = option_and_then operation_named (option_and_then as_str (value_named (codes "op") ms))
 
--- the steps of an operation's object; the error `Syntax` if it isn't an object or its keys clash
+-- the steps of an operation's object; the error `Syntax` if it isn't an object or has `op`, `path` or
+-- `value` in two spellings
 abbrev pub object_operation : Kind → Option Members → Read
 object_operation kind None = Err Syntax
 object_operation kind (Some ms) = if keys_clash ms then Err Syntax else named_steps kind ms (member_operation ms)
@@ -115,7 +116,7 @@ operation_steps kind d = object_operation kind (as_object d)
 
 -- ---- the message
 
--- the fault Value if there are over 1,000 operations
+-- no steps, or the error `Value` if there are over 1,000 operations
 abbrev pub if_few : List Data → Read
 if_few ds = if nat_lt MOST_OPERATIONS (length ds) then Err Value else Ok []
 

@@ -35,8 +35,8 @@ use Rattle.scim_patch_message.specs.declared.faults.PatchFault.TheVariants.{Valu
 use Rattle.scim_patch_message.specs.Readings.{Read, joined, each_member, value_read}
 
 -- Throughout this file a value is None if it is missing, null or `[]` (RFC 7643 section 2.5).
--- A replace without a value is a remove. An add without a value changes nothing: at one unit it is a step that
--- keeps it; at a complex attribute or an extension it gives no sub-attribute and no attribute, so it is no step.
+-- A replace without a value is a remove. An add without a value changes nothing: at one unit it is a step
+-- that keeps the unit; at a single-valued complex attribute or an extension it has no steps.
 
 -- the list of one step
 abbrev pub one : AttributeUnit → StepChange → List Step
@@ -44,7 +44,7 @@ one u change = Of u change ∷ []
 
 -- ---- a whole attribute
 
--- the steps that keep an attribute of a shape as it is: one at its unit, or none if it is complex
+-- the steps that keep an attribute of this shape as it is: one at its unit, or none if the shape is complex
 abbrev pub kept_steps : Attribute → JsonShape → List Step
 kept_steps a Simple = one (whole a) Keep
 kept_steps a Complex = []
@@ -86,13 +86,14 @@ abbrev pub value_text : Attribute → Row → List (List ℕ)
 value_text a r = text_in (atom_in (leaf_at a sub_attribute.Value) r.fields)
 
 -- the change of an operation with values at a multi-valued attribute: an add appends them, a replace sets
--- them, and a remove lists by their `value` those to remove
+-- them, and a remove removes the values that have the same `value`
 abbrev pub listed_change : Operation → Attribute → List Row → StepChange
 listed_change Remove a vs = RemoveListed (flat_map (value_text a) vs)
 listed_change Add a vs = Append vs
 listed_change Replace a vs = ReplaceAll vs
 
--- the steps read from a value of the attribute: Syntax if its keys clash, Value if it is wrong
+-- the steps read from a value of the attribute; the error `Syntax` if two of its keys name one
+-- sub-attribute, otherwise the error `Value` if it is wrong
 abbrev pub value_read_of : Attribute → Data → Option (List Step) → Read
 value_read_of a d steps = value_read (values_clash a d) steps
 
@@ -115,14 +116,14 @@ abbrev pub writable_steps : Kind → Operation → Attribute → Option Data →
 writable_steps kind op a None = emptied kind op a
 writable_steps kind op a (Some d) = given_steps kind op a d
 
--- the steps of an operation at an attribute; the value for a readOnly one isn't read, and its step is refused
--- when applied
+-- the steps of an operation at an attribute; the value for a readOnly attribute isn't read, and its step, if
+-- it has one, is refused when applied
 unfoldable pub attribute_steps : Kind → Operation → Attribute → Option Data → Read
 attribute_steps kind op a v = if is_read_only kind (simple a) then Ok (kept_steps a (shape_of a)) else writable_steps kind op a v
 
 -- ---- a sub-attribute, of one value or of each
 
--- the change that adds nothing to a sub-attribute
+-- the change that keeps a sub-attribute as it is
 abbrev pub sub_attribute_kept : Attribute → SubAttribute → StepChange
 sub_attribute_kept a b = if is_multi_valued a then KeepSubAttribute b else Keep
 
@@ -158,65 +159,69 @@ sub_attribute_steps kind op a b v =
 
 -- ---- the values that match a filter
 
--- the change of an operation without a value at the matches
+-- the change of an operation without a value at the values that match a filter
 abbrev pub matches_emptied : Operation → Tree → StepChange
 matches_emptied Add t = KeepMatches t
 matches_emptied Replace t = RemoveMatches t
 matches_emptied Remove t = RemoveMatches t
 
--- the change that sets fields of the matches, or replaces all their fields
+-- the change that replaces each value that matches a filter, if the Bool is true, or otherwise sets these
+-- fields in it
 abbrev pub matches_change : Bool → Tree → List Field → StepChange
 matches_change false t fs = AddToMatches t fs
 matches_change true t fs = ReplaceMatches t fs
 
--- the steps that set the matches by a single value; a list is a wrong value
+-- the steps that set the values that match a filter to a single value, or add its fields to them; the error
+-- `Value` if the single value is wrong or a list
 abbrev pub matches_set : Kind → Bool → Attribute → Tree → Data → Read
 matches_set kind replaces a t d = value_read (value_clashes a d) (option_map (λ fs. one (whole a) (matches_change replaces t fs)) (fields_of kind a d))
 
--- the steps of an operation with a value at the matches
+-- the steps of an operation with a value at the values that match a filter
 abbrev pub matches_given : Kind → Operation → Attribute → Tree → Data → Read
 matches_given kind Add a t d = matches_set kind false a t d
 matches_given kind Replace a t d = matches_set kind true a t d
 matches_given kind Remove a t d = Ok (one (whole a) (RemoveMatches t))
 
--- the steps of an operation at the matches in an attribute that isn't readOnly
+-- the steps of an operation at the values that match a filter, in an attribute that isn't readOnly
 abbrev pub writable_matches_steps : Kind → Operation → Attribute → Tree → Option Data → Read
 writable_matches_steps kind op a t None = Ok (one (whole a) (matches_emptied op t))
 writable_matches_steps kind op a t (Some d) = matches_given kind op a t d
 
--- the steps of an operation at the matches
+-- the steps of an operation at the values that match a filter
 unfoldable pub matches_steps : Kind → Operation → Attribute → Tree → Option Data → Read
 matches_steps kind op a t v = if is_read_only kind (simple a) then Ok (one (whole a) Keep) else writable_matches_steps kind op a t v
 
 -- ---- a sub-attribute of the values that match a filter
 
--- the change of an operation without a value at a sub-attribute of the matches
+-- the change of an operation without a value at a sub-attribute of the values that match a filter
 abbrev pub at_matches_emptied : Operation → Tree → SubAttribute → StepChange
 at_matches_emptied Add t b = KeepSubAttribute b
 at_matches_emptied Replace t b = ClearAtMatches t b
 at_matches_emptied Remove t b = ClearAtMatches t b
 
--- the change that adds or replaces a sub-attribute of the matches
+-- the change that replaces a sub-attribute of the values that match a filter, if the Bool is true, or
+-- otherwise adds it
 abbrev pub at_matches_change : Bool → Tree → Field → StepChange
 at_matches_change false t f = AddAtMatches t f
 at_matches_change true t f = SetAtMatches t f
 
--- the steps that set a sub-attribute of the matches by a value
+-- the steps that set a sub-attribute of the values that match a filter; the error `Value` if the value given
+-- for it is wrong
 abbrev pub at_matches_set : Kind → Bool → Attribute → Tree → SubAttribute → Data → Read
 at_matches_set kind replaces a t b d = value_read false (option_map (map (λ f. Of (whole a) (at_matches_change replaces t f))) (field_with kind a b d))
 
--- the steps of an operation with a value at a sub-attribute of the matches
+-- the steps of an operation with a value at a sub-attribute of the values that match a filter
 abbrev pub at_matches_given : Kind → Operation → Attribute → Tree → SubAttribute → Data → Read
 at_matches_given kind Add a t b d = at_matches_set kind false a t b d
 at_matches_given kind Replace a t b d = at_matches_set kind true a t b d
 at_matches_given kind Remove a t b d = Ok (one (whole a) (ClearAtMatches t b))
 
--- the steps of an operation at a sub-attribute of the matches that isn't readOnly
+-- the steps of an operation at a sub-attribute that isn't readOnly, of the values that match a filter
 abbrev pub writable_at_matches_steps : Kind → Operation → Attribute → Tree → SubAttribute → Option Data → Read
 writable_at_matches_steps kind op a t b None = Ok (one (whole a) (at_matches_emptied op t b))
 writable_at_matches_steps kind op a t b (Some d) = at_matches_given kind op a t b d
 
--- the steps of an operation at a sub-attribute of the matches
+-- the steps of an operation at a sub-attribute of the values that match a filter
 unfoldable pub at_matches_steps : Kind → Operation → Attribute → Tree → SubAttribute → Option Data → Read
 at_matches_steps kind op a t b v = if is_read_only kind (leaf_at a b) then Ok (one (whole a) (KeepSubAttribute b)) else writable_at_matches_steps kind op a t b v
 
@@ -236,7 +241,7 @@ extension_emptied kind Add s = Ok []
 extension_emptied kind Replace s = extension_removed kind s
 extension_emptied kind Remove s = extension_removed kind s
 
--- the steps at the attribute that a key of an extension's object names; none if it names none
+-- the steps at the attribute that a key of an extension's object names; no steps if it names none
 abbrev pub attribute_or_none : Kind → Operation → Option Attribute → Data → Read
 attribute_or_none kind op None d = Ok []
 attribute_or_none kind op (Some a) d = attribute_steps kind op a (present (Some d))
@@ -263,7 +268,8 @@ extension_steps kind op s (Some d) = extension_given kind op s d
 
 -- ---- the target of any path
 
--- the steps of an operation at the matches of a value path, or at a sub-attribute of them
+-- the steps of an operation at the values that match the filter of a value path, or at a sub-attribute of
+-- these values
 abbrev pub values_steps : Kind → Operation → Attribute → Tree → Option SubAttribute → Option Data → Read
 values_steps kind op a t None v = matches_steps kind op a t v
 values_steps kind op a t (Some b) v = at_matches_steps kind op a t b v

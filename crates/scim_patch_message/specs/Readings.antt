@@ -10,7 +10,7 @@ use Rattle.scim_patch_message.specs.declared.faults.PatchFault.TheVariants.{Synt
 abbrev pub Read : Type 0
 Read = Result (List Step) PatchFault
 
--- the fault of higher priority: Syntax before Path before Value
+-- the fault of higher priority: `Syntax` before `Path` before `Value`
 abbrev pub first_of : PatchFault → PatchFault → PatchFault
 first_of Syntax f = Syntax
 first_of Path Syntax = Syntax
@@ -35,6 +35,7 @@ abbrev pub each_member : (List ℕ → Data → Read) → Members → Read
 each_member read no_members = Ok []
 each_member read (member k d ms) = both (read k d) (each_member read ms)
 
--- the steps of a value: Syntax if two of its keys name one sub-attribute, otherwise Value if it is wrong
+-- the steps of a value; the error `Syntax` if two of its keys name one sub-attribute, otherwise the error
+-- `Value` if it is wrong
 abbrev pub value_read : Bool → Option (List Step) → Read
 value_read clashes steps = if clashes then Err Syntax else ok_or steps Value

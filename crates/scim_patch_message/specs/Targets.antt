@@ -11,24 +11,24 @@ use Rattle.scim_path.specs.declared.faults.PathFault.{PathFault}
 use Rattle.scim_path.specs.declared.faults.PathFault.TheVariants as fault
 use Rattle.scim_path.specs.Paths.{PathTarget, OfExtension, extension_named, written_target, Names}
 
--- the path that a text spells, within 4,096 bytes and 32 open brackets; None if it spells none
+-- the path that the text spells; None if it spells none, has over 4,096 bytes, or nests over 32 brackets
 abbrev pub written_in : Kind → List ℕ → Option Written
 written_in kind text = if nat_le (length text) LONGEST_FILTER then result_ok (written_at 32 kind (behind is_space text)) else None
 
--- the target of a spelled path; the fault Syntax if there is none
+-- the target of a path; the fault `Syntax` if there is no path
 abbrev pub spelled_target : Option Written → Result PathTarget PathFault
 spelled_target None = Err fault.Syntax
 spelled_target (Some w) = written_target w
 
--- the target: the extension if its URN is the whole text, otherwise that of the spelled path
+-- the target: the extension if its URN is the whole text, otherwise the target of the path
 abbrev pub target_with : Option Schema → Option Written → Result PathTarget PathFault
 target_with (Some schema) w = Ok (OfExtension schema)
 target_with None w = spelled_target w
 
--- the target that a text names for a kind, or why it names none
+-- the target that a text names for a kind, or the fault if it names none
 unfoldable pub target_in : Kind → List ℕ → Result PathTarget PathFault
 target_in kind text = target_with (extension_named kind text) (written_in kind text)
 
--- the target of every text is the one that the grammar of paths gives it
+-- `target_in` is, for every text, the target that the grammar of paths defines for it
 abbrev pub TargetsAreNamed : Type 0
 TargetsAreNamed = (kind : Kind) (text : List ℕ) → Names kind text (target_in kind text)

@@ -5,15 +5,15 @@ use thiserror::Error;
 /// Of several faults in a message, the first in this order is reported.
 #[derive(Clone, Copy, Debug, PartialEq, Eq, Error)]
 pub enum PatchFault {
-    /// The message isn't a JSON object with a list of operations (invalidSyntax). Also the fault of two keys
-    /// of one object that spell the same name differently.
+    /// The message isn't a JSON object with a list of operations, or two keys of one object spell the same
+    /// name differently (invalidSyntax).
     #[error("not a JSON object with a list of operations whose keys are each a name of its own")]
     Syntax,
     /// A path isn't valid, or names an attribute that the kind lacks (invalidPath).
     #[error("a path is none, or names nothing")]
     Path,
-    /// A value is missing, of another type or over a limit (invalidValue). Also the fault of a message with
-    /// too many operations.
+    /// A value is missing, of another type or over a limit, or the message has over 1,000 operations
+    /// (invalidValue).
     #[error("a value is missing, of another type, or over a limit")]
     Value,
 }

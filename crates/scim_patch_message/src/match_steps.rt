@@ -1,6 +1,6 @@
 //! The steps of an operation at a sub-attribute, or at values that match a filter (RFC 7644 section 3.5.2).
-//! Each function appends the steps to the reading, or a fault. A value is None if it is null or `[]`, or
-//! missing from a remove.
+//! Each function appends the steps to the reading, or records a fault in it. A value is `None` if it is null
+//! or `[]`, or missing from a remove.
 ghost use Rattle.std.specs.Prelude.{◌≡◌, OnOk, Ok, option_map};
 ghost use Rattle.scim_body.specs.View.{view};
 ghost use Rattle.scim_filter_grammar.specs.Tree.{tree_of};
@@ -21,7 +21,7 @@ use scim_schema::{
 use scim_text::{Failed, NoMemory};
 use std::alloc::Global;
 
-/// Returns the change that adds nothing to a sub-attribute.
+/// Returns the change that keeps a sub-attribute as it is.
 fn sub_attribute_kept(attribute: Attribute, sub_attribute: SubAttribute) -> StepChange
     ensures { change_of result ≡ spec.sub_attribute_kept attribute sub_attribute }
 {
@@ -101,8 +101,8 @@ pub(crate) fn push_sub_attribute(
     }
 }
 
-/// Appends the step that sets the matches to a value, or adds to them unless `replaces`.
-/// The value must be a single one, not a list.
+/// Appends the step that replaces each value that matches the filter by `value` if `replaces`, and otherwise
+/// adds the sub-attributes of `value` to each match. A list is the fault `Value`.
 fn push_matches_given(
     alloc: Global,
     kind: Kind,
@@ -171,7 +171,7 @@ pub(crate) fn push_matches(
     }
 }
 
-/// Appends the step that sets a sub-attribute of the matches to a value.
+/// Appends the step that sets a sub-attribute to a value in each value that matches the filter.
 /// It is a replace if `replaces`, otherwise an add.
 fn push_at_matches_given(
     alloc: Global,

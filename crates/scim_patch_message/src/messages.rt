@@ -23,7 +23,8 @@ use scim_schema::{Kind, MOST_OPERATIONS};
 use scim_text::{Failed, NoMemory};
 use std::alloc::Global;
 
-/// Appends the steps of an operation at the target of a path. An add or replace without a value is a fault.
+/// Appends the steps of an operation at the target of a path. An add or replace without a value is
+/// the fault `Value`.
 fn push_valued(
     alloc: Global,
     kind: Kind,
@@ -48,7 +49,7 @@ fn push_valued(
     }
 }
 
-/// Appends the steps of an operation whose path has this text.
+/// Appends the steps of an operation that has this text as its path.
 fn push_text(
     alloc: Global,
     kind: Kind,
@@ -71,7 +72,7 @@ fn push_text(
     }
 }
 
-/// Appends the steps of this operation, with the path and value of its object.
+/// Appends the steps of this operation, with the path and value in the members of its object.
 fn push_named(
     alloc: Global,
     kind: Kind,
@@ -95,14 +96,14 @@ fn push_named(
     }
 }
 
-/// Whether a key of an operation occurs in two spellings.
+/// Whether `op`, `path` or `value` occurs in two spellings.
 fn keys_clash(members: &[Member<'_>]) -> bool
     ensures { result ≡ spec.keys_clash (members_view members.now) }
 {
     is_twice(members, "op") || is_twice(members, "path") || is_twice(members, "value")
 }
 
-/// Returns the operation that `op` names, if it names one.
+/// Returns the operation that `op` names. `None` if it names none.
 fn operation_of(members: &[Member<'_>]) -> Option<Operation>
     ensures { result ≡ spec.member_operation (members_view members.now) }
 {
@@ -110,7 +111,7 @@ fn operation_of(members: &[Member<'_>]) -> Option<Operation>
     Operation::named(name)
 }
 
-/// Appends the steps of an operation's object.
+/// Appends the steps of an operation, from the members of its object.
 fn push_object(
     alloc: Global,
     kind: Kind,
@@ -169,7 +170,7 @@ fn push_operations(
     Ok(())
 }
 
-/// Records a fault if there are too many operations.
+/// Records the fault `Value` if there are over 1,000 operations.
 fn refuse_many(items: &[Tree<'_>], reading: &mut Reading)
     ensures { read_of reading.new
         ≡ both (read_of reading.old) (spec.if_few (items_list (items_view items.now))) }
@@ -197,7 +198,7 @@ fn push_list(
     push_operations(alloc, kind, items, reading)
 }
 
-/// Appends the steps of a message's object.
+/// Appends the steps of a message, from the members of its object.
 fn push_message(
     alloc: Global,
     kind: Kind,
@@ -243,23 +244,25 @@ fn reading_of(alloc: Global, kind: Kind, text: &str) -> Result<Reading, NoMemory
 }
 
 /// Reads the patch of a PATCH message for resources of the kind (RFC 7644 section 3.5.2).
-/// Its steps are those of the operations, in their order. Keys of the message and of its operations, and the
-/// value of `op`, match in any ASCII case; other values are read as `read_body` reads them. In an operation
-/// without a path each key of the value is a path, and the operation has steps at each of them; keys with a
-/// readOnly target, and keys of attributes that the kind lacks, are ignored. An operation at the URN of an
-/// extension applies to each attribute in the value, and one at a single-valued complex attribute to each
-/// sub-attribute in the value; a remove applies to all of them. A replace by null or `[]` is a remove. An add
-/// of null or `[]` changes nothing: it has no step at an extension or a single-valued complex attribute, and
-/// otherwise a step that touches its unit. The value for a readOnly target isn't read, and its step is refused
-/// when the patch is applied.
+/// The patch has the steps of the operations, in their order. Keys of the message and of its operations, and
+/// the value of `op`, match in any ASCII case; other values are read as `read_body` reads them. In an
+/// operation without a path each key of the value is a path, and the operation has steps at each of these
+/// paths; keys with a readOnly target, and keys of attributes that the kind lacks, are ignored.
 ///
-/// The whole message is checked. Of several faults, the first in this list is returned:
+/// An operation at the URN of an extension applies to each attribute in the value. An operation at a
+/// single-valued complex attribute applies to each sub-attribute in the value. A remove applies to all
+/// attributes of the extension, or all sub-attributes. A replace by null or `[]` is a remove. An add of null
+/// or `[]` changes nothing: it has no step at an extension or a single-valued complex attribute, and
+/// otherwise a step that touches its unit. The value for a readOnly target isn't read, and its step is
+/// refused when the patch is applied; a single-valued complex attribute that is readOnly has no step.
 ///
-/// - Syntax: the message isn't a JSON object with a non-empty list of operations, an operation isn't an object
-///   with a known `op`, or two keys of one object spell the same name differently;
-/// - Path: a path isn't valid or names an attribute that the kind lacks;
-/// - Value: a value is missing, of another type, over a limit or an empty `userName`, or there are over 1,000
-///   operations.
+/// The whole message is checked. Fails with the first fault in this list that the message has:
+///
+/// - `Syntax`: the message isn't a JSON object with a non-empty list of operations, an operation isn't an
+///   object with a known `op`, or two keys of one object spell the same name differently;
+/// - `Path`: a path isn't valid or names an attribute that the kind lacks;
+/// - `Value`: a value is missing, of another type, over a limit or an empty `userName`, or there are over
+///   1,000 operations.
 pub fn read_patch(alloc: Global, kind: Kind, text: &str) -> Result<Patch, Failed<PatchFault>>
     ensures { UnlessMemory (λ r. answered r ≡ spec.patch_in kind (read text.now)) result }
 {

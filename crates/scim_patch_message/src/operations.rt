@@ -13,7 +13,7 @@ pub enum Operation {
 }
 
 impl Operation {
-    /// Returns the operation with this name, in any ASCII case.
+    /// Returns the operation with this name, in any ASCII case. `None` if there is none.
     pub(crate) fn named(name: &str) -> Option<Operation>
         ensures { result ≡ spec.operation_named name.now }
     {

@@ -1,6 +1,6 @@
 //! The steps of an operation whose path names an attribute (RFC 7644 section 3.5.2).
-//! Each function appends the steps to the reading, or a fault. A value is None if it is null or `[]`, or
-//! missing from a remove.
+//! Each function appends the steps to the reading, or records a fault in it. A value is `None` if it is null
+//! or `[]`, or missing from a remove.
 ghost use Rattle.std.specs.Prelude.{◌≡◌, ◌∷◌, [], IfOk, OnOk, Ok, map, option_map};
 ghost use Rattle.std.specs.List.{flat_map};
 ghost use Rattle.scim_body.specs.View.{view};
@@ -23,7 +23,7 @@ use scim_schema::{
 use scim_text::{Failed, NoMemory, push};
 use std::alloc::Global;
 
-/// Appends the step that keeps an attribute as it is. A complex attribute has none.
+/// Appends the step that keeps an attribute as it is, or no step if it is single-valued and complex.
 fn push_kept(attribute: Attribute, reading: &mut Reading) -> Result<(), NoMemory>
     ensures { OnOk result (read_of reading.new
         ≡ both (read_of reading.old) (Ok (spec.kept_steps attribute (shape_in attribute)))) }
@@ -134,7 +134,7 @@ fn value_texts(alloc: Global, attribute: Attribute, values: &[Row]) -> Result<Ve
     Ok(texts)
 }
 
-/// Returns the change of an operation with a list of values for a multi-valued attribute.
+/// Returns the change that an operation with a list of values makes to a multi-valued attribute.
 fn listed_change(
     alloc: Global,
     operation: Operation,
@@ -204,7 +204,8 @@ fn push_given(
 }
 
 /// Appends the steps of an operation at an attribute.
-/// The step at a readOnly attribute is refused when the patch is applied.
+/// The step at a readOnly attribute is refused when the patch is applied. A single-valued complex attribute
+/// that is readOnly has no step.
 #[tactic(auto, unfolding(crate::specs::PathSteps::attribute_steps))]
 pub(crate) fn push_attribute(
     alloc: Global,

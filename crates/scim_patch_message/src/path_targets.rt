@@ -23,16 +23,16 @@ use scim_schema::{
 use scim_text::{Failed, NoMemory};
 use std::alloc::Global;
 
-/// Returns the value, unless it is null or `[]` and so counts as missing.
+/// Returns the value. `None` if it is null or `[]`, which count as missing.
 pub(crate) fn present<'a, 'b>(value: &'a Tree<'b>) -> Option<&'a Tree<'b>>
     ensures { option_map (λ v. view v.now) result ≡ values.present (Some (view value.now)) }
 {
     if is_absent(value) { None } else { Some(value) }
 }
 
-/// Reads the path of a text, for a kind.
+/// Reads a text as a path, for a kind.
 ///
-/// Errors: those of [`read_path`].
+/// Fails as [`read_path`] does.
 pub(crate) fn target_of(alloc: Global, kind: Kind, text: &str) -> Result<Path, Failed<PathFault>>
     ensures { UnlessMemory (λ r. target_in kind text.now ≡ target_read r) result }
 {
@@ -71,7 +71,7 @@ fn push_own(
     push_attribute(alloc, kind, Operation::Remove, attribute, None, reading)
 }
 
-/// Appends the steps that remove those attributes that belong to the extension.
+/// Appends the steps that remove those of `attributes` that belong to the extension.
 fn push_all_own(
     alloc: Global,
     kind: Kind,

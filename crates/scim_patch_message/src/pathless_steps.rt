@@ -1,4 +1,4 @@
-//! The steps of an operation without a path: those at each key of its value (RFC 7644 section 3.5.2).
+//! The steps of an operation without a path: the steps at each key of its value (RFC 7644 section 3.5.2).
 ghost use Rattle.std.specs.Prelude.{◌≡◌, OnOk, option_map};
 ghost use Rattle.scim_body.specs.View.{view, members_view};
 ghost use Rattle.scim_patch_message.specs.Messages as spec;

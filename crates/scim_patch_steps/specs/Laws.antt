@@ -8,7 +8,7 @@ use Rattle.scim_change.specs.Laws.{AgreeAt, IsLeft}
 use Rattle.scim_patch_steps.specs.Patch.{Patch, IsPatch, touched, applied}
 
 -- two outcomes are alike: both are the same fault, or both changed or neither did, and the resources have
--- equal values of the units and keep their own other values
+-- equal values of the units and each keep their other values
 abbrev pub AreAlike : List AttributeUnit → ℕ → Content → Content → Result (Content × Bool) StepFault → Result (Content × Bool) StepFault → Type 0
 AreAlike us moment a b (Err e) (Err f) = e ≡ f
 AreAlike us moment a b (Ok x) (Ok y) = (x.1 ≡ y.1) × AgreeAt us x.0 y.0 × IsLeft us x.1 moment a x.0 × IsLeft us y.1 moment b y.0

@@ -42,8 +42,8 @@ pub record AreGivenValues (kind : Kind) (u : AttributeUnit) (vs : List Row) : Ty
   pub own : AreValues kind u vs
   pub may_be_given : All (λ r. All (MayBeGiven kind) r.fields) vs
 
--- a change of a unit may be applied to a resource of the kind: its values may be given, only a multi-valued
--- attribute is changed value by value, and a required unit is replaced by exactly one value
+-- a change of a unit may be applied to a resource of the kind: a client may give its values, only a
+-- multi-valued attribute is changed value by value, and a required unit is replaced by exactly one value
 abbrev pub MayBeMade : Kind → AttributeUnit → StepChange → Type 0
 MayBeMade kind u Keep = Unit {0}
 MayBeMade kind u Clear = Unit {0}
@@ -56,7 +56,7 @@ MayBeMade kind u (SetAtMatches t f) = AreGivenFields kind u (f ∷ [])
 MayBeMade kind u (SetEverywhere f) = AreGivenFields kind u (f ∷ [])
 MayBeMade kind u _ = is_multi_valued u.attribute ≡ true
 
--- a step is valid for the kind: its unit is one of the kind, and its change may be applied to it
+-- a step is valid for the kind: the kind has its unit, and its change may be applied to the unit
 abbrev pub IsStep : Kind → Step → Type 0
 IsStep kind Pathless = Unit {0}
 IsStep kind (Of u change) = Contains (units kind) u × MayBeMade kind u change
@@ -96,7 +96,7 @@ all_stepped kind (s ∷ ss) (Ok rs) = all_stepped kind ss (stepped kind s rs)
 
 -- ---- whether the patch changes the resource
 
--- whether a change writes to its unit, as every change does except the add of nothing to a whole unit
+-- whether a change writes to its unit, as every change except Keep does
 abbrev pub writes : StepChange → Bool
 writes Keep = false
 writes _ = true
@@ -112,7 +112,8 @@ abbrev pub changes : Patch → List Row → List Row → Bool
 changes p before rs =
     list_any (is_unseen_writing p.kind) p.steps || list_any (λ u. not (are_same_values (values u before) (values u rs))) (touched p)
 
--- the resource with the rows after the patch, modified at the moment; unchanged if the patch changes nothing
+-- the resource with the rows after the patch and `meta.lastModified` set to the moment; the unchanged
+-- resource if the patch changes nothing
 abbrev pub finished : Patch → ℕ → Content → List Row → Content
 finished p moment c rs = if changes p (rows c) rs then content c.kind c.id (modified_at moment rs) else c
 

@@ -1,5 +1,4 @@
--- The outcome of a step: its faults in their order, and the values that it leaves (RFC 7644 sections 3.5.2
--- and 3.12).
+-- The outcome of a step: the first fault, or the values after the step (RFC 7644 sections 3.5.2 and 3.12).
 use Rattle.std.specs.Prelude.{◌≡◌, Bool, false, ◌&&◌, ◌||◌, ◌==◌, nat_lt, List, [], ◌∷◌, length, map, filter, Option, None, Some, Result, Ok, Err, if◌then◌else◌}
 use Rattle.std.specs.List.{list_any, count_by}
 use Rattle.std.specs.Global.{Vec}
@@ -59,39 +58,39 @@ is_forbidden kind u change values = is_fixed kind u || is_barred kind u change v
 
 -- ---- the results that are refused
 
--- whether two different values are given as primary (RFC 7643 section 2.4)
+-- whether two different values of `given` are marked as primary (RFC 7643 section 2.4)
 abbrev pub are_two_primary : Attribute → List Row → Bool
 are_two_primary a given = nat_lt 1 (length (given_primary a given))
 
--- whether a change gives two different values as primary
+-- whether a change sets or adds two different values that are marked as primary
 abbrev pub gives_two_primary : Attribute → StepChange → Bool
 gives_two_primary a (Append given) = are_two_primary a given
 gives_two_primary a (Replace given) = are_two_primary a given
 gives_two_primary a _ = false
 
--- whether the values after a step are refused: two are chosen as primary, a member has no `value`, or there are more
--- than 10,000 values
+-- whether the values after a step are refused: two are chosen as primary, a member has no `value`, or there
+-- are more than 10,000 values
 abbrev pub are_refused : Attribute → List Position → Bool
 are_refused a ps =
     nat_lt 1 (count_by (λ (p : Position). p.chosen) ps) || list_any (λ (p : Position). is_nameless a p.value) ps || nat_lt MOST_VALUES (length ps)
 
--- ---- the values that are left
+-- ---- the values after a step
 
 -- the value of a position, with `primary` set to false unless the step chose it
 abbrev pub beside_chosen : Position → Row
 beside_chosen p = if p.chosen then p.value else demoted p.value
 
--- the values of the positions, with no other primary if the step chose one
+-- the values of the positions, with no other primary value if the step chose one
 abbrev pub primary_settled : List Position → List Row
 primary_settled ps =
     if count_by (λ (p : Position). p.chosen) ps == 1 then map beside_chosen ps else map (λ (p : Position). p.value) ps
 
--- the values of the positions, or the fault Value if they are refused
+-- the values of the positions, or the fault `Value` if they are refused
 abbrev pub checked : Attribute → List Position → Result (List Row) StepFault
 checked a ps = if are_refused a ps then Err fault.Value else Ok (primary_settled ps)
 
--- the values after a step, without those that have no field, checked and with the primary one settled;
--- NoTarget if the path has no target
+-- the values with fields after a step, with no other primary value if the step chose one, or the fault
+-- `Value` if they are refused; the fault `NoTarget` if the path has no target
 abbrev pub settled : Attribute → Option (List Position) → Result (List Row) StepFault
 settled a None = Err fault.NoTarget
 settled a (Some ps) = checked a (filter (λ (p : Position). has_fields p.value) ps)

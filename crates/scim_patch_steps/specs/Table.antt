@@ -16,7 +16,7 @@ use Rattle.scim_patch_steps.specs.Changes.{StepChange, Keep, KeepMatches, KeepSu
 abbrev pub at_matches : Tree → List Row → List Position → Option (List Position)
 at_matches t values positions = if is_any_match t values then Some positions else None
 
--- the positions of a unit's values after a change; None if the path of the change has no target
+-- the values of a unit after a change, each as a `Position`; None if the path of the change has no target
 abbrev pub row : AttributeUnit → StepChange → List Row → Option (List Position)
 row u Keep values = Some (map kept values)
 row u (KeepMatches t) values = Some (map kept values)

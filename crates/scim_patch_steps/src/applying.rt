@@ -23,7 +23,7 @@ use scim_value::{Part, Resource};
 use std::alloc::Global;
 use std::cmp::Ordering;
 
-/// The rows of a resource, split into those before a unit, its own, and those after it.
+/// The rows of a resource, split into the rows before a unit, the rows of the unit, and the rows after it.
 #[derive(Drop)]
 struct Apart {
     before: Vec<Row>,
@@ -58,7 +58,7 @@ fn parted(alloc: Global, rows: Vec<Row>, unit: Unit) -> Result<Apart, NoMemory>
 
 /// Returns the rows of the resource after a change of its unit.
 ///
-/// Errors: those of [`values_after`].
+/// Fails with `Mutability`, `NoTarget` or `Value`, as [`values_after`] does.
 fn changed_rows(
     alloc: Global,
     kind: Kind,
@@ -83,7 +83,7 @@ fn changed_rows(
 
 /// Returns the resource after one step.
 ///
-/// Errors: those of [`apply`].
+/// Fails with `NoTarget` if the step has no path, and otherwise as [`values_after`] does.
 fn stepped(alloc: Global, resource: Resource, step: &Step) -> Result<Resource, Failed<StepFault>>
     requires { spec.IsStep resource.kind (step_of step.now) }
     ensures rows { UnlessMemory (λ r. rows_left r
@@ -102,7 +102,7 @@ fn stepped(alloc: Global, resource: Resource, step: &Step) -> Result<Resource, F
 
 /// Returns the resource after the steps, applied one after another.
 ///
-/// Errors: those of [`apply`].
+/// Fails with the fault of the first step that is refused.
 fn all_stepped(
     alloc: Global,
     resource: Resource,
@@ -126,8 +126,9 @@ fn all_stepped(
 /// If the resource has the same values afterwards, and no step writes a writeOnly unit, it is returned
 /// unchanged, including `meta.lastModified`; otherwise `meta.lastModified` becomes `moment`.
 ///
-/// The patch must be of the resource's kind. The fault is that of the first refused step, as for
-/// [`values_after`]; a remove without a path is NoTarget. On an error the resource is dropped.
+/// The patch must be of the resource's kind. Fails with the fault of the first step that is refused:
+/// `Mutability`, `NoTarget` or `Value`, as [`values_after`] does, or `NoTarget` for a remove without a path.
+/// On an error the resource is dropped.
 ///
 /// Values are moved. The values of the patch's units are copied as well, unless the patch is a single step
 /// that only removes values, or only appends values without a primary one.

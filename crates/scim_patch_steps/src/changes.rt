@@ -4,44 +4,46 @@ use scim_filter_grammar::Filter;
 use scim_schema::SubAttribute;
 
 /// A change of the values of a unit: an operation with a form of path (RFC 7644 section 3.5.2).
-/// A match is a value for which the filter of the path holds.
+/// A match is a value that matches the filter of the path.
 #[derive(Drop)]
 pub enum StepChange {
-    /// add of null or of an empty list: nothing changes.
-    /// The step is still refused if its path forbids an add.
+    /// An `add` of null or of an empty list: changes nothing.
+    /// The step is still refused if its path forbids an `add`.
     Keep,
-    /// Like [`StepChange::Keep`], with a path to the matches.
+    /// Like [`StepChange::Keep`], for a path to the values that match a filter.
     KeepMatches(Filter),
-    /// Like [`StepChange::Keep`], with a path to a sub-attribute of a multi-valued attribute.
+    /// Like [`StepChange::Keep`], for a path to a sub-attribute of a multi-valued attribute.
     KeepSubAttribute(SubAttribute),
-    /// add to a multi-valued attribute: appends each value that isn't there already.
+    /// An `add` to a multi-valued attribute: appends each value that isn't there already.
     Append(Vec<Row>),
-    /// replace of a whole unit, or add to a single-valued one: the unit has these values, each once.
+    /// A `replace` of a whole unit, or an `add` to a single-valued unit: replaces all its values by these,
+    /// each once.
     Replace(Vec<Row>),
-    /// remove of a whole unit, or replace by null or an empty list: the unit has no values.
+    /// A `remove` of a whole unit, or a `replace` by null or an empty list: removes all its values.
     Clear,
-    /// remove from a multi-valued attribute of the values whose `value` is one of these texts.
+    /// A `remove` of values from a multi-valued attribute: removes each value whose `value` is one of these
+    /// texts.
     RemoveListed(Vec<Text>),
-    /// add to the matches: sets these sub-attributes of each match.
-    /// If there is no match, a value is made of them and of those that the filter describes; NoTarget if it
-    /// describes none.
+    /// An `add` to the matches: sets these sub-attributes in each match.
+    /// If there is no match, appends a value with these sub-attributes and those that the filter describes.
+    /// Fails with `NoTarget` if the filter describes no value.
     AddToMatches(Filter, Vec<Field>),
-    /// replace of the matches: each becomes the value of these sub-attributes, and duplicates are dropped.
-    /// Fails with NoTarget if there is no match.
+    /// A `replace` of the matches: replaces each match by a value with these sub-attributes, and drops
+    /// duplicates. Fails with `NoTarget` if there is no match.
     ReplaceMatches(Filter, Vec<Field>),
-    /// remove of the matches.
+    /// A `remove` of the matches.
     RemoveMatches(Filter),
-    /// add to a sub-attribute of the matches: sets it in each match.
-    /// If there is no match, as [`StepChange::AddToMatches`].
+    /// An `add` to a sub-attribute of the matches: sets it in each match.
+    /// If there is no match, appends a value as [`StepChange::AddToMatches`] does.
     AddAtMatches(Filter, Field),
-    /// replace of a sub-attribute of the matches: sets it in each match. Fails with NoTarget if there is no
-    /// match.
+    /// A `replace` of a sub-attribute of the matches: sets it in each match. Fails with `NoTarget` if
+    /// there is no match.
     SetAtMatches(Filter, Field),
-    /// remove of a sub-attribute of the matches.
+    /// A `remove` of a sub-attribute of the matches: removes it from each match.
     ClearAtMatches(Filter, SubAttribute),
-    /// add to or replace of a sub-attribute of a multi-valued attribute: sets it in each value.
-    /// If there is no value, one is made.
+    /// An `add` to or a `replace` of a sub-attribute of a multi-valued attribute: sets it in each value.
+    /// If there is no value, appends a value with this sub-attribute.
     SetEverywhere(Field),
-    /// remove of a sub-attribute of a multi-valued attribute from each value.
+    /// A `remove` of a sub-attribute of a multi-valued attribute: removes it from each value.
     ClearEverywhere(SubAttribute),
 }

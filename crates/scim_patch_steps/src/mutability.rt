@@ -52,8 +52,8 @@ fn changes_member(
 }
 
 /// Whether the change is barred.
-/// It is if it would clear a required unit, or change an immutable or readOnly sub-attribute or an existing
-/// member.
+/// A change is barred if it would clear a required unit, or change an immutable or readOnly sub-attribute or
+/// an existing member.
 fn is_barred(
     alloc: Global,
     kind: Kind,

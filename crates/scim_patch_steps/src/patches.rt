@@ -10,14 +10,15 @@ use std::marker::Model;
 /// One step of a patch (RFC 7644 section 3.5.2).
 #[derive(Drop)]
 pub enum Step {
-    /// A remove without a path, which is refused with NoTarget.
+    /// A `remove` without a path, which fails with `NoTarget`.
     Pathless,
     /// A change of the values of a unit.
     Of(Unit, StepChange),
 }
 
 /// The steps of a patch in their order, for resources of one kind.
-/// The invariant of a patch is that a resource of the kind may have the values that its steps give.
+/// The invariant of a patch is that each step is valid for the kind: the kind has the step's unit, and a
+/// client may give the step's values for it.
 #[derive(Drop)]
 pub struct Patch {
     kind: Kind,

@@ -57,7 +57,7 @@ fn any_nameless(attribute: Attribute, positions: &[Position]) -> bool
 }
 
 /// Whether the values are refused.
-/// They are if two are chosen as primary, a member has no `value`, or there are too many.
+/// They are refused if two are chosen as primary, a member has no `value`, or there are over 10,000 values.
 fn are_refused(attribute: Attribute, positions: &[Position]) -> bool
     ensures { result ≡ spec.are_refused attribute positions.now }
 {
@@ -66,7 +66,7 @@ fn are_refused(attribute: Attribute, positions: &[Position]) -> bool
         || positions.len() > MOST_VALUES
 }
 
-/// Returns the values, with `primary` set to false in those that the step didn't choose.
+/// Returns the values, with `primary` set to false in each value that the step didn't choose.
 fn demote_others(alloc: Global, positions: Vec<Position>) -> Result<Vec<Row>, NoMemory>
     ensures { IfOk result (λ v. v.items ≡ map spec.beside_chosen positions.items) }
 {
@@ -94,9 +94,10 @@ fn values_of(alloc: Global, positions: Vec<Position>) -> Result<Vec<Row>, NoMemo
     Ok(values)
 }
 
-/// Returns the values with fields after a step, checked, and with no other primary if the step chose one.
+/// Checks the values after a step, and returns the values that have a field. If the step chose a primary
+/// value, no other value is primary.
 ///
-/// Fails with Value if two are chosen as primary, a member has no `value`, or there are too many.
+/// Fails with `Value` if two are chosen as primary, a member has no `value`, or there are over 10,000 values.
 pub(crate) fn settle(
     alloc: Global,
     attribute: Attribute,

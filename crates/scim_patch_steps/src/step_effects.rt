@@ -21,7 +21,8 @@ use scim_value::copy_rows;
 use std::alloc::Global;
 use std::slice;
 
-/// Returns the positions that a change makes of the values of its unit; None if its path has no target.
+/// Returns the values of a unit after a change, each as a [`Position`]; `None` if the path of the change has
+/// no target.
 pub(crate) fn row(
     alloc: Global,
     unit: Unit,
@@ -75,8 +76,8 @@ pub(crate) fn row(
     }
 }
 
-/// Appends the given values to the existing ones, each once.
-/// The values that are the same as a given primary one are chosen.
+/// Appends the given values to the existing values, without duplicates.
+/// A value that is the same as a given primary value is chosen.
 fn append(
     alloc: Global,
     unit: Unit,
@@ -93,7 +94,7 @@ fn append(
     Ok(Some(mark(alloc, unit.attribute, primary.as_slice(), all)?))
 }
 
-/// Replaces each match by a value with the given fields, and drops duplicates; None if there is no match.
+/// Replaces each match by a value with the given fields, and drops duplicates; `None` if there is no match.
 fn replace_at_matches(
     alloc: Global,
     unit: Unit,
@@ -114,7 +115,7 @@ fn replace_at_matches(
     Ok(Some(mark(alloc, unit.attribute, primary.as_slice(), all)?))
 }
 
-/// Puts the given fields over those of each match; None if there is no match.
+/// Sets the given fields in each match; `None` if there is no match.
 fn replace_field_at_matches(
     alloc: Global,
     filter: &Filter,

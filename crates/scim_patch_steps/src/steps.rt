@@ -30,7 +30,7 @@ pub enum StepFault {
     Value,
 }
 
-/// Whether the change gives two different values that are marked as primary.
+/// Whether the change sets or adds two different values that are marked as primary.
 fn gives_two_primary(
     alloc: Global,
     attribute: Attribute,
@@ -46,16 +46,16 @@ fn gives_two_primary(
     }
 }
 
-/// Returns the values of a unit after a step, from those before it (RFC 7644 section 3.5.2).
+/// Returns the values of a unit after a step, from the values before it (RFC 7644 section 3.5.2).
 ///
-/// Fails with Mutability if the unit is readOnly, if a required unit would be cleared, if the path ends in an
-/// immutable or readOnly sub-attribute, or if something would be added to an existing member. Otherwise fails
-/// with NoTarget if the path has no target. Otherwise fails with Value if the step marks two values as
-/// primary, if a member has no `value`, or if there are over 10,000 values. On an error the values are
+/// Fails with `Mutability` if the unit is readOnly, if a required unit would be cleared, if the path ends in
+/// an immutable or readOnly sub-attribute, or if something would be added to an existing member. Otherwise
+/// fails with `NoTarget` if the path has no target. Otherwise fails with `Value` if the step marks two values
+/// as primary, if a member has no `value`, or if there are over 10,000 values. On an error the values are
 /// dropped.
 ///
-/// If the step marks one value as primary, no other is primary afterwards. The time is nearly linear in the
-/// number of existing and given values.
+/// If the step marks one value as primary, no other value is primary afterwards. The time is nearly linear in
+/// the number of existing and given values.
 pub(crate) fn values_after(
     alloc: Global,
     kind: Kind,

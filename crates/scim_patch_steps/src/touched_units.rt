@@ -17,10 +17,10 @@ use scim_text::{NoMemory, push};
 use scim_value::{Part, values_among};
 use std::alloc::Global;
 
-/// What is kept of a resource before a patch, to tell afterwards whether its values changed.
+/// What is kept of a resource before a patch, to detect afterwards whether its values changed.
 #[derive(Drop)]
 pub(crate) enum Before {
-    /// The number of values of the patch's only unit, if it suffices to tell whether the values changed.
+    /// The number of values of the patch's only unit, if it suffices to detect whether the values changed.
     Number(Unit, usize),
     /// Copies of the rows of the units that the patch names.
     Rows(Vec<Row>),
@@ -78,7 +78,7 @@ fn touched_rows(alloc: Global, patch: &Patch, part: &Part) -> Result<Vec<Row>, N
     rows_of(alloc, units.as_slice(), part.rows())
 }
 
-/// Returns what to keep of a part before the patch.
+/// Returns what to keep of a part before the patch, to detect changes.
 /// It is the number of values if the patch is a single step that only removes values, or only appends values
 /// without a primary one; otherwise the rows of the patch's units.
 pub(crate) fn before_of(alloc: Global, patch: &Patch, part: &Part) -> Result<Before, NoMemory>
@@ -90,7 +90,7 @@ pub(crate) fn before_of(alloc: Global, patch: &Patch, part: &Part) -> Result<Bef
     }
 }
 
-/// Whether the change writes to its unit: every change does, except the add of nothing to a whole unit.
+/// Whether the change writes to its unit: every change does, except [`StepChange::Keep`].
 fn writes(change: &StepChange) -> bool
     ensures { result ≡ spec.writes (change_of change.now) }
 {
@@ -124,7 +124,7 @@ fn is_any_unseen_writing(kind: Kind, steps: &[Step]) -> bool
     false
 }
 
-/// Whether the part has other values than `before` for any unit of the steps.
+/// Whether `before` and the part have different values of any unit of the steps.
 fn is_any_other(steps: &[Step], before: &[Row], part: &Part) -> bool
     requires { AllPairs (λ r s. Precedes r.unit s.unit) before.now }
     ensures { result ≡ list_any (is_other before.now (rows part.now))
@@ -147,8 +147,8 @@ fn has_primary(values: &[Row]) -> bool
     values.iter().any(|value| value.is_primary())
 }
 
-/// Whether the number of values afterwards suffices to tell whether the change changed them.
-/// It does if the change only removes values, or only appends values without a primary one.
+/// Whether the number of values afterwards suffices to detect whether the change had an effect.
+/// This is so if the change only removes values, or only appends values without a primary one.
 fn is_told_by_length(change: &StepChange) -> bool
     ensures { result ≡ lengths.is_told_by_length (change_of change.now) }
 {
@@ -164,7 +164,8 @@ fn is_told_by_length(change: &StepChange) -> bool
     }
 }
 
-/// Returns the unit of the only step, if the number of its values suffices to tell whether they changed.
+/// Returns the unit of the only step, if the number of its values suffices to detect whether they changed.
+/// `None` otherwise, or if there isn't exactly one step.
 fn unit_told_by_length(steps: &[Step]) -> Option<Unit>
     ensures { result ≡ lengths.unit_told_among (map step_of steps.now) }
 {
@@ -174,7 +175,8 @@ fn unit_told_by_length(steps: &[Step]) -> Option<Unit>
     }
 }
 
-/// Whether the patch changed something: `before` was kept before the patch, and `part` is its result.
+/// Whether the patch changed something: `before` was kept before the patch, and `part` is the result of
+/// the patch.
 pub(crate) fn is_changed(before: &Before, patch: &Patch, part: &Part) -> bool
     requires { IsInOrder before.now }
     ensures { result ≡ tells (patch_of patch.now) (rows part.now) before.now }

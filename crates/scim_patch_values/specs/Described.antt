@@ -22,11 +22,12 @@ use Rattle.scim_filter_grammar.specs.declared.tree.Operator.TheVariants.{Eq}
 use Rattle.scim_filter_grammar.specs.Tree.{Tree, And, Compare, Values}
 use Rattle.scim_filter_grammar.specs.Types.{truth_in}
 
--- the text as an atom; None if it is longer than a resource's texts may be, 65,536 bytes
+-- the text as an atom; None if it is longer than 65,536 bytes, the limit for a text of a resource
 abbrev pub text_atom : List ℕ → Option Atom
 text_atom t = if nat_le (length t) LONGEST_VALUE then Some (Text t) else None
 
--- the literal as an atom of this type, where a text may also name a boolean; None if it isn't of the type
+-- the literal as an atom of this type, where a boolean may also be written as a text; None if it isn't a
+-- valid value of the type
 abbrev pub atom_for : AttributeType → Literal → Option Atom
 atom_for Boolean (literal.Truth b) = Some (Truth b)
 atom_for Boolean (literal.Text t) = option_map Truth (truth_in t)
@@ -39,7 +40,8 @@ atom_for _ _ = None
 abbrev pub has_sub_attribute : Attribute → SubAttribute → Bool
 has_sub_attribute a b = list_any (λ c. sameb the_sub_attribute c b) (sub_attributes a)
 
--- the field with this literal for a sub-attribute of the attribute; None if there is no such field
+-- the field with this literal for a sub-attribute of the attribute; None if the attribute doesn't
+-- have the sub-attribute, or the literal isn't a valid value of its type
 abbrev pub field_for : Attribute → SubAttribute → Literal → Option Field
 field_for a b x = if has_sub_attribute a b then option_map (λ atom. record { leaf = leaf_at a b; atom = atom }) (atom_for (sub_attribute_characteristics a b).attribute_type x) else None
 
@@ -64,11 +66,12 @@ abbrev pub is_each_once : List Field → Bool
 is_each_once [] = true
 is_each_once (f ∷ fs) = not (list_any (λ (g : Field). is_same_leaf g.leaf f.leaf) fs) && is_each_once fs
 
--- the fields, if all are of different leaves
+-- the fields, if all are of different leaves; None otherwise
 abbrev pub if_each_once : List Field → Option (List Field)
 if_each_once fs = if is_each_once fs then Some fs else None
 
--- the fields of the value that a value path describes, if it sets each sub-attribute at most once
+-- the fields of the value that a value path describes; None if it describes none, or names a sub-attribute
+-- twice
 abbrev pub described : Attribute → Tree → Option (List Field)
 described a (Values path inner) = option_and_then if_each_once (equalities a inner)
 described a _ = None

@@ -1,5 +1,5 @@
--- The values of a unit after a step on the matches of a filter, on listed or on all values (RFC 7644 section
--- 3.5.2).
+-- The values of a unit after a step on the values that match a filter, on listed values, or on all values
+-- (RFC 7644 section 3.5.2).
 use Rattle.std.specs.Prelude.{ℕ, Bool, false, List, [], ◌∷◌, ◌++◌, map, filter, Option, Some, option_map, if◌then◌else◌}
 use Rattle.std.specs.List.{list_any}
 use Rattle.std.specs.Str.{bytes_eq}
@@ -19,7 +19,7 @@ use Rattle.scim_patch_values.specs.declared.positions.Position.{Position}
 use Rattle.scim_patch_values.specs.Described.{described}
 use Rattle.scim_patch_values.specs.Fields.{over, row_over, row_without}
 
--- the position of a value that the step leaves unchanged
+-- the `Position` of a value that the step leaves unchanged
 abbrev pub kept : Row → Position
 kept value = record { value = value; chosen = false }
 
@@ -27,11 +27,11 @@ kept value = record { value = value; chosen = false }
 abbrev pub given_primary : Attribute → List Row → List Row
 given_primary a given = with_values a [] (filter is_primary given)
 
--- the position of a value, chosen if it is the same as one of the given primary ones
+-- the `Position` of a value, chosen if it is the same as one of the values `primary`
 abbrev pub marked : Attribute → List Row → Row → Position
 marked a primary value = record { value = value; chosen = list_any (λ g. is_same_value a g value) primary }
 
--- the position of a value that the step made, chosen if it is marked as primary
+-- the `Position` of a value that the step made, chosen if it is marked as primary
 abbrev pub made : Row → Position
 made value = record { value = value; chosen = is_primary value }
 
@@ -39,12 +39,12 @@ made value = record { value = value; chosen = is_primary value }
 abbrev pub value_of : AttributeUnit → List Field → Row
 value_of u fs = record { unit = u; fields = fs }
 
--- whether an atom is one of these texts, case included
+-- whether an atom is one of these texts, compared case-sensitively
 abbrev pub is_text_of : Option Atom → List (List ℕ) → Bool
 is_text_of (Some (Text t)) texts = list_any (bytes_eq t) texts
 is_text_of _ texts = false
 
--- whether the `value` of a value is one of these texts, case included
+-- whether the `value` of a value is one of these texts, compared case-sensitively
 abbrev pub is_listed : List (List ℕ) → Row → Bool
 is_listed texts value = is_text_of (atom_in (leaf_at value.unit.attribute Value) value.fields) texts
 
@@ -52,15 +52,15 @@ is_listed texts value = is_text_of (atom_in (leaf_at value.unit.attribute Value)
 abbrev pub is_any_match : Tree → List Row → Bool
 is_any_match t values = list_any (truth_in_value t) values
 
--- the position of a value with the given fields put over its own, chosen if they mark it as primary
+-- the `Position` of a value with the given fields set in it, chosen if they mark it as primary
 abbrev pub set_over : List Field → Row → Position
 set_over given value = record { value = row_over given value; chosen = is_primary (value_of value.unit given) }
 
--- the position of a value, with the given fields put over its own if it matches the filter
+-- the `Position` of a value, with the given fields set in it if it matches the filter
 abbrev pub set_at_match : Tree → List Field → Row → Position
 set_at_match t given value = if truth_in_value t value then set_over given value else kept value
 
--- the given value if this one matches the filter, otherwise this one
+-- `given` if `value` matches the filter, otherwise `value`
 abbrev pub replaced_at_match : Tree → Row → Row → Row
 replaced_at_match t given value = if truth_in_value t value then given else value
 
@@ -68,18 +68,19 @@ replaced_at_match t given value = if truth_in_value t value then given else valu
 abbrev pub cleared_at_match : Tree → SubAttribute → Row → Row
 cleared_at_match t b value = if truth_in_value t value then row_without (leaf_at value.unit.attribute b) value else value
 
--- the positions of the values, followed by that of a new one with these fields
+-- the values, unchanged, followed by a new value with these fields
 abbrev pub with_made : AttributeUnit → List Row → List Field → List Position
 with_made u values fs = map kept values ++ made (value_of u fs) ∷ []
 
--- the positions with the given fields put over those of each match; without a match, with a new value of the
--- given fields over those that the filter describes, or None if it describes no value
+-- the values with the given fields set in each match; if there is no match, the values and a new value with
+-- the fields that the filter describes, overridden by the given fields; None if it describes no value
 abbrev pub added_at_matches : AttributeUnit → Tree → List Field → List Row → Option (List Position)
 added_at_matches u t given values =
     if is_any_match t values then Some (map (set_at_match t given) values)
     else option_map (λ fs. with_made u values (over given (over fs []))) (described u.attribute t)
 
--- the positions with the given fields put over those of each value, or of a new value if there are no values
+-- the values with the given fields set in each of them, or one new value with these fields if there are no
+-- values
 abbrev pub set_everywhere : AttributeUnit → List Field → List Row → List Position
 set_everywhere u given [] = made (value_of u given) ∷ []
 set_everywhere u given (value ∷ values) = map (set_over given) (value ∷ values)

@@ -16,7 +16,7 @@ use scim_schema::{
 use scim_text::{NoMemory, push};
 use std::alloc::Global;
 
-/// Returns the text as an atom; None if it is longer than [`LONGEST_VALUE`].
+/// Returns the text as an atom; `None` if it is longer than [`LONGEST_VALUE`] bytes.
 fn text_atom(alloc: Global, text: &StringLiteral) -> Result<Option<Atom>, NoMemory>
     ensures { IfOk result (λ o. o ≡ spec.text_atom text.now) }
 {
@@ -26,8 +26,8 @@ fn text_atom(alloc: Global, text: &StringLiteral) -> Result<Option<Atom>, NoMemo
     Ok(Some(Atom::Text(Text::copy_of(alloc, text.as_str())?)))
 }
 
-/// Returns the literal as an atom of the type; None if it isn't of that type.
-/// A boolean may also be given by the text that names it.
+/// Returns the literal as an atom of the type; `None` if it isn't a valid value of that type.
+/// A boolean may also be written as a text, such as `"true"`.
 fn atom_for(
     alloc: Global,
     attribute_type: AttributeType,
@@ -49,7 +49,7 @@ fn atom_for(
 }
 
 /// Returns the field with this literal for a sub-attribute of the attribute.
-/// None if the attribute has no such sub-attribute, or the literal isn't of its type.
+/// `None` if the attribute doesn't have the sub-attribute, or the literal isn't a valid value of its type.
 fn field_for(
     alloc: Global,
     attribute: Attribute,
@@ -71,7 +71,8 @@ fn field_for(
     }
 }
 
-/// Appends the field that an equality describes; returns false if it describes none.
+/// Appends the field that an equality, such as `type eq "work"`, describes. Returns false if it describes
+/// none.
 fn push_equality(
     alloc: Global,
     attribute: Attribute,
@@ -135,7 +136,7 @@ fn is_each_once(fields: &[Field]) -> bool
 }
 
 /// Returns the fields of the value that a value path describes.
-/// None unless the filter in brackets is a conjunction of equalities, each on a different sub-attribute.
+/// `None` unless the filter in brackets is a conjunction of equalities, each on a different sub-attribute.
 pub(crate) fn described(
     alloc: Global,
     attribute: Attribute,

@@ -22,7 +22,7 @@ pub fn value_of(alloc: Global, unit: Unit, fields: &[Field]) -> Result<Row, NoMe
     Ok(Row::new(unit, copies))
 }
 
-/// Returns the position of a value that the step made; it is chosen if it is marked as primary.
+/// Returns the [`Position`] of a value that the step made. The value is chosen if it is marked as primary.
 pub(crate) fn made(value: Row) -> Position
     ensures { result ≡ spec.made value }
 {
@@ -30,7 +30,7 @@ pub(crate) fn made(value: Row) -> Position
     Position { value, chosen }
 }
 
-/// Puts the given fields over those of each value, or makes a value of them if there is none.
+/// Sets the given fields in each value, or makes one value with these fields if there are no values.
 /// The values are chosen if the given fields mark them as primary.
 pub fn set_everywhere(
     alloc: Global,
@@ -49,7 +49,7 @@ pub fn set_everywhere(
     set_each(alloc, given, values)
 }
 
-/// Puts the given fields over those of each value.
+/// Sets the given fields in each value.
 fn set_each(alloc: Global, given: &[Field], values: Vec<Row>) -> Result<Vec<Position>, NoMemory>
     ensures { IfOk result (λ v. v.items ≡ map (spec.set_over given.now) values.items) }
 {
@@ -60,7 +60,7 @@ fn set_each(alloc: Global, given: &[Field], values: Vec<Row>) -> Result<Vec<Posi
     Ok(positions)
 }
 
-/// Puts copies of the given fields over those of the value, which is chosen if they mark it as primary.
+/// Sets copies of the given fields in the value. The value is chosen if the given fields mark it as primary.
 pub(crate) fn set_over(alloc: Global, given: &[Field], value: Row) -> Result<Position, NoMemory>
     ensures { IfOk result (λ p. p ≡ spec.set_over given.now value) }
 {
@@ -82,7 +82,8 @@ fn says_primary(unit: Unit, fields: &[Field]) -> bool
     false
 }
 
-/// Removes the field of a leaf from each value. A value without other fields stays, without fields.
+/// Removes the field of a leaf from each value. A value that has no other fields is kept
+/// as a value without fields.
 pub fn clear_everywhere(alloc: Global, leaf: Leaf, values: Vec<Row>) -> Result<Vec<Row>, NoMemory>
     ensures { IfOk result (λ v. v.items ≡ map (row_without leaf) values.items) }
 {

@@ -30,7 +30,7 @@ struct Sides {
 }
 
 impl Sides {
-    /// Adds `other` to its side of `field`, or drops it if both have the same place.
+    /// Adds `other` to the fields before or after the place of `field`. Drops it if both have the same place.
     fn add(&mut self, other: Field, field: &Field) -> Result<(), NoMemory>
         ensures before { OnOk result (self.new.before.items
             ≡ self.old.before.items
@@ -65,7 +65,7 @@ fn parted(alloc: Global, fields: Vec<Field>, field: &Field) -> Result<Sides, NoM
     Ok(sides)
 }
 
-/// Puts a field in its place among the fields, replacing one of the same place.
+/// Inserts a field at its place among the fields. It replaces a field that has the same place.
 fn put_field(alloc: Global, fields: Vec<Field>, field: Field) -> Result<Vec<Field>, NoMemory>
     ensures { IfOk result (λ v. v.items ≡ spec.put_field field fields.items) }
 {
@@ -78,7 +78,7 @@ fn put_field(alloc: Global, fields: Vec<Field>, field: Field) -> Result<Vec<Fiel
     Ok(all)
 }
 
-/// Puts copies of the given fields over the fields.
+/// Inserts copies of the given fields at their places. They replace fields that have the same places.
 pub(crate) fn over(
     alloc: Global,
     given: &[Field],
@@ -93,7 +93,7 @@ pub(crate) fn over(
     Ok(all)
 }
 
-/// Puts copies of the given fields over those of the value.
+/// Sets copies of the given fields in the value. They replace its fields that have the same places.
 pub(crate) fn row_over(alloc: Global, given: &[Field], row: Row) -> Result<Row, NoMemory>
     ensures { IfOk result (λ r. r ≡ spec.row_over given.now row) }
 {

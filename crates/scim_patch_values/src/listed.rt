@@ -1,4 +1,4 @@
-//! Removes values by a list of their `value`s.
+//! Removes the values whose `value` is in a list.
 ghost use Rattle.std.specs.Prelude.{◌≡◌, ℕ, List, IfOk, filter, not};
 ghost use Rattle.scim_patch_values.specs.Matches as spec;
 ghost use Rattle.scim_patch_values.specs.code.Listed.{HoldsTexts};
@@ -31,7 +31,8 @@ fn is_listed(set: &BTreeSet<String>, value: &Row) -> bool
     }
 }
 
-/// Removes the values whose `value` is one of the texts, case included; the others keep their order.
+/// Removes the values whose `value` is one of the texts, compared case-sensitively. The other values
+/// keep their order.
 pub fn remove_listed(alloc: Global, texts: &[Text], values: Vec<Row>) -> Result<Vec<Row>, NoMemory>
     ensures { IfOk result (λ v. v.items
         ≡ filter (λ value. not (spec.is_listed texts.now value)) values.items) }

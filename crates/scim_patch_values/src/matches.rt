@@ -28,7 +28,8 @@ pub fn is_any_match(alloc: Global, matching: &Filter, values: &[Row]) -> Result<
     Ok(false)
 }
 
-/// Puts the given fields over those of each match, which is chosen if they mark it as primary.
+/// Sets the given fields in each value that matches the filter. A match is chosen if the given fields mark it
+/// as primary.
 pub fn set_at_matches(
     alloc: Global,
     matching: &Filter,
@@ -53,7 +54,7 @@ pub fn set_at_matches(
     Ok(positions)
 }
 
-/// Replaces each match by a copy of `given`.
+/// Replaces each value that matches the filter by a copy of `given`.
 pub fn replace_matches(
     alloc: Global,
     matching: &Filter,
@@ -75,7 +76,7 @@ pub fn replace_matches(
     Ok(left)
 }
 
-/// Removes the matches; the other values keep their order.
+/// Removes the values that match the filter. The other values keep their order.
 pub fn remove_matches(
     alloc: Global,
     matching: &Filter,
@@ -93,7 +94,8 @@ pub fn remove_matches(
     Ok(left)
 }
 
-/// Removes a sub-attribute from each match. A match that has no other fields is kept as a value without fields.
+/// Removes a sub-attribute from each value that matches the filter. A match that has no other fields is kept
+/// as a value without fields.
 pub fn clear_at_matches(
     alloc: Global,
     matching: &Filter,
@@ -115,12 +117,12 @@ pub fn clear_at_matches(
     Ok(left)
 }
 
-/// Puts the given fields over those of each match, or appends a value if there is no match.
-/// The new value has the fields that the filter describes, with the given ones over them. It is chosen if it
-/// is primary; a match is chosen if the given fields mark it as primary.
+/// Sets the given fields in each value that matches the filter, or appends a new value if none matches.
+/// The new value has the fields that the filter describes, overridden by the given fields. It is chosen if it
+/// is marked as primary; a match is chosen if the given fields mark it as primary.
 ///
-/// None, with the values dropped, if there is no match and the filter describes no value: only a conjunction
-/// of equalities, each on a different sub-attribute, describes one.
+/// `None` if no value matches and the filter describes no value; the values are then dropped. Only a
+/// conjunction of equalities, each on a different sub-attribute, describes a value.
 pub fn add_at_matches(
     alloc: Global,
     unit: Unit,

@@ -10,7 +10,7 @@ use scim_schema::Attribute;
 use scim_text::{NoMemory, push};
 use std::alloc::Global;
 
-/// A value after a step, and whether the step chose it as the primary one.
+/// A value after a step, and whether the step chose it as the primary value.
 #[derive(Drop)]
 pub struct Position {
     pub value: Row,
@@ -67,9 +67,9 @@ fn has_same(attribute: Attribute, values: &[Row], value: &Row) -> bool
         .any(|other| is_same_value(attribute, other, value))
 }
 
-/// Returns the values, choosing those that are the same as one of the given primary ones.
+/// Returns the values. A value is chosen if it is the same as one of `primary`.
 /// Takes time in proportion to the product of both lengths; `primary` has at most one element in practice,
-/// since a step that gives two different primary values is refused before.
+/// since a step that gives two different primary values is refused earlier.
 pub fn mark(
     alloc: Global,
     attribute: Attribute,

@@ -21,8 +21,8 @@ use Rattle.scim_path.specs.declared.faults.PathFault.TheVariants.{Syntax, Unknow
 use Rattle.scim_path.specs.declared.paths.Path.{Path}
 use Rattle.scim_path.specs.declared.paths.Path.TheVariants as path
 
--- a target: all of an extension, an attribute, a sub-attribute, or the values of a multi-valued attribute
--- that a value path selects, with an optional sub-attribute of them
+-- a target: all attributes of an extension, an attribute, a sub-attribute, or the values of a multi-valued
+-- attribute that a value path selects, with an optional sub-attribute of them
 pub data PathTarget : Type 0 where
   OfExtension : Schema → PathTarget
   OfAttribute : Attribute → PathTarget
@@ -50,18 +50,18 @@ names_target (meant.SubAttribute a b) = Ok (OfSubAttribute a b)
 abbrev pub knows : Tree → Bool
 knows tree = list_all is_known (mentioned_names tree)
 
--- the target of a value path with a sub-attribute, if the look-up found it
+-- the target of a value path with the sub-attribute that a look-up found; Unknown if it found none
 abbrev pub chosen_at : Attribute → Tree → Option SubAttribute → Result PathTarget PathFault
 chosen_at a tree None = Err Unknown
 chosen_at a tree (Some b) = Ok (OfValues a tree (Some b))
 
--- the target of a value path on an attribute, with the name of a sub-attribute after its brackets or none
+-- the target of a value path on an attribute, with an optional name of a sub-attribute after its brackets
 abbrev pub chosen : Attribute → Tree → Option (List ℕ) → Result PathTarget PathFault
 chosen a tree None = Ok (OfValues a tree None)
 chosen a tree (Some name) = chosen_at a tree (sub_attribute_named a name)
 
--- the target of a value path: its attribute must be multi-valued, its comparisons of the right types, and
--- its names known
+-- the target of a value path: its attribute must be multi-valued, its comparisons must suit the types of
+-- their attributes, and the kind must have all its names
 abbrev pub filtered_target : Meant → Tree → Option (List ℕ) → Result PathTarget PathFault
 filtered_target meant.Nothing tree sub = Err Unknown
 filtered_target (meant.SubAttribute a b) tree sub = Err Syntax
@@ -74,8 +74,8 @@ written_target (Plain p) = names_target p.meant
 written_target (Filtered (Values p inner) sub) = filtered_target p.meant (Values p inner) sub
 written_target (Filtered _ sub) = Err Syntax
 
--- the result for a text that isn't the URN of an extension: the target of the path that it spells within
--- 4,096 bytes and 32 open brackets, or Syntax if it spells none
+-- the result for a text that isn't the URN of an extension: the target, or the fault, of the path that it
+-- spells within 4,096 bytes and 32 open brackets, or Syntax if it spells no path
 pub data Reads (kind : Kind) (text : List ℕ) : Result PathTarget PathFault → Type 0 where
   spelled : (w : Written) → length text ≤ LONGEST_FILTER → IsWritten kind 32 text w → Reads kind text (written_target w)
   unspelled : ((w : Written) → length text ≤ LONGEST_FILTER → ¬ (IsWritten kind 32 text w)) → Reads kind text (Err Syntax)

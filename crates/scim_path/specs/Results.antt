@@ -1,4 +1,4 @@
--- The specified form of what the reader of paths returns.
+-- The results of reading paths, in the form of the specification.
 use Rattle.std.specs.Prelude.{ℕ, List, Option, Some, None, Result, Ok, Err}
 use Rattle.scim_schema.specs.declared.Attribute.{Attribute}
 use Rattle.scim_schema.specs.declared.SubAttribute.{SubAttribute}
@@ -24,7 +24,7 @@ abbrev pub chosen_read : Tree → Option (List ℕ) → Result Attribute PathFau
 chosen_read tree sub (Ok a) = chosen a tree sub
 chosen_read tree sub (Err f) = Err f
 
--- the target of a value path, from what the path before its brackets names
+-- the target of a value path, from the attribute or sub-attribute before its brackets; Syntax for None
 abbrev pub filtered_read : Tree → Option (List ℕ) → Option Meant → Result PathTarget PathFault
 filtered_read tree sub None = Err Syntax
 filtered_read tree sub (Some meant) = filtered_target meant tree sub

@@ -4,9 +4,8 @@ use thiserror::Error;
 /// Why a path can't be read.
 #[derive(Clone, Copy, Debug, PartialEq, Eq, Error)]
 pub enum PathFault {
-    /// The text isn't a path, has more than 4,096 bytes or more than 32 open brackets, or has a filter that
-    /// isn't allowed: one with a comparison that doesn't suit its attribute's type, or on an attribute that
-    /// isn't multi-valued.
+    /// The text isn't a path, has more than 4,096 bytes or more than 32 open brackets, has a comparison that
+    /// doesn't suit its attribute's type, or has a filter on an attribute that isn't multi-valued.
     #[error("the text is no path")]
     Syntax,
     /// The kind doesn't have the attribute or sub-attribute.

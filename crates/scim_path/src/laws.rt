@@ -6,7 +6,7 @@ use scim_filter_grammar::one_path_is_spelled;
 /// For a kind, a text names one target or has one fault, never both.
 ///
 /// So if [`crate::read_path`] returns a fault, other than for lack of memory, the text names no target and
-/// has that fault only.
+/// has no other fault.
 pub fn texts_name_one_thing()
     ensures { TextsNameOneThing }
 {

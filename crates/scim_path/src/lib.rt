@@ -1,4 +1,4 @@
-//! Reads the paths of PATCH operations (RFC 7644 section 3.5.2) and looks up what they name.
+//! Reads the paths of PATCH operations (RFC 7644 section 3.5.2) and looks up their targets.
 //!
 //! Cases: `crates/cases/data/paths.jsonl`.
 #![tactic(auto)]

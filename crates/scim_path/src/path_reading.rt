@@ -20,8 +20,8 @@ use std::alloc::Global;
 /// The extension of `kind` whose URN is the whole text, in any ASCII case and with or without spaces around
 /// it.
 ///
-/// Such a text names all attributes of the extension (RFC 7644 section 3.5.2). `None` for any other text,
-/// and for one of more than 4,096 bytes.
+/// The URN alone names all attributes of the extension (RFC 7644 section 3.5.2). `None` for any other text,
+/// and for a text of more than 4,096 bytes.
 pub fn extension_named(kind: Kind, text: &str) -> Option<Schema>
     ensures { result ≡ spec.extension_named kind text.now }
 {
@@ -37,7 +37,7 @@ pub fn extension_named(kind: Kind, text: &str) -> Option<Schema>
 
 /// The target of a path without a filter.
 ///
-/// Fails with Unknown if the path names nothing.
+/// Fails with `Unknown` if the kind doesn't have the attribute or sub-attribute.
 fn path_of_names(meant: Meant) -> Result<Path, PathFault>
     ensures { target_read result ≡ spec.names_target meant }
 {
@@ -50,9 +50,9 @@ fn path_of_names(meant: Meant) -> Result<Path, PathFault>
     }
 }
 
-/// The sub-attribute named after the brackets, if there is a name.
+/// The sub-attribute named after the brackets. `None` if there is no name.
 ///
-/// Fails with Unknown if `attribute` doesn't have it.
+/// Fails with `Unknown` if `attribute` doesn't have the sub-attribute.
 fn chosen(attribute: Attribute, sub_name: Option<&Text>) -> Result<Option<SubAttribute>, PathFault>
     ensures { (tree : Tree) → values_read tree attribute result
         ≡ spec.chosen attribute tree (option_map (λ t. t.now) sub_name.entry) }
@@ -66,10 +66,11 @@ fn chosen(attribute: Attribute, sub_name: Option<&Text>) -> Result<Option<SubAtt
     }
 }
 
-/// The attribute before the brackets, checked for a filter on its values.
+/// The attribute before the brackets, after checking that the filter may select its values.
 ///
-/// Fails with Unknown if the kind lacks an attribute or sub-attribute named. Fails with Syntax if the
-/// attribute isn't multi-valued, or a comparison in the filter doesn't suit its attribute's type.
+/// Fails with `Unknown` if the kind doesn't have an attribute or sub-attribute that is named. Fails with
+/// `Syntax` if the attribute isn't multi-valued, a sub-attribute is named before the brackets, or a
+/// comparison in the filter doesn't suit its attribute's type.
 fn filtered_attribute(meant: Meant, filter: &Filter) -> Result<Attribute, PathFault>
     ensures { (sub : Option (List ℕ))
         → chosen_read (tree_of filter.now) sub result
@@ -102,7 +103,7 @@ fn meant_before(filter: &Filter) -> Option<Meant>
     }
 }
 
-/// The attribute and the sub-attribute that a value path names.
+/// The attribute that a value path names, and the sub-attribute named after its brackets, if any.
 fn parts_of(
     filter: &Filter,
     sub_name: Option<&Text>,
@@ -117,7 +118,7 @@ fn parts_of(
     Ok((attribute, sub_attribute))
 }
 
-/// The target of a value path and the name after its brackets.
+/// The target of a value path with an optional name of a sub-attribute after its brackets.
 fn filtered(filter: Filter, sub_name: Option<&Text>) -> Result<Path, PathFault>
     ensures { target_read result ≡ spec.written_target
         (Filtered (tree_of filter) (option_map (λ t. t.now) sub_name.entry)) }
@@ -132,7 +133,7 @@ fn filtered(filter: Filter, sub_name: Option<&Text>) -> Result<Path, PathFault>
     }
 }
 
-/// The target of a written path.
+/// The target that a path, as written, names.
 fn written(path: WrittenPath) -> Result<Path, PathFault>
     ensures { target_read result ≡ spec.written_target (written_of path) }
 {
@@ -143,14 +144,14 @@ fn written(path: WrittenPath) -> Result<Path, PathFault>
 }
 
 /// Reads a path of a PATCH operation (RFC 7644 section 3.5.2): `attribute`, `attribute.subAttribute`,
-/// `attribute[filter]` or `attribute[filter].subAttribute`, each with or without a URN and a colon before
-/// it, or the URN of an extension alone.
+/// `attribute[filter]` or `attribute[filter].subAttribute`, each with or without a URN and a colon before it,
+/// or the URN of an extension alone.
 ///
-/// Spaces around it are allowed, and names match in any ASCII case. Only a multi-valued attribute may have
-/// a filter.
+/// Spaces around it are allowed, and names match in any ASCII case.
 ///
-/// Fails with Syntax if the text isn't such a path. Fails with Unknown if it names what the kind doesn't
-/// have.
+/// Fails with `Syntax` if the text isn't a path, has more than 4,096 bytes or more than 32 open brackets, has
+/// a filter on an attribute that isn't multi-valued, or has a comparison that doesn't suit its attribute's
+/// type. Fails with `Unknown` if the kind doesn't have an attribute or sub-attribute that the path names.
 pub fn read_path(alloc: Global, kind: Kind, text: &str) -> Result<Path, Failed<PathFault>>
     ensures { UnlessMemory (λ r. spec.Names kind text.now (target_read r)) result }
 {

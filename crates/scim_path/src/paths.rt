@@ -9,7 +9,7 @@ pub enum Path {
     Extension(Schema),
     /// An attribute.
     Attribute(Attribute),
-    /// A sub-attribute of an attribute. If the attribute is multi-valued, that of all its values.
+    /// A sub-attribute of an attribute, in all values if the attribute is multi-valued.
     SubAttribute(Attribute, SubAttribute),
     /// The values of a multi-valued attribute that match a filter.
     Values(ValuePath),
@@ -22,6 +22,6 @@ pub struct ValuePath {
     pub attribute: Attribute,
     /// The value path. `scim_filter::holds_at` evaluates it on a value.
     pub filter: Filter,
-    /// The sub-attribute named after the brackets. `None` means the whole values.
+    /// The sub-attribute named after the brackets. `None` if the whole values are the target.
     pub sub_attribute: Option<SubAttribute>,
 }

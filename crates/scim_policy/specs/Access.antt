@@ -26,8 +26,8 @@ access policy client c = record { read = decide policy client Read c; modify = d
 
 -- ---- which units may be written
 
--- the decisions that writing a leaf needs, in order: on modifying it, and on reading it unless it is
--- writeOnly, which can't be read
+-- the decisions that must allow the writing of a leaf, in order: on modifying it and, unless it is writeOnly,
+-- on reading it
 abbrev pub needed : Kind → Access → Leaf → List (Leaf × Decision)
 needed kind a l = (l, a.modify l) ∷ (if is_write_only kind l then [] else (l, a.read l) ∷ [])
 
@@ -40,14 +40,14 @@ leaves_of kind u = filter (λ l. is_same_unit (unit_of l) u) (leaves kind)
 unfoldable pub forbidding : Kind → Access → AttributeUnit → Option (Leaf × Decision)
 forbidding kind a u = find (λ (d : Leaf × Decision). not d.1.allow) (flat_map (needed kind a) (leaves_of kind u))
 
--- ---- what a change would open
+-- ---- which rights a change would add
 
 -- the leaves on which an operation is denied before a change and allowed after it, in order, each with the
 -- decision after it
 abbrev pub opened : Kind → Op → (Leaf → Decision) → (Leaf → Decision) → List (Op × Leaf × Decision)
 opened kind op before after = map (λ l. (op, l, after l)) (filter (λ l. (after l).allow && not (before l).allow) (leaves kind))
 
--- all rights that a change of a resource of the kind would add: on reading, on modifying, and on deleting
+-- all rights that a change of a resource would add, first on reading, then on modifying, then on deleting
 abbrev pub widenings : Kind → Access → Access → List (Op × Leaf × Decision)
 widenings kind before after =
     opened kind Read before.read after.read ++ (opened kind Modify before.modify after.modify ++ opened kind Delete before.delete after.delete)

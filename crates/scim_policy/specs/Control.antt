@@ -27,11 +27,11 @@ is_named_in policy a = list_any (λ (r : Rule). list_any (names_attribute a) r.t
 abbrev pub is_unique : Kind → Attribute → Bool
 is_unique kind a = list_any (λ (l : Leaf). is_same_attribute l.attribute a) (unique_leaves kind)
 
--- the values of a resource that a policy's targets name, or that must be unique
+-- the values of a resource whose attributes are named by a policy's targets, or must be unique
 unfoldable pub control : List Rule → Content → List Row
 control policy c = filter (λ (r : Row). is_named_in policy r.unit.attribute || is_unique c.kind r.unit.attribute) (rows c)
 
--- a policy decides alike on two resources of one kind with equal control values
+-- a policy makes the same decisions on two resources of one kind with equal control values
 abbrev pub DecisionsRestOnControl : Type 0
 DecisionsRestOnControl =
     (policy : List Rule) (client : List ℕ) (op : Op) (a b : Content) (l : Leaf)

@@ -22,18 +22,18 @@ use Rattle.scim_policy.specs.declared.misfits.Misfit.{Misfit}
 use Rattle.scim_policy.specs.declared.misfits.Misfit.TheVariants as misfit
 use Rattle.scim_policy.specs.Rules.{Target, KindPaths, Rule}
 
--- whether a rule's client name is the client's, or `*`
+-- whether a client name in a rule is the name of the client, or `*`
 abbrev pub names : List ℕ → ClientName → Bool
 names client Everyone = true
 names client (Named name) = pointwise nat_eq name client
 
--- whether a path covers a leaf: as `*`, as its attribute, or as the leaf itself
+-- whether a path covers a leaf: it is `*`, or it names the leaf's attribute or the leaf itself
 abbrev pub covers : Leaf → PolicyPath → Bool
 covers l Everything = true
 covers l (Attribute a) = sameb the_attribute l.attribute a
 covers l (SubAttribute a b) = is_same_leaf l (leaf_at a b)
 
--- the paths for a kind; none if the rule isn't for the kind
+-- the paths for a kind; empty if the rule isn't for the kind
 abbrev pub paths_on : Kind → List KindPaths → List PolicyPath
 paths_on k [] = []
 paths_on k (p ∷ ps) = if sameb the_kind k p.kind then p.paths else paths_on k ps
@@ -60,8 +60,8 @@ speaks_of client op c r =
 abbrev pub is_about : List ℕ → Op → Kind → Rule → Bool
 is_about client op k r = list_any (names client) r.clients && (list_any (sameb the_op op) r.ops && list_any (sameb the_kind k) r.kinds)
 
--- whether the rule names the client, the operation and the kind and has a target, so that it depends on the
--- resource whether the rule applies
+-- whether the rule names the client, the operation and the kind and has a target, so that whether it applies
+-- depends on the resource
 abbrev pub has_target_for : List ℕ → Op → Kind → Rule → Bool
 has_target_for client op k r = is_about client op k r && not (length r.targets == 0)
 
@@ -74,11 +74,11 @@ abbrev pub first_of : List (ℕ × Rule) → Decision
 first_of [] = record { rule = 0; allow = false }
 first_of (numbered ∷ more) = record { rule = numbered.0; allow = numbered.1.allow }
 
--- the decision of the policy: of the rules that fit, numbered from 1, the first decides
+-- the decision of the policy: the first rule that fits decides, and rules are numbered from 1
 unfoldable pub decide : List Rule → List ℕ → Op → Content → Leaf → Decision
 decide policy client op c l = first_of (filter (λ (numbered : ℕ × Rule). fits client op c l numbered.1) (enumerate_from 1 policy))
 
--- the first part of a rule that doesn't fit, of its clients, operations, kinds, paths and target; None if
+-- the first part of a rule that doesn't fit, in the order clients, operations, kinds, paths, target; None if
 -- the rule fits
 abbrev pub misfit_of : List ℕ → Op → Content → Leaf → Rule → Option Misfit
 misfit_of client op c l r =

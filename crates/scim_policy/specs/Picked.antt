@@ -12,8 +12,8 @@ use Rattle.scim_policy.specs.Decide.{covers_in, is_target_met, first_of}
 abbrev pub numbered_rule : NumberedRule → ℕ × Rule
 numbered_rule n = (n.number, n.rule.now)
 
--- whether a rule's target matches the resource and the rule covers the leaf; for a selected rule, whether
--- it fits
+-- whether the rule covers the leaf, and has no target or one that matches the resource; a selected rule
+-- that meets both conditions fits
 abbrev pub is_met_at : Content → Leaf → (ℕ × Rule) → Bool
 is_met_at c l numbered = is_target_met c numbered.1 && covers_in c l numbered.1
 

@@ -22,7 +22,7 @@ abbrev pub at_sub_attribute : SubAttribute → List (SubAttribute × Decision) �
 at_sub_attribute b [] = None
 at_sub_attribute b (pair ∷ more) = if sameb the_sub_attribute pair.0 b then Some pair.1 else at_sub_attribute b more
 
--- the decision on a leaf's sub-attribute alone, if it is one and has a decision
+-- the decision on the sub-attribute alone; None if there is no sub-attribute or no decision on it
 abbrev pub alone : Option SubAttribute → List (SubAttribute × Decision) → Option Decision
 alone None pairs = None
 alone (Some b) pairs = at_sub_attribute b pairs
@@ -32,7 +32,7 @@ alone (Some b) pairs = at_sub_attribute b pairs
 abbrev pub in_attribute : Option SubAttribute → AttributeDecisions → Option Decision
 in_attribute sub e = or_else (alone sub e.sub_attributes.items) e.whole
 
--- the decision on a leaf in the entries of attributes, each at its attribute's number
+-- the decision on a leaf in the list of entries, where n is the number of the leaf's attribute
 abbrev pub in_attributes : ℕ → Option SubAttribute → List AttributeDecisions → Option Decision
 in_attributes n sub [] = None
 in_attributes zero sub (e ∷ es) = in_attribute sub e
@@ -47,7 +47,7 @@ abbrev pub or_denied : Option Decision → Decision
 or_denied None = record { rule = 0; allow = false }
 or_denied (Some d) = d
 
--- the decision on a leaf; if none was made, rule 0 denies
+-- the decision on a leaf; if there is none in the table, rule 0 denies
 unfoldable pub decision : Decisions → Leaf → Decision
 decision ds l = or_denied (decided ds l)
 

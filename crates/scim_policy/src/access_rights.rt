@@ -70,7 +70,7 @@ impl Policy {
     /// Checks whether a change adds to the client's own rights on a resource.
     ///
     /// Returns the first operation and leaf that the client is allowed after the change but wasn't before,
-    /// with the decision after the change, or `None` if there is none.
+    /// with the decision after the change, or `None` if the change adds no right.
     pub fn widens(
         &self,
         alloc: Global,
@@ -116,7 +116,7 @@ impl Rights {
     }
 
     /// The first operation and leaf that `self` denies and `after` allows, with the decision in `after`.
-    /// `None` if there is none.
+    /// `None` if `after` adds no right.
     ///
     /// Reading comes before modifying, and modifying before deleting.
     #[tactic(auto, unfolding(crate::specs::Access::widening))]
@@ -132,7 +132,7 @@ impl Rights {
         first_opened(kind, Op::Delete, &self.delete, &after.delete)
     }
 
-    /// Rights with no decision made.
+    /// Rights without any decisions yet.
     fn none(alloc: Global) -> Rights
         ensures read { (l : Leaf) → table.decided result.read l ≡ None }
         ensures modify { (l : Leaf) → table.decided result.modify l ≡ None }
@@ -145,7 +145,8 @@ impl Rights {
         }
     }
 
-    /// Whether each table has a decision on the rest, so that every leaf is decided for each operation.
+    /// Whether each table has a decision for all remaining leaves, so that every leaf is decided for each
+    /// operation.
     fn is_complete(&self) -> bool
         ensures { result ≡ (is_some self.now.read.rest
             && (is_some self.now.modify.rest && is_some self.now.delete.rest)) }
@@ -153,7 +154,8 @@ impl Rights {
         self.read.has_rest() && self.modify.has_rest() && self.delete.has_rest()
     }
 
-    /// Adds the decisions of `rules`, numbered from 1, for leaves that have none.
+    /// Adds the decisions of `rules`, numbered from 1, for leaves without a decision. Skips rules that aren't
+    /// for the client or the resource.
     fn add_rules(
         &mut self,
         alloc: Global,
@@ -183,7 +185,7 @@ impl Rights {
         Ok(())
     }
 
-    /// Adds the decisions of one rule for leaves that have none, if the rule is for the client and the
+    /// Adds the decisions of one rule for leaves without a decision, if the rule is for the client and the
     /// resource.
     fn add_rule(
         &mut self,
@@ -214,8 +216,8 @@ impl Rights {
             .add_rule_for(alloc, rule, Op::Delete, kind, number)
     }
 
-    /// The decision that denies writing `leaf`: on modifying if that is denied, else on reading. `None` if
-    /// the leaf may be written.
+    /// Returns `leaf` with the decision that denies writing it: the decision on modifying it if that denies,
+    /// else the decision on reading it. `None` if the leaf may be written.
     fn forbidden(&self, kind: Kind, leaf: Leaf) -> Option<(Leaf, Decision)>
         ensures { result ≡ find (λ d. not d.1.allow) (spec.needed kind (access_in self.now) leaf) }
     {
@@ -231,8 +233,8 @@ impl Rights {
     }
 }
 
-/// The first leaf on which the operation is denied before a change and allowed after it, with the decision
-/// after it.
+/// Returns the operation with the first leaf on which it is denied before a change and allowed after it, and
+/// the decision after the change. `None` if there is no such leaf.
 fn first_opened(
     kind: Kind,
     op: Op,

@@ -35,7 +35,8 @@ impl Drop for Decisions {
     }
 }
 
-/// The decisions on one attribute: those on single sub-attributes, which come first, and that on the whole.
+/// The decisions on one attribute: on single sub-attributes, which take precedence, and on the whole
+/// attribute.
 #[derive(Drop)]
 struct AttributeDecisions {
     sub_attributes: Vec<(SubAttribute, Decision)>,
@@ -61,8 +62,8 @@ impl Policy {
         Ok(decisions)
     }
 
-    /// Decides the client's operation on one leaf of the resource. For several leaves, call `decisions`
-    /// once.
+    /// Decides whether the client may do the operation on one leaf of the resource. For several leaves, call
+    /// `decisions` once.
     pub fn decide(
         &self,
         alloc: Global,
@@ -92,7 +93,7 @@ impl Decisions {
         }
     }
 
-    /// A table with no decision made.
+    /// A table without any decisions yet.
     #[tactic(auto, unfolding(crate::specs::Table::decided))]
     pub(crate) fn none(alloc: Global) -> Decisions
         ensures { (l : Leaf) → table.decided result l ≡ None }
@@ -117,7 +118,8 @@ impl Decisions {
         }
     }
 
-    /// Adds the decisions of `rules`, numbered from 1, for leaves that have none.
+    /// Adds the decisions of `rules`, numbered from 1, for leaves without a decision. Skips rules that aren't
+    /// for the client, the operation and the resource.
     fn add_rules(
         &mut self,
         alloc: Global,
@@ -144,14 +146,14 @@ impl Decisions {
         Ok(())
     }
 
-    /// Whether there is a decision on the rest, so that every leaf is decided.
+    /// Whether there is a decision for all remaining leaves, so that every leaf is decided.
     pub(crate) fn has_rest(&self) -> bool
         ensures { result ≡ is_some self.now.rest }
     {
         self.rest.is_some()
     }
 
-    /// Adds the decisions of `rule` on resources of `kind` for leaves that have none, if the rule is for
+    /// Adds the decisions of `rule` on resources of `kind` for leaves without a decision, if the rule is for
     /// the operation.
     pub(crate) fn add_rule_for(
         &mut self,
@@ -169,7 +171,7 @@ impl Decisions {
         Ok(())
     }
 
-    /// Adds the decisions of `rule` on resources of `kind` for leaves that have none.
+    /// Adds the decisions of `rule` on resources of `kind` for leaves without a decision.
     pub(crate) fn add_rule(
         &mut self,
         alloc: Global,
@@ -189,7 +191,7 @@ impl Decisions {
         self.add_paths(alloc, rule.paths_on(kind), decision)
     }
 
-    /// Adds the decision for the leaves that `paths` cover and that have none.
+    /// Adds the decision for the leaves that `paths` cover and that have no decision yet.
     fn add_paths(
         &mut self,
         alloc: Global,
@@ -205,7 +207,7 @@ impl Decisions {
         Ok(())
     }
 
-    /// Adds the decision for the leaves that `path` covers and that have none.
+    /// Adds the decision for the leaves that `path` covers and that have no decision yet.
     fn add_path(
         &mut self,
         alloc: Global,
@@ -228,8 +230,8 @@ impl Decisions {
         Ok(())
     }
 
-    /// Adds a decision on each leaf of an attribute that has none yet. The table must not have a decision on
-    /// the remaining attributes yet.
+    /// Adds the decision for each leaf of an attribute that has no decision yet. The table must not have a
+    /// decision for all remaining leaves yet.
     fn add_attribute(
         &mut self,
         alloc: Global,
@@ -247,8 +249,8 @@ impl Decisions {
         Ok(())
     }
 
-    /// Adds the decision for a sub-attribute that has none, alone or with its whole attribute. The table
-    /// must have no decision on the rest.
+    /// Adds the decision for a sub-attribute, unless it or its whole attribute already has a decision. The
+    /// table must not have a decision for all remaining leaves yet.
     fn add_sub_attribute(
         &mut self,
         alloc: Global,
@@ -267,7 +269,8 @@ impl Decisions {
     }
 }
 
-/// The decision that the entry at `number` makes on a leaf of its attribute.
+/// The decision on a leaf in the entry at `number`, the number of the leaf's attribute. `None` if there is
+/// none.
 fn at_number(
     entries: &[AttributeDecisions],
     number: usize,
@@ -314,7 +317,7 @@ impl AttributeDecisions {
         }
     }
 
-    /// Adds the decision for the whole attribute, if it has none.
+    /// Adds the decision for the whole attribute, unless the whole attribute already has a decision.
     fn add_whole(&mut self, decision: Decision)
         ensures { (sub : Option SubAttribute) → table.in_attribute sub self.new
             ≡ or_else (table.in_attribute sub self.old) (Some decision) }
@@ -324,7 +327,7 @@ impl AttributeDecisions {
         }
     }
 
-    /// Adds the decision for a sub-attribute that has none, alone or with the whole attribute.
+    /// Adds the decision for a sub-attribute, unless it or the whole attribute already has a decision.
     fn add_alone(&mut self, sub_attribute: SubAttribute, decision: Decision) -> Result<(), NoMemory>
         ensures { OnOk result ((sub : Option SubAttribute) → table.in_attribute sub self.new
             ≡ or_else (table.in_attribute sub self.old) (walk.by_name sub_attribute decision sub)) }

@@ -1,8 +1,8 @@
 //! Decides which client may do which operation on which attributes of which resources.
 //!
-//! A policy is a list of rules, numbered from 1. A rule allows or denies some clients some operations on
-//! some attributes of some kinds of resources, either of all or of those that match its target. The first
-//! rule that fits decides; if none fits, rule 0 denies.
+//! A policy is a list of rules, numbered from 1. A rule allows or denies some clients some operations on some
+//! attributes of some kinds of resources. A rule with a target applies only to resources that match it. The
+//! first rule that fits decides; if none fits, rule 0 denies.
 //!
 //! Cases: `crates/cases/data/policy.jsonl`.
 #![tactic(auto)]

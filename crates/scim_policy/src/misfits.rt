@@ -25,7 +25,7 @@ pub enum Misfit {
 }
 
 impl Policy {
-    /// The first part of a rule that doesn't fit, as [`Rule::misfit`] returns it.
+    /// The first part of a rule that doesn't fit, in the order of [`Misfit`]. `None` if the rule fits.
     ///
     /// `rule` is the rule's number, from 1 to the number of rules.
     pub fn misfit(

@@ -72,7 +72,7 @@ fn holds_on(alloc: Global, targets: &[Target], resource: &Resource) -> Result<bo
     Ok(false)
 }
 
-/// Whether any of the names is the client's.
+/// Whether any of the names is the client's name, or `*`.
 pub(crate) fn is_named(names: &[ClientName], client: &str) -> bool
     ensures { result ≡ list_any (spec.names client.now) names.now }
 {
@@ -113,7 +113,7 @@ impl ClientName {
 }
 
 impl PolicyPath {
-    /// Whether the path covers the leaf: as `*`, as its attribute, or as the leaf itself.
+    /// Whether the path covers the leaf: it is `*`, or it names the leaf's attribute or the leaf itself.
     fn covers(self, leaf: Leaf) -> bool
         ensures { result ≡ spec.covers leaf self }
     {

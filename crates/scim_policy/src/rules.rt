@@ -31,32 +31,32 @@ pub enum PolicyPath {
     SubAttribute(Attribute, SubAttribute),
 }
 
-/// The number of the rule that decided, from 1, and whether it allows. If no rule fits it is rule 0, which
-/// denies.
+/// The number of the rule that decided, from 1, and whether it allows. If no rule fits, the number is 0 and
+/// the decision denies.
 #[derive(Clone, Copy, PartialEq, Eq)]
 pub struct Decision {
     pub rule: u32,
     pub allow: bool,
 }
 
-/// A rule's target for resources of one kind: the filter that they must match. Its contracts speak of the
-/// kind and the tree.
+/// A rule's target for resources of one kind: the filter that they must match. In contracts it is represented
+/// by the kind and the filter's tree.
 #[derive(Drop)]
 pub struct Target {
     kind: Kind,
     filter: Filter,
 }
 
-/// The leaves that a rule covers on resources of one kind. Paths that name nothing on that kind are left out.
-/// Contracts see the kind and the paths.
+/// The leaves that a rule covers on resources of one kind. Paths that name nothing on that kind are omitted.
+/// In contracts it is represented by the kind and the paths.
 #[derive(Drop)]
 pub struct KindPaths {
     kind: Kind,
     paths: Vec<PolicyPath>,
 }
 
-/// A rule: it allows or denies some clients some operations on some attributes of the resources of some
-/// kinds that match its targets.
+/// A rule: it allows or denies some clients some operations on some attributes of some kinds of resources. If
+/// it has targets, it applies only to resources that match the target for their kind.
 #[derive(Drop)]
 pub struct Rule {
     allow: bool,
@@ -67,7 +67,7 @@ pub struct Rule {
     paths: Vec<KindPaths>,
 }
 
-/// A list of at most 1,000 rules, numbered from 1. Contracts see it as the list.
+/// A list of at most 1,000 rules, numbered from 1. In contracts it is represented by the list of rules.
 #[derive(Drop)]
 pub struct Policy {
     rules: Vec<Rule>,
@@ -181,7 +181,7 @@ impl KindPaths {
         self.kind
     }
 
-    /// The paths.
+    /// The paths that the rule covers on resources of the kind.
     pub fn paths(&self) -> &[PolicyPath]
         ensures { result.now ≡ self.now.paths }
     {
@@ -216,7 +216,7 @@ impl Rule {
         }
     }
 
-    /// Whether the rule allows what it covers. If not, it denies it.
+    /// Whether the rule allows the operations that it is for. False if it denies them.
     pub fn allows(&self) -> bool
         ensures { result ≡ self.now.allow }
     {

@@ -15,7 +15,7 @@ use std::alloc::Global;
 
 /// The rules of a policy that name a client, an operation and a kind, in order.
 ///
-/// They decide on each resource of the kind as the whole policy does.
+/// On each resource of the kind they make the same decisions as the whole policy.
 pub struct RulesAbout<'p> {
     rules: Vec<NumberedRule<'p>>,
 }
@@ -36,8 +36,8 @@ struct NumberedRule<'p> {
 impl Policy {
     /// Selects the rules that name the client, the operation and the kind.
     ///
-    /// On each resource of the kind they decide as the policy. To decide on only one resource, call
-    /// [`Policy::decisions`].
+    /// On each resource of the kind they make the same decisions as the policy. To decide on only one
+    /// resource, call [`Policy::decisions`].
     pub fn rules_about(
         &self,
         alloc: Global,

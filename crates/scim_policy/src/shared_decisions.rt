@@ -1,4 +1,4 @@
-//! Decision tables that hold for all resources of a kind.
+//! Decision tables that apply to all resources of a kind.
 ghost use Rattle.std.specs.Prelude.{◌≡◌, true, IfOk, IfSome, IfNone};
 ghost use Rattle.std.specs.List.{list_any};
 ghost use Rattle.scim_schema.specs.declared.Leaf.{Leaf};
@@ -13,8 +13,8 @@ use scim_text::NoMemory;
 use std::alloc::Global;
 
 impl Policy {
-    /// The decision table for the client's operation on any resource of the kind, as [`Policy::decisions`],
-    /// if it doesn't depend on the resource.
+    /// Computes the decision table for the client's operation on any resource of the kind, if it doesn't
+    /// depend on the resource.
     ///
     /// `None` if a rule that may decide has a target, so that the decisions depend on the resource.
     pub fn decisions_on_all(

@@ -1,4 +1,4 @@
--- The policy that a policy file gives, or its first fault.
+-- The rules of a policy file, or its first fault.
 use Rattle.std.specs.Prelude.{ℕ, ◌+◌, Bool, true, ◌&&◌, ◌||◌, not, ◌==◌, nat_lt, List, [], ◌∷◌, length, codes, Option, None, Some, option_map, option_and_then, Result, Ok, Err, if◌then◌else◌}
 use Rattle.std.specs.List.{list_any}
 use Rattle.json.specs.Json.{Json, Items, no_items, item, Members, no_members, member, document}
@@ -87,25 +87,25 @@ rule_fields d =
     record { allow = allow; clients = clients; ops = ops; types = types; target = target; paths = paths })
     (texts_at (codes "paths") d)) (target_in d)) (texts_at (codes "types") d)) (texts_at (codes "ops") d)) (texts_at (codes "clients") d)) (allow_in d)
 
--- the texts of a rule: all its keys but `target` are required, others are refused, and values have their
--- types
+-- the texts of a rule; None if a key other than `target` is missing, a key is unknown, or a value has the
+-- wrong type
 unfoldable pub rule_texts : Json → Option RuleTexts
 rule_texts d = option_and_then rule_fields (object_of_only rule_keys d)
 
--- the rule that these texts give, or the cause of its first fault: of its clients, operations and types, of
--- its target, of its paths
+-- the rule that these texts describe, or the cause of its first fault: of its clients, operations and types,
+-- then of its target, then of its paths
 unfoldable pub rule_named : RuleTexts → Result Rule Cause
 rule_named t =
     or_name (each client_named t.clients) >>= λ clients. or_name (each operation_named t.ops) >>= λ ops. or_name (each kind_named t.types) >>= λ kinds.
     targets_for kinds t.target >>= λ targets. or_name (paths_named kinds t.paths) >>= λ paths.
     Ok (record { allow = t.allow; clients = clients; ops = ops; kinds = kinds; targets = targets; paths = paths })
 
--- the rule, or its fault with the rule's number
+-- the rule, or the fault with this cause and the rule's number
 abbrev pub named_or_fault : ℕ → Result Rule Cause → Says Rule
 named_or_fault n (Err cause) = Err (record { rule = n; cause = cause })
 named_or_fault n (Ok r) = Ok r
 
--- the rule that optional texts give, or its fault; None is the fault Shape
+-- the rule that the texts describe, or its first fault; the fault `Shape` if there are no texts
 abbrev pub shaped_or_fault : ℕ → Option RuleTexts → Says Rule
 shaped_or_fault n None = Err (record { rule = n; cause = Shape })
 shaped_or_fault n (Some t) = named_or_fault n (rule_named t)
@@ -114,7 +114,7 @@ shaped_or_fault n (Some t) = named_or_fault n (rule_named t)
 abbrev pub rule_of : ℕ → Json → Says Rule
 rule_of n d = shaped_or_fault n (rule_texts d)
 
--- a rule before other rules, or the first fault
+-- the list of a rule and the rules after it, or the first fault
 abbrev pub and_then : Says Rule → Says (List Rule) → Says (List Rule)
 and_then (Err f) rest = Err f
 and_then (Ok r) (Err f) = Err f
@@ -140,7 +140,7 @@ file_keys = codes "version" ∷ codes "rules" ∷ []
 abbrev pub begins_part : ℕ → Bool
 begins_part b = (b == 46) || ((b == 101) || (b == 69))
 
--- whether a number is an integer, of any size: it is written without a fraction and an exponent (RFC 8259
+-- whether a number is an integer, of any size: it is written without a fraction or an exponent (RFC 8259
 -- section 6)
 abbrev pub is_integer : List ℕ → Bool
 is_integer t = not (list_any begins_part t)
@@ -155,33 +155,34 @@ parts_in d =
     option_and_then (λ version. option_map (λ rules. record { version = version; rules = rules })
     (option_and_then items_in (get (codes "rules") d))) (option_and_then integer_in (get (codes "version") d))
 
--- the version and the rules of a file: both keys are required, others are refused, the version is an
--- integer, and the rules are a non-empty list
+-- the version and the rules of a file; None if a key is missing or unknown, the version isn't an integer, or
+-- the rules aren't a non-empty list
 unfoldable pub file_parts : Json → Option Parts
 file_parts d = option_and_then parts_in (object_of_only file_keys d)
 
--- the rules of a file with version 1, spelled `1`, and at most 1,000 rules; otherwise the fault
+-- the rules of a file, or its first fault: `Version` if the version isn't spelled `1`, `TooManyRules` if
+-- there are more than 1,000 rules, or the first fault of a rule
 abbrev pub rules_or_fault : Parts → Says (List Rule)
 rules_or_fault p =
     if is_same_text p.version (codes "1")
     then (if nat_lt MOST_RULES (length p.rules) then Err (record { rule = 0; cause = TooManyRules }) else rules_from 1 p.rules)
     else Err (record { rule = 0; cause = Version })
 
--- the rules of a file's optional parts; None is the fault Shape
+-- the rules of a file with these parts, or its first fault; the fault `Shape` if there are no parts
 abbrev pub parts_or_fault : Option Parts → Says (List Rule)
 parts_or_fault None = Err (record { rule = 0; cause = Shape })
 parts_or_fault (Some p) = rules_or_fault p
 
--- the rules that a JSON value gives as a policy file, or its first fault
+-- the rules of a JSON value read as a policy file, or its first fault
 abbrev pub policy_in : Json → Says (List Rule)
 policy_in d = parts_or_fault (file_parts d)
 
--- the rules of an optional JSON value; None is the fault Json
+-- the rules of a JSON value read as a policy file, or its first fault; the fault `Json` if there is no value
 abbrev pub value_or_fault : Option Json → Says (List Rule)
 value_or_fault None = Err (record { rule = 0; cause = cause.Json })
 value_or_fault (Some d) = policy_in d
 
--- the rules that a text gives as a policy file, or its first fault, of the file before those of its rules
--- in turn
+-- the rules of a text read as a policy file, or its first fault; faults of the file come before faults of
+-- its rules, which come in the order of the rules
 unfoldable pub policy_of : List ℕ → Says (List Rule)
 policy_of text = value_or_fault (document text)

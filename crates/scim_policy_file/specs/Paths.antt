@@ -18,15 +18,16 @@ abbrev pub is_client_byte : ℕ → Bool
 is_client_byte b =
     (nat_le 48 b && nat_le b 57) || ((nat_le 65 b && nat_le b 90) || ((nat_le 97 b && nat_le b 122) || ((b == 45) || ((b == 95) || (b == 46)))))
 
--- whether a text is a client's name: 1 to 64 such bytes
+-- whether a text is a client's name: 1 to 64 ASCII letters, digits, `-`, `_` and `.`
 unfoldable pub is_client_name : List ℕ → Bool
 is_client_name t = nat_le 1 (length t) && (nat_le (length t) 64 && list_all is_client_byte t)
 
--- the client that an entry of `clients` names: everyone for `*`, else the client with that name
+-- the client that an entry of `clients` names: everyone for `*`, else the client with that name;
+-- None if it isn't a valid name
 abbrev pub client_named : List ℕ → Option ClientName
 client_named t = if is_same_text t (codes "*") then Some Everyone else (if is_client_name t then Some (Named t) else None)
 
--- the path for the attribute or sub-attribute named, if there is one
+-- the policy path for the attribute or sub-attribute meant; None for `Nothing`
 abbrev pub covered_by : Meant → Option PolicyPath
 covered_by meant.Nothing = None
 covered_by (meant.Attribute a) = Some (Attribute a)
@@ -41,14 +42,16 @@ path_on t kind = option_and_then (λ (path : AttributePath). covered_by path.mea
 abbrev pub path_named : List ℕ → Kind → Option PolicyPath
 path_named t kind = if is_same_text t (codes "*") then Some Everything else path_on t kind
 
--- whether one of the kinds has what an entry names
+-- whether an entry of `paths` is valid for at least one of the kinds
 abbrev pub is_path : List Kind → List ℕ → Bool
 is_path kinds t = list_any (λ k. is_some (path_named t k)) kinds
 
--- the paths of all entries on resources of a kind, without entries that name nothing there
+-- the paths of all entries on resources of a kind, without entries that aren't valid for
+-- the kind
 abbrev pub paths_for : List (List ℕ) → Kind → KindPaths
 paths_for texts kind = record { kind = kind; paths = filter_map (λ t. path_named t kind) texts }
 
--- the paths for a rule on each of these kinds; None if none of the kinds has what an entry names
+-- the paths for a rule on each of these kinds; None if an entry is valid for none of the
+-- kinds
 abbrev pub paths_named : List Kind → List (List ℕ) → Option (List KindPaths)
 paths_named kinds texts = if list_all (is_path kinds) texts then Some (map (paths_for texts) kinds) else None

@@ -14,21 +14,21 @@ use Rattle.scim_policy_file.specs.declared.faults.Cause.TheVariants as cause
 use Rattle.scim_policy.specs.Rules.{Target}
 use Rattle.scim_policy_file.specs.Lists.{each}
 
--- the second step on the result of the first, or the first step's fault
+-- the result of the second step on the value of the first, or the fault of the first step
 infixl 10 ◌>>=◌
 abbrev pub ◌>>=◌ : {A B : Type 0} → Result A Cause → (A → Result B Cause) → Result B Cause
 (Ok x) >>= f = f x
 (Err e) >>= f = Err e
 
--- the value, or the fault Name if there is none
+-- the value, or the fault `Name` if there is no value
 abbrev pub or_name : {A : Type 0} → Option A → Result A Cause
 or_name o = ok_or o cause.Name
 
--- the filter that a text spells on resources of a kind, as a target
+-- a text read as a filter on resources of a kind, as a target; None if it isn't a filter
 abbrev pub target_on : List ℕ → Kind → Option Target
 target_on text kind = option_map (λ tree. record { kind = kind; tree = tree }) (filter_in kind text)
 
--- whether there is a name, and it is known
+-- whether there is a name and it refers to an attribute
 abbrev pub is_known_name : Option Named → Bool
 is_known_name None = false
 is_known_name (Some n) = is_known n
@@ -42,8 +42,8 @@ abbrev pub are_known_from : ℕ → List (List Named) → List Named → Bool
 are_known_from i lists [] = true
 are_known_from i lists (n ∷ ns) = list_any (is_known_at i) lists && are_known_from (i + 1) lists ns
 
--- whether each name refers to an attribute of one of the kinds; the lists have the same names, each read
--- for another kind
+-- whether each name refers to an attribute of at least one of the kinds; each list has all names of the
+-- target, in order, as read for one of the kinds
 abbrev pub are_known : List (List Named) → Bool
 are_known [] = true
 are_known (ns ∷ more) = are_known_from 0 (ns ∷ more) ns
@@ -65,11 +65,11 @@ allowed lists ts = if are_known lists then (if list_any name_withheld lists then
 abbrev pub names_of : List Target → List (List Named)
 names_of ts = map (λ (t : Target). mentioned_names t.tree) ts
 
--- the targets that a text gives on these kinds, or the cause of its first fault
+-- a text read as a filter on each of these kinds, as targets, or the cause of its first fault
 unfoldable pub targets_in : List Kind → List ℕ → Result (List Target) Cause
 targets_in kinds text = ok_or (each (target_on text) kinds) cause.Target >>= λ ts. allowed (names_of ts) ts
 
--- the targets of an optional text; no targets if there is no text
+-- the targets of the text, or the cause of its first fault; no targets if there is no text
 abbrev pub targets_for : List Kind → Option (List ℕ) → Result (List Target) Cause
 targets_for kinds None = Ok []
 targets_for kinds (Some text) = targets_in kinds text

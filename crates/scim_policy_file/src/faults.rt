@@ -29,8 +29,8 @@ pub enum Cause {
     TargetNames,
 }
 
-/// Why a policy file is refused. `rule` is the number of the faulty rule, from 1, or 0 if the fault is the
-/// file's.
+/// Why a policy file is refused. `rule` is the number of the faulty rule, from 1, or 0 if the file
+/// itself is faulty.
 #[derive(Clone, Copy, Debug, PartialEq, Eq, Error)]
 #[error("rule {rule}: {cause}")]
 pub struct PolicyFault {

@@ -21,7 +21,7 @@ use scim_schema::{Kind, MOST_RULES, Op};
 use scim_text::{Failed, NoMemory, push};
 use std::alloc::Global;
 
-/// The fault of a name that isn't valid.
+/// The error for an invalid name.
 const NO_NAME: Failed<Cause> = Failed::Because(Cause::Name);
 
 /// The parts of a policy file: the text of its version, and its rules as JSON.
@@ -48,12 +48,13 @@ struct WrittenRule<'v> {
 /// `create`, `modify`, `delete`), `types` (`User`, `Group`) and `paths` (`*`, an attribute, or
 /// `attribute.subAttribute`, with or without a URN before it and spaces around it; names match in any ASCII
 /// case). These keys are required, and no list may be empty. The optional key `target` is a filter on each
-/// of the types; other keys are faults. Each name in a target must be known to one of the types, and must
-/// not be `groups`, `password` or `meta`; on a type that lacks it, it has no value.
+/// of the types; other keys are faults. Each name in a target must be known to at least one of the
+/// types, and must not be `groups`, `password` or `meta`. On a type that doesn't know it, the name has no
+/// value.
 ///
-/// The fault returned is the first one: those of the file (rule 0) in the order of [`Cause`], then those of
-/// each rule in turn. In a rule the order is `Shape`; `Name` of the clients, the operations and the types;
-/// `Target`, `Name` and `TargetNames` of the target; and `Name` of the paths.
+/// Fails with the first fault. Faults of the file (rule 0) come first, in the order of [`Cause`], then the
+/// faults of each rule in turn. Within a rule the order is: `Shape`; `Name` for the clients, the operations
+/// and the types; `Target`, `Name` and `TargetNames` for the target; and `Name` for the paths.
 #[tactic(auto, unfolding(crate::specs::File::policy_of))]
 pub fn read_policy(alloc: Global, text: &str) -> Result<Policy, Failed<PolicyFault>>
     ensures { UnlessMemory (λ r. spec.policy_of text.now ≡ r) result }
@@ -68,7 +69,7 @@ pub fn read_policy(alloc: Global, text: &str) -> Result<Policy, Failed<PolicyFau
 
 /// Parses the file as JSON.
 ///
-/// Errors: `Json` of rule 0 if it isn't JSON.
+/// Fails with `Json` for rule 0 if it isn't JSON.
 #[tactic(auto, unfolding(crate::specs::File::policy_of))]
 fn parse<'t>(
     alloc: Global,
@@ -90,7 +91,7 @@ fn parse<'t>(
 
 /// The rules of a file as JSON, at most 1,000.
 ///
-/// Errors: the cause of the first fault of the file itself.
+/// Fails with `Shape`, `Version` or `TooManyRules`, the cause of the first fault of the file itself.
 fn file_rules<'v, 't>(value: &'v Value<'t>) -> Result<&'v [Value<'t>], Cause>
     ensures rules { IfOk result (λ vs. spec.policy_in (value_view value.now)
         ≡ spec.rules_from 1 (map value_view vs.now)) }
@@ -147,7 +148,7 @@ fn has_only_file_keys(members: &[(&str, Value<'_>)]) -> bool
     true
 }
 
-/// Whether the key is one of a policy file.
+/// Whether the key is a key of a policy file.
 fn is_file_key(key: &str) -> bool
     ensures { result ≡ list_any (is_same_text key.now) spec.file_keys }
 {
@@ -211,7 +212,7 @@ fn items_in<'v, 't>(value: &'v Value<'t>) -> Option<&'v [Value<'t>]>
 
 /// Reads all rules, numbered from 1.
 ///
-/// Errors: the fault of the first faulty rule.
+/// Fails with the first fault of the first faulty rule.
 fn read_rules(alloc: Global, values: &[Value<'_>]) -> Result<Vec<Rule>, Failed<PolicyFault>>
     requires { length values.now ≤ MOST_RULES }
     ensures rules { IfOk result (λ v. spec.rules_from 1 (map value_view values.now) ≡ Ok v.items) }
@@ -230,7 +231,7 @@ fn read_rules(alloc: Global, values: &[Value<'_>]) -> Result<Vec<Rule>, Failed<P
 
 /// Reads the rule with this number.
 ///
-/// Errors: the first fault of the rule.
+/// Fails with the first fault of the rule.
 fn read_rule(alloc: Global, value: &Value<'_>, number: u32) -> Result<Rule, Failed<PolicyFault>>
     ensures rule { IfOk result (λ r. spec.rule_of number (value_view value.now) ≡ Ok r) }
     ensures faulty { IfFault result (λ fault. spec.rule_of number (value_view value.now)
@@ -275,7 +276,7 @@ fn has_only_rule_keys(members: &[(&str, Value<'_>)]) -> bool
     true
 }
 
-/// Whether the key is one of a rule.
+/// Whether the key is a key of a rule.
 fn is_rule_key(key: &str) -> bool
     ensures { result ≡ list_any (is_same_text key.now) spec.rule_keys }
 {
@@ -338,7 +339,7 @@ fn target_in<'t>(value: &Value<'t>) -> Option<Option<&'t str>>
     }
 }
 
-/// The texts of the non-empty array at this key. `None` if there is no such array.
+/// The texts of the non-empty array of texts at this key. `None` if the key is missing or has another value.
 fn texts_at<'t>(
     alloc: Global,
     value: &Value<'t>,
@@ -379,7 +380,7 @@ fn texts_of<'t>(alloc: Global, items: &[Value<'t>]) -> Result<Option<Vec<&'t str
 
 /// Reads a rule from its texts: its clients, operations and types, then its target, then its paths.
 ///
-/// Errors: the cause of the first fault in that order.
+/// Fails with the cause of the first fault in that order.
 #[tactic(auto, unfolding(crate::specs::File::rule_named))]
 fn rule_named(alloc: Global, written: &WrittenRule<'_>) -> Result<Rule, Failed<Cause>>
     ensures { Gives (λ r. r) result (spec.rule_named (rule_view written.now)) }

@@ -10,7 +10,7 @@ use scim_schema::Kind;
 use scim_text::{NoMemory, push};
 use std::alloc::Global;
 
-/// The path for an attribute or sub-attribute. `None` if nothing is named.
+/// The policy path for the attribute or sub-attribute meant. `None` for `Nothing`.
 fn covered_by(meant: Meant) -> Option<PolicyPath>
     ensures { result ≡ spec.covered_by meant }
 {
@@ -23,7 +23,8 @@ fn covered_by(meant: Meant) -> Option<PolicyPath>
     }
 }
 
-/// Reads an attribute path on resources of a kind. `None` if the kind doesn't have what it names.
+/// Reads an attribute path on resources of a kind. `None` if it isn't the path of an attribute or
+/// sub-attribute of the kind.
 fn path_on(text: &str, kind: Kind) -> Option<PolicyPath>
     ensures { result ≡ spec.path_on text.now kind }
 {
@@ -41,14 +42,14 @@ fn path_named(text: &str, kind: Kind) -> Option<PolicyPath>
     }
 }
 
-/// Whether one of the kinds has what an entry of `paths` names.
+/// Whether an entry of `paths` is valid for at least one of the kinds.
 fn is_path(kinds: &[Kind], text: &str) -> bool
     ensures { result ≡ spec.is_path kinds.now text.now }
 {
     kinds.iter().any(|kind| path_named(text, *kind).is_some())
 }
 
-/// Whether for each entry one of the kinds has what it names.
+/// Whether each entry of `paths` is valid for at least one of the kinds.
 fn are_paths(kinds: &[Kind], texts: &[&str]) -> bool
     ensures { result ≡ list_all (spec.is_path kinds.now) (map text_at texts.now) }
 {
@@ -60,7 +61,8 @@ fn are_paths(kinds: &[Kind], texts: &[&str]) -> bool
     true
 }
 
-/// The paths of all entries on resources of a kind. Entries that name nothing on that kind are left out.
+/// The paths of all entries on resources of a kind. Entries that aren't valid for the kind are
+/// skipped.
 fn paths_for(alloc: Global, texts: &[&str], kind: Kind) -> Result<KindPaths, NoMemory>
     ensures { IfOk result (λ p. p ≡ spec.paths_for (map text_at texts.now) kind) }
 {
@@ -73,8 +75,8 @@ fn paths_for(alloc: Global, texts: &[&str], kind: Kind) -> Result<KindPaths, NoM
     Ok(KindPaths::new(kind, paths))
 }
 
-/// Reads the entries of `paths` for a rule on these kinds. `None` if an entry is neither `*` nor the path of an
-/// attribute or sub-attribute of one of these kinds.
+/// Reads the entries of `paths` for a rule on these kinds. `None` if an entry is neither `*` nor the path of
+/// an attribute or sub-attribute of one of these kinds.
 pub(crate) fn paths_named(
     alloc: Global,
     kinds: &[Kind],

@@ -14,7 +14,7 @@ use std::alloc::Global;
 
 /// Reads an optional target for a rule on these kinds. Empty if there is no target.
 ///
-/// Errors: those of `targets_in`.
+/// Fails with `Target`, `Name` or `TargetNames`, as `targets_in` does.
 pub(crate) fn targets_for(
     alloc: Global,
     kinds: &[Kind],
@@ -31,8 +31,8 @@ pub(crate) fn targets_for(
 
 /// Reads a target for a rule on these kinds, as a filter on each of them.
 ///
-/// Fails with Target if the text isn't a filter on each kind. Fails with Name if none of the kinds has what a
-/// name refers to. Fails with TargetNames if it names `groups`, `password` or `meta`.
+/// Fails with `Target` if the text isn't a filter on each kind. Fails with `Name` if none of the kinds knows
+/// one of its names. Fails with `TargetNames` if it names `groups`, `password` or `meta`.
 #[tactic(auto, unfolding(crate::specs::Targets::targets_in))]
 fn targets_in(alloc: Global, kinds: &[Kind], text: &str) -> Result<Vec<Target>, Failed<Cause>>
     ensures { Gives (λ v. v.items) result (spec.targets_in kinds.now text.now) }
@@ -50,7 +50,7 @@ fn targets_in(alloc: Global, kinds: &[Kind], text: &str) -> Result<Vec<Target>, 
     Ok(targets)
 }
 
-/// Reads the text as a filter on each of the kinds. `None` if it isn't a filter on one of them.
+/// Reads the text as a filter on each of the kinds. `None` if it isn't a filter on every kind.
 fn targets_on(alloc: Global, kinds: &[Kind], text: &str) -> Result<Option<Vec<Target>>, NoMemory>
     ensures { IfOk result (λ o. option_map (λ v. v.items) o
         ≡ each (spec.target_on text.now) kinds.now) }
@@ -87,8 +87,8 @@ fn names_of(alloc: Global, targets: &[Target]) -> Result<Vec<Vec<Named>>, NoMemo
     Ok(lists)
 }
 
-/// Whether each name is known to one of the kinds. The lists have the same names in the same order, each
-/// read for another kind.
+/// Whether each name is known to one of the kinds. Each list has all names of the target, in order, as
+/// read for one of the kinds.
 fn are_known(lists: &[Vec<Named>]) -> bool
     ensures { result ≡ spec.are_known (map (λ ns. ns.items) lists.now) }
 {
@@ -98,7 +98,7 @@ fn are_known(lists: &[Vec<Named>]) -> bool
     }
 }
 
-/// Whether each of `names` is known in one of the lists, at the same place.
+/// Whether, at the place of each of `names`, at least one of the lists has a known name.
 fn are_all_known(lists: &[Vec<Named>], names: &[Named]) -> bool
     ensures { result ≡ spec.are_known_from 0 (map (λ ns. ns.items) lists.now) names.now }
 {

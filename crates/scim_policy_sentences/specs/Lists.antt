@@ -1,12 +1,12 @@
 -- Lists of words in a sentence.
 use Rattle.std.specs.Prelude.{ℕ, ◌==◌, List, [], ◌∷◌, ◌++◌, length, codes, if◌then◌else◌}
 
--- words after a first one, each after a mark, and the last of them after another mark
+-- the words that follow the first one: the last of them after `last`, each other one after `mark`
 abbrev pub further : List ℕ → List ℕ → List (List ℕ) → List ℕ
 further mark last [] = []
 further mark last (w ∷ ws) = (if length ws == 0 then last else mark) ++ w ++ further mark last ws
 
--- words with a mark between them, and another mark before the last one; `nothing` if there are none
+-- words with `mark` between them and `last` before the last one; `nothing` if there are none
 abbrev pub joined : List ℕ → List ℕ → List (List ℕ) → List ℕ
 joined mark last [] = codes "nothing"
 joined mark last (w ∷ ws) = w ++ further mark last ws

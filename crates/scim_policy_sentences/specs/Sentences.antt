@@ -26,7 +26,7 @@ path_word Everything = codes "everything"
 path_word (Attribute a) = leaf_path (simple a)
 path_word (SubAttribute a b) = leaf_path (leaf_at a b)
 
--- the words for a target, if there is one
+-- the words for a target; none if there is no target
 abbrev pub target_clause : Option Target → List ℕ
 target_clause None = []
 target_clause (Some t) = codes " where " ++ tree_text t.tree
@@ -39,7 +39,7 @@ target_words r k = target_clause (target_on k r.targets)
 abbrev pub kind_clause : Rule → Kind → List ℕ
 kind_clause r k = kind_name k ++ target_words r k ++ codes ": " ++ listed (map path_word (paths_on k r.paths))
 
--- the clauses of a rule for each of its kinds
+-- the clauses of a rule for each of its kinds, with semicolons between them
 abbrev pub kind_clauses : Rule → List ℕ
 kind_clauses r = joined (codes "; ") (codes "; ") (map (kind_clause r) r.kinds)
 
@@ -49,14 +49,14 @@ abbrev pub sentence : Rule → List ℕ
 sentence r =
     effect_word r.allow ++ codes " " ++ listed (map client_word r.clients) ++ codes " to " ++ listed (map op_name r.ops) ++ codes " " ++ kind_clauses r
 
--- the line of a numbered rule
+-- the line for the rule with this number
 abbrev pub sentence_line : ℕ → Rule → List ℕ
 sentence_line number r = rule_line number (sentence r)
 
--- the lines of rules, the first of them with this number
+-- the lines for the rules, numbered from `first`
 abbrev pub sentence_lines : ℕ → List Rule → List ℕ
 sentence_lines first rules = flat_map (λ (numbered : ℕ × Rule). sentence_line numbered.0 numbered.1) (enumerate_from first rules)
 
--- the lines of all rules of a policy
+-- the lines for all rules of a policy
 abbrev pub rule_sentences : List Rule → List ℕ
 rule_sentences policy = sentence_lines 1 policy

@@ -31,7 +31,7 @@ pub(crate) fn joined(
     Ok(text)
 }
 
-/// Appends words after a first one. On an error `text` has some of them.
+/// Appends the words after the first one, each after its mark. On an error `text` may have some of them.
 fn push_further(text: &mut String, words: &[String], mark: &str, last: &str) -> Result<(), NoMemory>
     ensures { OnOk result (string_bytes text.new
         ≡ string_bytes text.old ++ spec.further mark.now last.now (map string_bytes words.now)) }
@@ -43,7 +43,7 @@ fn push_further(text: &mut String, words: &[String], mark: &str, last: &str) -> 
     Ok(())
 }
 
-/// The mark before the word at `index`.
+/// The mark before the word at `index`: `last` if it is the last of `count` words, `mark` otherwise.
 fn mark_before<'m>(index: usize, count: usize, mark: &'m str, last: &'m str) -> &'m str
     requires { index < count }
     ensures { result.now ≡ (if index + 1 == count then last.entry.now else mark.entry.now) }

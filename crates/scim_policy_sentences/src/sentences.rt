@@ -32,7 +32,7 @@ pub fn rule_sentences(alloc: Global, policy: &Policy) -> Result<String, NoMemory
     Ok(text)
 }
 
-/// The line of a rule, with its line feed.
+/// Prints the line for a rule, with a line feed at its end.
 fn sentence_line(alloc: Global, number: usize, rule: &Rule) -> Result<String, NoMemory>
     ensures { IfOk result (λ line. string_bytes line ≡ spec.sentence_line number rule.now) }
 {
@@ -105,7 +105,7 @@ fn kind_clause(alloc: Global, rule: &Rule, kind: Kind) -> Result<String, NoMemor
     Ok([kind.name(), target.as_str(), ": ", paths.as_str()].concat(alloc)?)
 }
 
-/// The words for a rule's target on resources of a kind. Empty if it has none.
+/// The words for a rule's target on resources of a kind. Empty if the rule has no target.
 fn target_words(alloc: Global, rule: &Rule, kind: Kind) -> Result<String, NoMemory>
     ensures { IfOk result (λ text. string_bytes text ≡ spec.target_words rule.now kind) }
 {

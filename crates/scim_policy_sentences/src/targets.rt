@@ -40,7 +40,7 @@ fn literal_text(alloc: Global, literal: &Literal) -> Result<String, NoMemory>
     Ok(value.to_string(alloc)?)
 }
 
-/// Appends a path as it was written. On an error `text` has a part of it.
+/// Appends a path as it was written. On an error `text` may have a part of it.
 fn push_path(path: &AttributePath, text: &mut String) -> Result<(), NoMemory>
     ensures { OnOk result (string_bytes text.new ≡ string_bytes text.old
         ++ spec.path_words path.now) }
@@ -92,7 +92,7 @@ fn is_join(node: &Node) -> bool
     matches!(node, Node::Or(_, _) | Node::And(_, _))
 }
 
-/// Appends `mark` if it is needed.
+/// Appends `mark` if `needs` is true.
 fn push_if(needs: bool, mark: &str, text: &mut String) -> Result<(), NoMemory>
     ensures { OnOk result (string_bytes text.new ≡ string_bytes text.old
         ++ (if needs then mark.now else [])) }

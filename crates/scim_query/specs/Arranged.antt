@@ -1,4 +1,4 @@
--- The page of a list as a function of the list, by inserting each part in order.
+-- The page of a list as a function of the list, by insertion sort.
 use Rattle.std.specs.Prelude.{◌≡◌, ◌↔◌, ℕ, Bool, cond, List, [], ◌∷◌, map, length}
 use Rattle.std.specs.Ordering.{is_lt}
 use Rattle.scim_cell.specs.Content.{Content}
@@ -17,7 +17,7 @@ placed lt x (y ∷ ys) = cond (lt x y) (x ∷ y ∷ ys) (y ∷ placed lt x ys)
 abbrev pub before : Query → Content → Content → Bool
 before query p q = is_lt (part_cmp query.sort_by query.descending p q)
 
--- the parts in order with each of the others inserted in its place
+-- the sorted list `done` with each of the other parts inserted in its place
 abbrev pub with_placed : Query → List Content → List Content → List Content
 with_placed query done [] = done
 with_placed query done (p ∷ ps) = with_placed query (placed (before query) p done) ps
@@ -34,12 +34,13 @@ total_of query view = length (matching query.filter view)
 unfoldable pub shown_items : Query → List Content → List Content
 shown_items query view = map (shown query.wanted) (slice_of query.start query.count (arranged query view))
 
--- the page has the total of the query and its start, and the arranged parts from the start on
+-- the page has the number of matching parts, the query's start, and at most `count` of the arranged parts
+-- from the start on
 pub record IsArranged (view : List Content) (query : Query) (page : Page) : Type 0 where
   pub total : page.total ≡ total_of query view
   pub start : page.start ≡ first_position query.start
   pub items : page.items.items ≡ slice_of query.start query.count (arranged query view)
 
--- the arranged page of a view is the query's page of it, and no other page is
+-- a page is the query's page of a view exactly if it is arranged
 abbrev pub PagesAreArranged : Type 0
 PagesAreArranged = (view : List Content) (query : Query) (page : Page) → IsPage view query page ↔ IsArranged view query page

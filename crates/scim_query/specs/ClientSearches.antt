@@ -1,4 +1,4 @@
--- The page that a client is shown of its view of resources (RFC 7644 section 3.4.2).
+-- The page that a search returns for a client's view of resources (RFC 7644 section 3.4.2).
 use Rattle.std.specs.Prelude.{◌≡◌, List, map}
 use Rattle.scim_cell.specs.Content.{Content}
 use Rattle.scim_view.specs.Shown.{shown}

@@ -13,7 +13,7 @@ use Rattle.scim_filter.specs.Relation.{cased}
 abbrev pub sorting_value : List Row → Option Row
 sorting_value vs = slice_get (filter is_primary vs ++ vs) 0
 
--- the atom of a leaf in a value
+-- the atom at a leaf of a value; None if there is no value or it has no atom there
 abbrev pub atom_of : Leaf → Option Row → Option Atom
 atom_of l None = None
 atom_of l (Some r) = atom_in l r.fields

@@ -16,7 +16,7 @@ use Rattle.scim_query.specs.declared.queries.Query.{Query}
 use Rattle.scim_query.specs.Keys.{key_by}
 use Rattle.scim_query.specs.Pages.{is_match}
 
--- the attributes of the names that the kind has
+-- the attributes that the names refer to; names that the kind doesn't have are skipped
 abbrev pub attributes_in : List Named → List Attribute
 attributes_in ns = filter_map (λ (n : Named). n.attribute) ns
 
@@ -24,7 +24,7 @@ attributes_in ns = filter_map (λ (n : Named). n.attribute) ns
 abbrev pub attributes_named : Filter → List Attribute
 attributes_named f = attributes_in (mentioned_names (tree_of f))
 
--- the attributes that an optional filter names
+-- the attributes that the filter names; none if there is no filter
 abbrev pub filter_attributes : Option Filter → List Attribute
 filter_attributes None = []
 filter_attributes (Some f) = attributes_named f

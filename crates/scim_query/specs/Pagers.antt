@@ -1,4 +1,4 @@
--- The parts that a pager holds of those that it has taken.
+-- The matching parts that a pager holds after it has taken some parts.
 use Rattle.std.specs.Prelude.{◌≡◌, ℕ, ◌+◌, ◌-◌, Option, None, Some, List, map, length, take, is_some, if◌then◌else◌}
 use Rattle.std.specs.List.Sorted.{IsSorted}
 use denote.Ref.{Bor}
@@ -20,14 +20,14 @@ query_of pager = pager.query
 abbrev pub keyed : Option Leaf → Content → KeptPart
 keyed sort_by p = record { key = key_by sort_by (rows p); part = p }
 
--- the held parts are those matching parts, in the query's order, that are on the page or before it
+-- the held parts are the matching parts on the page or before it, in the query's order
 pub record HoldsFirst (query : Query) (found : List Content) (held : List KeptPart) : Type 0 where
   pub sorted : List Content
   pub is_sorted : IsInOrder query found sorted
   pub first : held ≡ map (keyed query.sort_by) (take (query.start - 1 + query.count) sorted)
 
--- the held parts of the matching ones: with a sort key those on the page or before it, without one those of
--- the page in the order of the list
+-- the held parts are, with a sort key, the matching parts on the page or before it; without one, the matching
+-- parts on the page, in the order of the list
 abbrev pub Holds : Option Leaf → Query → List Content → List KeptPart → Type 0
 Holds None query found held = held ≡ map (keyed query.sort_by) (slice_of query.start query.count found)
 Holds (Some l) query found held = HoldsFirst query found held

@@ -19,7 +19,7 @@ is_match (Some f) p = truth (tree_of f) (rows p)
 abbrev pub matching : Option Filter → List Content → List Content
 matching f ps = filter (is_match f) ps
 
--- the second list is the first sorted stably in the query's order, and so is determined by it
+-- the list `sorted` is the list `found` sorted stably in the query's order
 pub record IsInOrder (query : Query) (found sorted : List Content) : Type 0 where
   pub members : IsPermutation found sorted
   pub in_order : IsSorted (part_cmp query.sort_by query.descending) sorted
@@ -34,8 +34,8 @@ abbrev pub first_position : ℕ → ℕ
 first_position zero = 1
 first_position (suc n) = suc n
 
--- the page is the query's page of the parts: the number of all matches, the start, and from it on at most
--- count of the matching parts in order
+-- the page is the query's page of the parts: it has the number of all matching parts, the start, and at most
+-- `count` of the sorted matching parts from the start on
 pub record IsPage (parts : List Content) (query : Query) (page : Page) : Type 0 where
   pub total : page.total ≡ length (matching query.filter parts)
   pub start : page.start ≡ first_position query.start

@@ -15,11 +15,11 @@ use Rattle.scim_policy.specs.declared.rules.Decision.{Decision}
 use Rattle.scim_view.specs.Groups.{memberships, visible_with}
 use Rattle.scim_query.specs.Pages.{is_match}
 
--- the part of the resource that these decisions let be seen doesn't match, whichever groups list it
+-- the part of the resource that these decisions let be seen doesn't match, whichever groups list the resource
 abbrev pub NeverMatches : Option Filter → (Leaf → Decision) → Content → Type 0
 NeverMatches filter decision c = (base : List ℕ) (groups : List Content) → is_match filter (visible_with decision (memberships base groups c.id) c) ≡ false
 
--- the visible rows of every resource of the kind, by these decisions and with any groups, have a property
+-- the visible rows of every resource of the kind, by these decisions and with any groups, have the property P
 abbrev pub AllRows : (List Row → Type 0) → Kind → (Leaf → Decision) → Type 0
 AllRows P kind decision = (c : Content) → IsPart c → c.kind ≡ kind → (base : List ℕ) (groups : List Content) → P (rows (visible_with decision (memberships base groups c.id) c))
 
@@ -27,7 +27,7 @@ AllRows P kind decision = (c : Content) → IsPart c → c.kind ≡ kind → (ba
 abbrev pub NeverHolds : (List Row → Bool) → Kind → (Leaf → Decision) → Type 0
 NeverHolds test kind decision = AllRows (λ rs. test rs ≡ false) kind decision
 
--- the rows of the attribute that a path names or whose sub-attribute it names
+-- the rows of the attribute that a path names, alone or with a sub-attribute
 abbrev pub rows_meant : Meant → List Row → List Row
 rows_meant m rs = filter (λ (r : Row). option_eq is_same_attribute (mentioned_attribute m) (Some r.unit.attribute)) rs
 
@@ -35,7 +35,8 @@ rows_meant m rs = filter (λ (r : Row). option_eq is_same_attribute (mentioned_a
 abbrev pub StaysUnseen : Meant → Kind → (Leaf → Decision) → Type 0
 StaysUnseen m kind decision = AllRows (λ rs. rows_meant m rs ≡ []) kind decision
 
--- whether the bracketed filter of a value path is evaluated even without rows: the attribute is single-valued
+-- whether the bracketed filter of a value path is evaluated even without rows: it is
+-- if the attribute is single-valued
 abbrev pub is_asked_of_none : Meant → Bool
 is_asked_of_none (meant.Attribute a) = not (is_multi_valued a)
 is_asked_of_none _ = false

@@ -6,6 +6,6 @@ use Rattle.scim_filter_grammar.specs.declared.tree.AttributePath.{AttributePath}
 use Rattle.scim_filter_grammar.specs.Spelled.{path_in}
 use Rattle.scim_filter_grammar.specs.Types.{compared_leaf}
 
--- the leaf that a text names to sort by: that of its path, where a complex attribute means its `value`
+-- the leaf that a text names to sort by; a complex attribute alone means its `value`
 abbrev pub sort_leaf : Kind → List ℕ → Option Leaf
 sort_leaf kind text = option_and_then (λ (path : AttributePath). compared_leaf path.meant) (path_in kind text)

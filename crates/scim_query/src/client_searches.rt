@@ -11,10 +11,10 @@ use scim_value::Resource;
 use scim_view::Viewer;
 use std::alloc::Global;
 
-/// Returns the page of the query over the resources of one kind that the client sees, each
-/// as it may see it, with a user's `groups` made from `groups`.
-/// Filter, sort order and total depend on nothing else, so a client learns nothing from them that it may not
-/// read. Each item is projected to what the query wants.
+/// Returns the query's page of the resources of one kind that the client sees.
+/// The query reads only the client's view of each resource, with a user's `groups` computed from `groups`. So
+/// the matches, their order and the total reveal nothing that the client may not read. Each item is projected
+/// to the attributes that the query wants.
 ///
 /// Evaluates the policy once for each resource and once for each group.
 pub fn search_view(

@@ -21,14 +21,14 @@ pub(crate) struct KeptPart {
     pub(crate) part: Part,
 }
 
-/// Whether a part with this key and id comes before a held one.
+/// Whether a part with this key and id comes before a held part.
 fn comes_before(descending: bool, key: &Option<Atom>, id: Id, other: &KeptPart) -> bool
     ensures { result ≡ is_lt (rank_cmp descending (key.now, id) (code.kept_rank other.now)) }
 {
     compare_ranks(descending, key, id, &other.key, other.part.id()).is_lt()
 }
 
-/// Returns the maximum number of held parts, at most `usize::MAX`.
+/// Returns the maximum number of parts that a pager holds for the query, capped at `usize::MAX`.
 fn room_of(query: &Query) -> usize
     ensures { result ≡ min (spec.most_held query.now) (2 ^ 64 - 1) }
 {
@@ -41,7 +41,7 @@ fn room_of(query: &Query) -> usize
 }
 
 /// Returns where to insert a part with this key and id among the held parts, which are in order.
-/// None if it comes after the end of the page.
+/// `None` if it comes after the end of the page.
 fn place_in_order(held: &[KeptPart], query: &Query, key: &Option<Atom>, id: Id) -> Option<usize>
     ensures inside { IfSome result (λ place. place ≤ length held.now) }
     ensures place { (part : _) → code.kept_rank part ≡ (key.now, id)
@@ -58,8 +58,8 @@ fn place_in_order(held: &[KeptPart], query: &Query, key: &Option<Atom>, id: Id) 
     }
 }
 
-/// Returns where to append a matching part to the held parts, which are those of the page.
-/// `before` is the number of parts that matched before it. None if the part isn't on the page.
+/// Returns where to append a matching part to the held parts, which are the parts of the page.
+/// `before` is the number of parts that matched before it. `None` if the part isn't on the page.
 fn place_on_page(held: &[KeptPart], query: &Query, before: usize) -> Option<usize>
     ensures inside { IfSome result (λ place. place ≤ length held.now) }
     ensures place { (found : List KeptPart) (part : _) → before ≡ length found
@@ -75,8 +75,8 @@ fn place_on_page(held: &[KeptPart], query: &Query, before: usize) -> Option<usiz
 }
 
 /// Returns where to insert a matching part with this key and id among the held parts.
-/// `before` is the number of parts that matched before it. None if the part is neither on the page nor before
-/// it.
+/// `before` is the number of parts that matched before it. `None` if the part is neither on the page nor
+/// before it.
 pub(crate) fn place_of(
     held: &[KeptPart],
     query: &Query,
@@ -94,8 +94,8 @@ pub(crate) fn place_of(
     }
 }
 
-/// Inserts a part at `place` among the held parts, and drops those in excess of the maximum.
-/// After NoMemory the held parts are unchanged.
+/// Inserts a part at `place` among the held parts, and drops the parts beyond the maximum.
+/// After `NoMemory` the held parts are unchanged.
 pub(crate) fn put_in_place(
     held: &mut Vec<KeptPart>,
     query: &Query,
@@ -112,7 +112,7 @@ pub(crate) fn put_in_place(
     Ok(())
 }
 
-/// Returns the parts from index `first` on, counted from 0.
+/// Returns the parts from index `first` on, counted from 0, without their keys.
 pub(crate) fn parts_from(
     alloc: Global,
     held: Vec<KeptPart>,

@@ -8,8 +8,8 @@ pub fn queries_have_one_page()
     ensures { QueriesHaveOnePage }
 {}
 
-/// A page is a query's page of a list exactly if it has the number of the matching parts, the query's start,
-/// and as items those that inserting each matching part in its place gives from that start on.
+/// A page is a query's page of a list exactly if its total is the number of matching parts, its start is the
+/// query's start, and its items are at most `count` of the matching parts from there on, sorted by insertion.
 pub fn pages_are_arranged()
     ensures { PagesAreArranged }
 {}

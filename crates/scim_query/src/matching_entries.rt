@@ -32,7 +32,7 @@ pub(crate) fn is_matching(alloc: Global, query: &Query, part: &Part) -> Result<b
     }
 }
 
-/// Like [`is_matching`], for the part that is left when only the fields that the test admits are kept.
+/// Like [`is_matching`], for the part restricted to the fields that the test admits.
 pub(crate) fn is_matching_where<T: RowTest>(
     alloc: Global,
     query: &Query,
@@ -42,7 +42,8 @@ pub(crate) fn is_matching_where<T: RowTest>(
     ensures { IfOk result (λ b. b
         ≡ is_match query.now.filter (restricted_part (T.keeps test.now) part.now)) }
 {
-    // The call tells the proof that the part is valid, so the restricted part has just the restricted rows.
+    // This call lets the proof use that the part is valid, so the restricted part has exactly the restricted
+    // rows.
     let _ = part.rows();
     match &query.filter {
         None => Ok(true),
@@ -104,7 +105,7 @@ pub(crate) fn sort_entries(entries: &mut Vec<Entry<'_>>, descending: bool) -> Re
     Ok(())
 }
 
-/// Returns at most `count` items from position `start` on, counted from 1; 0 counts as 1.
+/// Returns at most `count` items from position `start` on. Positions are counted from 1, and 0 counts as 1.
 pub(crate) fn slice_of<T>(items: &[T], start: usize, count: usize) -> &[T]
     ensures { result.now ≡ take count (drop (start - 1) items.now) }
 {

@@ -1,4 +1,4 @@
-//! The attributes that a query names, the only ones that it reads.
+//! The attributes that a query's filter and sort key name.
 ghost use Rattle.std.specs.Prelude.{◌≡◌, IfOk};
 ghost use Rattle.scim_query.specs.NamedAttributes as spec;
 
@@ -8,7 +8,7 @@ use scim_schema::Attribute;
 use scim_text::{NoMemory, push};
 use std::alloc::Global;
 
-/// Returns the attributes of the names that the kind has.
+/// Returns the attributes that the names refer to. Names that the kind doesn't have are skipped.
 fn attributes_in(alloc: Global, names: &[Named]) -> Result<Vec<Attribute>, NoMemory>
     ensures { IfOk result (λ v. v.items ≡ spec.attributes_in names.now) }
 {
@@ -39,9 +39,9 @@ fn filter_attributes(alloc: Global, filter: &Option<Filter>) -> Result<Vec<Attri
 }
 
 impl Query {
-    /// Returns the attributes that the filter names, in the order of its text, and that of the sort key.
-    /// If `groups` isn't among them, the query finds the same in the visible part of these attributes alone
-    /// as in the whole visible part.
+    /// Returns the attributes that the filter names, in the order of its text, then the attribute of the
+    /// sort key. If `groups` isn't among them, a visible part matches and sorts the same if only its cells of
+    /// these attributes are kept.
     pub fn attributes(&self, alloc: Global) -> Result<Vec<Attribute>, NoMemory>
         ensures { IfOk result (λ v. v.items ≡ spec.attributes_of self.now) }
     {

@@ -1,4 +1,4 @@
-//! The text that a filter requires at a leaf, by which the only possible match can be looked up.
+//! The text that a filter requires at a leaf, by which a caller can look up the possible matches.
 ghost use Rattle.std.specs.Prelude.{◌≡◌, true, List, IfSome};
 ghost use Rattle.scim_cell.specs.Rows.{Row};
 ghost use Rattle.scim_filter_grammar.specs.Tree.{view};
@@ -9,7 +9,7 @@ use crate::queries::Query;
 use scim_filter_grammar::{Literal, Meant, Node, Operator, StringLiteral};
 use scim_schema::Leaf;
 
-/// Returns the text that a comparison requires at the leaf: that of `leaf eq "text"`; None for any other.
+/// Returns the text that a comparison requires at the leaf. `None` if the comparison isn't `leaf eq "text"`.
 fn text_compared(
     meant: Meant,
     operator: Operator,
@@ -27,7 +27,8 @@ fn text_compared(
     }
 }
 
-/// Returns a text that the leaf must have for the filter to hold, if the filter shows one.
+/// Returns a text that the leaf must have for the filter to match. `None` unless the filter is
+/// `leaf eq "text"` or a conjunction with that comparison.
 fn text_needed(node: &Node, leaf: Leaf) -> Option<&StringLiteral>
     ensures { IfSome result (λ text. (rs : List Row) → truth (view node.now) rs ≡ true
         → spec.has_text leaf text.now rs ≡ true) }
@@ -46,8 +47,8 @@ fn text_needed(node: &Node, leaf: Leaf) -> Option<&StringLiteral>
 
 impl Query {
     /// Returns a text that every matching part has at the leaf.
-    /// Texts compare as with `eq` (RFC 7644 section 3.4.2.2). There is one if the filter is `leaf eq "text"`
-    /// or a conjunction with such a term; None otherwise.
+    /// Texts compare as with `eq` (RFC 7644 section 3.4.2.2). `None` unless the filter is
+    /// `leaf eq "text"` or a conjunction with that comparison.
     pub fn needed_text(&self, leaf: Leaf) -> Option<&StringLiteral>
         ensures { IfSome result (λ text. spec.NeedsText self.now.filter leaf text.now) }
     {

@@ -16,16 +16,17 @@ use std::alloc::Global;
 
 /// Computes the page of a query from parts that come one after another.
 ///
-/// The list isn't held in memory. The pager counts the matching parts and holds only those that can still be
-/// on the page: at most the query's count without a sort key, and with one at most as many as are on the page
-/// or before it. A part given by value isn't copied; of a borrowed one only a held part is copied.
+/// The list isn't held in memory. The pager counts the matching parts and holds only parts that can still be
+/// on the page or, with a sort key, before it. It holds at most `count` parts without a sort key, and at most
+/// `start - 1 + count` with one. A part passed by value isn't copied, and a borrowed part is copied only if
+/// it is held.
 #[derive(Drop)]
 pub struct Pager<'q> {
     alloc: Global,
     query: &'q Query,
     /// The number of matching parts so far.
     total: usize,
-    /// With a sort key, the first matching parts in order; otherwise the parts of the page.
+    /// With a sort key, the first matching parts in the query's order; without one, the parts of the page.
     held: Vec<KeptPart>,
 }
 
@@ -44,7 +45,8 @@ impl<'q> Pager<'q> {
     }
 
     /// Takes the next part. If the query has no sort key, parts must come in ascending order of id.
-    /// Fails with NoMemory also if the number of matches overflows `usize`. On an error the pager is unchanged.
+    /// Fails with `NoMemory` also if the number of matches overflows `usize`. On an error the pager is
+    /// unchanged.
     pub fn push(&mut self, part: Part) -> Result<(), NoMemory>
         ensures query { spec.query_of self.new ≡ spec.query_of self.old }
         ensures taken { OnOk result ((parts : List _) → spec.HasTaken parts self.old
@@ -62,10 +64,10 @@ impl<'q> Pager<'q> {
         }
     }
 
-    /// Like [`Pager::push`], for the part that is left when only the fields that the test admits are kept.
-    /// Returns whether the part is now held. A part that doesn't match isn't copied; of one that matches the
-    /// key is copied, and the rest only if it is held. Fails with NoMemory also if the number of matches
-    /// overflows `usize`. After it the pager is unchanged.
+    /// Like [`Pager::push`], for the part restricted to the fields that the test admits. Returns whether the
+    /// part is now held. If the part matches, its sort key is copied; if it is then held, its admitted fields
+    /// are copied too. Fails with `NoMemory` also if the number of matches overflows `usize`. On an error the
+    /// pager is unchanged.
     pub fn push_where<T: RowTest>(&mut self, part: &Part, test: &T) -> Result<bool, NoMemory>
         ensures query { spec.query_of self.new ≡ spec.query_of self.old }
         ensures taken { OnOk result ((parts : List _) → spec.HasTaken parts self.old
@@ -90,8 +92,8 @@ impl<'q> Pager<'q> {
         }
     }
 
-    /// Counts a matching part and inserts it at `place` among the held parts. Fails with NoMemory also if the
-    /// number of matches overflows `usize`. After it the pager is unchanged.
+    /// Counts a matching part and inserts it at `place` among the held parts. Fails with `NoMemory` also if
+    /// the number of matches overflows `usize`. On an error the pager is unchanged.
     fn hold(&mut self, place: usize, part: KeptPart) -> Result<(), NoMemory>
         requires { place ≤ length self.old.held.items }
         ensures query { spec.query_of self.new ≡ spec.query_of self.old }
@@ -110,7 +112,7 @@ impl<'q> Pager<'q> {
     }
 
     /// Counts a matching part that isn't held.
-    /// Fails with NoMemory if the number of matches overflows `usize`; the pager is then unchanged.
+    /// Fails with `NoMemory` if the number of matches overflows `usize`; the pager is then unchanged.
     fn pass(&mut self) -> Result<(), NoMemory>
         ensures query { spec.query_of self.new ≡ spec.query_of self.old }
         ensures counted { OnOk result (code.HasCounted self.old.held.items self.old self.new) }
@@ -132,7 +134,7 @@ impl<'q> Pager<'q> {
         self.held.len()
     }
 
-    /// Returns the page of the parts taken, as [`crate::queries::search`] returns it for a list of them.
+    /// Returns the page that [`crate::queries::search`] returns for the list of all parts taken.
     pub fn end(self) -> Result<Page, NoMemory>
         ensures { IfOk result (λ page. (parts : List _) → spec.HasTaken parts self.entry
             → spec.ComeInOrder (spec.query_of self.entry).now parts

@@ -13,7 +13,7 @@ use scim_policy::Decisions;
 use scim_schema::{Attribute, Kind, is_multi_valued};
 use scim_view::shows_some;
 
-/// Whether a comparison holds for an attribute without a value.
+/// Whether a comparison is true for an attribute without a value.
 fn holds_of_none(operator: Operator, literal: &Literal) -> bool
     ensures { result ≡ compares Nothing operator literal.now [] }
 {
@@ -25,7 +25,7 @@ fn holds_of_none(operator: Operator, literal: &Literal) -> bool
 }
 
 /// Whether the filter in brackets of a value path is evaluated even if the attribute has no value.
-/// It is if the path names a single-valued attribute.
+/// This is so if the path names a single-valued attribute.
 fn is_asked_of_none(meant: Meant) -> bool
     ensures { result ≡ spec.is_asked_of_none meant }
 {
@@ -35,7 +35,7 @@ fn is_asked_of_none(meant: Meant) -> bool
     }
 }
 
-/// Whether the client may see a cell of the attribute that a path names or whose sub-attribute it names.
+/// Whether the client may see a cell of the attribute that a path names, alone or with a sub-attribute.
 /// Always true for `groups`, whose values are computed.
 fn may_be_seen(meant: Meant, kind: Kind, decisions: &Decisions) -> bool
     ensures { result ≡ false → spec.StaysUnseen meant kind (decision decisions.now) }
@@ -48,8 +48,8 @@ fn may_be_seen(meant: Meant, kind: Kind, decisions: &Decisions) -> bool
     }
 }
 
-/// Whether the filter can match the visible part of some resource of the kind. False only if it matches none;
-/// true may be a guess.
+/// Whether the filter can match the visible part of some resource of the kind. If false, it matches none;
+/// if true, it may still match none.
 fn may_hold(node: &Node, kind: Kind, decisions: &Decisions) -> bool
     ensures { result ≡ false → spec.NeverHolds (truth (view node.now)) kind
         (decision decisions.now) }
@@ -74,7 +74,8 @@ fn may_hold(node: &Node, kind: Kind, decisions: &Decisions) -> bool
 
 impl Query {
     /// Whether any resource of the kind can match, as the client sees it.
-    /// `decisions` are those on reading every resource of the kind. If false, none matches. Doesn't allocate.
+    /// `decisions` must be the decisions on reading any resource of the kind. If false, no resource matches;
+    /// if true, it may still be that none matches. Doesn't allocate.
     pub fn may_match(&self, kind: Kind, decisions: &Decisions) -> bool
         ensures { result ≡ false → (c : Content) → IsPart c → c.kind ≡ kind
             → spec.NeverMatches self.now.filter (decision decisions.now) c }

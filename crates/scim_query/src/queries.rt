@@ -12,9 +12,9 @@ use std::alloc::Global;
 
 /// A query of a list of parts (RFC 7644 section 3.4.2).
 pub struct Query {
-    /// The filter that parts must match; None matches all.
+    /// The filter that parts must match; `None` matches all parts.
     pub filter: Option<Filter>,
-    /// The leaf to sort by, as [`crate::sort_by::read_sort_by`] returns it; None sorts by id.
+    /// The leaf to sort by, as [`crate::sort_by::read_sort_by`] returns it; `None` sorts by id.
     pub sort_by: Option<Leaf>,
     /// Whether the sort order is descending.
     pub descending: bool,
@@ -60,9 +60,9 @@ pub(crate) fn first_position(start: usize) -> usize
 /// Returns the query's page of a list of parts.
 /// It has the matching parts in order, from `start` on, at most `count`.
 ///
-/// Parts are ordered by their atom at the sort leaf. Of a multi-valued attribute that is the atom of the
+/// Parts are ordered by their atom at the sort leaf. For a multi-valued attribute, this is the atom of the
 /// first value marked as primary, or else of the first value. Texts are case-folded unless the leaf is
-/// caseExact, false comes before true, and a part without such an atom comes last. Descending order is the
+/// caseExact, false comes before true, and a part without an atom there comes last. Descending order is the
 /// reverse. Parts with equal keys are ordered by ascending id.
 ///
 /// Only the parts of the page are copied.

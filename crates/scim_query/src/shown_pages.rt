@@ -8,7 +8,7 @@ use scim_value::Part;
 use scim_view::{Wanted, project};
 use std::alloc::Global;
 
-/// Returns the page with each item projected to what the client wants, as [`project`].
+/// Returns the page with each item projected to what the client wants, as [`project`] does.
 pub fn shown_page(alloc: Global, found: Page, wanted: &Wanted) -> Result<Page, NoMemory>
     ensures total { IfOk result (λ page. page.total ≡ found.total) }
     ensures start { IfOk result (λ page. page.start ≡ found.start) }

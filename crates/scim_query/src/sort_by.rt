@@ -9,7 +9,7 @@ use scim_schema::{Kind, Leaf};
 /// text names a simple attribute, or a sub-attribute such as `name.familyName`; a complex attribute alone
 /// means its `value`. Paths are read as in filters, with or without a URN prefix and with spaces around them.
 ///
-/// None if the text isn't a path, has a filter in brackets, is longer than 4,096 bytes, names an attribute
+/// `None` if the text isn't a path, has a filter in brackets, is longer than 4,096 bytes, names an attribute
 /// that the kind doesn't have, or names a complex attribute without a `value`. Doesn't allocate.
 pub fn read_sort_by(kind: Kind, text: &str) -> Option<Leaf>
     ensures { result ≡ sort_leaf kind text.now }

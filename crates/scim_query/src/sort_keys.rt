@@ -18,7 +18,7 @@ use scim_value::Part;
 use std::alloc::Global;
 use std::cmp::Ordering;
 
-/// A test that admits every field, for a part that is sorted as it is.
+/// A test that admits every field.
 struct Everything;
 
 impl RowTest for Everything {
@@ -49,7 +49,7 @@ fn is_left<T: RowTest>(value: &Row, test: &T) -> bool
             .any(|field| test.is_kept(value, field.leaf))
 }
 
-/// Returns the first value that a field admitted by the test marks as primary.
+/// Returns the first value that is marked as primary by a field that the test admits.
 fn first_primary<'r, T: RowTest>(values: &'r [Row], test: &T) -> Option<&'r Row>
     ensures { option_copied result
         ≡ find (λ r. cells.is_primary r
@@ -66,8 +66,8 @@ fn first_left<'r, T: RowTest>(values: &'r [Row], test: &T) -> Option<&'r Row>
     values.iter().find(|value| is_left(value, test))
 }
 
-/// Returns the value to sort by, of those with a field that the test admits.
-/// It is the first that an admitted field marks as primary; without such a mark it is the first.
+/// Returns the value to sort by, among the values with a field that the test admits.
+/// It is the first value that an admitted field marks as primary, or else the first value.
 fn sorting_value<'r, T: RowTest>(values: &'r [Row], test: &T) -> Option<&'r Row>
     ensures { option_map (restricted_row (T.keeps test.now)) (option_copied result)
         ≡ spec.sorting_value (restricted (T.keeps test.now) values.now) }
@@ -91,8 +91,8 @@ fn compared(alloc: Global, leaf: Leaf, atom: &Atom) -> Result<Atom, NoMemory>
     }
 }
 
-/// Returns the atom by which a part is sorted if only the fields that the test admits count; None if there is
-/// no such atom.
+/// Returns the atom by which a part is sorted, from the fields that the test admits. `None` if there is no
+/// atom to sort by.
 fn sorting_atom<'p, T: RowTest>(leaf: Leaf, part: &'p Part, test: &T) -> Option<&'p Atom>
     ensures atom { option_copied result ≡ spec.atom_of leaf
         (spec.sorting_value
@@ -107,8 +107,8 @@ fn sorting_atom<'p, T: RowTest>(leaf: Leaf, part: &'p Part, test: &T) -> Option<
     }
 }
 
-/// Returns the sort key of a part by the leaf, with only the fields that the test admits.
-/// None if the part has no value there.
+/// Returns the sort key of a part by the leaf, from the fields that the test admits.
+/// `None` if there is no atom to sort by.
 fn key_at<T: RowTest>(
     alloc: Global,
     leaf: Leaf,
@@ -125,7 +125,7 @@ fn key_at<T: RowTest>(
     Ok(Some(compared(alloc, leaf, atom)?))
 }
 
-/// Returns the sort key of a part by the leaf; None if there is no leaf or the part has no such atom.
+/// Returns the sort key of a part by the leaf. `None` if there is no leaf or no atom to sort by.
 pub(crate) fn key_by(
     alloc: Global,
     sort_by: Option<Leaf>,
@@ -139,8 +139,7 @@ pub(crate) fn key_by(
     }
 }
 
-/// Like [`key_by`], for the part that is left when only the fields that the test admits are kept. Only the
-/// key is copied.
+/// Like [`key_by`], for the part restricted to the fields that the test admits. Only the key is copied.
 pub(crate) fn key_where<T: RowTest>(
     alloc: Global,
     sort_by: Option<Leaf>,
@@ -157,7 +156,7 @@ pub(crate) fn key_where<T: RowTest>(
 }
 
 /// Compares two atoms: texts by their bytes, false before true, moments by time.
-/// Atoms of one leaf have one type; of different types, texts come first and moments last.
+/// Atoms of one leaf have one type. Between types, texts come first and moments last.
 fn compare_atoms(a: &Atom, b: &Atom) -> Ordering
     ensures { result ≡ order.atom_cmp a.now b.now }
 {

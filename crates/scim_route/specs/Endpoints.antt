@@ -9,8 +9,8 @@ use Rattle.scim_route.specs.declared.endpoints.DiscoveryPage.{DiscoveryPage}
 use Rattle.scim_route.specs.declared.endpoints.DiscoveryPage.TheVariants.{ServiceProviderConfig, ResourceTypes, ResourceType, Schemas, Schema}
 use Rattle.scim_route.specs.Targets.{is_slash}
 
--- an endpoint: one that this server doesn't support, a page of discovery, the resources of a kind, their
--- search, or one resource by a text
+-- an endpoint: one that this server doesn't support, a discovery page, the resources of a kind, the search of
+-- the resources of a kind, or one resource of a kind with the text in the path where its id belongs
 pub data Place : Type 0 where
   unsupported : Place
   page : DiscoveryPage → Place
@@ -22,11 +22,11 @@ pub data Place : Type 0 where
 abbrev pub is : List ℕ → List ℕ → Bool
 is = pointwise nat_eq
 
--- the kind whose resources are at `/{name}`, or None
+-- the kind whose resources are at `/{name}`; `None` if there is no such kind
 abbrev pub kind_below : List ℕ → Option Kind
 kind_below name = if is name (codes "Users") then Some User else if is name (codes "Groups") then Some Group else None
 
--- the endpoint at `/{name}` other than the resources of a kind, or None
+-- the endpoint at `/{name}` if `name` isn't `Users` or `Groups`; `None` if there is no such endpoint
 abbrev pub other_at_top : List ℕ → Option Place
 other_at_top name =
     if is name (codes "") then Some unsupported
@@ -38,12 +38,12 @@ other_at_top name =
     else if is name (codes "Schemas") then Some (page Schemas)
     else None
 
--- the endpoint of the resources of a kind, or the other one if there is no kind
+-- the endpoint of the resources of `kind`, or `other` if there is no kind
 abbrev pub collection_or : Option Place → Option Kind → Option Place
 collection_or other (Some kind) = Some (collection kind)
 collection_or other None = other
 
--- the endpoint at `/{name}`, or None
+-- the endpoint at `/{name}`; `None` if there is none
 abbrev pub at_top : List ℕ → Option Place
 at_top name = collection_or (other_at_top name) (kind_below name)
 
@@ -51,7 +51,7 @@ at_top name = collection_or (other_at_top name) (kind_below name)
 abbrev pub among : Kind → List ℕ → Place
 among kind text = if is text (codes ".search") then search kind else resource kind text
 
--- the endpoint at `/{name}/{text}` where `name` isn't `Users` or `Groups`, or None
+-- the endpoint at `/{name}/{text}` if `name` isn't `Users` or `Groups`; `None` if there is no such endpoint
 abbrev pub other_below : List ℕ → List ℕ → Option Place
 other_below name text =
     if is name (codes "Me") then Some unsupported
@@ -59,29 +59,30 @@ other_below name text =
     else if is name (codes "Schemas") then option_map (λ schema. page (Schema schema)) (schema_named text)
     else None
 
--- the endpoint below the resources of a kind, or the other one if there is no kind
+-- the endpoint at `text` below the resources of `kind`, or `other` if there is no kind
 abbrev pub among_or : Option Place → Option Kind → List ℕ → Option Place
 among_or other (Some kind) text = Some (among kind text)
 among_or other None text = other
 
--- the endpoint at `/{name}/{text}`, or None; it is None for an empty text and for more segments
+-- the endpoint at `/{name}/{text}`; `None` if there is none, if the text is empty, or if it contains a slash
 abbrev pub below : List ℕ → List ℕ → Option Place
 below name [] = None
 below name (b ∷ text) = if list_any is_slash (b ∷ text) then None else among_or (other_below name (b ∷ text)) (kind_below name) (b ∷ text)
 
--- the endpoint of a path without its leading slash, or None
+-- the endpoint of a path that is given without its leading slash; `None` if there is none
 abbrev pub in_segments : List ℕ → Option Place
 in_segments segments =
     if position_or_len is_slash segments == length segments then at_top segments
     else below (before_first is_slash segments) (after_first is_slash segments)
 
--- a text without one slash at its end
+-- the text without one slash at its end, if it ends in a slash
 unfoldable pub without_last_slash : List ℕ → List ℕ
 without_last_slash [] = []
 without_last_slash (b ∷ []) = if is_slash b then [] else b ∷ []
 without_last_slash (b ∷ c ∷ rest) = b ∷ without_last_slash (c ∷ rest)
 
--- the endpoint of a path, or None; one slash at the end is ignored, unless it is also the first
+-- the endpoint of a path; `None` if there is none; one slash at the end is ignored, unless it is the leading
+-- slash
 abbrev pub place_of : List ℕ → Option Place
 place_of [] = None
 place_of (b ∷ rest) = if is_slash b then in_segments (without_last_slash rest) else None

@@ -6,11 +6,11 @@ use Rattle.form_urlencoded.specs.Form.{raw_pairs, decode}
 use Rattle.scim_text.specs.Names.{is_same_name}
 use Rattle.scim_route.specs.declared.query_parameters.Parameters.{Parameters}
 
--- the decoded text of a name or a value of a form; bytes that aren't UTF-8 become U+FFFD
+-- the decoded text of a form-encoded name or value; bytes that aren't UTF-8 become U+FFFD
 abbrev pub decoded_text : List ℕ → List ℕ
 decoded_text bytes = utf8_lossy (decode bytes)
 
--- a pair of a form, decoded
+-- a form-encoded name and value, decoded
 abbrev pub decoded_pair : List ℕ × List ℕ → List ℕ × List ℕ
 decoded_pair pair = (decoded_text pair.0, decoded_text pair.1)
 
@@ -18,11 +18,11 @@ decoded_pair pair = (decoded_text pair.0, decoded_text pair.1)
 abbrev pub pairs_of : Option (List ℕ) → List (List ℕ × List ℕ)
 pairs_of query = map decoded_pair (raw_pairs (unwrap_or query []))
 
--- the first value of a name, in any ASCII case, or None
+-- the value of the first pair that has this name in any ASCII case; `None` if there is no such pair
 abbrev pub first_named : List ℕ → List (List ℕ × List ℕ) → Option (List ℕ)
 first_named name pairs = option_map (λ pair. pair.1) (find (λ pair. is_same_name pair.0 name) pairs)
 
--- the parameters in these pairs (RFC 7644 sections 3.4.2 and 3.9)
+-- the parameters that these pairs of names and values give (RFC 7644 sections 3.4.2 and 3.9)
 abbrev pub parameters_in : List (List ℕ × List ℕ) → Parameters
 parameters_in pairs = record {
   attributes = first_named (codes "attributes") pairs;

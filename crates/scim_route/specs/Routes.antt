@@ -18,14 +18,14 @@ use Rattle.scim_route.specs.declared.routes.Found.TheVariants.{Discovery as Foun
 use Rattle.scim_route.specs.Targets.{path_of, decoded}
 use Rattle.scim_route.specs.Endpoints.{Place, unsupported, page, collection, search, resource, place_of, is}
 
--- a request: a page of discovery, or a form of request to the resources of a kind, with the text in the place
--- of an id
+-- a request: for a discovery page, or to the resources of a kind, with its form and, for one resource, the
+-- text in the path where its id belongs
 pub data Named : Type 0 where
   a_page : DiscoveryPage → Named
   a_route : Form → Kind → Option (List ℕ) → Named
 
--- the form of a method at an endpoint with these methods, or None if the endpoint doesn't allow it (RFC 7644
--- section 3.2)
+-- the form of a request with this method to an endpoint with these methods; `None` if the endpoint doesn't
+-- allow the method (RFC 7644 section 3.2)
 abbrev pub form_of : Methods → List ℕ → Option Form
 form_of Collection method =
     if is method (codes "GET") then Some ListGet
@@ -40,7 +40,7 @@ form_of Resource method =
     else None
 form_of Discovery method = if is method (codes "GET") then Some Get else None
 
--- the operation of a form, as policies name it
+-- the operation on which the policy decides for a request of this form
 abbrev pub op_of : Form → Op
 op_of Get = Read
 op_of ListGet = Read
@@ -50,21 +50,22 @@ op_of Replace = Modify
 op_of Patch = Modify
 op_of Remove = Delete
 
--- the form of a method at an endpoint with these methods, or BadMethod with these methods
+-- the form of a request with this method to an endpoint with these methods; the error `BadMethod`, with these
+-- methods, if the endpoint doesn't allow the method
 abbrev pub asked : Methods → List ℕ → Result Form Refusal
 asked methods method = ok_or (form_of methods method) (BadMethod methods)
 
--- the page, unless the method is refused
+-- the request for the page, or the refusal of its method
 abbrev pub named_page : DiscoveryPage → Result Form Refusal → Result Named Refusal
 named_page p (Ok form) = Ok (a_page p)
 named_page p (Err refusal) = Err refusal
 
--- the request to the resources of a kind, unless the method is refused
+-- the request to the resources of a kind, or the refusal of its method
 abbrev pub named_route : Kind → Option (List ℕ) → Result Form Refusal → Result Named Refusal
 named_route kind text (Ok form) = Ok (a_route form kind text)
 named_route kind text (Err refusal) = Err refusal
 
--- the request that a method names at an endpoint, or a refusal
+-- the request that a method makes to an endpoint, or the refusal of the request
 abbrev pub named_at : List ℕ → Place → Result Named Refusal
 named_at method unsupported = Err NotSupported
 named_at method (page p) = named_page p (asked Discovery method)
@@ -72,7 +73,7 @@ named_at method (collection kind) = named_route kind None (asked Collection meth
 named_at method (search kind) = named_route kind None (asked Search method)
 named_at method (resource kind text) = named_route kind (Some text) (asked Resource method)
 
--- the request that a method names at an endpoint, or NoRoute if there is no endpoint
+-- the request that a method makes to an endpoint, or its refusal; the error `NoRoute` if there is no endpoint
 abbrev pub named_at_any : List ℕ → Option Place → Result Named Refusal
 named_at_any method None = Err NoRoute
 named_at_any method (Some place) = named_at method place
@@ -81,13 +82,13 @@ named_at_any method (Some place) = named_at method place
 abbrev pub named : List ℕ → List ℕ → Result Named Refusal
 named method target = named_at_any method (option_and_then place_of (decoded (path_of target)))
 
--- the id is that of the text; it is None if there is no text, or the text isn't an id
+-- the id that the text spells; `None` if there is no text, or if the text isn't an id
 abbrev pub IsIdOf : Option (List ℕ) → Option Id → Type 0
 IsIdOf None id = id ≡ None
 IsIdOf (Some text) None = ¬ (IsIdText text)
 IsIdOf (Some text) (Some id) = IsId id × (text ≡ id_text id)
 
--- the route has this form, its operation, this kind, the id of the text and this query
+-- the route has this form and its operation, this kind, the id that the text spells, and this query
 pub record Says (form : Form) (kind : Kind) (text : Option (List ℕ)) (query : Option (List ℕ)) (route : Route) : Type 0 where
   pub form_is : route.form ≡ form
   pub op_is : route.op ≡ op_of form
@@ -95,7 +96,7 @@ pub record Says (form : Form) (kind : Kind) (text : Option (List ℕ)) (query : 
   pub id_is : IsIdOf text route.id
   pub query_is : option_copied route.query ≡ query
 
--- the result of a look-up is the request with its query, or the refusal
+-- the result of a look-up is this request with this query, or this refusal
 abbrev pub Finds : Result Named Refusal → Option (List ℕ) → Result Found Refusal → Type 0
 Finds (Ok (a_page p)) query (Ok (FoundPage q text)) = (q ≡ p) × (option_copied text ≡ query)
 Finds (Ok (a_route form kind text)) query (Ok (FoundRoute route)) = Says form kind text query route

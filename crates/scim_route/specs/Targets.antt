@@ -24,11 +24,12 @@ is_absolute target = starts_with nat_eq target (codes "http://")
 abbrev pub behind_authority : List ℕ → List ℕ
 behind_authority target = drop (position_or_len ends_authority (drop 7 target)) (drop 7 target)
 
--- the part of a target after its authority, or None if it isn't in absolute form
+-- the part of a target after its authority; `None` if the target isn't in absolute form
 abbrev pub behind_authority_of : List ℕ → Option (List ℕ)
 behind_authority_of target = if is_absolute target then Some (behind_authority target) else None
 
--- the path and the query of a target: in absolute form the part after the authority, otherwise the whole
+-- the part of a target that has its path and query: in absolute form the part after the authority, otherwise
+-- the whole target
 abbrev pub path_and_query : List ℕ → List ℕ
 path_and_query target = if is_absolute target then behind_authority target else target
 
@@ -37,20 +38,21 @@ abbrev pub or_root : List ℕ → List ℕ
 or_root [] = codes "/"
 or_root (b ∷ path) = b ∷ path
 
--- the path of a target, with its escapes: the part before the first `?`
+-- the path of a target, not decoded: the part of its path and query before the first `?`; in absolute form,
+-- an empty path becomes `/`
 abbrev pub path_of : List ℕ → List ℕ
 path_of target =
     if is_absolute target then or_root (before_first is_question_mark (behind_authority target))
     else before_first is_question_mark target
 
--- the part after the first `?`, or None if there is none
+-- the part after the first `?`; `None` if there is no `?`
 abbrev pub behind_question_mark : List ℕ → Option (List ℕ)
 behind_question_mark bytes = if position_or_len is_question_mark bytes == length bytes then None else Some (after_first is_question_mark bytes)
 
--- the query of a target, or None
+-- the query of a target; `None` if the target has no `?`
 abbrev pub query_of : List ℕ → Option (List ℕ)
 query_of target = behind_question_mark (path_and_query target)
 
--- the path with its escapes decoded (RFC 3986 section 2.1), or None if that isn't UTF-8
+-- the path with its percent-encoding decoded (RFC 3986 section 2.1); `None` if the result isn't UTF-8
 abbrev pub decoded : List ℕ → Option (List ℕ)
 decoded path = if is_utf8 (percent_decode path) then Some (percent_decode path) else None

@@ -33,14 +33,14 @@ pub(crate) enum Endpoint<'p> {
     Discovery(DiscoveryPage),
     /// The resources of a kind.
     Collection(Kind),
-    /// The search among the resources of a kind.
+    /// The search of the resources of a kind.
     Search(Kind),
-    /// One resource of a kind, by the text in the place of its id.
+    /// One resource of a kind, and the text in the path where its id belongs.
     Resource(Kind, &'p str),
 }
 
-/// The endpoint of a route. `text` is the path's part after the first slash; it names a resource
-/// type, a schema or a resource. None if there is no such resource type or schema.
+/// Returns the endpoint of a route. `text` is the part of the path after the first segment and its slash; it
+/// names a resource type, a schema or a resource. `None` if there is no such resource type or schema.
 fn endpoint_at(leads: Leads, text: &str) -> Option<Endpoint<'_>>
     ensures { option_map place_at result ≡ led leads text.now }
 {
@@ -57,7 +57,7 @@ fn endpoint_at(leads: Leads, text: &str) -> Option<Endpoint<'_>>
     }
 }
 
-/// The text after the first slash, or nothing if there is no slash.
+/// Returns the text after the first slash, or an empty text if there is no slash.
 fn behind_slash(text: &str) -> &str
     ensures { result.now ≡ after_first is_slash text.now }
 {
@@ -67,7 +67,7 @@ fn behind_slash(text: &str) -> &str
     }
 }
 
-/// The endpoint of a path without its leading slash.
+/// Returns the endpoint of a path that is given without its leading slash; `None` if there is no endpoint.
 fn in_segments<'p>(routes: &Routes, segments: &'p str) -> Option<Endpoint<'p>>
     ensures { option_map place_at result ≡ spec.in_segments segments.now }
 {
@@ -75,7 +75,7 @@ fn in_segments<'p>(routes: &Routes, segments: &'p str) -> Option<Endpoint<'p>>
     endpoint_at(leads, behind_slash(segments))
 }
 
-/// The endpoint of a path, or None. One slash at the end is ignored.
+/// Returns the endpoint of a path; `None` if there is no endpoint. One slash at the end is ignored.
 pub(crate) fn endpoint_of<'p>(routes: &Routes, path: &'p str) -> Option<Endpoint<'p>>
     ensures { option_map place_at result ≡ spec.place_of path.now }
 {

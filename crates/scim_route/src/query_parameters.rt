@@ -9,8 +9,8 @@ use scim_cell::Text;
 use scim_text::{NoMemory, same_name};
 use std::alloc::Global;
 
-/// The parameters of a query string that SCIM defines, each with its first value, or None if it
-/// isn't given (RFC 7644 sections 3.4.2 and 3.9).
+/// The query parameters that SCIM defines (RFC 7644 sections 3.4.2 and 3.9). Each has its first value in the
+/// query string, or `None` if the query string doesn't give it.
 pub struct Parameters {
     /// `attributes`
     pub attributes: Option<Text>,
@@ -42,14 +42,14 @@ impl Drop for Parameters {
     }
 }
 
-/// Decodes a name or a value of a form.
+/// Decodes a form-encoded name or value. Bytes that aren't UTF-8 become U+FFFD.
 fn decoded_text(alloc: Global, bytes: &[u8]) -> Result<Text, NoMemory>
     ensures { IfOk result (λ text. text ≡ spec.decoded_text bytes.now) }
 {
     Ok(Text::new(decode(alloc, bytes)?.into_owned(alloc)?))
 }
 
-/// Stores the decoded value if `name` is the parameter's and it has no value so far.
+/// Stores the decoded value in `held` if `held` has no value yet and `name` is `parameter` in any ASCII case.
 fn take(
     alloc: Global,
     held: &mut Option<Text>,
@@ -67,7 +67,7 @@ fn take(
 }
 
 impl Parameters {
-    /// The parameters of an empty query string.
+    /// Returns the parameters of an empty query string.
     fn none() -> Parameters
         ensures { result ≡ spec.parameters_in [] }
     {
@@ -82,8 +82,8 @@ impl Parameters {
         }
     }
 
-    /// Stores the value of a pair for the parameter that it names. After NoMemory it may be stored
-    /// for one parameter and not for another.
+    /// Stores the decoded value of a pair for the parameter that its name selects, unless that parameter
+    /// already has a value. Ignores other names. On an error, no value is stored.
     fn take_pair(&mut self, alloc: Global, name: &[u8], value: &[u8]) -> Result<(), NoMemory>
         ensures { OnOk result (self.new
             ≡ with_pair (spec.decoded_pair (name.now, value.now)) self.old) }
@@ -99,9 +99,9 @@ impl Parameters {
         take(alloc, &mut self.count, "count", &name, value)
     }
 
-    /// Reads the parameters of a query string, if there is one. Names are compared without regard
-    /// to ASCII case. The first value of a name counts, and other names are ignored. Bytes that
-    /// aren't UTF-8 become U+FFFD.
+    /// Reads the parameters of a query string; without a query string they are all `None`. Names are
+    /// compared without regard to ASCII case. If a name occurs several times, its first value counts.
+    /// Unknown names are ignored. Bytes that aren't UTF-8 become U+FFFD.
     pub fn read(alloc: Global, query: Option<&[u8]>) -> Result<Parameters, NoMemory>
         ensures { IfOk result (λ parameters. parameters
             ≡ spec.parameters_of (option_copied query.entry)) }

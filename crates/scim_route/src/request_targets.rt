@@ -14,14 +14,15 @@ use scim_text::Failed;
 use std::alloc::Global;
 use std::borrow::CowStr;
 
-/// The path and the query of a target, with their escapes.
+/// The path and the query of a request target, with their percent-encoding not decoded.
 #[derive(Clone, Copy)]
 pub(crate) struct Target<'t> {
     pub(crate) path: &'t [u8],
     pub(crate) query: Option<&'t [u8]>,
 }
 
-/// The length of the authority at the start: up to the first `/` or `?`, or all bytes.
+/// Returns the length of the authority at the start of `bytes`: the index of the first `/` or `?`, or the
+/// length of `bytes` if there is none.
 fn end_of_authority(bytes: &[u8]) -> usize
     ensures place { result ≡ position_or_len spec.ends_authority bytes.now }
     ensures within { result ≤ length bytes.now }
@@ -32,7 +33,7 @@ fn end_of_authority(bytes: &[u8]) -> usize
         .unwrap_or(bytes.len())
 }
 
-/// The index of the first `?`, or the length if there is none.
+/// Returns the index of the first `?`, or the length of `bytes` if there is none.
 fn end_of_path(bytes: &[u8]) -> usize
     ensures place { result ≡ position_or_len spec.is_question_mark bytes.now }
     ensures within { result ≤ length bytes.now }
@@ -40,7 +41,7 @@ fn end_of_path(bytes: &[u8]) -> usize
     bytes.iter().position(|b| *b == b'?').unwrap_or(bytes.len())
 }
 
-/// The part of a target in absolute form after its authority; None for any other form.
+/// Returns the part after the authority of a target in absolute form; `None` for a target in another form.
 fn behind_authority(target: &[u8]) -> Option<&[u8]>
     ensures { option_copied result ≡ spec.behind_authority_of target.now }
 {
@@ -48,7 +49,7 @@ fn behind_authority(target: &[u8]) -> Option<&[u8]>
     Some(&rest[end_of_authority(rest)..])
 }
 
-/// The part after the first `?`, or None if there is none.
+/// Returns the part after the first `?`; `None` if there is no `?`.
 fn behind_question_mark(bytes: &[u8]) -> Option<&[u8]>
     ensures { option_copied result ≡ spec.behind_question_mark bytes.now }
 {
@@ -60,14 +61,14 @@ fn behind_question_mark(bytes: &[u8]) -> Option<&[u8]>
     }
 }
 
-/// The part before the first `?`, or all bytes if there is none.
+/// Returns the part before the first `?`, or all bytes if there is no `?`.
 fn before_question_mark(bytes: &[u8]) -> &[u8]
     ensures { result.now ≡ before_first spec.is_question_mark bytes.now }
 {
     &bytes[..end_of_path(bytes)]
 }
 
-/// The path of a target in absolute form: `path`, or `/` if `path` is empty.
+/// Returns the path of a target in absolute form: `path`, or `/` if `path` is empty.
 fn or_root(path: &[u8]) -> &[u8]
     ensures { result.now ≡ spec.or_root path.now }
 {
@@ -91,9 +92,9 @@ pub(crate) fn read_target(target: &[u8]) -> Target<'_>
     }
 }
 
-/// Decodes the escapes of a path.
+/// Decodes the percent-encoding of a path.
 ///
-/// Fails with NoRoute if the result isn't UTF-8.
+/// Fails with `NoRoute` if the result isn't UTF-8.
 pub(crate) fn decoded<'t>(
     alloc: Global,
     path: &'t [u8],
@@ -109,7 +110,7 @@ pub(crate) fn decoded<'t>(
     }
 }
 
-/// The text without one slash at its end.
+/// Returns the text without one slash at its end, if it ends in a slash.
 pub(crate) fn without_last_slash(text: &str) -> &str
     ensures { result.now ≡ paths.without_last_slash text.now }
 {

@@ -10,7 +10,7 @@ use scim_schema::Kind;
 use scim_text::NoMemory;
 use std::alloc::Global;
 
-/// The target of a route.
+/// The endpoint, or the kind of endpoint, that a route leads to.
 #[derive(Clone, Copy)]
 pub(crate) enum Leads {
     /// A SCIM endpoint that this server doesn't support.
@@ -23,13 +23,13 @@ pub(crate) enum Leads {
     Schema,
     /// The resources of a kind.
     Collection(Kind),
-    /// The search among the resources of a kind.
+    /// The search of the resources of a kind.
     Search(Kind),
-    /// One resource of a kind, by the last segment.
+    /// One resource of a kind. The last segment is its id.
     Resource(Kind),
 }
 
-/// The routes, without the leading slash.
+/// The routes, each with its path without the leading slash and what it leads to.
 static ROUTES: [(&str, Leads); 16] = [
     ("", Leads::Unsupported),
     (".search", Leads::Unsupported),
@@ -64,8 +64,8 @@ impl Drop for Routes {
     }
 }
 
-/// Adds a route to the router. An error is a failed allocation, since the routes are valid and
-/// differ.
+/// Adds a route to the router. Fails only if memory runs out, since the routes are valid and differ from
+/// each other.
 fn enter(router: &mut Router<Leads>, path: &str, leads: Leads) -> Result<(), NoMemory>
     ensures { OnOk result (rename (λ r. r.value) router.new
         ≡ spec.with_path path.now leads (rename (λ r. r.value) router.old)) }
@@ -96,7 +96,8 @@ impl Routes {
         })
     }
 
-    /// The target of the route that a path matches, or None. The path has no leading slash.
+    /// Returns what the route that matches the path leads to; `None` if no route matches. The path has no
+    /// leading slash.
     pub(crate) fn leads(&self, path: &str) -> Option<Leads>
         ensures { result ≡ first spec.routes path.now }
     {

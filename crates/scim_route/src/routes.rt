@@ -16,7 +16,7 @@ use scim_schema::{Kind, Op};
 use scim_text::Failed;
 use std::alloc::Global;
 
-/// A request to the resources of a kind, by its form.
+/// A form of request to the resources of a kind, or to one of them.
 #[derive(Clone, Copy, Debug, PartialEq, Eq)]
 pub enum Form {
     /// Get one resource (RFC 7644 section 3.4.1).
@@ -36,7 +36,7 @@ pub enum Form {
 }
 
 impl Form {
-    /// The operation of the form, as policies name it.
+    /// Returns the operation on which the policy decides for a request of this form.
     pub fn op(self) -> Op
         ensures { result ≡ spec.op_of self }
     {
@@ -49,32 +49,32 @@ impl Form {
     }
 }
 
-/// The request to the resources of a kind, or to one of them.
+/// A request to the resources of a kind, or to one of them.
 #[derive(Clone, Copy, PartialEq, Eq)]
 pub struct Route<'t> {
     /// The form of the request.
     pub form: Form,
-    /// The operation of the form, as policies name it.
+    /// The operation on which the policy decides.
     pub op: Op,
     /// The kind of the resources.
     pub kind: Kind,
-    /// The id of the resource; None if the path names none, or a text that isn't an id.
+    /// The id of the resource; `None` if the path names no resource, or names it by a text that isn't an id.
     pub id: Option<Id>,
-    /// The part of the target after the first `?`; None if there is no `?`.
+    /// The part of the target after the first `?`; `None` if there is no `?`.
     pub query: Option<&'t [u8]>,
 }
 
-/// The result of the look-up of a method and a target.
+/// What a request is for, as its method and target tell.
 #[derive(Clone, Copy, PartialEq, Eq)]
 pub enum Found<'t> {
     /// A page about the server itself (RFC 7644 section 4), and the part of the target after the
-    /// first `?`; None if there is no `?`.
+    /// first `?`, or `None` if there is no `?`.
     Discovery(DiscoveryPage, Option<&'t [u8]>),
-    /// Resources of a kind, or one of them.
+    /// A request to the resources of a kind, or to one of them.
     Resource(Route<'t>),
 }
 
-/// The route with these values and the form's operation.
+/// Returns the route with these values and the form's operation.
 fn route_of(form: Form, kind: Kind, id: Option<Id>, query: Option<&[u8]>) -> Route<'_>
     ensures { (text : Option (List ℕ)) → IsIdOf text id
         → Says form kind text (option_copied query.entry) result }
@@ -89,8 +89,8 @@ fn route_of(form: Form, kind: Kind, id: Option<Id>, query: Option<&[u8]>) -> Rou
     }
 }
 
-/// The form of a method at an endpoint with these methods, or None if the endpoint doesn't allow
-/// it.
+/// Returns the form of a request with this method to an endpoint with these methods; `None` if the endpoint
+/// doesn't allow the method.
 fn form_of(methods: Methods, method: &[u8]) -> Option<Form>
     ensures { result ≡ spec.form_of methods method.now }
 {
@@ -118,16 +118,16 @@ fn form_of(methods: Methods, method: &[u8]) -> Option<Form>
     }
 }
 
-/// The form of a method at an endpoint with these methods. Fails with BadMethod if the endpoint doesn't allow
-/// it.
+/// Returns the form of a request with this method to an endpoint with these methods. Fails with `BadMethod`
+/// if the endpoint doesn't allow the method.
 fn asked(methods: Methods, method: &[u8]) -> Result<Form, Refusal>
     ensures { result ≡ spec.asked methods method.now }
 {
     form_of(methods, method).ok_or(Refusal::BadMethod(methods))
 }
 
-/// The result for a method at an endpoint. Fails with NotSupported if this server doesn't support the
-/// endpoint, BadMethod if the endpoint doesn't allow the method.
+/// Returns the request that a method makes to an endpoint. Fails with `NotSupported` if this server doesn't
+/// support the endpoint, and with `BadMethod` if the endpoint doesn't allow the method.
 fn found_at<'t>(
     method: &[u8],
     endpoint: Endpoint<'_>,
@@ -161,13 +161,13 @@ impl Routes {
     /// Finds the endpoint of SCIM that a request's method and target name (RFC 7644 section 3.2).
     ///
     /// The target is in origin form, or in absolute form with `http://`. Its path ends before the
-    /// first `?`. The escapes of the path are decoded, and then one slash at its end is ignored.
-    /// The id of the route is None if the path names a resource by a text that isn't an id in
-    /// hyphenated form and lower case; no resource has it.
+    /// first `?`. The percent-encoding of the path is decoded, and then one slash at its end is ignored.
+    /// The id of the route is `None` if the path names a resource by a text that isn't an id in
+    /// hyphenated form and lower case. No resource has such an id.
     ///
-    /// Fails with NoRoute if there is no such endpoint. Fails with NotSupported for an endpoint of SCIM that
-    /// this server doesn't support (RFC 7644 sections 3.4.3, 3.7 and 3.11). Fails with BadMethod, which
-    /// holds the methods of the endpoint, if it doesn't allow the method.
+    /// Fails with `NoRoute` if there is no such endpoint. Fails with `NotSupported` for an endpoint of SCIM
+    /// that this server doesn't support (RFC 7644 sections 3.4.3, 3.7 and 3.11). Fails with `BadMethod`,
+    /// which has the methods that the endpoint allows, if it doesn't allow the method.
     pub fn find<'t>(
         &self,
         alloc: Global,

@@ -1,9 +1,9 @@
 //! Reads and prints cells as text.
 //!
 //! Cells are separated by `;`, as in `userName=babs; emails[0].value=babs@example.com; active=#true;
-//! meta.created=@2024-01-01T00:00:00Z`. A value that begins with `#` is a Boolean, one with `@` a moment, and
-//! one with `~` a text of that many letters `x`; any other value is a text. `[0..3]` as a position gives one
-//! cell at each of the positions 0, 1 and 2.
+//! meta.created=@2024-01-01T00:00:00Z`. A value that begins with `#` is a Boolean, and a value that begins
+//! with `@` is a moment. `~5` is a text of five letters `x`. Any other value is a text. The position `[0..3]`
+//! means one cell at each of the positions 0, 1 and 2.
 use crate::faults::SampleFault;
 use crate::texts::{joined, push_all};
 use scim_cell::{Atom, Cell, Field, Row, Text};
@@ -13,10 +13,10 @@ use scim_value::Part;
 use std::alloc::Global;
 use std::ops::Range;
 
-/// Reads the path of a leaf, such as `emails.value`. Fails with NoSuchLeaf if it isn't one.
+/// Reads the path of a leaf, such as `emails.value`. Fails with `NoSuchLeaf` if it isn't one.
 ///
 /// The attribute may be one of a user or of a group. Any attribute may have the sub-attributes of `name`, so
-/// `emails.familyName` is read, though no kind has this leaf.
+/// `emails.familyName` is accepted, though no kind has this leaf.
 pub fn read_leaf(path: &str) -> Result<Leaf, SampleFault> {
     let (name, sub_name) = path.split_once('.').unwrap_or((path, ""));
     let attribute = attribute_named(Kind::User, name)
@@ -35,7 +35,7 @@ pub fn read_leaf(path: &str) -> Result<Leaf, SampleFault> {
     })
 }
 
-/// Reads the cells of a text, in its order.
+/// Reads the cells in a text. Returns them in the order of the text.
 pub fn read_cells(alloc: Global, text: &str) -> Result<Vec<Cell>, SampleFault> {
     let mut cells = Vec::new(alloc);
     for piece in text.split(';') {
@@ -47,7 +47,7 @@ pub fn read_cells(alloc: Global, text: &str) -> Result<Vec<Cell>, SampleFault> {
     Ok(cells)
 }
 
-/// Appends the cells of `ATTRIBUTE[POSITIONS].SUB=VALUE`, one at each position.
+/// Reads `ATTRIBUTE[POSITIONS].SUB=VALUE` and appends its cells, one at each position.
 fn push_cells(alloc: Global, cells: &mut Vec<Cell>, text: &str) -> Result<(), SampleFault> {
     let Some((path, value)) = text.split_once('=') else {
         return Err(SampleFault::NotACell);
@@ -72,7 +72,7 @@ fn leaf_at(alloc: Global, name: &str, sub_name: &str) -> Result<Leaf, SampleFaul
     read_leaf(path.as_str())
 }
 
-/// Reads the positions of `3` or of `0..3`.
+/// Reads a position, such as `3`, or a range of positions, such as `0..3`.
 fn read_positions(text: &str) -> Result<Range<usize>, SampleFault> {
     match text.split_once("..") {
         Some((first, end)) => Ok(read_number(first)?..read_number(end)?),
@@ -83,7 +83,7 @@ fn read_positions(text: &str) -> Result<Range<usize>, SampleFault> {
     }
 }
 
-/// Reads a number in decimal digits. Fails with NotACell if it isn't one.
+/// Reads a number in decimal digits. Fails with `NotACell` if it isn't one.
 fn read_number(text: &str) -> Result<usize, SampleFault> {
     match text.parse::<usize>() {
         Ok(number) => Ok(number),
@@ -105,7 +105,7 @@ fn read_atom(alloc: Global, value: &str) -> Result<Atom, SampleFault> {
     Ok(Atom::Text(Text::copy_of(alloc, value)?))
 }
 
-/// Reads a moment: as printed, or as a number of seconds since 1970-01-01T00:00:00Z.
+/// Reads a moment, such as `2024-01-01T00:00:00Z`, or a number of seconds since 1970-01-01T00:00:00Z.
 fn read_moment(alloc: Global, text: &str) -> Result<Moment, SampleFault> {
     match text.parse::<i64>() {
         Ok(second) => Moment::new(second).ok_or(SampleFault::NotACell),
@@ -122,7 +122,7 @@ fn long_text(alloc: Global, length: usize) -> Result<Atom, SampleFault> {
     Ok(Atom::Text(Text::new(text)))
 }
 
-/// Returns the text of an atom as a cell's value; `none` for None.
+/// Returns an atom as text, in the form of a cell's value, or `none` if `atom` is `None`.
 pub fn atom_text(alloc: Global, atom: Option<&Atom>) -> Result<String, NoMemory> {
     let mut text = String::new(alloc);
     match atom {
@@ -132,7 +132,7 @@ pub fn atom_text(alloc: Global, atom: Option<&Atom>) -> Result<String, NoMemory>
     Ok(text)
 }
 
-/// Appends the text of an atom as a cell's value.
+/// Appends an atom as text, in the form of a cell's value.
 fn push_atom(alloc: Global, atom: &Atom, text: &mut String) -> Result<(), NoMemory> {
     match atom {
         Atom::Text(own) => Ok(text.push_str(own.as_str())?),
@@ -159,7 +159,7 @@ fn push_sub_attribute(leaf: Leaf, text: &mut String) -> Result<(), NoMemory> {
     }
 }
 
-/// Appends a cell; the position is printed only for multi-valued attributes.
+/// Appends a cell as text. The position is printed only if the attribute is multi-valued.
 fn push_cell(alloc: Global, cell: &Cell, text: &mut String) -> Result<(), NoMemory> {
     text.push_str(cell.leaf.attribute.name())?;
     if is_multi_valued(cell.leaf.attribute) {
@@ -194,7 +194,7 @@ pub fn row_text(alloc: Global, row: &Row) -> Result<String, NoMemory> {
     Ok(text)
 }
 
-/// Appends a field; one without a sub-attribute as ` .=b`.
+/// Appends a field as text, such as ` .value=b`, or ` .=b` if it has no sub-attribute.
 fn push_field(alloc: Global, field: &Field, text: &mut String) -> Result<(), NoMemory> {
     let name = match field.leaf.sub_attribute {
         Some(sub_attribute) => sub_attribute.name(),

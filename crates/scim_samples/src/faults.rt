@@ -1,22 +1,22 @@
-//! The faults of samples.
+//! The error of the functions that make samples.
 use scim_text::{Failed, NoMemory};
 use scim_value::Invalid;
 use std::alloc::{AllocError, AllocFailed};
 use thiserror::Error;
 
-/// The fault of a sample that can't be made.
+/// Why a sample can't be made.
 #[derive(Clone, Copy, Debug, PartialEq, Eq, Error)]
 pub enum SampleFault {
     /// The text isn't a cell.
     #[error("not a cell: it is ATTRIBUTE=VALUE, ATTRIBUTE.SUB=VALUE or ATTRIBUTE[POSITION].SUB=VALUE")]
     NotACell,
-    /// No kind has the attribute, or the attribute doesn't have the sub-attribute.
+    /// No kind has the attribute, or neither the attribute nor `name` has the sub-attribute.
     #[error("no such attribute or sub-attribute")]
     NoSuchLeaf,
     /// The text isn't an id.
     #[error("not an id")]
     NotAnId,
-    /// The cells aren't those of a valid part or resource.
+    /// The cells don't form a valid part or resource.
     #[error("not the cells of such a part or resource")]
     Invalid,
     /// Memory ran out.

@@ -8,12 +8,13 @@ use scim_text::push;
 use scim_value::{Part, Resource, location};
 use std::alloc::Global;
 
-/// The text of the `meta` cells of sample resources, except the location, up to the kind.
+/// The `meta` cells of a sample resource as text, without `meta.location`. The name of the kind must follow.
 const MADE: &str =
     "; meta.created=@2024-01-01T00:00:00Z; meta.lastModified=@2024-01-01T00:00:00Z; meta.resourceType=";
 
-/// Returns the part with this kind, id and cells. Fails with NotAnId if the id is invalid, and Invalid if the
-/// cells are.
+/// Returns the part with this kind, id and cells. Fails with `NotAnId` if the id is invalid, with `NotACell`
+/// or `NoSuchLeaf` if the text of the cells can't be read, and with `Invalid` if the cells don't form a valid
+/// part.
 pub fn part(alloc: Global, kind: Kind, id: &str, cells: &str) -> Result<Part, SampleFault> {
     let Some(id) = Id::read(id) else {
         return Err(SampleFault::NotAnId);
@@ -23,15 +24,16 @@ pub fn part(alloc: Global, kind: Kind, id: &str, cells: &str) -> Result<Part, Sa
 
 /// Returns the resource with this kind, id and cells, located below [`BASE`].
 ///
-/// Its `id` and `meta` are added to the cells; it is created and last modified at 2024-01-01T00:00:00Z. Fails
-/// with NotAnId if the id is invalid, and Invalid if the cells are.
+/// Adds the cells of `id` and `meta`. The resource is created and last modified at 2024-01-01T00:00:00Z.
+/// Fails with `NotAnId` if the id is invalid, with `NotACell` or `NoSuchLeaf` if the text of the cells can't
+/// be read, and with `Invalid` if the cells don't form a valid resource.
 pub fn resource(alloc: Global, kind: Kind, id: &str, cells: &str) -> Result<Resource, SampleFault> {
     let cells = resource_cells(alloc, kind, id, cells)?;
     let part = part(alloc, kind, id, cells.as_str())?;
     Ok(Resource::of(part, BASE)?)
 }
 
-/// Returns the cells of a resource as text: the given ones, and those of `id` and `meta`.
+/// Returns the given cells followed by the cells of `id` and `meta`, as text.
 fn resource_cells(alloc: Global, kind: Kind, id: &str, cells: &str) -> Result<String, SampleFault> {
     let Some(own) = Id::read(id) else {
         return Err(SampleFault::NotAnId);
@@ -45,7 +47,8 @@ fn resource_cells(alloc: Global, kind: Kind, id: &str, cells: &str) -> Result<St
     Ok(text)
 }
 
-/// Returns the sample resource with this name: `alice`, `bob`, `straße` or `team`. None for any other name.
+/// Returns the sample resource with this name: `alice`, `bob`, `straße` or `team`. Returns `None` for any
+/// other name.
 pub fn sample(alloc: Global, name: &str) -> Result<Option<Resource>, SampleFault> {
     let (kind, id, cells) = match name {
         "alice" => (
@@ -65,7 +68,7 @@ pub fn sample(alloc: Global, name: &str) -> Result<Option<Resource>, SampleFault
     Ok(Some(resource(alloc, kind, id, cells)?))
 }
 
-/// Returns the sample resources with these names; names without one are skipped.
+/// Returns the sample resources with these names. Skips a name that no sample resource has.
 fn samples(alloc: Global, names: &[&str]) -> Result<Vec<Resource>, SampleFault> {
     let mut resources = Vec::new(alloc);
     for name in names {
@@ -76,12 +79,12 @@ fn samples(alloc: Global, names: &[&str]) -> Result<Vec<Resource>, SampleFault> 
     Ok(resources)
 }
 
-/// Returns the sample users, by id: Alice, Bob and `straße`.
+/// Returns the sample users, in order of id: Alice, Bob and `straße`.
 pub fn sample_users(alloc: Global) -> Result<Vec<Resource>, SampleFault> {
     samples(alloc, &["alice", "bob", "straße"])
 }
 
-/// Returns the sample groups: the team.
+/// Returns the sample groups, which are only the team.
 pub fn sample_groups(alloc: Global) -> Result<Vec<Resource>, SampleFault> {
     samples(alloc, &["team"])
 }

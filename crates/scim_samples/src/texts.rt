@@ -11,7 +11,7 @@ pub const ALICE: &str = "00000000-0000-4000-8000-00000000000a";
 /// The id of Bob, a contractor.
 pub const BOB: &str = "00000000-0000-4000-8000-00000000000b";
 
-/// The id of the user with the name `straße`.
+/// The id of the user with the user name `straße`.
 pub const STRASSE: &str = "00000000-0000-4000-8000-00000000000c";
 
 /// The id of the team, whose member is Alice.
@@ -20,8 +20,8 @@ pub const TEAM: &str = "00000000-0000-4000-8000-0000000000aa";
 /// The sample policy.
 ///
 /// `hr` may do everything. `mail` may read `id`, `userName` and `emails` of users who aren't contractors.
-/// `mover` may read and modify `id`, `department` and `externalId` of users, and read the title of those in
-/// the department `Desk`.
+/// `mover` may read and modify `id`, `department` and `externalId` of users, and read the `title` of users
+/// in the department `Desk`.
 pub const POLICY: &str =
     "{\"version\":1,\"rules\":[{\"allow\":true,\"clients\":[\"hr\"],\"ops\":[\"read\",\"create\",\"modify\",\"delete\"],\"types\":[\"User\",\"Group\"],\"paths\":[\"*\"]},{\"allow\":false,\"clients\":[\"mail\"],\"ops\":[\"read\"],\"types\":[\"User\"],\"target\":\"userType eq \\\"Contractor\\\"\",\"paths\":[\"*\"]},{\"allow\":true,\"clients\":[\"mail\"],\"ops\":[\"read\"],\"types\":[\"User\"],\"paths\":[\"id\",\"userName\",\"emails\"]},{\"allow\":true,\"clients\":[\"mover\"],\"ops\":[\"read\",\"modify\"],\"types\":[\"User\"],\"paths\":[\"id\",\"department\",\"externalId\"]},{\"allow\":true,\"clients\":[\"mover\"],\"ops\":[\"read\"],\"types\":[\"User\"],\"target\":\"department eq \\\"Desk\\\"\",\"paths\":[\"title\"]}]}";
 

@@ -135,7 +135,7 @@ abbrev pub characteristics_at : Kind → Attribute → Option SubAttribute → C
 characteristics_at kind a None = attribute_characteristics kind a
 characteristics_at kind a (Some b) = sub_attribute_characteristics a b
 
--- the characteristics of a leaf of a kind: those of its sub-attribute, or of its attribute if it is simple
+-- the characteristics of a leaf's sub-attribute, or of its attribute if the leaf has no sub-attribute
 abbrev pub characteristics_of : Kind → Leaf → Characteristics
 characteristics_of kind leaf = characteristics_at kind leaf.attribute leaf.sub_attribute
 

@@ -46,13 +46,13 @@ shown_keys User =
     Of Active ∷ Of Addresses ∷ Of DisplayName ∷ Of Emails ∷ Of Entitlements ∷ Of ExternalId ∷ Of Groups ∷ Of Id ∷ Of Ims ∷ Of Locale ∷ Of Meta ∷ Of Name ∷ Of NickName ∷ Of Password ∷ Of PhoneNumbers ∷ Of Photos ∷ Of PreferredLanguage ∷ Of ProfileUrl ∷ Of Roles ∷ Schemas ∷ Of Timezone ∷ Of Title ∷ Extension EnterpriseUser ∷ Of UserName ∷ Of UserType ∷ Of X509Certificates ∷ []
 shown_keys Group = Of DisplayName ∷ Of ExternalId ∷ Of Id ∷ Of Members ∷ Of Meta ∷ Schemas ∷ []
 
--- whether a key is stored; `schemas` and `groups` are computed from the rest
+-- whether a key is stored; the server computes `schemas` and `groups`
 abbrev pub is_stored_key : JsonKey → Bool
 is_stored_key Schemas = false
 is_stored_key (Of Groups) = false
 is_stored_key _ = true
 
--- the keys that the object of a part of a kind may have, in byte order
+-- the keys that the outermost object of a resource of a kind may have, in byte order
 unfoldable pub keys : JsonForm → Kind → List JsonKey
 keys Shown kind = shown_keys kind
 keys Stored kind = filter is_stored_key (shown_keys kind)
@@ -111,19 +111,19 @@ is_ascending text (k ∷ ks) = list_all (λ l. is_lt (slice_cmp nat_cmp (text k)
 abbrev pub Ascends : {K : Type 0} → (K → List ℕ) → List K → Type 0
 Ascends text ks = is_ascending text ks ≡ true
 
--- the keys of a part ascend
+-- the keys of the outermost object are in byte order, each once
 abbrev pub PartKeysAscend : Type 0
 PartKeysAscend = (form : JsonForm) (kind : Kind) → Ascends key_text (keys form kind)
 
--- the attributes of each extension ascend by name
+-- the attributes of each extension are in byte order of their names, each once
 abbrev pub ExtensionKeysAscend : Type 0
 ExtensionKeysAscend = (schema : Schema) → Ascends attribute_name (extension_keys schema)
 
--- the sub-attributes of each attribute ascend by name
+-- the sub-attributes of each attribute are in byte order of their names, each once
 abbrev pub SubAttributesAscend : Type 0
 SubAttributesAscend = (form : JsonForm) (a : Attribute) → Ascends sub_attribute_name (ordered_sub_attributes form a)
 
--- whether the object of a part has an attribute at this key: at its own name, or at the URN of its extension
+-- whether an attribute is under this key of the outermost object: its own name, or the URN of its extension
 abbrev pub stands_under : Attribute → JsonKey → Bool
 stands_under a (Of b) = is_none (extension_of a) && sameb the_attribute a b
 stands_under a Schemas = false
@@ -133,6 +133,6 @@ stands_under a (Extension s) = option_eq (sameb the_schema) (extension_of a) (So
 abbrev pub AttributesHaveKeys : Type 0
 AttributesHaveKeys = (kind : Kind) → list_all (λ a. list_any (stands_under a) (keys Shown kind)) (attributes kind) ≡ true
 
--- each sub-attribute is among the keys of its attribute's object in the text for clients
+-- in the text for clients, each sub-attribute is a key of the object of its attribute
 abbrev pub SubAttributesHaveKeys : Type 0
 SubAttributesHaveKeys = (a : Attribute) → list_all (λ b. list_any (sameb the_sub_attribute b) (ordered_sub_attributes Shown a)) (sub_attributes a) ≡ true

@@ -24,8 +24,8 @@ kind_named name = find (λ k. is_same_text name (kind_name k)) kinds
 abbrev pub operation_named : List ℕ → Option Op
 operation_named name = find (λ o. is_same_text name (op_name o)) operations
 
--- the attribute of a kind with this name in any ASCII case; those of an extension are found by their bare
--- name
+-- the attribute of a kind with this name in any ASCII case; the attributes of an extension are found by their
+-- bare name
 abbrev pub attribute_named : Kind → List ℕ → Option Attribute
 attribute_named kind name = find (λ a. is_same_name (attribute_name a) name) (attributes kind)
 

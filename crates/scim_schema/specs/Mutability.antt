@@ -17,7 +17,7 @@ is_read_only kind l = sameb the_mutability (characteristics_of kind l).mutabilit
 abbrev pub is_write_only : Kind → Leaf → Bool
 is_write_only kind l = sameb the_mutability (characteristics_of kind l).mutability WriteOnly
 
--- the mutability of a unit: that of its sub-attribute, or of its attribute if it has no sub-attribute
+-- the mutability of a unit's sub-attribute, or of its attribute if the unit has no sub-attribute
 abbrev pub mutability_of : Kind → AttributeUnit → Mutability
 mutability_of kind u = (characteristics_at kind u.attribute u.sub_attribute).mutability
 

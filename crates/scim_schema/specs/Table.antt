@@ -56,8 +56,8 @@ sub_attributes Members = Value ∷ Reference ∷ TypeName ∷ Display ∷ []
 sub_attributes Meta = ResourceType ∷ Created ∷ LastModified ∷ Location ∷ []
 sub_attributes _ = []
 
--- the leaves of an attribute with these sub-attributes: one for each, or the attribute itself if there is
--- none
+-- the leaves of an attribute with these sub-attributes: one for each sub-attribute, or the attribute itself
+-- if it has no sub-attributes
 abbrev pub leaves_with : Attribute → List SubAttribute → List Leaf
 leaves_with a [] = record { attribute = a; sub_attribute = None } ∷ []
 leaves_with a (s ∷ ss) = map (λ b. record { attribute = a; sub_attribute = Some b }) (s ∷ ss)

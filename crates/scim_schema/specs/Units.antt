@@ -1,4 +1,4 @@
--- Leaves and units. A cell holds one atom at one leaf; a unit is granted and written as one.
+-- Leaves and units. A cell holds one atom at one leaf; a unit is granted and written as a whole.
 use Rattle.std.specs.Prelude.{Bool, None, Some, ◌&&◌, List, [], ◌∷◌, map, if◌then◌else◌}
 use Rattle.std.specs.List.{flat_map}
 use Rattle.std.specs.Option.{option_eq}

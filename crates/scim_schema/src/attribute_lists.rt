@@ -253,7 +253,7 @@ pub fn units(kind: Kind) -> &'static [Unit]
     }
 }
 
-/// Whether the leaf is one of the kind.
+/// Whether the kind has the leaf.
 pub fn has_leaf(kind: Kind, leaf: Leaf) -> bool
     ensures { IsTrue result ↔ table.HasLeaf kind leaf }
 {
@@ -322,8 +322,8 @@ pub fn sub_attributes(attribute: Attribute) -> &'static [SubAttribute]
     }
 }
 
-/// The leaves of a kind whose values are unique: no two resources have the same name there (RFC
-/// 7643 section 2.2, uniqueness).
+/// The leaves of a kind at which no two resources may have the same value (RFC 7643 section 2.2,
+/// uniqueness).
 #[tactic(auto, unfolding(crate::specs::UniqueLeaves::unique_leaves))]
 pub fn unique_leaves(kind: Kind) -> &'static [Leaf]
     ensures { result.now ≡ unique.unique_leaves kind }

@@ -34,7 +34,7 @@ pub enum Returned {
     Request,
 }
 
-/// Whether two resources may hold one value (RFC 7643 section 2.2).
+/// Whether two resources may have the same value of an attribute (RFC 7643 section 2.2).
 #[derive(Clone, Copy, PartialEq, Eq)]
 pub enum Uniqueness {
     NotUnique,
@@ -137,8 +137,8 @@ impl Characteristics {
     }
 }
 
-/// The characteristics of an attribute of the kind (RFC 7643 sections 3.1, 4 and 7). An attribute
-/// that the kind doesn't have gets the same characteristics as for the other kind.
+/// The characteristics of an attribute of the kind (RFC 7643 sections 3.1, 4 and 7). For an
+/// attribute that the kind doesn't have, returns its characteristics for the other kind.
 pub fn attribute_characteristics(kind: Kind, attribute: Attribute) -> Characteristics
     ensures { result ≡ spec.attribute_characteristics kind attribute }
 {
@@ -209,8 +209,8 @@ pub fn sub_attribute_characteristics(
     }
 }
 
-/// The characteristics of a sub-attribute of most attributes: `primary` is a boolean, the others
-/// are strings.
+/// The characteristics of a sub-attribute of most attributes: `primary` is a boolean, the other
+/// sub-attributes are strings.
 fn common_sub_attribute(sub_attribute: SubAttribute) -> Characteristics
     ensures { result ≡ spec.common_sub_attribute sub_attribute }
 {
@@ -244,8 +244,8 @@ fn meta_sub_attribute(sub_attribute: SubAttribute) -> Characteristics
     }
 }
 
-/// The characteristics of a leaf of the kind: those of its sub-attribute, or of its attribute if it
-/// is simple.
+/// The characteristics of the leaf's sub-attribute, or of its attribute if the leaf has no
+/// sub-attribute.
 pub fn characteristics_of(kind: Kind, leaf: Leaf) -> Characteristics
     ensures { result ≡ spec.characteristics_of kind leaf }
 {
@@ -287,8 +287,8 @@ pub fn is_write_only(kind: Kind, leaf: Leaf) -> bool
     characteristics_of(kind, leaf).mutability == Mutability::WriteOnly
 }
 
-/// The mutability of a unit: that of its sub-attribute, or of its attribute if it has no
-/// sub-attribute (RFC 7643 section 2.2).
+/// The mutability of the unit's sub-attribute, or of its attribute if the unit has no sub-attribute
+/// (RFC 7643 section 2.2).
 pub fn mutability_of(kind: Kind, unit: Unit) -> Mutability
     ensures { result ≡ written.mutability_of kind unit }
 {

@@ -1,5 +1,5 @@
-//! The keys of the JSON objects of a resource, in byte order, so that each resource has one JSON
-//! text.
+//! The keys of the JSON objects of a resource, in byte order, so that each resource has exactly one
+//! JSON text.
 ghost use Rattle.std.specs.Prelude.{◌≡◌};
 ghost use Rattle.scim_schema.specs.JsonKeys as spec;
 
@@ -12,12 +12,11 @@ use crate::{Attribute, Kind, SubAttribute};
 pub enum JsonForm {
     /// For a client: all cells, and `schemas` (RFC 7643 section 3).
     Shown,
-    /// For the store: without `schemas`, `meta.location` and `groups`, which are computed from the
-    /// rest.
+    /// For the store: without `schemas`, `meta.location` and `groups`, which the server computes.
     Stored,
 }
 
-/// A key of the JSON object of a part, the outermost one.
+/// A key of the outermost JSON object of a resource or of a part of one.
 #[derive(Clone, Copy, PartialEq, Eq)]
 pub enum JsonKey {
     /// The name of an attribute of a core schema.
@@ -127,7 +126,7 @@ impl JsonKey {
     }
 }
 
-/// The keys that the object of a part of the kind may have, in byte order.
+/// The keys that the outermost object of a resource of the kind may have, in byte order.
 #[tactic(auto, unfolding(crate::specs::JsonKeys::keys))]
 pub fn keys(form: JsonForm, kind: Kind) -> &'static [JsonKey]
     ensures { result.now ≡ spec.keys form kind }
@@ -159,8 +158,8 @@ pub fn extension_keys(schema: Schema) -> &'static [Attribute]
     }
 }
 
-/// The sub-attributes of the attribute that its object, or each object of its array, may have, in
-/// byte order of their names. Empty for a simple attribute.
+/// The sub-attributes that an object of the attribute's value may have, in byte order of their
+/// names. Empty for a simple attribute.
 #[tactic(auto, unfolding(crate::specs::JsonKeys::ordered_sub_attributes))]
 pub fn ordered_sub_attributes(form: JsonForm, attribute: Attribute) -> &'static [SubAttribute]
     ensures { result.now ≡ spec.ordered_sub_attributes form attribute }
@@ -212,7 +211,7 @@ pub fn ordered_sub_attributes(form: JsonForm, attribute: Attribute) -> &'static 
     }
 }
 
-/// The sub-attributes of `meta` in byte order of their names; `location` isn't stored.
+/// The sub-attributes of `meta` in byte order of their names, without `location` in the stored form.
 fn ordered_meta_sub_attributes(form: JsonForm) -> &'static [SubAttribute]
     ensures { result.now ≡ spec.ordered_meta_sub_attributes form }
 {
@@ -246,7 +245,7 @@ pub fn shape_of(attribute: Attribute) -> JsonShape
     }
 }
 
-/// Lemma: the keys of each object ascend byte by byte, so that no key occurs twice.
+/// Lemma: the keys of each object are in strictly ascending byte order, so no key occurs twice.
 pub fn keys_ascend()
     ensures part { spec.PartKeysAscend }
     ensures extension { spec.ExtensionKeysAscend }

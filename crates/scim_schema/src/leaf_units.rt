@@ -1,5 +1,5 @@
 //! Leaves and units. A cell of a resource holds one atom at one leaf; a unit is granted and written
-//! as one.
+//! as a whole.
 ghost use Rattle.std.specs.Prelude.{◌≡◌};
 ghost use Rattle.scim_schema.specs.Units as units;
 

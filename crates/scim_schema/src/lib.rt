@@ -50,7 +50,7 @@ pub enum Op {
 
 /// An attribute of a user (RFC 7643 sections 3.1, 4.1 and 4.3) or a group (sections 3.1 and 4.2).
 ///
-/// An attribute of both kinds is one variant.
+/// An attribute that both kinds have is a single variant.
 #[derive(Clone, Copy, Debug, PartialEq, Eq, Hash)]
 pub enum Attribute {
     Id,
@@ -121,15 +121,15 @@ pub enum SubAttribute {
 #[derive(Clone, Copy, PartialEq, Eq, Hash)]
 pub struct Leaf {
     pub attribute: Attribute,
-    /// None for a simple attribute.
+    /// `None` for a simple attribute.
     pub sub_attribute: Option<SubAttribute>,
 }
 
-/// A part of a resource that is granted and written as one: a simple attribute, a sub-attribute of
+/// A part of a resource that is granted and written as a whole: a simple attribute, a sub-attribute of
 /// a single-valued complex attribute, or a whole multi-valued attribute.
 #[derive(Clone, Copy, PartialEq, Eq)]
 pub struct Unit {
     pub attribute: Attribute,
-    /// None for a simple attribute and for a whole multi-valued one.
+    /// `None` for a simple attribute and for a whole multi-valued one.
     pub sub_attribute: Option<SubAttribute>,
 }

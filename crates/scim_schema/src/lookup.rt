@@ -9,7 +9,7 @@ use crate::names::is_same_name;
 use crate::schema_urns::{Schema, schema_of};
 use crate::{Attribute, Kind, Op, SubAttribute};
 
-/// Returns the attribute of the kind with this name, or None if the kind has no such attribute. The
+/// Returns the attribute of the kind with this name, or `None` if the kind has no such attribute. The
 /// attributes of an extension are found by their bare name, without the URN.
 pub fn attribute_named(kind: Kind, name: &str) -> Option<Attribute>
     ensures { result ≡ lookup.attribute_named kind name.now }
@@ -20,8 +20,8 @@ pub fn attribute_named(kind: Kind, name: &str) -> Option<Attribute>
         .find(|a| is_same_name(a.name(), name))
 }
 
-/// Returns the attribute of the kind with this name whose schema is the given one, or None if there
-/// is no such attribute. So the full path `urn:..:User:userName` is read (RFC 7644 section 3.10).
+/// Returns the attribute of the kind with this name in this schema, or `None` if there is none. It
+/// resolves full paths such as `urn:..:User:userName` (RFC 7644 section 3.10).
 pub fn attribute_named_in(kind: Kind, schema: Schema, name: &str) -> Option<Attribute>
     ensures { result ≡ lookup.attribute_named_in kind schema name.now }
 {
@@ -29,7 +29,7 @@ pub fn attribute_named_in(kind: Kind, schema: Schema, name: &str) -> Option<Attr
         && is_same_name(a.name(), name))
 }
 
-/// Returns the sub-attribute of the attribute with this name, or None if the attribute has no such
+/// Returns the sub-attribute of the attribute with this name, or `None` if the attribute has no such
 /// sub-attribute. A simple attribute has none.
 pub fn sub_attribute_named(attribute: Attribute, name: &str) -> Option<SubAttribute>
     ensures { result ≡ lookup.sub_attribute_named attribute name.now }
@@ -41,7 +41,7 @@ pub fn sub_attribute_named(attribute: Attribute, name: &str) -> Option<SubAttrib
 }
 
 impl Schema {
-    /// Returns the schema with this URN, or None if the URN isn't that of a schema.
+    /// Returns the schema with this URN, or `None` if no schema has this URN.
     pub fn named(urn: &str) -> Option<Schema>
         ensures { result ≡ lookup.schema_named urn.now }
     {
@@ -53,7 +53,7 @@ impl Schema {
 }
 
 impl Kind {
-    /// Returns the kind with this name, as in `meta.resourceType`, or None if there is no such
+    /// Returns the kind with this name, as in `meta.resourceType`, or `None` if there is no such
     /// kind. The name is case-sensitive.
     pub fn named(name: &str) -> Option<Kind>
         ensures named { result ≡ lookup.kind_named name.now }
@@ -70,7 +70,7 @@ impl Kind {
 }
 
 impl Op {
-    /// Returns the operation with this name, as in policy files, or None if there is no such
+    /// Returns the operation with this name, as in policy files, or `None` if there is no such
     /// operation. The name is case-sensitive.
     pub fn named(name: &str) -> Option<Op>
         ensures { result ≡ lookup.operation_named name.now }

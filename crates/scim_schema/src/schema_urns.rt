@@ -52,7 +52,7 @@ pub fn extensions(kind: Kind) -> &'static [Schema]
     }
 }
 
-/// The extension of an attribute, or None for an attribute of a core schema.
+/// The extension of an attribute, or `None` for an attribute of a core schema.
 pub fn extension_of(attribute: Attribute) -> Option<Schema>
     ensures { result ≡ spec.extension_of attribute }
 {

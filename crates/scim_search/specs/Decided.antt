@@ -10,10 +10,12 @@ use Rattle.scim_shelf.specs.Stores.{is_at}
 use Rattle.scim_search.specs.declared.decision_cache.Decided.{Decided}
 use Rattle.scim_search.specs.ReadDecisions.{AreFor}
 
--- the decisions are those on the viewer's read access to the resource with this kind and id, if there is one
+-- the decisions are the policy's decisions on the viewer's read access to the resource with this kind and id,
+-- if there is one
 abbrev pub AreOn : Viewer → Kind → List Content → List ℕ → Decisions → Type 0
 AreOn v kind cs id decisions = (c : Content) → find (is_at kind id) cs ≡ Some c → AreFor v c decisions
 
--- every cached entry has the decisions on the viewer's read access to the resource with its id
+-- every cache entry has the policy's decisions on the viewer's read access to the resource with the id of the
+-- entry
 abbrev pub Recalls : Viewer → Kind → List Content → Decided → Type 0
 Recalls v kind cs decided = (id : List ℕ) → IfSome (get is_same_id decided.by_id id) (AreOn v kind cs id)

@@ -1,4 +1,4 @@
--- The groups that make up a resource's own `groups` (RFC 7643 section 4.1.2).
+-- The groups that appear in the `groups` of a resource (RFC 7643 section 4.1.2).
 use Rattle.std.specs.Prelude.{◌≡◌, List}
 use Rattle.scim_schema.specs.declared.Kind.TheVariants.{Group}
 use Rattle.scim_cell.specs.Content.{Content}
@@ -8,7 +8,7 @@ use Rattle.scim_view.specs.View.{Viewer}
 use Rattle.scim_view.specs.Groups.{with_groups}
 use Rattle.scim_view.specs.Listings.{AreListing}
 
--- the viewer's view of the resource with the gathered groups is the one with all groups of the store
+-- with the gathered groups, the viewer has the same view of the resource as with all groups of the store
 pub record TellGroups (v : Viewer) (cs : List Content) (c : Content) (listing : ListingGroups) : Type 0 where
   pub groups : List Content
   pub gathered : AreListing v c.id groups listing

@@ -12,19 +12,21 @@ use Rattle.scim_search.specs.declared.read_decisions.Form.{Form}
 use Rattle.scim_search.specs.declared.read_decisions.Form.TheVariants.{Alike, ByTarget}
 use Rattle.scim_search.specs.declared.read_decisions.ReadDecisions.{ReadDecisions}
 
--- the decisions are those of the policy on the viewer's read access to the resource
+-- the decisions are the policy's decisions on the viewer's read access to the resource
 abbrev pub AreFor : Viewer → Content → Decisions → Type 0
 AreFor v c decisions = (l : Leaf) → decision decisions l ≡ read_decision v c l
 
--- the function returns, for each resource of the kind, the policy's decisions on the viewer's read access to it
+-- for each resource of the kind, the function `decides` returns the policy's decisions on the viewer's read
+-- access to the resource
 abbrev pub DecidesOn : Viewer → Kind → (Content → Leaf → Decision) → Type 0
 DecidesOn v kind decides = (c : Content) → c.kind ≡ kind → (l : Leaf) → decides c l ≡ read_decision v c l
 
--- the form decides as the policy does on the kind, by one table for all resources or by the selected rules
+-- for each resource of the kind, the form has the policy's decisions on the viewer's read access, in one
+-- table for all resources or by the selected rules
 abbrev pub DecidesBy : Viewer → Kind → Form → Type 0
 DecidesBy v kind (Alike table) = DecidesOn v kind (λ c. decision table)
 DecidesBy v kind (ByTarget rules) = DecidesOn v kind (decided_by rules)
 
--- the decisions are the ones that the policy makes when the viewer reads resources of their kind
+-- the decisions are the policy's decisions on the viewer's read access to the resources of their kind
 abbrev pub AreDecisions : Viewer → ReadDecisions → Type 0
 AreDecisions v decisions = DecidesBy v decisions.kind decisions.form

@@ -17,26 +17,28 @@ use Rattle.scim_search.specs.Decided.{Recalls}
 use Rattle.scim_search.specs.ReadDecisions.{AreDecisions}
 use Rattle.scim_search.specs.ViewBuilders.{IsViewBuilder, part_of}
 
--- the visitor keeps its viewer and decisions, and its index has the group as well
+-- the visitor keeps its viewer and its decisions, and adds the group to its index
 pub record TakesGroup (old : GroupVisitor) (c : Content) (new : GroupVisitor) : Type 0 where
   pub viewer : new.viewer ≡ old.viewer
   pub decisions : new.decisions ≡ old.decisions
   pub index : (groups : List Content) → AreDecisions (viewer_of old.viewer.now) old.decisions → IsIndexOf (viewer_of old.viewer.now) groups old.index
       → IsIndexOf (viewer_of old.viewer.now) (groups ++ c ∷ []) new.index
 
--- the visitor's decisions, and its cached ones, are those on the viewer's read access to groups of these resources
+-- the decisions of the visitor and its cached decisions are the policy's decisions on the viewer's read
+-- access to the groups among these resources
 pub record Tells (v : Viewer) (cs : List Content) (listing : ListingVisitor) : Type 0 where
   pub viewer : viewer_of listing.viewer.now ≡ v
   pub decisions : AreDecisions v listing.decisions
   pub decided : Recalls v Group cs listing.decided
 
--- a visitor that takes a group stays valid, and has gathered it as well if it lists the resource
+-- when the visitor takes a group, its decisions stay correct, and it adds the group to the gathered groups if
+-- the group lists the resource
 abbrev pub TakesListing : ListingVisitor → Content → ListingVisitor → Type 0
 TakesListing old c new = (v : Viewer) (cs : List Content) → find (is_at Group c.id) cs ≡ Some c → Tells v cs old
     → Tells v cs new × ((id : List ℕ) (gathered : List Content) → lists id c ≡ true → AreListing v id gathered old.groups → AreListing v id (gathered ++ c ∷ []) new.groups)
 
--- the visitor keeps its builder and query, its pager has taken the part of the resource if it is seen, and its cached
--- decisions stay right
+-- the visitor keeps its builder and its query, its pager takes the part of the resource if the viewer sees
+-- the resource, and its cached decisions stay correct
 pub record TakesResource (old : SearchVisitor) (c : Content) (new : SearchVisitor) : Type 0 where
   pub builder : new.builder ≡ old.builder
   pub query : new.pager.query ≡ old.pager.query

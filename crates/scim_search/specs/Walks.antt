@@ -15,22 +15,24 @@ use Rattle.scim_search.specs.Decided.{Recalls}
 use Rattle.scim_search.specs.ReadDecisions.{AreDecisions}
 use Rattle.scim_search.specs.ViewBuilders.{made, made_of_all}
 
--- the viewer sees each resource of the kind with the groups of the index as with all groups of the store
+-- with the groups of the index, the viewer has the same view of each resource of the kind as with all groups
+-- of the store
 pub record IndexTells (v : Viewer) (kind : Kind) (cs : List Content) (index : GroupIndex) : Type 0 where
   pub groups : List Content
   pub is_index : IsIndexOf v groups index
   pub same : (c : Content) → c.kind ≡ kind → with_groups v groups c ≡ with_groups v (of_kind Group cs) c
 
--- the parts that a builder makes, one for each resource of the kind that its viewer sees
+-- the parts that a builder builds, one for each resource of the kind that its viewer sees
 abbrev pub made_of_kind : List Content → ViewBuilder → Kind → List Content → List Content
 made_of_kind groups builder kind cs = made_of_all (made (viewer_of builder.viewer.now) groups builder.scope) (viewer_of builder.viewer.now) (of_kind kind cs)
 
--- the decisions on the kind of a page's items, and the cached ones, are those on the viewer's read access
+-- the decisions of the builder and its cached decisions are the policy's decisions on the viewer's read
+-- access
 pub record IsItemBuilder (cs : List Content) (builder : ItemBuilder) : Type 0 where
   pub decisions : AreDecisions (viewer_of builder.viewer.now) builder.decisions.now
   pub decided : Recalls (viewer_of builder.viewer.now) builder.kind cs builder.decided.now
 
--- a resource of the kind that the viewer sees, and that is the one found by its id
+-- a resource of the kind that the viewer sees, and that a look-up of its id finds
 pub record SeenResource (v : Viewer) (kind : Kind) (cs : List Content) : Type 0 where
   pub own : Content
   pub part : IsPart own
@@ -38,7 +40,7 @@ pub record SeenResource (v : Viewer) (kind : Kind) (cs : List Content) : Type 0 
   pub seen : sees v own ≡ true
   pub found : find (is_at kind own.id) cs ≡ Some own
 
--- for resources with the ids of the items, the second list has the viewer's view of each with its groups
+-- `whole` has, for each id of the items, the viewer's view of the resource with this id, with its groups
 abbrev pub AreWhole : Viewer → Kind → List Content → List Content → List Content → Type 0
 AreWhole v kind cs items whole = (found : List (SeenResource v kind cs)) → map (λ p. p.id) items ≡ map (λ x. x.own.id) found
     → whole ≡ map (λ x. with_groups v (of_kind Group cs) x.own) found

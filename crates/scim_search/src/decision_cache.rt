@@ -14,12 +14,12 @@ use scim_text::NoMemory;
 use std::alloc::Global;
 use std::collections::HashMap;
 
-/// Upper limit of the cached decisions per request.
-/// Without it a walk in which each resource sorts before all earlier ones would cache one per resource.
+/// The maximum number of resources whose decisions are cached. Without it, a walk in which each resource
+/// sorts before all earlier ones would cache the decisions on every resource.
 const MOST_KEPT: usize = 4_096;
 
 /// A cache of decisions on reading resources of one kind, by id.
-/// It saves a request from trying the rules' targets on the same resource twice.
+/// With it, a request needn't evaluate the targets of the rules on the same resource twice.
 #[derive(Drop)]
 pub(crate) struct Decided {
     by_id: HashMap<Id, Decisions>,
@@ -36,7 +36,7 @@ impl Decided {
         }
     }
 
-    /// Returns the cached decisions on the resource with this id, if any.
+    /// Returns the cached decisions on the resource with this id; `None` if there aren't any.
     pub(crate) fn of(&self, id: Id) -> Option<&Decisions>
         ensures value { option_copied result ≡ get is_same_id self.now.by_id id }
         ensures recalls { (v : SpecViewer) (kind : SpecKind) (cs : List Content)
@@ -47,7 +47,7 @@ impl Decided {
     }
 
     /// Caches the decisions on the resource with this id.
-    /// If 4,096 are cached already, all of those are dropped first; they are evaluated again when needed.
+    /// If the decisions on 4,096 resources are cached already, the cache is cleared first.
     pub(crate) fn keep(&mut self, id: Id, decisions: Decisions) -> Result<(), NoMemory>
         ensures kept { OnOk result (get is_same_id self.new.by_id id ≡ Some decisions) }
         ensures recalls { OnOk result ((v : SpecViewer) (kind : SpecKind) (cs : List Content)

@@ -21,11 +21,11 @@ use scim_value::{Part, Resource};
 use scim_view::{ListingGroups, Viewer};
 use std::alloc::Global;
 
-/// Returns the groups that appear in a resource's `groups`: those in which the client sees it as a member.
-/// Empty if the resource isn't a user (RFC 7643 section 4.1.2). Only groups that list the resource are looked
-/// at, and a shelf in memory copies none.
+/// Returns the groups that appear in the `groups` of a resource: the groups in which the client sees the
+/// resource as a member, or no groups if the resource isn't a user (RFC 7643 section 4.1.2). Reads only the
+/// groups that list the resource, and a shelf in memory copies none of them.
 ///
-/// Errors: those of the shelf.
+/// Fails with the errors of the shelf.
 pub fn groups_beside<S: Shelf>(
     alloc: Global,
     viewer: &Viewer<'_>,
@@ -41,7 +41,8 @@ pub fn groups_beside<S: Shelf>(
     Ok(listing.end())
 }
 
-/// Lets a visitor gather the groups that appear in the resource's `groups`, dropping those that it has.
+/// Clears the visitor, and gathers in it the groups that appear in the `groups` of the resource. Fails with
+/// the errors of the shelf.
 fn gather_groups<S: Shelf>(
     alloc: Global,
     listing: &mut ListingVisitor<'_>,
@@ -61,7 +62,8 @@ fn gather_groups<S: Shelf>(
     }
 }
 
-/// Gathers the groups that list the resource, a user or a group, in a visitor that has none yet.
+/// Gathers the groups that list the resource, a user or a group, in a visitor that has no groups yet. Fails
+/// with the errors of the shelf.
 fn gather_listing<S: Shelf>(
     alloc: Global,
     listing: &mut ListingVisitor<'_>,
@@ -80,8 +82,8 @@ fn gather_listing<S: Shelf>(
     shelf.groups_with(alloc, value, listing)
 }
 
-/// Returns the part of the resource that `decisions` let the client see, with its groups.
-/// None if they don't let it read the `id`.
+/// Returns the part of the resource that the client may see by `decisions`, with its groups; `None` if the
+/// client may not read the `id`.
 pub(crate) fn view_beside<S: Shelf>(
     alloc: Global,
     viewer: &Viewer<'_>,

@@ -1,5 +1,5 @@
-//! Searches a store for the page of a client's query over its view (RFC 7644 section 3.4.2), and finds the
-//! groups that make up a resource's `groups` (RFC 7643 section 4.1.2).
+//! Computes the page of results of a client's query over the part of a store that the client may see (RFC
+//! 7644 section 3.4.2), and the groups that appear in the `groups` of a resource (RFC 7643 section 4.1.2).
 #![tactic(auto)]
 
 mod decision_cache;

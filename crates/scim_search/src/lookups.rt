@@ -1,4 +1,5 @@
-//! Searches whose filter requires an id or a unique name: the only possible match is looked up by it.
+//! Searches whose filter requires an id or a unique name. The only possible match is looked up by the id or
+//! the name.
 ghost use Rattle.std.specs.Prelude.{◌≡◌, ◌∷◌, [], IfOk, IfSome};
 ghost use Rattle.scim_schema.specs.declared.Kind.{Kind};
 ghost use Rattle.scim_schema.specs.Characteristics.{is_case_exact};
@@ -41,7 +42,7 @@ fn known_name(alloc: Global, leaf: Leaf, text: &StringLiteral) -> Result<UniqueN
     })
 }
 
-/// Returns a unique name that every match of the kind must have; None if the query requires none.
+/// Returns a unique name that every match of the kind must have; `None` if the query requires no name.
 pub(crate) fn needed_name(
     alloc: Global,
     kind: Kind,
@@ -58,8 +59,8 @@ pub(crate) fn needed_name(
     Ok(None)
 }
 
-/// Returns the id that every match must have.
-/// None if the query requires none, or requires a text that isn't an id.
+/// Returns the id that every match must have; `None` if the query requires no id, or requires a text that
+/// isn't an id.
 pub(crate) fn needed_id(query: &Query) -> Option<Id>
     ensures { IfSome result (λ id. (kind : Kind)
         → spec.OnlyThose kind query.now.filter (is_at kind id)) }
@@ -68,8 +69,8 @@ pub(crate) fn needed_id(query: &Query) -> Option<Id>
     Id::read(text.as_str())
 }
 
-/// Returns the part of the resource that the client sees, with its groups.
-/// None if the resource isn't of the kind, or the client doesn't see it.
+/// Returns the part of the resource that the client sees, with its groups; `None` if the resource isn't of
+/// the kind, or the client doesn't see it.
 fn seen_part<S: Shelf>(
     alloc: Global,
     viewer: &Viewer<'_>,
@@ -90,7 +91,8 @@ fn seen_part<S: Shelf>(
     view_beside(alloc, viewer, &decisions, &mut listing, shelf, resource)
 }
 
-/// Like [`seen_part`], for a resource that may not have been found; None if there is none.
+/// Returns the part of the found resource that the client sees, with its groups; `None` if no resource was
+/// found, if it isn't of the kind, or if the client doesn't see it.
 fn seen_if_found<S: Shelf>(
     alloc: Global,
     viewer: &Viewer<'_>,
@@ -109,7 +111,7 @@ fn seen_if_found<S: Shelf>(
     }
 }
 
-/// Returns the query's page of the list with just this part.
+/// Returns the page of the query over the list that has only this part.
 fn page_of_one(alloc: Global, part: Part, query: &Query) -> Result<Page, NoMemory>
     ensures { IfOk result (λ page. IsPage (part ∷ []) query.now page) }
 {
@@ -118,7 +120,7 @@ fn page_of_one(alloc: Global, part: Part, query: &Query) -> Result<Page, NoMemor
     pager.end()
 }
 
-/// Returns the query's page of the list with just this part, or of the empty list.
+/// Returns the page of the query over the list that has only this part, or over the empty list.
 fn page_of(alloc: Global, part: Option<Part>, query: &Query) -> Result<Page, NoMemory>
     ensures { IfOk result (λ page. IsPage (and_those part []) query.now page) }
 {
@@ -128,7 +130,8 @@ fn page_of(alloc: Global, part: Option<Part>, query: &Query) -> Result<Page, NoM
     }
 }
 
-/// Returns the query's page of the resource that was found, if it is of the kind and the client sees it.
+/// Returns the page of the query over the list that has only the found resource, or over the empty list if no
+/// resource was found, if it isn't of the kind, or if the client doesn't see it.
 fn page_found<S: Shelf>(
     alloc: Global,
     viewer: &Viewer<'_>,
@@ -146,8 +149,8 @@ fn page_found<S: Shelf>(
     Ok(page_of(alloc, part, query)?)
 }
 
-/// Returns the page of the client's query over a kind, if only the resource with the name can match.
-/// Reads just that resource and the groups that list it.
+/// Returns the page of the client's query over the resources of a kind. Only the resource with the unique
+/// name can match. Reads only that resource and the groups that list it.
 pub(crate) fn page_named<S: Shelf>(
     alloc: Global,
     viewer: &Viewer<'_>,
@@ -166,7 +169,8 @@ pub(crate) fn page_named<S: Shelf>(
     page_found(alloc, viewer, shelf, kind, owner, query)
 }
 
-/// Like [`page_named`], for a query that only the resource with the id can match.
+/// Returns the page of the client's query over the resources of a kind. Only the resource with the id can
+/// match. Reads only that resource and the groups that list it.
 pub(crate) fn page_with_id<S: Shelf>(
     alloc: Global,
     viewer: &Viewer<'_>,

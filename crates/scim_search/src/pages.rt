@@ -15,10 +15,11 @@ use scim_text::Failed;
 use scim_view::Viewer;
 use std::alloc::Global;
 
-/// Returns the page of the client's query over its view of a kind's resources (RFC 7644 section 3.4.2).
-/// If the query requires an id or a unique name, the resource with it is looked up; otherwise all are walked.
+/// Returns the page of the client's query over the client's view of the resources of a kind (RFC 7644 section
+/// 3.4.2). If the query requires an id or a unique name, only the resource with that id or name and the
+/// groups that list it are read. Otherwise all resources of the kind are read.
 ///
-/// Errors: those of the shelf.
+/// Fails with the errors of the shelf.
 pub fn page_of_query<S: Shelf>(
     alloc: Global,
     viewer: &Viewer<'_>,

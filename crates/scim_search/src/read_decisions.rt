@@ -25,12 +25,13 @@ use std::alloc::Global;
 enum Form<'a> {
     /// The decisions are the same for all resources of the kind.
     Alike(Decisions),
-    /// The decisions depend on the resource, since some of these rules have targets.
+    /// The decisions depend on the resource, because some of these rules have targets.
     ByTarget(RulesAbout<'a>),
 }
 
-/// The decisions on a client's read access to the resources of a kind. They are made once for all resources
-/// if the policy decides the same on all; otherwise by the rules that apply, which are selected once.
+/// The decisions on a client's read access to the resources of a kind. If they are the same for all
+/// resources, they are evaluated once. Otherwise the rules for the client and the kind are selected once, and
+/// evaluated on each resource.
 #[derive(Drop)]
 pub(crate) struct ReadDecisions<'a> {
     kind: Kind,
@@ -60,8 +61,8 @@ impl<'a> ReadDecisions<'a> {
         Ok(ReadDecisions { kind, form })
     }
 
-    /// Returns the decisions for the whole kind, if they don't differ by resource.
-    /// None as well if the resource isn't of the kind.
+    /// Returns the decisions on all resources of the kind; `None` if they differ by resource, or if this
+    /// resource isn't of the kind.
     pub(crate) fn on_all(&self, resource: &Resource) -> Option<&Decisions>
         ensures { (v : SpecViewer) → AreDecisions v self.now
             → IfSome result (λ decisions. (l : Leaf)
@@ -73,8 +74,8 @@ impl<'a> ReadDecisions<'a> {
         }
     }
 
-    /// Returns the decisions on reading the resource that are already known, if any.
-    /// They are those for the whole kind, or cached ones.
+    /// Returns the decisions on reading the resource if they are already known: the decisions on all
+    /// resources of the kind, or cached ones. Returns `None` otherwise.
     pub(crate) fn known<'d>(
         &'d self,
         decided: &'d Decided,
@@ -92,7 +93,7 @@ impl<'a> ReadDecisions<'a> {
         }
     }
 
-    /// Evaluates the decisions on reading the resource, without a look at the cache.
+    /// Returns the decisions on reading the resource, without using the cache.
     pub(crate) fn on(
         &self,
         alloc: Global,
@@ -111,8 +112,8 @@ impl<'a> ReadDecisions<'a> {
         }
     }
 
-    /// Whether the query can find any resource of the kind for the client.
-    /// False only if the decisions are the same for all resources of the kind, and let none of them match.
+    /// Whether the query may find a resource of the kind for the client. False only if the decisions are the
+    /// same for all resources of the kind, and no resource can match by these decisions.
     pub(crate) fn may_find(&self, query: &Query) -> bool
         ensures { result ≡ false → (v : SpecViewer) (groups : List Content) (c : Content)
             → AreDecisions v self.now

@@ -1,4 +1,4 @@
-//! The part that a search makes of each resource that the client sees.
+//! Builds the part of each resource on which a search evaluates its query.
 ghost use Rattle.std.specs.Prelude.{◌≡◌, ◌++◌, [], List, IfOk, IfSome, OnOk};
 ghost use Rattle.scim_cell.specs.Content.{Content};
 ghost use Rattle.scim_view.specs.View.{Viewer as SpecViewer, read_decision, visible_attributes as seen_attributes, viewer_of};
@@ -16,16 +16,16 @@ use scim_value::{Part, Resource};
 use scim_view::{GroupIndex, MayBeSeenOf, Viewer};
 use std::alloc::Global;
 
-/// Which part of each resource is made.
+/// Which part of each resource is built.
 #[derive(Clone, Copy)]
 pub(crate) enum ViewScope<'a> {
     /// The visible part of these attributes only.
     Named(&'a [Attribute]),
-    /// The whole visible part, with `groups` made from this index.
+    /// The whole visible part, with `groups` computed from this index.
     Whole(&'a GroupIndex),
 }
 
-/// The viewer of resources, and which part of each is made.
+/// A builder of the parts of resources that a viewer sees.
 #[derive(Clone, Copy)]
 pub(crate) struct ViewBuilder<'a> {
     viewer: &'a Viewer<'a>,
@@ -34,7 +34,8 @@ pub(crate) struct ViewBuilder<'a> {
 }
 
 impl<'a> ViewBuilder<'a> {
-    /// Returns the builder of the parts that a client sees, by these decisions on the kind of the resources.
+    /// Returns a builder for this viewer and scope. `decisions` are the decisions on the viewer's read access
+    /// to the resources of a kind.
     pub(crate) fn new(
         viewer: &'a Viewer<'a>,
         decisions: &'a ReadDecisions<'a>,
@@ -54,7 +55,8 @@ impl<'a> ViewBuilder<'a> {
         }
     }
 
-    /// Returns the decisions for the whole kind, if they don't differ by resource.
+    /// Returns the decisions on all resources of the kind; `None` if they differ by resource, or if this
+    /// resource isn't of the kind.
     pub(crate) fn on_all(&self, resource: &Resource) -> Option<&Decisions>
         ensures { (groups : List Content) → spec.IsViewBuilder groups self.now
             → IfSome result (λ decisions.
@@ -63,7 +65,7 @@ impl<'a> ViewBuilder<'a> {
         self.decisions.on_all(resource)
     }
 
-    /// Evaluates the decisions on reading the resource.
+    /// Returns the decisions on reading the resource, without using a cache.
     pub(crate) fn decide(&self, alloc: Global, resource: &Resource) -> Result<Decisions, NoMemory>
         ensures { IfOk result (λ decisions. (groups : List Content)
             → spec.IsViewBuilder groups self.now
@@ -72,8 +74,9 @@ impl<'a> ViewBuilder<'a> {
         self.decisions.on(alloc, self.viewer, resource)
     }
 
-    /// Gives a pager the part of the resource, if the client sees the resource by these decisions.
-    /// Returns whether the pager now holds a part that isn't whole, so that the decisions are needed again.
+    /// Passes the part of the resource to the pager, if the client sees the resource by these decisions.
+    /// Returns whether the pager now holds a part that isn't whole, so that the decisions will be needed
+    /// again.
     pub(crate) fn show(
         &self,
         alloc: Global,
@@ -101,8 +104,8 @@ impl<'a> ViewBuilder<'a> {
     }
 }
 
-/// Gives a pager the visible part of these attributes, if `decisions` let the client read the `id`.
-/// Returns whether the pager now holds it. The part is copied only if it is held.
+/// Passes the visible part of these attributes to the pager, if the client may read the `id` by `decisions`.
+/// Returns whether the pager now holds the part. The part is copied only in that case.
 fn show_named(
     decisions: &Decisions,
     attributes: &[Attribute],
@@ -123,7 +126,8 @@ fn show_named(
     pager.push_where(resource.part(), &test)
 }
 
-/// Gives a pager a whole part, if there is one. Always returns false: the decisions aren't needed again.
+/// Passes a whole part to the pager, if there is one. Always returns false: the decisions aren't needed
+/// again.
 fn show_if_seen(part: Option<Part>, pager: &mut Pager<'_>) -> Result<bool, NoMemory>
     ensures query { query_of pager.new ≡ query_of pager.old }
     ensures taken { OnOk result ((parts : List Content) → HasTaken parts pager.old

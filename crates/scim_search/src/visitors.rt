@@ -68,9 +68,9 @@ impl<'a> Visitor for GroupVisitor<'a> {
     }
 }
 
-/// A visitor that gathers the groups that list a resource, of those that a client sees to list it.
-/// One visitor serves all resources of a request, so the policy isn't evaluated twice for a group whose
-/// decisions are still cached ([`Decided`]).
+/// A visitor that gathers the groups in which a client sees a resource as a member. One visitor serves all
+/// resources of a request, so the policy isn't evaluated twice on a group whose decisions are still cached
+/// ([`Decided`]).
 #[derive(Drop)]
 pub(crate) struct ListingVisitor<'a> {
     viewer: &'a Viewer<'a>,
@@ -94,7 +94,7 @@ impl<'a> ListingVisitor<'a> {
         })
     }
 
-    /// Drops the gathered groups, before those of another resource are gathered. Doesn't allocate.
+    /// Drops the gathered groups, so that the groups of another resource can be gathered. Doesn't allocate.
     pub(crate) fn clear(&mut self, alloc: Global)
         ensures tells { (v : SpecViewer) (cs : List Content) → Tells v cs self.old
             → Tells v cs self.new }
@@ -110,7 +110,7 @@ impl<'a> ListingVisitor<'a> {
         &self.groups
     }
 
-    /// Returns the gathered groups, ending the visit.
+    /// Consumes the visitor and returns the gathered groups.
     pub(crate) fn end(self) -> ListingGroups
         ensures { result ≡ self.entry.groups }
     {
@@ -131,16 +131,16 @@ impl<'a> Visitor for ListingVisitor<'a> {
     }
 }
 
-/// A visitor that gives a pager the parts of the resources that a client sees.
+/// A visitor that passes the parts of the resources that a client sees to a pager.
 #[derive(Drop)]
 pub(crate) struct SearchVisitor<'a> {
     builder: ViewBuilder<'a>,
     pager: Pager<'a>,
-    /// The decisions on resources that the pager holds or has held.
+    /// The cached decisions on resources that the pager holds or has held.
     decided: Decided,
 }
 
-/// The result of a walk.
+/// The result of a search over all resources of a kind.
 #[derive(Drop)]
 pub(crate) struct Found {
     pub(crate) page: Page,

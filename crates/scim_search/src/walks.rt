@@ -1,4 +1,4 @@
-//! Searches that walk all resources of a kind.
+//! Searches that read all resources of a kind.
 ghost use Rattle.std.specs.Prelude.{◌≡◌, false, ℕ, List, [], IfOk};
 ghost use Rattle.scim_schema.specs.declared.Kind.{Kind};
 ghost use Rattle.scim_cell.specs.Content.{Content};
@@ -26,7 +26,7 @@ use scim_text::Failed;
 use scim_view::{GroupIndex, Viewer};
 use std::alloc::Global;
 
-/// Returns the index of the groups that the client sees, by their members.
+/// Returns an index, by member, of the groups that the client sees.
 fn seen_groups<S: Shelf>(
     alloc: Global,
     viewer: &Viewer<'_>,
@@ -41,8 +41,8 @@ fn seen_groups<S: Shelf>(
     Ok(groups.end())
 }
 
-/// Returns an index with the groups that may appear in the `groups` of resources of a kind.
-/// For users it has the groups that the client sees; for groups, which have no `groups`, it is empty.
+/// Returns an index of the groups that may appear in the `groups` of resources of a kind. For users, these
+/// are the groups that the client sees. For groups, which have no `groups`, the index is empty.
 fn groups_for<S: Shelf>(
     alloc: Global,
     viewer: &Viewer<'_>,
@@ -59,8 +59,8 @@ fn groups_for<S: Shelf>(
     }
 }
 
-/// Returns the query's page of the parts that the builder makes, and the cached decisions.
-/// The builder makes one part for each resource of the kind that its viewer sees.
+/// Returns the page of the query over the parts that the builder builds, and the cached decisions. The
+/// builder builds one part for each resource of the kind that its viewer sees.
 fn page_made<S: Shelf>(
     alloc: Global,
     builder: ViewBuilder<'_>,
@@ -80,7 +80,7 @@ fn page_made<S: Shelf>(
     Ok(search.end()?)
 }
 
-/// Returns the page of a query that names `groups`, so that the groups of every resource are computed.
+/// Returns the page of a query that names the attribute `groups`. The groups of every resource are computed.
 fn page_by_groups<S: Shelf>(
     alloc: Global,
     viewer: &Viewer<'_>,
@@ -100,9 +100,8 @@ fn page_by_groups<S: Shelf>(
     Ok(page_made(alloc, builder, shelf, kind, query)?.page)
 }
 
-/// Returns the page of a query that names `attributes`, without `groups`.
-/// The search reads just those attributes of each resource. Only the items of the page are then read again
-/// whole.
+/// Returns the page of a query that names only `attributes`, and not `groups`. The search evaluates only
+/// these attributes of each resource. Then it reads the items of the page again, as whole resources.
 fn page_by_named<S: Shelf>(
     alloc: Global,
     viewer: &Viewer<'_>,
@@ -134,8 +133,8 @@ fn page_by_named<S: Shelf>(
     })
 }
 
-/// Returns the page of the client's query over all resources of a kind.
-/// If none can match, no resource is read.
+/// Returns the page of the client's query over all resources of a kind. If no resource can match, none is
+/// read.
 pub(crate) fn page_of_all<S: Shelf>(
     alloc: Global,
     viewer: &Viewer<'_>,

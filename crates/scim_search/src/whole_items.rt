@@ -21,7 +21,8 @@ use scim_value::{Part, Resource};
 use scim_view::Viewer;
 use std::alloc::Global;
 
-/// The viewer of a page's items of one kind, with the decisions on reading them, some of them cached.
+/// A builder of the items of a page, which are parts of resources of one kind. It has the viewer, the
+/// decisions on the kind, and the cached decisions on some resources.
 #[derive(Clone, Copy)]
 pub(crate) struct ItemBuilder<'a> {
     viewer: &'a Viewer<'a>,
@@ -31,7 +32,7 @@ pub(crate) struct ItemBuilder<'a> {
 }
 
 impl<'a> ItemBuilder<'a> {
-    /// Returns the builder of the items of the kind that a viewer sees.
+    /// Returns a builder for this viewer, kind and decisions.
     pub(crate) fn new(
         viewer: &'a Viewer<'a>,
         kind: Kind,
@@ -53,8 +54,8 @@ impl<'a> ItemBuilder<'a> {
         }
     }
 
-    /// Returns the part of the resource that the client sees, with its groups; None if the client doesn't see
-    /// the resource.
+    /// Returns the part of the resource that the client sees, with its groups; `None` if the client doesn't
+    /// see the resource.
     fn part_of<S: Shelf>(
         &self,
         alloc: Global,
@@ -81,7 +82,7 @@ impl<'a> ItemBuilder<'a> {
     }
 }
 
-/// Appends the part, if there is one.
+/// Appends the part to `parts`, if there is one.
 fn push_if_seen(part: Option<Part>, parts: &mut Vec<Part>) -> Result<(), NoMemory>
     ensures { OnOk result (parts.new.items ≡ parts.old.items ++ and_those part []) }
 {
@@ -91,7 +92,8 @@ fn push_if_seen(part: Option<Part>, parts: &mut Vec<Part>) -> Result<(), NoMemor
     }
 }
 
-/// Appends the part of the resource that the client sees, if there is a resource and the client sees it.
+/// Appends the part of the resource that the client sees to `parts`, if there is a resource and the client
+/// sees it.
 fn push_part<S: Shelf>(
     alloc: Global,
     builder: ItemBuilder<'_>,
@@ -118,8 +120,8 @@ fn push_part<S: Shelf>(
     Ok(push_if_seen(part, parts)?)
 }
 
-/// Appends the parts that the client sees of the resources with the ids of `items`.
-/// Recurses once per item, which is at most 200 times per request.
+/// Appends to `parts`, for each id of `items`, the part of the resource with this id that the client sees.
+/// Recurses once per item, at most 200 times per request.
 fn push_parts<S: Shelf>(
     alloc: Global,
     builder: ItemBuilder<'_>,
@@ -150,9 +152,8 @@ fn push_parts<S: Shelf>(
     }
 }
 
-/// Returns the client's view of the resources with the ids of `items`, with their groups, in their order.
-/// Decisions that are still cached ([`Decided`]), on the resources or on their groups, aren't evaluated
-/// again.
+/// Returns, for each id of `items` in order, the client's view of the resource with this id, with its groups.
+/// Decisions on resources or groups that are still cached ([`Decided`]) aren't evaluated again.
 pub(crate) fn whole_items<S: Shelf>(
     alloc: Global,
     builder: ItemBuilder<'_>,

@@ -1,4 +1,4 @@
--- The reports of connections.
+-- The events that connections report.
 use Rattle.std.specs.Prelude.{Bool, true, false, List, [], ◌∷◌, Option, None, Some, Result, Ok}
 use Rattle.scim_hub.specs.Events.{HubEvent}
 use Rattle.scim_hub.specs.HubStates.{owned_event_of}
@@ -6,7 +6,7 @@ use Rattle.scim_serve.specs.declared.peers.PeerEvent.{PeerEvent}
 use Rattle.scim_serve.specs.declared.peers.PeerEvent.TheVariants.{Event}
 use Rattle.scim_serve.specs.declared.peers.PeersFault.{PeersFault}
 
--- the event that a call of `next` reported, if any
+-- the hub's event that a call of `next` reported, if any
 abbrev pub told_by : Result (Option PeerEvent) PeersFault → List HubEvent
 told_by (Ok (Some (Event event))) = owned_event_of event ∷ []
 told_by _ = []

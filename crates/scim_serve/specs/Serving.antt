@@ -1,4 +1,4 @@
--- The text due to each connection for the results of events.
+-- The text that must be written to each connection for the results of events.
 use Rattle.std.specs.Prelude.{◌≡◌, ℕ, ◌==◌, Bool, false, List, [], ◌++◌, Result, Ok, Err, if◌then◌else◌}
 use Rattle.std.specs.List.{flat_map, list_any}
 use Rattle.scim_hub.specs.declared.events.HubFault.{HubFault}
@@ -9,28 +9,28 @@ abbrev pub text_to : ℕ → HubOutput → List ℕ
 text_to m (writing n text) = if n == m then text else []
 text_to m (shutting n) = []
 
--- the text due to the connection with the number m for the result of an event
+-- the text that must be written to connection m for the result of an event
 abbrev pub due_for : ℕ → Result (List HubOutput) HubFault → List ℕ
 due_for m (Ok hub_outputs) = flat_map (text_to m) hub_outputs
 due_for m (Err fault) = []
 
--- the text due to the connection with the number m for the results of events, in order
+-- the text that must be written to connection m for the results of events, in order
 abbrev pub due : ℕ → List (Result (List HubOutput) HubFault) → List ℕ
 due m results = flat_map (due_for m) results
 
--- the bytes are a prefix of all
+-- `front` is a prefix of `all`
 abbrev pub IsFront : List ℕ → List ℕ → Type 0
 IsFront front all = (rest : List ℕ) × (front ++ rest ≡ all)
 
--- whether what occurs on connection n is that connection m leaves
+-- whether an event of this kind on connection n is that connection m leaves
 abbrev pub leaves_now : ℕ → ℕ → HubEventKind → Bool
 leaves_now m n leaving = n == m
 leaves_now m n _ = false
 
--- whether the event says that connection m leaves
+-- whether the event is that connection m leaves
 abbrev pub leaves : ℕ → HubEvent → Bool
 leaves m seen = leaves_now m seen.connection seen.kind
 
--- whether any event says that connection m leaves
+-- whether one of the events is that connection m leaves
 abbrev pub has_left : ℕ → List HubEvent → Bool
 has_left m events = list_any (leaves m) events

@@ -1,4 +1,4 @@
-//! Serves many connections on one thread by a hub.
+//! Serves many connections on one thread with a hub.
 #![tactic(auto)]
 
 mod peers;

@@ -1,4 +1,4 @@
-//! The connections that a server serves, and the incidents that they report.
+//! The connections that a server serves, and the events that they report.
 ghost use Rattle.std.specs.Prelude.{◌≡◌, ◌≤◌, ℕ, ◌==◌, Bool, true, false, IsTrue, List, [], ◌++◌, length, take, if◌then◌else◌};
 ghost use Rattle.scim_hub.specs.Events.{HubEvent};
 ghost use Rattle.scim_serve.specs.Peers.{told_by, ends};
@@ -11,7 +11,7 @@ use thiserror::Error;
 pub enum PeerEvent {
     /// An event for the hub.
     Event(OwnedEvent),
-    /// The connection took less than it was offered, and may take more now.
+    /// The connection with this number took fewer bytes than it was offered, and may take more now.
     Ready(u64),
 }
 
@@ -24,16 +24,16 @@ impl Drop for PeerEvent {
     }
 }
 
-/// The fault that ends the serving of all connections: the system can't report events or measure time.
+/// The error that ends the serving of all connections: the system can't report events or measure time.
 #[derive(Clone, Copy, Debug, PartialEq, Eq, Error)]
 #[error("the connections can't be served")]
 pub struct PeersFault;
 
 /// Connections that are served on one thread.
 ///
-/// A connection that takes less than it is offered isn't read until it has taken all of it.
+/// A connection that takes fewer bytes than it is offered isn't read until it has taken all of them.
 pub trait Peers {
-    /// Whether the contracts know the events and the bytes taken. False for the system's sockets.
+    /// Whether the contracts describe the events and the bytes taken. False for the system's sockets.
     ghost is_known: { Bool };
 
     /// The events reported so far.
@@ -42,7 +42,8 @@ pub trait Peers {
     /// The bytes that each connection has taken, by connection number.
     ghost written: { Self → ℕ → List ℕ };
 
-    /// Whether each connection is known to have taken all of the last offer, by connection number.
+    /// Whether each connection is known to have taken all bytes that it was last offered, by connection
+    /// number.
     ghost takes_all: { Self → ℕ → Bool };
 
     /// Whether each connection was closed by `close`, by connection number.
@@ -62,7 +63,7 @@ pub trait Peers {
 
     /// Offers bytes to a connection, and returns the length of the prefix that it took.
     ///
-    /// This may be 0, and is 0 if no connection has the number.
+    /// The length may be 0, and is 0 if no connection has the number.
     fn write(&mut self, connection: u64, bytes: &[u8]) -> usize
         ensures count { result ≤ length bytes.now }
         ensures seen { IsTrue is_known → seen self.new ≡ seen self.old }

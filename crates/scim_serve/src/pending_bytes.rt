@@ -10,11 +10,12 @@ use std::marker::Model;
 /// The pending bytes of one connection. Contracts see them as a list.
 #[derive(Drop)]
 struct Pending {
-    /// The bytes to be written, with those that the connection has taken since the buffer was last empty.
+    /// The bytes that the connection has taken since the buffer was last empty, followed by the pending
+    /// bytes.
     bytes: Vec<u8>,
-    /// The number of bytes that the connection has taken.
+    /// The number of bytes at the start of `bytes` that the connection has taken.
     taken: usize,
-    /// Whether the connection is to be closed after the bytes.
+    /// Whether the connection is to be closed after it has taken the bytes.
     closing: bool,
 }
 
@@ -56,7 +57,7 @@ impl Pending {
         Ok(())
     }
 
-    /// Drops the first `count` pending bytes. Frees the buffer when none is left.
+    /// Drops the first `count` pending bytes. Frees the buffer when no bytes are pending.
     fn take(&mut self, count: usize)
         requires { count ≤ length self.old }
         ensures { self.new ≡ drop count self.old }
@@ -92,7 +93,7 @@ pub(crate) struct Waiting {
 }
 
 impl Waiting {
-    /// Returns a value without connections.
+    /// Returns an empty set of connections.
     pub(crate) fn new(alloc: Global) -> Waiting
         ensures none { (m : ℕ) → waiting_for result m ≡ None }
         ensures next { result.next ≡ 0 }
@@ -103,7 +104,7 @@ impl Waiting {
         }
     }
 
-    /// Notes the number of a connection, and returns whether it is greater than all earlier ones.
+    /// Notes the number of a connection, and returns whether it is greater than all numbers noted before.
     pub(crate) fn note(&mut self, connection: u64) -> bool
         ensures new { IsTrue result → self.old.next ≤ connection }
         ensures same { (m : ℕ) → waiting_for self.new m ≡ waiting_for self.old m }
@@ -144,7 +145,7 @@ impl Waiting {
         }
     }
 
-    /// Appends bytes to those pending for a connection, if it can be written to.
+    /// Appends bytes to the pending bytes of a connection, if it can be written to.
     ///
     /// After `NoMemory` nothing has changed.
     pub(crate) fn add(&mut self, connection: u64, bytes: &[u8]) -> Result<(), NoMemory>

@@ -64,7 +64,7 @@ fn offer<P: Peers>(peers: &mut P, waiting: &mut Waiting, connection: u64)
     waiting.take(connection, count);
 }
 
-/// Offers a connection its pending bytes, and closes it if it has taken all and is to be closed.
+/// Offers a connection its pending bytes, and closes it if it has taken all of them and is to be closed.
 fn flush<P: Peers>(peers: &mut P, waiting: &mut Waiting, connection: u64)
     ensures seen { IsTrue P.is_known → P.seen peers.new ≡ P.seen peers.old }
     ensures kept { IsTrue P.is_known → Keeps (P.written peers.old) waiting.old
@@ -87,8 +87,8 @@ fn flush<P: Peers>(peers: &mut P, waiting: &mut Waiting, connection: u64)
     }
 }
 
-/// Appends the text of an output to the pending bytes of its connection, or notes that the connection is to
-/// be closed after them.
+/// Appends the text of an output to the pending bytes of its connection, or, for an output that shuts the
+/// connection, notes that it is to be closed after its pending bytes.
 ///
 /// Closes the connection at once if memory runs out.
 fn queue_one<P: Peers>(peers: &mut P, waiting: &mut Waiting, output: &Output)
@@ -113,7 +113,7 @@ fn queue_one<P: Peers>(peers: &mut P, waiting: &mut Waiting, output: &Output)
     }
 }
 
-/// Handles the outputs in order, as `queue_one`.
+/// Calls `queue_one` for each of the outputs, in order.
 fn queue<P: Peers>(peers: &mut P, waiting: &mut Waiting, outputs: &[Output])
     ensures seen { IsTrue P.is_known → P.seen peers.new ≡ P.seen peers.old }
     ensures queued { IsTrue P.is_known → Grows (λ m.
@@ -133,9 +133,9 @@ fn queue<P: Peers>(peers: &mut P, waiting: &mut Waiting, outputs: &[Output])
     }
 }
 
-/// Lets a new connection be written to.
+/// Adds a new connection without pending bytes, so that it can be written to.
 ///
-/// Closes it if its number isn't greater than all earlier ones, or if memory runs out.
+/// Closes the connection if its number isn't greater than all earlier numbers, or if memory runs out.
 fn welcome<P: Peers>(alloc: Global, peers: &mut P, waiting: &mut Waiting, connection: u64)
     ensures seen { IsTrue P.is_known → P.seen peers.new ≡ P.seen peers.old }
     ensures level { IsTrue P.is_known → (due : ℕ → List ℕ)
@@ -156,7 +156,8 @@ fn welcome<P: Peers>(alloc: Global, peers: &mut P, waiting: &mut Waiting, connec
     }
 }
 
-/// Prepares the pending bytes for an event, before the hub handles it.
+/// Updates the set of connections that can be written to, before the hub handles an event: adds a connection
+/// that joins, and drops the pending bytes of a connection that leaves.
 fn prepare<P: Peers>(alloc: Global, peers: &mut P, waiting: &mut Waiting, event: &OwnedEvent)
     ensures seen { IsTrue P.is_known → P.seen peers.new ≡ P.seen peers.old }
     ensures level { IsTrue P.is_known → (due : ℕ → List ℕ)
@@ -187,8 +188,9 @@ fn prepare<P: Peers>(alloc: Global, peers: &mut P, waiting: &mut Waiting, event:
 
 /// Carries out the hub's answer to an event of a connection.
 ///
-/// Closes the connection after `NoMemory` (its outputs are lost, or it couldn't join) and `AlreadyJoined`.
-/// Does nothing after other faults.
+/// Queues the outputs and offers the connection its pending bytes. Closes the connection after the errors
+/// `NoMemory` (its outputs are lost, or it couldn't join) and `AlreadyJoined`. Does nothing after other
+/// errors.
 fn settle<P: Peers>(
     peers: &mut P,
     waiting: &mut Waiting,
@@ -217,7 +219,7 @@ fn settle<P: Peers>(
     }
 }
 
-/// Handles an event by the hub, and carries out its answer.
+/// Passes an event to the hub, and carries out the hub's answer.
 fn hear<P: Peers, S: Shelf>(
     alloc: Global,
     peers: &mut P,
@@ -247,14 +249,14 @@ fn hear<P: Peers, S: Shelf>(
     settle(peers, waiting, event.connection, &answer);
 }
 
-/// Serves connections by a hub until `peers` reports the end.
+/// Serves connections with a hub until `peers` reports the end.
 ///
-/// Each event goes to the hub, whose outputs are written to the connection as fast as it accepts them. A
+/// Each event is passed to the hub, whose outputs are written to the connection as fast as it accepts them. A
 /// connection that is shut is closed once it has taken all its bytes. A connection that has left isn't
-/// written to any more. A connection is closed, and the others go on, if its number isn't greater than all
-/// earlier ones or if memory runs out for it.
+/// written to any more. If a connection's number isn't greater than all earlier numbers, or if memory runs
+/// out for a connection, only that connection is closed, and the others are still served.
 ///
-/// Fails with [`PeersFault`] if `peers` fails, or after 2^64 - 1 incidents.
+/// Fails with [`PeersFault`] if `peers` fails, or after 2^64 - 1 events.
 pub fn serve<P: Peers, S: Shelf>(
     alloc: Global,
     peers: &mut P,

@@ -12,8 +12,8 @@ use Rattle.scim_service.specs.declared.replies.Reply.{Reply}
 use Rattle.scim_service.specs.declared.replies.Reply.TheVariants.{Refused, Failed as Failure}
 use Rattle.scim_service.specs.Step.{plan, next_store}
 
--- The cause of a failed turn: the device's count of failures rose (or was at its maximum), the last audit
--- number is in use, or memory ran out.
+-- The fault is a possible cause of a failed turn: a device failure, if the device's count of failures rose or
+-- was at its maximum; a full audit, if the last audit number is in use; or lack of memory.
 pub record IsCause (before now : ℕ) (store : Store) (fault : Failed ShelfFault) : Type 0 where
   pub device : fault ≡ Because Device → (before < now) ⊎ (before ≡ 18446744073709551615)
   pub full : fault ≡ Because Full → length store.audit ≡ last_number
@@ -22,7 +22,7 @@ pub record IsCause (before now : ℕ) (store : Store) (fault : Failed ShelfFault
 abbrev pub IsDone : List Rule → List ℕ → Turn → Store → Reply → Store → Type 0
 IsDone policy base turn store reply next = (reply ≡ (plan policy base turn store).reply) × (next ≡ next_store policy base turn store)
 
--- The turn failed for a cause, and nothing was done.
+-- The turn failed with a fault that satisfies `Cause`, and the store is unchanged.
 abbrev pub HasFailed : (Failed ShelfFault → Type 0) → Store → Reply → Store → Type 0
 HasFailed Cause store reply next = (fault : Failed ShelfFault) × (reply ≡ Failure fault) × Cause fault × (next ≡ store)
 
@@ -30,7 +30,7 @@ HasFailed Cause store reply next = (fault : Failed ShelfFault) × (reply ≡ Fai
 abbrev pub WasNotTold : Turn → Store → Reply → Store → Type 0
 WasNotTold turn store reply next = (turn.request.ask ≡ Err NoStore) × (reply ≡ Refused NoStore) × (next ≡ store)
 
--- Memory didn't run out before: the turn is done, or it failed.
+-- Memory didn't run out before the request could be read. The turn is done, or it failed.
 abbrev pub WasTold : List Rule → List ℕ → (Failed ShelfFault → Type 0) → Turn → Store → Reply → Store → Type 0
 WasTold policy base Cause turn store reply next =
     (turn.request.ask ≢ Err NoStore) × (IsDone policy base turn store reply next ⊎ HasFailed Cause store reply next)

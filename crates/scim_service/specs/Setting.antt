@@ -1,4 +1,4 @@
--- The setting of a service: its policy and the base of its locations; and its shelf.
+-- The policy, the base URI and the shelf of a service.
 use Rattle.std.specs.Prelude.{◌≡◌, ℕ, List}
 use Rattle.scim_policy.specs.Rules.{Rule}
 use Rattle.scim_service.specs.declared.answering_turns.Service.{Service}
@@ -15,7 +15,7 @@ service_base service = service.base
 abbrev pub service_shelf : {S : Type 0} → Service S → S
 service_shelf service = service.shelf
 
--- A service keeps its policy and its base.
+-- The service's policy and base URI are unchanged.
 pub record KeepsSetting {S : Type 0} (old new : Service S) : Type 0 where
   pub policy : service_policy new ≡ service_policy old
   pub base : service_base new ≡ service_base old

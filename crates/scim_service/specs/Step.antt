@@ -75,24 +75,25 @@ row_of turn id decided rule leaf refusal = record {
 
 -- ---- refusals: they change nothing
 
--- Whether a request is for one resource that its id names, and not a create or a search; for one that can't
--- be read its operation tells.
+-- Whether a request is for the one resource that its id names, and not a create or a search. A request that
+-- can't be read is for one resource unless its operation is `Create`.
 abbrev pub is_for_one : Op → Result Ask Refusal → Bool
 is_for_one op (Ok (Search query)) = false
 is_for_one op (Ok (MakeOne draft wanted)) = false
 is_for_one op (Ok _) = true
 is_for_one op (Err refusal) = not (sameb the_op op Create)
 
--- The id of the resource that a turn is for; None for a create or a search, whatever its request holds.
+-- The id of the resource that a turn is for; `None` if `is_for_one` says that its request isn't for one
+-- resource, even if the request has an id.
 unfoldable pub named_id : Turn → Option (List ℕ)
 named_id turn = if is_for_one turn.request.op turn.request.ask then turn.request.id else None
 
--- The plan of a refusal, with the id of the resource that it is for and this decision, rule and leaf in its
--- audit row.
+-- The plan of a refusal. Its audit row has the id of the resource that the request is for, and this decision,
+-- rule and leaf.
 abbrev pub refusal_plan : Turn → Decided → Option ℕ → Option Leaf → Refusal → Plan
 refusal_plan turn how rule leaf refusal = record { reply = Refused refusal; change = Nothing; row = row_of turn (named_id turn) how rule leaf (Some refusal) }
 
--- The plan of a refusal whose cause is in the request itself. No rule decides it.
+-- The plan of a refusal that isn't a decision of the policy. Its audit row names no rule.
 unfoldable pub rejection_plan : Turn → Refusal → Plan
 rejection_plan turn refusal = refusal_plan turn decided.Refused None None refusal
 
@@ -100,13 +101,13 @@ rejection_plan turn refusal = refusal_plan turn decided.Refused None None refusa
 unfoldable pub absence_plan : Turn → Plan
 absence_plan turn = refusal_plan turn decided.Absent None None NotFound
 
--- The plan of a request for a resource that the client doesn't see, by this decision on reading its `id`; its
--- reply is that of `absence_plan`.
+-- The plan of a request for a resource whose `id` the client may not read, by this decision. The reply is the
+-- refusal `NotFound`, as if the resource didn't exist.
 unfoldable pub hidden_plan : Turn → Decision → Plan
 hidden_plan turn d = refusal_plan turn decided.Hidden (Some d.rule) (Some (simple Id)) NotFound
 
--- The plan of a refusal by this decision at a leaf, which denies the request there, or would let the client
--- do there what it couldn't before.
+-- The plan of a refusal because of this decision at a leaf. The decision denies the request at the leaf, or
+-- would allow the client something there that was denied before the change.
 unfoldable pub denial_plan : Turn → Decision → Leaf → Refusal → Plan
 denial_plan turn d l refusal = refusal_plan turn decided.Deny (Some d.rule) (Some l) refusal
 
@@ -125,7 +126,7 @@ resource_text v groups wanted c = compact_text (part_data (shown wanted (with_gr
 unfoldable pub get_plan : Viewer → Turn → List Content → Wanted → Content → Plan
 get_plan v turn cs wanted c = record { reply = Shown (resource_text v (of_kind Group cs) wanted c); change = Nothing; row = allowed_row turn (read_decision v c (simple Id)).rule }
 
--- The client's view of the resources of the request's kind: those that it sees, as it sees them.
+-- The resources of the request's kind that the client sees, each with only the values that the client sees.
 abbrev pub view_of_kind : Viewer → Turn → List Content → List Content
 view_of_kind v turn cs = views v (of_kind Group cs) (of_kind turn.request.kind cs)
 
@@ -133,11 +134,11 @@ view_of_kind v turn cs = views v (of_kind Group cs) (of_kind turn.request.kind c
 abbrev pub list_text : Query → List Content → List ℕ
 list_text query view = compact_text (list_data (total_of query view) (first_position query.start) (shown_items query view))
 
--- The plan of a search; its audit row names no rule, since no single rule decides it.
+-- The plan of a search. Its audit row names no rule, since no single rule decides the search.
 unfoldable pub search_plan : Viewer → Turn → List Content → Query → Plan
 search_plan v turn cs query = record { reply = Shown (list_text query (view_of_kind v turn cs)); change = Nothing; row = row_of turn None decided.Allow None None None }
 
--- The policy's decision on deleting a resource: that at its `id`.
+-- The policy's decision on deleting a resource, made at its `id`.
 abbrev pub delete_decision : Viewer → Content → Decision
 delete_decision v c = decide v.policy v.client Delete c (simple Id)
 
@@ -151,26 +152,27 @@ removal_plan v turn c =
 
 -- ---- create (RFC 7644 section 3.3)
 
--- The resource that a draft makes, with the turn's id and moment.
+-- The new resource created from a draft, with the turn's id and moment.
 abbrev pub new_resource : Viewer → Turn → Draft → Content
 new_resource v turn d = created d turn.fresh turn.moment v.base
 
--- The policy's decision on creating a resource, at a leaf; the targets of rules are tested on the new
+-- The policy's decision at a leaf on creating a resource. The targets of rules are tested on the new
 -- resource.
 abbrev pub create_decision : Viewer → Content → Leaf → Decision
 create_decision v c l = decide v.policy v.client Create c l
 
--- Whether creating from a draft is decided at a leaf: at `id`, and at the leaves of the units that the body
--- gives.
+-- Whether a create from a draft needs the policy's permission at a leaf: the leaf is `id`, or it belongs to a
+-- unit that the body gives.
 abbrev pub is_decided : Draft → Leaf → Bool
 is_decided d l = is_same_leaf l (simple Id) || list_any (is_same_unit (unit_of l)) d.given
 
--- The first leaf, in leaf order, at which the policy decides on creating the resource from the draft and denies it.
+-- The first leaf, in leaf order, at which a create of the resource from the draft needs permission and is
+-- denied.
 abbrev pub first_denied : Viewer → Draft → Content → Option Leaf
 first_denied v d c = find (λ l. is_decided d l && not (create_decision v c l).allow) (leaves d.kind)
 
--- The JSON of a stored resource as the client sees it, among the resources `cs`; None if the client doesn't
--- see it.
+-- The JSON of a resource as the client sees it once it is stored among the resources `cs`; `None` if the
+-- client doesn't see it.
 abbrev pub kept_text : Viewer → List Content → Wanted → Content → Option (List ℕ)
 kept_text v cs wanted c = if (read_decision v c (simple Id)).allow then Some (resource_text v (of_kind Group (keep c cs)) wanted c) else None
 
@@ -182,17 +184,17 @@ creation_plan_with v turn c rule text = record {
   row = row_of turn (Some c.id) decided.Allow (Some rule) None None;
 }
 
--- The plan that stores a new resource, with its JSON as the client sees it in the reply.
+-- The plan that stores a new resource. Its reply has the JSON of the resource as the client sees it.
 abbrev pub kept_creation_plan : Viewer → Turn → List Content → Wanted → Content → Plan
 kept_creation_plan v turn cs wanted c = creation_plan_with v turn c (create_decision v c (simple Id)).rule (kept_text v cs wanted c)
 
--- The plan of a create that the policy allows: refused if a resource, seen or not, has its unique name or its
--- id, and stored otherwise.
+-- The plan of a create that the policy allows. The create is refused if a resource, visible to the client or
+-- not, has the id or a unique name of the new resource; otherwise the new resource is stored.
 abbrev pub unique_creation_plan : Viewer → Turn → List Content → Wanted → Content → Plan
 unique_creation_plan v turn cs wanted c =
     if is_taken cs c then rejection_plan turn Taken else (if is_used cs c.id then rejection_plan turn IdInUse else kept_creation_plan v turn cs wanted c)
 
--- The plan of a create: denied at a leaf, if one is given, and otherwise allowed by the policy.
+-- The plan of a create that the policy denies at a leaf, if one is given, and allows otherwise.
 abbrev pub decided_creation_plan : Viewer → Turn → List Content → Wanted → Content → Option Leaf → Plan
 decided_creation_plan v turn cs wanted c None = unique_creation_plan v turn cs wanted c
 decided_creation_plan v turn cs wanted c (Some l) = denial_plan turn (create_decision v c l) l Denied
@@ -212,12 +214,13 @@ creation_plan v turn cs d wanted =
 abbrev pub access_to : Viewer → Content → Access
 access_to v c = access v.policy v.client c
 
--- The leaf that is denied and the decision, if the client may not write a unit and the body gives it other
--- values than the client sees.
+-- The denied leaf and the decision on it if a unit isn't readOnly, the client may not write it, and the body
+-- gives it values other than those that the client sees; `None` otherwise.
 abbrev pub unit_denial : Access → Draft → Content → AttributeUnit → Option (Leaf × Decision)
 unit_denial a d seen u = if is_fixed d.kind u || (not (gives d u) || agrees d u seen) then None else forbidding d.kind a u
 
--- The leaf that is denied and the decision, for the first of these units that is denied.
+-- The denied leaf and the decision on it, for the first of these units that is denied; `None` if no unit is
+-- denied.
 abbrev pub first_unit_denial : Access → Draft → Content → List AttributeUnit → Option (Leaf × Decision)
 first_unit_denial a d seen [] = None
 first_unit_denial a d seen (u ∷ us) = or_else (unit_denial a d seen u) (first_unit_denial a d seen us)
@@ -230,12 +233,12 @@ is_writable kind a u = not (is_fixed kind u) && is_none (forbidding kind a u)
 abbrev pub writable : Kind → Access → List AttributeUnit
 writable kind a = filter (is_writable kind a) (units kind)
 
--- The reply to a change: the text, or 204 without one.
+-- The reply to a change: 200 with the text, or 204 if there is no text.
 abbrev pub shown_or_done : Option (List ℕ) → Reply
 shown_or_done None = Done
 shown_or_done (Some text) = Shown text
 
--- The change that stores a resource, or no change if it is as before.
+-- The change that stores a resource, or `Nothing` if the resource didn't change.
 abbrev pub change_keeping : Bool → Content → Change
 change_keeping changed c = if changed then Keep c else Nothing
 
@@ -243,24 +246,25 @@ change_keeping changed c = if changed then Keep c else Nothing
 abbrev pub kept_plan : Turn → ℕ → Bool → Content → Option (List ℕ) → Plan
 kept_plan turn rule changed c text = record { reply = shown_or_done text; change = change_keeping changed c; row = allowed_row turn rule }
 
--- The plan that stores a changed resource, with its JSON as the client then sees it in the reply; `a` is the
--- client's access before the change, by which it saw the resource.
+-- The plan that stores a changed resource. Its reply has the JSON of the resource as the client sees it after
+-- the change. `a` is the client's access before the change; the audit row names its rule on reading `id`.
 abbrev pub kept_change_plan : Viewer → Turn → List Content → Wanted → Access → Bool → Content → Plan
 kept_change_plan v turn cs wanted a changed c = kept_plan turn (a.read (simple Id)).rule changed c (kept_text v cs wanted c)
 
--- The plan of a change: denied if it widens the client's access at a leaf, and stored otherwise.
+-- The plan of a change. The change is denied if it widens the client's access at a leaf; otherwise it is
+-- stored.
 abbrev pub narrow_change_plan : Viewer → Turn → List Content → Wanted → Access → Bool → Content → Option (Op × Leaf × Decision) → Plan
 narrow_change_plan v turn cs wanted a changed c None = kept_change_plan v turn cs wanted a changed c
 narrow_change_plan v turn cs wanted a changed c (Some (op, l, d)) = denial_plan turn d l Widens
 
--- The plan of a change: refused if another resource, seen or not, has one of its unique names, denied if it
--- widens the client's access, and stored otherwise.
+-- The plan of a change. The change is refused if another resource, visible to the client or not, has a unique
+-- name of the changed resource, denied if it widens the client's access, and stored otherwise.
 abbrev pub unique_change_plan : Viewer → Turn → List Content → Wanted → Access → Bool → Content → Plan
 unique_change_plan v turn cs wanted a changed c =
     if is_taken (without c.id cs) c then rejection_plan turn Taken else narrow_change_plan v turn cs wanted a changed c (widening c.kind a (access_to v c))
 
--- The plan of a change: refused if the result lacks a required attribute (None), and otherwise that of
--- `unique_change_plan`.
+-- The plan of a change that results in the given resource, or in `None` if a required attribute would be
+-- missing. With `None` the change is refused.
 abbrev pub complete_change_plan : Viewer → Turn → List Content → Wanted → Access → Bool → Option Content → Plan
 complete_change_plan v turn cs wanted a changed None = rejection_plan turn ResultValue
 complete_change_plan v turn cs wanted a changed (Some c) = unique_change_plan v turn cs wanted a changed c
@@ -269,7 +273,7 @@ complete_change_plan v turn cs wanted a changed (Some c) = unique_change_plan v 
 abbrev pub writable_replacement_plan : Viewer → Turn → List Content → Draft → Wanted → Content → List AttributeUnit → Plan
 writable_replacement_plan v turn cs d wanted c us = complete_change_plan v turn cs wanted (access_to v c) (changes d us (rows c)) (replaced d us turn.moment c)
 
--- The plan of a PUT: denied at a leaf, if one is given, and otherwise writing to all units that the client
+-- The plan of a PUT that is denied at a leaf, if one is given, and otherwise writes all units that the client
 -- may write.
 abbrev pub decided_replacement_plan : Viewer → Turn → List Content → Draft → Wanted → Content → Option (Leaf × Decision) → Plan
 decided_replacement_plan v turn cs d wanted c (Some (l, decision)) = denial_plan turn decision l Denied
@@ -284,7 +288,8 @@ replacement_plan v turn cs d wanted c =
 
 -- ---- PATCH (RFC 7644 section 3.5.2)
 
--- The leaf that is denied and the decision, for the first of these units that the client may not write.
+-- The denied leaf and the decision on it, for the first of these units that the client may not write; `None`
+-- if the client may write them all.
 abbrev pub first_forbidden : Kind → Access → List AttributeUnit → Option (Leaf × Decision)
 first_forbidden kind a [] = None
 first_forbidden kind a (u ∷ us) = or_else (forbidding kind a u) (first_forbidden kind a us)
@@ -295,14 +300,14 @@ step_refusal fault.Mutability = Mutability
 step_refusal fault.NoTarget = NoTarget
 step_refusal fault.Value = ResultValue
 
--- The plan of a PATCH with this result: refused for a faulty step, and otherwise the change to the resource
--- that the steps make.
+-- The plan of a PATCH whose steps have this result: a refusal if a step failed, and otherwise the change to
+-- the resulting resource.
 abbrev pub applied_patch_plan : Viewer → Turn → List Content → Wanted → Content → Result (Content × Bool) StepFault → Plan
 applied_patch_plan v turn cs wanted c (Err e) = rejection_plan turn (step_refusal e)
 applied_patch_plan v turn cs wanted c (Ok (x, changed)) = unique_change_plan v turn cs wanted (access_to v c) changed x
 
--- The plan of a PATCH: denied at a leaf, if one is given, and otherwise with its steps applied to the stored
--- resource, including what the client doesn't see of it.
+-- The plan of a PATCH that is denied at a leaf, if one is given. Otherwise its steps are applied to the whole
+-- stored resource, including the values that the client doesn't see.
 abbrev pub decided_patch_plan : Viewer → Turn → List Content → Patch → Wanted → Content → Option (Leaf × Decision) → Plan
 decided_patch_plan v turn cs p wanted c (Some (l, d)) = denial_plan turn d l Denied
 decided_patch_plan v turn cs p wanted c None = applied_patch_plan v turn cs wanted c (applied p turn.moment c)
@@ -320,8 +325,8 @@ patch_plan v turn cs p wanted c =
 abbrev pub sought_resource : Turn → List Content → Option Content
 sought_resource turn cs = option_and_then (λ id. find (is_at turn.request.kind id) cs) turn.request.id
 
--- The plan of a request for a resource: absent, hidden, or the one that `plan` gives for a resource that the
--- client sees.
+-- The plan of a request for a resource: `absence_plan` if it doesn't exist, `hidden_plan` if the client
+-- doesn't see it, and otherwise the result of `plan`.
 abbrev pub plan_for_seen : Viewer → Turn → (Content → Plan) → Option Content → Plan
 plan_for_seen v turn plan None = absence_plan turn
 plan_for_seen v turn plan (Some c) = if (read_decision v c (simple Id)).allow then plan c else hidden_plan turn (read_decision v c (simple Id))
@@ -336,7 +341,7 @@ request_plan v turn cs (Ok (Replace draft wanted)) = plan_for_seen v turn (repla
 request_plan v turn cs (Ok (PatchOne patch wanted)) = plan_for_seen v turn (patch_plan v turn cs (patch_of patch) wanted) (sought_resource turn cs)
 request_plan v turn cs (Ok Remove) = plan_for_seen v turn (removal_plan v turn) (sought_resource turn cs)
 
--- The viewer of a turn: its client, under the policy, with this base URI.
+-- The viewer of a turn: the turn's client, with this policy and this base URI.
 abbrev pub viewer_at : List Rule → List ℕ → Turn → Viewer
 viewer_at policy base turn = record { policy = policy; client = turn.request.client; base = base }
 

@@ -1,4 +1,4 @@
-//! The service: answers turns over a shelf.
+//! The service: answers clients' requests and commits their changes to a shelf.
 ghost use Rattle.std.specs.Prelude.{◌≡◌, ◌≢◌, ◌≤◌, ℕ, List, IfOk, OnErr, Err, length};
 ghost use Rattle.scim_text.specs.declared.memory.Failed.{Failed};
 ghost use Rattle.scim_view.specs.View.{viewer_of};
@@ -20,10 +20,10 @@ use scim_text::{Failed, NoMemory, push};
 use scim_view::Viewer;
 use std::alloc::Global;
 
-/// Answers clients' requests by a policy, over a shelf.
+/// Answers clients' requests, as a policy allows them, over the resources in a shelf.
 ///
-/// Each turn is planned by reads alone. Then its change and its audit row are committed together, so the
-/// reply is complete before anything is changed.
+/// Each turn is planned first, which only reads the shelf. Then its change and its audit row are committed
+/// together, so the reply is complete before anything is changed.
 pub struct Service<S> {
     policy: Policy,
     base: Text,
@@ -40,7 +40,8 @@ impl<S: Drop> Drop for Service<S> {
     }
 }
 
-/// Plans a turn, commits its change with its audit row, and returns its reply. On an error nothing is done.
+/// Plans a turn, commits its change with its audit row, and returns its reply. On an error, the store is
+/// unchanged.
 fn answer_or_fault<S: Shelf>(
     alloc: Global,
     viewer: &Viewer<'_>,
@@ -75,8 +76,8 @@ fn answer_or_fault<S: Shelf>(
 }
 
 impl<S: Shelf> Service<S> {
-    /// Returns a service with this policy, shelf and base URI. The locations of its resources are below the
-    /// base, such as `http://127.0.0.1:8080`. Doesn't allocate.
+    /// Returns a service with this policy, shelf and base URI, such as `http://127.0.0.1:8080`. The location
+    /// of each resource begins with the base URI. Doesn't allocate.
     pub fn new(policy: Policy, shelf: S, base: Text) -> Service<S>
         ensures policy { service_policy result ≡ policy }
         ensures base { service_base result ≡ base }
@@ -92,7 +93,8 @@ impl<S: Shelf> Service<S> {
     /// Answers one turn. If the shelf fails or memory runs out, the reply is [`Reply::Failed`]; then nothing
     /// is changed and no audit row is added.
     ///
-    /// A request that is refused already with [`Refusal::Store`] is answered so, without an audit row.
+    /// If the request is already refused with [`Refusal::Store`], the reply is that refusal, and no audit row
+    /// is added.
     pub fn answer(&mut self, alloc: Global, turn: &Turn) -> Reply
         ensures keeps { KeepsSetting self.old self.new }
         ensures answered { (store : Store) → S.stands (service_shelf self.old) store
@@ -121,8 +123,8 @@ impl<S: Shelf> Service<S> {
         }
     }
 
-    /// Answers turns in order, each as [`Service::answer`] does, and returns one reply for each. On an error,
-    /// for which memory for the replies is the only cause, no turn was answered.
+    /// Answers turns in order, each as [`Service::answer`] does, and returns one reply for each. Fails only
+    /// if there is no memory for the list of replies; then no turn was answered.
     pub fn run(&mut self, alloc: Global, turns: &[Turn]) -> Result<Vec<Reply>, NoMemory>
         ensures keeps { KeepsSetting self.old self.new }
         ensures each { IfOk result (λ replies. length replies.items ≡ length turns.now) }

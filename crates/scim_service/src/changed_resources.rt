@@ -24,7 +24,7 @@ use scim_value::Resource;
 use scim_view::{Viewer, Wanted};
 use std::alloc::Global;
 
-/// Returns the reply with the text, or 204 without one.
+/// Returns a 200 reply with the text, or a 204 reply if there is no text.
 fn shown_or_done(text: Option<Text>) -> Reply
     ensures { result ≡ spec.shown_or_done text }
 {
@@ -34,8 +34,9 @@ fn shown_or_done(text: Option<Text>) -> Reply
     }
 }
 
-/// Returns the plan that stores a changed resource: `text` is its JSON as the client sees it, if it does, and
-/// `rule` the rule by which the client saw it before the change.
+/// Returns the plan that stores a changed resource, or stores nothing if no value changed. `text` is the JSON
+/// of the resource as the client sees it, or `None` if the client doesn't see it. `rule` is the number of the
+/// rule that let the client read the resource's `id` before the change.
 fn changed_with(
     alloc: Global,
     turn: &Turn,
@@ -60,8 +61,8 @@ fn changed_with(
     })
 }
 
-/// Returns the plan that refuses a change because another resource has one of its unique names, or because it
-/// widens the client's rights; None if it may be stored.
+/// Returns the plan that refuses a changed resource because another resource has one of its unique names, or
+/// because the change widens the client's rights; `None` if the resource may be stored.
 fn refusal_to_change<S: Shelf>(
     alloc: Global,
     viewer: &Viewer<'_>,

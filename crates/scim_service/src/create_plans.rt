@@ -35,15 +35,15 @@ fn is_for(turn: &Turn, draft: &Draft) -> bool
     draft.kind() == turn.request.kind && draft.use_for() == UseFor::Creating
 }
 
-/// Whether creating from the draft is decided at the leaf: at `id`, and at the leaves of the units that the
-/// body gives.
+/// Whether a create from the draft needs the policy's permission at the leaf: the leaf is `id`, or it belongs
+/// to a unit that the body gives.
 fn is_decided(draft: &Draft, leaf: Leaf) -> bool
     ensures { result ≡ spec.is_decided draft.now leaf }
 {
     leaf == Leaf::simple(Attribute::Id) || draft.gives(unit_of(leaf))
 }
 
-/// Returns the first of these leaves at which creating from the draft is decided and denied.
+/// Returns the first of these leaves at which a create from the draft needs permission and is denied.
 fn first_denied_of(decisions: &Decisions, draft: &Draft, leaves: &[Leaf]) -> Option<Leaf>
     ensures { result ≡ find (λ l. spec.is_decided draft.now l
         && not (decision decisions.now l).allow) leaves.now }
@@ -56,7 +56,7 @@ fn first_denied_of(decisions: &Decisions, draft: &Draft, leaves: &[Leaf]) -> Opt
     None
 }
 
-/// Returns the first leaf, in leaf order, at which creating from the draft is decided and denied.
+/// Returns the first leaf, in leaf order, at which a create from the draft needs permission and is denied.
 fn first_denied(decisions: &Decisions, draft: &Draft) -> Option<Leaf>
     ensures { result ≡ find (λ l. spec.is_decided draft.now l
         && not (decision decisions.now l).allow) (leaves draft.now.kind) }
@@ -78,8 +78,8 @@ fn has_used_id<S: Shelf>(alloc: Global, shelf: &mut S, id: Id) -> Result<bool, F
     Ok(group.is_some())
 }
 
-/// Returns the plan that stores a new resource: `text` is its JSON as the client sees it, if it does, and
-/// `rule` the rule that allows it.
+/// Returns the plan that stores a new resource. `text` is the JSON of the resource as the client sees it, or
+/// `None` if the client doesn't see it. `rule` is the number of the rule that allows the create.
 fn made(
     alloc: Global,
     viewer: &Viewer<'_>,
@@ -107,8 +107,8 @@ fn made(
     })
 }
 
-/// Returns the plan that refuses to create a resource because another one has its unique name or its id,
-/// whether or not the client sees that one; None if both are free.
+/// Returns the plan that refuses to create a resource because another resource, visible to the client or not,
+/// has one of its unique names or its id; `None` if they are all free.
 fn refusal_to_make<S: Shelf>(
     alloc: Global,
     shelf: &mut S,

@@ -1,5 +1,5 @@
-//! The service: plans a request of a client by the policy (its reply, its change and its audit row) and
-//! commits the plan, for one request or a list of them (RFC 7644 section 3).
+//! The service: answers clients' requests, one or several at a time (RFC 7644 section 3). Plans the reply,
+//! the change and the audit row of each request by the policy, and commits the change with the audit row.
 #![tactic(auto)]
 
 mod answering_turns;

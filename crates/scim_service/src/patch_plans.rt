@@ -33,8 +33,8 @@ fn step_refusal(fault: StepFault) -> Refusal
     }
 }
 
-/// Returns the leaf that is denied and the decision, of the first unit in the patch that the client may not
-/// write.
+/// Returns the denied leaf and the decision on it, for the first unit in the patch that the client may not
+/// write; `None` if the client may write them all.
 fn first_forbidden(rights: &Rights, patch: &Patch) -> Option<(Leaf, Decision)>
     ensures { result ≡ spec.first_forbidden patch.now.kind (access_in rights.now)
         (touched (patch_of patch.now)) }
@@ -52,7 +52,7 @@ fn first_forbidden(rights: &Rights, patch: &Patch) -> Option<(Leaf, Decision)>
     None
 }
 
-/// Plans a PATCH of a resource whose units in the patch the client may write.
+/// Plans a PATCH of a resource. The caller has checked that the client may write all units in the patch.
 fn plan_allowed<S: Shelf>(
     alloc: Global,
     viewer: &Viewer<'_>,

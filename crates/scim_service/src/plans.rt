@@ -1,4 +1,4 @@
-//! Plans a turn by reads alone, before anything is changed.
+//! Plans a turn. Planning reads the shelf, but changes nothing.
 ghost use Rattle.std.specs.Prelude.{◌≡◌, List, Some, IfOk};
 ghost use Rattle.scim_schema.specs.declared.Kind.{Kind};
 ghost use Rattle.scim_schema.specs.declared.Leaf.{Leaf};
@@ -58,7 +58,7 @@ impl Plan {
     }
 }
 
-/// The part of an audit row that the turn itself doesn't give: decision, rule, leaf and refusal.
+/// The fields of an audit row that don't come from the turn: decision, rule, leaf and refusal.
 #[derive(Clone, Copy)]
 pub(crate) struct Finding {
     pub(crate) decided: Decided,
@@ -114,7 +114,7 @@ pub(crate) fn refused_as(
     })
 }
 
-/// Returns the plan that refuses a turn for a cause in the request itself, which no rule decides.
+/// Returns the plan that refuses a turn for a reason that isn't a decision of the policy.
 #[tactic(auto, unfolding(crate::specs::Step::rejection_plan))]
 pub(crate) fn refused(alloc: Global, turn: &Turn, refusal: Refusal) -> Result<Plan, NoMemory>
     ensures { IfOk result (λ plan. plan ≡ spec.rejection_plan turn.now refusal) }
@@ -130,8 +130,8 @@ pub(crate) fn absent(alloc: Global, turn: &Turn) -> Result<Plan, NoMemory>
     refused_as(alloc, turn, Decided::Absent, None, None, Refusal::NotFound)
 }
 
-/// Returns the plan that refuses a turn because the client doesn't see the resource, by this decision on
-/// reading its `id`. The reply is that of `absent`.
+/// Returns the plan that refuses a turn because, by this decision, the client may not read the resource's
+/// `id`. The reply is the refusal `NotFound`, as if there were no such resource.
 #[tactic(auto, unfolding(crate::specs::Step::hidden_plan))]
 pub(crate) fn hidden(alloc: Global, turn: &Turn, decision: Decision) -> Result<Plan, NoMemory>
     ensures { IfOk result (λ plan. plan ≡ spec.hidden_plan turn.now decision) }
@@ -147,7 +147,7 @@ pub(crate) fn hidden(alloc: Global, turn: &Turn, decision: Decision) -> Result<P
     )
 }
 
-/// Returns the plan that refuses a turn because of this decision at a leaf.
+/// Returns the plan that refuses a turn because of the policy's decision at a leaf.
 #[tactic(auto, unfolding(crate::specs::Step::denial_plan))]
 pub(crate) fn denied(
     alloc: Global,
@@ -181,7 +181,7 @@ pub(crate) fn allowed(alloc: Global, turn: &Turn, rule: u32) -> Result<AuditRow,
     row_of(alloc, turn, turn.request.id, finding)
 }
 
-/// Returns the resource that the turn's request names; None if there isn't one.
+/// Returns the resource that the turn's request names; `None` if there isn't one.
 pub(crate) fn found<S: Shelf>(
     alloc: Global,
     shelf: &mut S,
@@ -197,8 +197,8 @@ pub(crate) fn found<S: Shelf>(
     }
 }
 
-/// Returns the JSON of a resource as the client sees it, by these decisions on reading it and with these
-/// groups, projected to the wanted attributes.
+/// Returns the JSON of a resource as the client sees it, projected to the wanted attributes. `decisions` are
+/// the policy's decisions on reading the resource, and `groups` are the groups to list in it.
 #[tactic(auto, unfolding(crate::specs::Step::resource_text))]
 pub(crate) fn resource_text(
     alloc: Global,
@@ -219,8 +219,8 @@ pub(crate) fn resource_text(
     Ok(Text::new(to_json(alloc, &shown)?))
 }
 
-/// Returns the JSON of a resource as the client sees it, by these decisions on reading it and with its groups
-/// from the shelf, projected to the wanted attributes.
+/// Returns the JSON of a resource as the client sees it, projected to the wanted attributes. Reads the
+/// resource's groups from the shelf. `decisions` are the policy's decisions on reading the resource.
 fn seen_text<S: Shelf>(
     alloc: Global,
     viewer: &Viewer<'_>,
@@ -240,8 +240,8 @@ fn seen_text<S: Shelf>(
     Ok(resource_text(alloc, viewer, decisions, &groups, resource, wanted)?)
 }
 
-/// Returns the JSON of a resource that the turn stores, as the client sees it by these decisions on reading
-/// it; None if the client doesn't see it.
+/// Returns the JSON of a resource that the turn stores, as the client sees it; `None` if the client doesn't
+/// see it. `decisions` are the policy's decisions on reading the resource.
 pub(crate) fn kept_text<S: Shelf>(
     alloc: Global,
     viewer: &Viewer<'_>,
@@ -379,7 +379,7 @@ fn plan_remove<S: Shelf>(
     Ok(removed_if_seen(alloc, viewer, turn, &resource)?)
 }
 
-/// Returns the JSON of a page, each item projected to the attributes that the query wants.
+/// Returns the JSON of a page, with each item projected to the attributes that the query wants.
 fn list_text(alloc: Global, found: Page, query: &Query) -> Result<Text, NoMemory>
     ensures { IfOk result (λ text. (view : List Content) → IsPage view query.now found
         → text ≡ spec.list_text query.now view) }

@@ -24,14 +24,14 @@ use scim_value::{Part, Resource};
 use scim_view::{Viewer, Wanted};
 use std::alloc::Global;
 
-/// Whether the client may write the unit.
+/// Whether the client may write the unit: it isn't readOnly, and the policy forbids no leaf of it.
 fn is_writable(rights: &Rights, kind: Kind, unit: Unit) -> bool
     ensures { result ≡ spec.is_writable kind (access_in rights.now) unit }
 {
     mutability_of(kind, unit) != Mutability::ReadOnly && rights.forbidding(kind, unit).is_none()
 }
 
-/// Returns those of these units that the client may write.
+/// Returns the units in `units` that the client may write, in order.
 fn writable_of(
     alloc: Global,
     rights: &Rights,
@@ -50,7 +50,7 @@ fn writable_of(
     Ok(writable)
 }
 
-/// Whether the body gives the unit although the client may not write it.
+/// Whether the unit isn't readOnly, and the body gives it although the client may not write it.
 fn is_questionable(rights: &Rights, draft: &Draft, unit: Unit) -> bool
     ensures { result ≡ is_in_question (access_in rights.now) draft.now unit }
 {
@@ -59,7 +59,7 @@ fn is_questionable(rights: &Rights, draft: &Draft, unit: Unit) -> bool
         && rights.forbidding(draft.kind(), unit).is_some()
 }
 
-/// Whether the body gives one of these units although the client may not write it.
+/// Whether the body gives at least one of these units that isn't readOnly and that the client may not write.
 fn is_any_questionable(rights: &Rights, draft: &Draft, units: &[Unit]) -> bool
     ensures { result ≡ list_any (is_in_question (access_in rights.now) draft.now) units.now }
 {
@@ -71,8 +71,9 @@ fn is_any_questionable(rights: &Rights, draft: &Draft, units: &[Unit]) -> bool
     false
 }
 
-/// Returns the leaf that is denied and the decision, if the client may not write the unit and the body gives
-/// it other values than the client sees; `seen` is the resource as the client sees it.
+/// Returns the denied leaf and the decision on it if the unit isn't readOnly, the client may not write it,
+/// and the body gives it values other than those that the client sees; `None` otherwise. `seen` is the
+/// resource as the client sees it.
 fn unit_denied(
     alloc: Global,
     rights: &Rights,
@@ -89,7 +90,8 @@ fn unit_denied(
     Ok(rights.forbidding(draft.kind(), unit))
 }
 
-/// Returns the result of `unit_denied` for the first of these units that is denied.
+/// Returns the denied leaf and the decision on it, for the first of these units that `unit_denied` finds
+/// denied; `None` if no unit is denied.
 fn first_denied_among(
     alloc: Global,
     rights: &Rights,
@@ -109,8 +111,9 @@ fn first_denied_among(
     Ok(None)
 }
 
-/// Returns the result of `unit_denied` for the first unit that is denied. Computes what the client sees of
-/// the resource only if the body gives a unit that the client may not write.
+/// Returns the denied leaf and the decision on it, for the first unit that `unit_denied` finds denied; `None`
+/// if no unit is denied. Computes what the client sees of the resource only if the body gives a unit that the
+/// client may not write.
 fn first_unit_denied(
     alloc: Global,
     viewer: &Viewer<'_>,

@@ -14,12 +14,13 @@ use scim_value::Resource;
 use scim_view::Viewer;
 use std::alloc::Global;
 
-/// A resource that the client sees, or the plan if it doesn't see one.
+/// The resource that a request names, or the plan that refuses the request if there is no such resource or
+/// the client doesn't see it.
 #[derive(Drop)]
 pub(crate) enum Reached {
-    /// The resource, and the client's rights to it.
+    /// The client sees the resource. Has the resource and the client's rights to it.
     Seen(Resource, Rights),
-    /// The plan if there is no such resource, or the client doesn't see it.
+    /// There is no such resource, or the client doesn't see it. Has the plan that refuses the request.
     Told(Plan),
 }
 

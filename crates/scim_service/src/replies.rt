@@ -12,7 +12,7 @@ use scim_text::Failed;
 pub enum Reply {
     /// 200, with the JSON of a resource or of a list.
     Shown(Text),
-    /// 201: a resource was created. Its location, and its JSON, or None if the client doesn't see it.
+    /// 201: a resource was created. Has its location, and its JSON or `None` if the client doesn't see it.
     Created(Text, Option<Text>),
     /// 204: the request was carried out, and there is nothing to show.
     Done,
@@ -46,7 +46,7 @@ impl Reply {
         }
     }
 
-    /// Returns the refusal of the reply, if it is one; that of a failure is `Store`.
+    /// Returns the refusal that the reply reports, if any. A failure is reported as [`Refusal::Store`].
     pub fn refusal(&self) -> Option<Refusal>
         ensures { result ≡ spec.refusal_of self.now }
     {

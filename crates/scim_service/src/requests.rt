@@ -21,16 +21,16 @@ pub enum Ask {
     /// Search: shows the resources that the query finds (RFC 7644 section 3.4.2).
     Search(Query),
     /// Create: makes a resource from a draft (RFC 7644 section 3.3), and shows its wanted attributes. The
-    /// draft must be of the request's kind and read for Creating; any other is refused with
-    /// [`Refusal::MessageValue`].
+    /// draft must be of the request's kind, and must have been read to create a resource; any other draft is
+    /// refused with [`Refusal::MessageValue`].
     Create(Draft, Wanted),
     /// PUT: replaces the resource that the request names by the draft, as far as the policy lets the client
     /// write it (RFC 7644 section 3.5.1), and shows its wanted attributes. The draft must be of the request's
-    /// kind; any other is refused with [`Refusal::MessageValue`].
+    /// kind; any other draft is refused with [`Refusal::MessageValue`].
     Replace(Draft, Wanted),
     /// PATCH: changes the resource that the request names by the steps of a patch (RFC 7644 section 3.5.2),
-    /// and shows its wanted attributes. The patch must be of the request's kind; any other is refused with
-    /// [`Refusal::MessageValue`].
+    /// and shows its wanted attributes. The patch must be of the request's kind; any other patch is refused
+    /// with [`Refusal::MessageValue`].
     Patch(Patch, Wanted),
     /// DELETE: removes the resource that the request names (RFC 7644 section 3.6).
     Remove,
@@ -53,12 +53,12 @@ impl Drop for Ask {
 pub struct Request {
     /// The name of the client.
     pub client: Text,
-    /// The operation, as the policy decides on it.
+    /// The operation on which the policy decides.
     pub op: Op,
     /// The kind of the resources.
     pub kind: Kind,
-    /// The id of the resource; None if the request names none, or by a text that isn't an id. Then no
-    /// resource is found.
+    /// The id of the resource that the request names; `None` if it names none, or if the name isn't a valid
+    /// id. With `None`, no resource is found.
     pub id: Option<Id>,
     /// What to do, or the refusal of a request that can't be read.
     pub ask: Result<Ask, Refusal>,
@@ -93,8 +93,8 @@ pub(crate) fn is_unread(request: &Request) -> bool
     matches!(request.ask, Err(Refusal::Store))
 }
 
-/// Whether a request is for one resource that its id names, and not a create or a search. For one that can't
-/// be read its operation tells.
+/// Whether a request is for the one resource that its id names, and not a create or a search. A request that
+/// can't be read is for one resource unless its operation is `Create`.
 fn is_for_one(request: &Request) -> bool
     ensures { result ≡ spec.is_for_one request.now.op request.now.ask }
 {
@@ -105,8 +105,8 @@ fn is_for_one(request: &Request) -> bool
     }
 }
 
-/// Returns the id of the resource that the turn's request is for; None for a create or a search, whatever the
-/// request holds.
+/// Returns the id of the resource that the turn's request is for; `None` if `is_for_one` says that the
+/// request isn't for one resource, even if it has an id.
 #[tactic(auto, unfolding(crate::specs::Step::named_id))]
 pub(crate) fn named_id(turn: &Turn) -> Option<Id>
     ensures { result ≡ spec.named_id turn.now }
@@ -136,8 +136,8 @@ fn ask_is_sound(ask: &Result<Ask, Refusal>)
     }
 }
 
-/// Proves that a turn is valid: its draft or patch was read by the readers of bodies, `fresh` is an id, and
-/// its moment can be written. Has no effect.
+/// Proves that a turn is valid: its draft or patch is one that the body readers return, `fresh` is a valid
+/// id, and its moment can be written as a timestamp. Has no effect.
 pub fn turn_is_sound(turn: &Turn)
     ensures { IsTurn turn.now }
 {

@@ -12,7 +12,7 @@ use scim_text::Failed;
 use scim_value::{Resource, UniqueName, unique_names};
 use std::alloc::Global;
 
-/// Whether a name has an owner, other than the resource with the id `own`.
+/// Whether a name has an owner other than the resource with the id `own`.
 fn is_another(owner: &Option<Resource>, own: &Option<Id>) -> bool
     ensures { result ≡ spec.is_another own.now owner.now }
 {
@@ -49,7 +49,8 @@ fn any_taken<S: Shelf>(
     }
 }
 
-/// Whether a resource, seen or not, other than the one with the id has a unique name of this one.
+/// Whether a resource other than the one with the id `own` has one of the unique names of `new`. Includes
+/// resources that the client doesn't see.
 pub(crate) fn has_taken_name<S: Shelf>(
     alloc: Global,
     shelf: &mut S,

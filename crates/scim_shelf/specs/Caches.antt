@@ -22,10 +22,10 @@ IsFilled shelf = IsSome shelf.resources
 abbrev pub lower_of : {S : Type 0} → CachedShelf S → S
 lower_of shelf = shelf.lower
 
--- The cached shelf over another shelf below.
+-- The cached shelf with the shelf below it replaced by `lower`.
 abbrev pub with_lower : {S : Type 0} → CachedShelf S → S → CachedShelf S
 with_lower shelf lower = record shelf { lower = lower }
 
--- The cache is as before.
+-- The two shelves have the same cache.
 abbrev pub KeepsCache : {S : Type 0} → CachedShelf S → CachedShelf S → Type 0
 KeepsCache old new = new.resources ≡ old.resources

@@ -22,7 +22,7 @@ abbrev pub names_of : Option Content → List Name
 names_of None = []
 names_of (Some c) = unique_names c
 
--- Whether the resource that a look-up found, if any, has a name.
+-- Whether a look-up found a resource that has the name.
 abbrev pub has_in : Name → Option Content → Bool
 has_in n None = false
 has_in n (Some c) = has_name n c
@@ -32,18 +32,18 @@ abbrev pub only_of : Kind → Option Content → Option Content
 only_of kind None = None
 only_of kind (Some c) = cond (is_of kind c) (Some c) None
 
--- The resource that a look-up found, if any, and the list `cs` after it.
+-- The list `cs`, with the resource that a look-up found, if any, added at the front.
 abbrev pub before : Option Content → List Content → List Content
 before None cs = cs
 before (Some c) cs = c ∷ cs
 
--- The resources with these ids, in order of the ids.
+-- The resources with these ids, in the order in which the ids are listed.
 abbrev pub picked : List Content → List (List ℕ) → List Content
 picked cs [] = []
 picked cs (id ∷ ids) = before (find (has_id id) cs) (picked cs ids)
 
--- The resources `all`, no two of which share an id or a unique name, are those `left` to store and those
--- stored in `cs`.
+-- The resources `all` consist of those in `left`, which must still be stored, and those in `cs`, which are
+-- stored. No resource of `left` shares an id or a unique name with another one of `left` or of `cs`.
 pub record AreLeft (all left cs : List Content) : Type 0 where
   pub members : IsPermutation all (left ++ cs)
   pub apart : AllPairs AreApart left

@@ -1,4 +1,4 @@
--- The index of groups by member value, as the code holds it.
+-- The index of groups by member value, as the code stores it.
 use Rattle.std.specs.Prelude.{◌≡◌, ℕ, Bool, true, false, List, nat_eq, Option, None, Some}
 use Rattle.std.specs.List.{list_any}
 use Rattle.std.specs.Ordering.{nat_cmp, is_eq}
@@ -31,7 +31,7 @@ is_holder id (Several ids) = contains (slice_cmp nat_cmp) ids id
 abbrev pub holders_at : Notes → List ℕ → Option Holders
 holders_at notes value = get_by_text notes.by_value value
 
--- Whether an id is in the set that a look-up found, if any.
+-- Whether a look-up found a set that contains the id.
 abbrev pub has_in : List ℕ → Option Holders → Bool
 has_in id None = false
 has_in id (Some holders) = is_holder id holders
@@ -40,7 +40,7 @@ has_in id (Some holders) = is_holder id holders
 abbrev pub is_noted : Notes → List ℕ → List ℕ → Bool
 is_noted notes value id = has_in id (holders_at notes value)
 
--- Whether the text that a look-up found, if any, is `value`.
+-- Whether a look-up found the text `value`.
 abbrev pub is_found : List ℕ → Option (List ℕ) → Bool
 is_found value None = false
 is_found value (Some text) = pointwise nat_eq value text
@@ -66,10 +66,10 @@ abbrev pub is_group_in : List ℕ → Option Content → Bool
 is_group_in value None = false
 is_group_in value (Some c) = is_group_with value c
 
--- An id is indexed under none of these values.
+-- The id isn't indexed under any of these values.
 abbrev pub IsUnnoted : Notes → List (List ℕ) → List ℕ → Type 0
 IsUnnoted notes values id = (v : List ℕ) → is_one_of v values ≡ true → is_noted notes v id ≡ false
 
--- Two indices hold the same ids under each value.
+-- Two indexes have the same ids under each value.
 abbrev pub HasSameNotes : Notes → Notes → Type 0
 HasSameNotes old new = (v i : List ℕ) → is_noted new v i ≡ is_noted old v i

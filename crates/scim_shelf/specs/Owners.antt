@@ -1,4 +1,4 @@
--- The index of resources by unique name, as the code holds it.
+-- The index of resources by unique name, as the code stores it.
 use Rattle.std.specs.Prelude.{ℕ, Bool, List, Option}
 use Rattle.std.specs.List.{list_any}
 use Rattle.std.specs.HashMap.{get, spare}
@@ -6,7 +6,7 @@ use Rattle.scim_value.specs.declared.uniqueness.UniqueName.{UniqueName}
 use Rattle.scim_value.specs.contracts.uniqueness.UniqueNamePartialEq.TheImpl as name_eq
 use Rattle.scim_shelf.specs.declared.owners.Owners.{Owners}
 
--- Whether the code takes two names for the same one.
+-- Whether the code treats two unique names as equal.
 abbrev pub is_alike : UniqueName → UniqueName → Bool
 is_alike = (name_eq.ghosts).eq
 
@@ -18,6 +18,6 @@ is_among q names = list_any (λ n. is_alike n q) names
 abbrev pub owner : Owners → UniqueName → Option (List ℕ)
 owner owners q = get is_alike owners.by_name q
 
--- How many more names the index takes without allocating.
+-- How many more names the index can store without allocating.
 abbrev pub room : Owners → ℕ
 room owners = spare owners.by_name

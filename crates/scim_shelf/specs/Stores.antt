@@ -76,22 +76,23 @@ below id cs = filter (λ c. is_lt (slice_cmp nat_cmp c.id id)) cs
 abbrev pub above : List ℕ → List Content → List Content
 above id cs = filter (λ c. is_gt (slice_cmp nat_cmp c.id id)) cs
 
--- The resources with `c` in its place, instead of the one with its id.
+-- The resources with `c` inserted in order of id, in place of the one with its id, if any.
 abbrev pub keep : Content → List Content → List Content
 keep c cs = below c.id cs ++ c ∷ above c.id cs
 
--- The resources without the one with the id.
+-- The resources without the one that has the id.
 abbrev pub without : List ℕ → List Content → List Content
 without id cs = below id cs ++ above id cs
 
--- The resources after a change; an id belongs to one resource, whatever its kind (RFC 7643 section 3.1).
+-- The resources after a change. No two resources have the same id, even if they are of different kinds (RFC
+-- 7643 section 3.1).
 abbrev pub changed : Change → List Content → List Content
 changed Nothing cs = cs
 changed (Keep c) cs = keep c cs
 changed (Remove kind id) cs = without id cs
 
--- `old` is the resource, of either kind, that the id of the change has before it; it may be anything for
--- `Nothing`.
+-- `old` is the resource, of either kind, that has the id of the change before the change is made, if any. For
+-- `Nothing` it may be anything.
 abbrev pub IsOld : List Content → Change → Option Content → Type 0
 IsOld cs Nothing old = ⊤
 IsOld cs (Keep c) old = of_id c.id cs ≡ old
@@ -106,12 +107,13 @@ abbrev pub AreOf : Kind → List ℕ → List Content → Type 0
 AreOf kind id cs = All (λ d. d.id ≡ id → d.kind ≡ kind) cs
 
 -- No resource of the other kind has the id of `c`, and no resource of another id shares a unique name with
--- it.
+-- `c`.
 pub record HasPlace (cs : List Content) (c : Content) : Type 0 where
   pub kinds : AreOf c.kind c.id cs
   pub names : All (λ d. d.id ≢ c.id → AreApart c d) cs
 
--- A change may be made: a resource that it stores has a place in the store.
+-- A change may be made. For `Keep`, no stored resource of the other kind has the id of `c`, and no stored
+-- resource of another id shares a unique name with `c`.
 abbrev pub CanKeep : Store → Change → Type 0
 CanKeep store (Keep c) = HasPlace store.resources c
 CanKeep store _ = ⊤

@@ -20,22 +20,22 @@ use std::alloc::Global;
 
 /// A shelf that caches the resources of another shelf, the shelf below, in memory.
 ///
-/// Its store is that of the shelf below. Until it is filled, reads go to the shelf below; afterwards the
-/// cache serves them. A commit goes to the shelf below first and then updates the cache. If that update can't
-/// allocate, the commit stands, the cache is dropped, and reads go to the shelf below until the cache is
-/// filled again. A commit that can't allocate a copy of its change fails before anything is changed. Audit
-/// rows are only in the shelf below.
+/// It represents the same store as the shelf below. Until the cache is filled, reads go to the shelf below;
+/// afterwards the cache serves them. A commit goes to the shelf below first and then updates the cache. If
+/// that update can't allocate, the commit remains, but the cache is dropped, and reads go to the shelf below
+/// until the cache is filled again. A commit that can't allocate a copy of its change fails before anything
+/// is changed. Audit rows are only in the shelf below.
 ///
 /// It doesn't see what others write to the shelf below: it is honest only while nobody else writes there.
 #[derive(Drop)]
 pub struct CachedShelf<S> {
-    /// The cache; None while reads go to the shelf below.
+    /// The cache; `None` while reads go to the shelf below.
     resources: Option<Collection>,
     lower: S,
 }
 
 impl<S: Shelf> CachedShelf<S> {
-    /// Returns a shelf over another, with an empty cache.
+    /// Returns a shelf over the shelf `lower`, with a cache that isn't filled yet.
     pub fn over(lower: S) -> CachedShelf<S>
         ensures lower { lower_of result ≡ lower }
         ensures stands { (store : Store) → S.stands lower store
@@ -50,8 +50,8 @@ impl<S: Shelf> CachedShelf<S> {
     /// Reads all resources of the shelf below into the cache. No two of them may have the same id or share a
     /// unique name (RFC 7643 sections 2.2 and 3.1).
     ///
-    /// Fails with Device if the shelf below did, or with NoMemory. On any error the cache is as before: if it
-    /// was empty, reads still go to the shelf below, so a caller may go on after NoMemory.
+    /// Fails with `Device` if the shelf below did, or with `NoMemory`. On any error the cache is unchanged:
+    /// if it wasn't filled, reads still go to the shelf below, so the caller may continue after `NoMemory`.
     pub fn fill(&mut self, alloc: Global) -> Result<(), Failed<ShelfFault>>
         ensures filled { OnOk result (IsFilled self.new) }
         ensures kept { OnErr result (KeepsCache self.old self.new) }
@@ -71,8 +71,8 @@ impl<S: Shelf> CachedShelf<S> {
         self.resources.is_some()
     }
 
-    /// Returns the shelf below, for access to data that isn't cached, such as audit rows. A change made through
-    /// this reference doesn't update the cache: it counts as a write by others.
+    /// Returns the shelf below, for access to data that isn't cached, such as audit rows. A change made
+    /// through this reference doesn't update the cache: it counts as a write by others.
     pub fn lower_mut(&mut self) -> &mut S
         ensures* writes_back { sem 𝓛
             (Lends (the_row S.row) S.row self.entry result (λ lower. with_lower self.old lower)) }
@@ -90,7 +90,7 @@ impl<S: Shelf> CachedShelf<S> {
     }
 }
 
-/// Returns the cache after a change; None if memory ran out for it.
+/// Returns the cache after a change; `None` if it wasn't filled or if memory ran out.
 fn follow(alloc: Global, resources: Option<Collection>, change: Change) -> Option<Collection>
     ensures { (store : Store) → AreThose store.resources resources → CanKeep store change
         → AreThose (changed change store.resources) result }

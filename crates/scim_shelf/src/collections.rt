@@ -29,9 +29,9 @@ use std::collections::{BTreeMap, BTreeSet};
 
 /// The resources of a store in memory, indexed by id, by unique name and by member value.
 ///
-/// A look-up by id searches a tree. One by unique name or by member value finds the ids in a hash table and
-/// then searches the tree for each, without reading the members of any group. A change reads only the
-/// resource with its id.
+/// A look-up by id searches a tree. A look-up by unique name or by member value finds the ids in a hash table
+/// and then searches the tree for each id, without reading the members of any group. A change reads only the
+/// stored resource with its id.
 pub(crate) struct Collection {
     by_id: BTreeMap<Id, Resource>,
     owners: Owners,
@@ -48,7 +48,7 @@ impl Drop for Collection {
     }
 }
 
-/// Copies the resource, if any.
+/// Returns a copy of the resource, if any.
 fn copy_of(alloc: Global, found: Option<&Resource>) -> Result<Option<Resource>, NoMemory>
     ensures { IfOk result (λ copy. copy ≡ option_copied found.entry) }
 {
@@ -58,7 +58,7 @@ fn copy_of(alloc: Global, found: Option<&Resource>) -> Result<Option<Resource>, 
     }
 }
 
-/// Returns the resource if it is of the kind, and None otherwise.
+/// Returns the resource if it is of the kind, and `None` otherwise.
 fn if_of(kind: Kind, found: Option<&Resource>) -> Option<&Resource>
     ensures { option_copied result ≡ only_of kind (option_copied found.entry) }
 {
@@ -94,7 +94,7 @@ impl Collection {
         Ok(collection)
     }
 
-    /// Returns a copy of the resource of this kind with this id; None if there isn't one (RFC 7644 section
+    /// Returns a copy of the resource of this kind with this id; `None` if there isn't one (RFC 7644 section
     /// 3.4.1).
     pub fn resource_at(
         &self,
@@ -108,8 +108,8 @@ impl Collection {
         copy_of(alloc, if_of(kind, self.with_id(id)))
     }
 
-    /// Returns a copy of the resource that has the unique name; None if no resource has it (RFC 7643 section
-    /// 2.2, uniqueness).
+    /// Returns a copy of the resource that has the unique name; `None` if no resource has it (RFC 7643
+    /// section 2.2, uniqueness).
     pub fn name_owner(&self, alloc: Global, name: &UniqueName) -> Result<Option<Resource>, NoMemory>
         ensures { IfOk result (λ found. (cs : List Content) → IsCollection cs self.now
             → found ≡ find (has_name (name_of name.now)) cs) }
@@ -117,7 +117,7 @@ impl Collection {
         copy_of(alloc, self.named(name))
     }
 
-    /// Returns the resource with the id, of either kind.
+    /// Returns the resource with the id, of either kind; `None` if there isn't one.
     fn with_id(&self, id: Id) -> Option<&Resource>
         ensures { (cs : List Content) → IsCollection cs self.now
             → option_copied result ≡ find (has_id id) cs }
@@ -125,8 +125,8 @@ impl Collection {
         self.by_id.get(&id)
     }
 
-    /// Returns the resource that the id of the change has now, of either kind; None if the id is unused or
-    /// the change is `Nothing`.
+    /// Returns the resource, of either kind, that currently has the id of the change; `None` if the id is
+    /// unused or the change is `Nothing`.
     pub fn old_of(&self, change: &Change) -> Option<&Resource>
         ensures { (cs : List Content) → IsCollection cs self.now
             → IsOld cs change.now (option_copied result) }
@@ -138,7 +138,7 @@ impl Collection {
         }
     }
 
-    /// Returns the resource that has the unique name.
+    /// Returns the resource that has the unique name; `None` if no resource has it.
     fn named(&self, name: &UniqueName) -> Option<&Resource>
         ensures { (cs : List Content) → IsCollection cs self.now
             → option_copied result ≡ find (has_name (name_of name.now)) cs }
@@ -147,7 +147,7 @@ impl Collection {
         self.with_id(id)
     }
 
-    /// Returns the unique names of the resource with the id; none if there isn't one.
+    /// Returns the unique names of the resource with the id; an empty list if there is no such resource.
     fn names_at(&self, alloc: Global, id: Id) -> Result<Vec<UniqueName>, NoMemory>
         ensures { IfOk result (λ names. (cs : List Content) → IsCollection cs self.now
             → map name_of names.items ≡ names_of (find (has_id id) cs)) }
@@ -158,8 +158,8 @@ impl Collection {
         }
     }
 
-    /// Returns the member values that the stored group with this id lists and the new one doesn't: their
-    /// index entries are removed when the new one is stored.
+    /// Returns the member values that the stored group with the id of `new` lists, but `new` doesn't. Their
+    /// index entries are removed when `new` is stored.
     fn values_gone(&self, alloc: Global, new: &Resource) -> Result<Vec<Text>, NoMemory>
         ensures { IfOk result (λ gone. (cs : List Content) → IsCollection cs self.now
             → (v : List ℕ) → is_one_of v gone.items
@@ -171,8 +171,8 @@ impl Collection {
         }
     }
 
-    /// Returns the member values that the new group lists and the stored one with its id doesn't: they get
-    /// index entries before the new one is stored.
+    /// Returns the member values that `new` lists, but the stored group with its id doesn't. Their index
+    /// entries are added before `new` is stored.
     fn values_come(&self, alloc: Global, new: &Resource) -> Result<Vec<Text>, NoMemory>
         ensures { IfOk result (λ come. (cs : List Content) → IsCollection cs self.now
             → (v : List ℕ) → is_one_of v come.items
@@ -182,8 +182,8 @@ impl Collection {
         self.members.values_unnoted(alloc, members, new.id())
     }
 
-    /// Returns the members of the new group without the prefix that it shares with the stored group of its
-    /// id, which is indexed already; all members if there is no stored group.
+    /// Returns the members of `new` after the prefix that it shares with the stored group with its id. The
+    /// values of that prefix are indexed already. Returns all members if there is no stored group.
     fn members_to_note<'a>(&self, new: &'a Resource) -> &'a [Row]
         ensures { (cs : List Content) → IsCollection cs self.now → (v : List ℕ)
             → (is_value_of v result.now || is_group_in v (find (has_id new.now.id) cs))
@@ -213,8 +213,8 @@ impl Collection {
         }
     }
 
-    /// Stores a resource, in place of the one with its id, if any. On an error every look-up returns what it
-    /// did before.
+    /// Stores a resource, in place of the one with its id, if any. After an error every look-up returns what
+    /// it returned before.
     pub(crate) fn keep(&mut self, alloc: Global, resource: Resource) -> Result<(), NoMemory>
         ensures ok { OnOk result ((cs : List Content) → IsCollection cs self.old
             → HasPlace cs resource
@@ -235,10 +235,10 @@ impl Collection {
         Ok(())
     }
 
-    /// Puts the resource in the place of the one with its id, and adds it to the index under the values
-    /// `come`.
+    /// Stores the resource by its id, in place of the one with this id, if any, and adds the id to the index
+    /// of member values under the values `come`.
     ///
-    /// On an error nothing is changed, provided that the id isn't indexed under any of those values before.
+    /// On an error nothing is changed, provided that the id was indexed under none of these values before.
     fn insert(&mut self, alloc: Global, resource: Resource, come: &[Text]) -> Result<(), NoMemory>
         ensures owners { self.new.owners ≡ self.old.owners }
         ensures resources { OnOk result (self.new.by_id.entries
@@ -298,7 +298,7 @@ impl Collection {
     }
 
     /// Passes the groups that list the value among their members to the visitor, in order of id (RFC 7643
-    /// section 4.2). Neither copies a group nor reads its members.
+    /// section 4.2). It neither copies a group nor reads its members.
     ///
     /// After an error the visitor is unusable.
     pub fn show_groups_with<V: Visitor>(

@@ -31,8 +31,8 @@ impl Visitor for Copies {
     }
 }
 
-/// Returns copies of the resources of the kind, in order of id. Where one at a time is enough, `Shelf::each`
-/// avoids the copies.
+/// Returns copies of the resources of the kind, in order of id. If the caller needs only one resource at a
+/// time, `Shelf::each` avoids the copies.
 ///
 /// Fails as `Shelf::each` does.
 pub fn all_of<S: Shelf>(

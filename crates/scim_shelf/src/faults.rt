@@ -5,7 +5,7 @@ use thiserror::Error;
 /// A fault of a shelf.
 #[derive(Clone, Copy, Debug, PartialEq, Eq, Error)]
 pub enum ShelfFault {
-    /// The device failed or refused. The shelf's `failures` counts how often that happened.
+    /// The device failed or refused a read or a write. `Shelf::failures` counts these errors.
     #[error("the store can't be read or written")]
     Device,
     /// The last audit number is in use, so nothing can be committed.

@@ -22,7 +22,7 @@ fn has_value(value: &str, member: &Row) -> bool
     }
 }
 
-/// Returns the `value` of a member; None if it has none.
+/// Returns the `value` of a member; `None` if the member doesn't have one.
 pub(crate) fn value_of(member: &Row) -> Option<&str>
     ensures { (v : List ℕ) → is_text v (value_in member.now) ≡ is_found v (option_copied result) }
 {
@@ -32,7 +32,7 @@ pub(crate) fn value_of(member: &Row) -> Option<&str>
     }
 }
 
-/// Returns the members whose `value`s are indexed: those of a group; empty for a user.
+/// Returns the members whose `value`s are indexed: all members of a group, and none for a user.
 pub(crate) fn noted_members(resource: &Resource) -> &[Row]
     ensures { (v : List ℕ) → is_value_of v result.now ≡ is_group_with v resource.now }
 {
@@ -43,7 +43,7 @@ pub(crate) fn noted_members(resource: &Resource) -> &[Row]
     }
 }
 
-/// Whether two members have the same `value`.
+/// Whether two members have the same `value`; false if neither has one.
 fn has_same_value(one: &Row, other: &Row) -> bool
     ensures { result ≡ true → (v : List ℕ)
         → is_text v (value_in one.now) ≡ is_text v (value_in other.now) }
@@ -70,8 +70,8 @@ fn shared_members(some: &[Row], others: &[Row]) -> usize
     shared
 }
 
-/// Returns the members of a group after the prefix that it shares with the other group. Only these can have
-/// values that the other doesn't list. They are few if a large group grew or shrank at its end. A user counts
+/// Returns the members of `group` after the prefix that it shares with `other`. Only these members can have
+/// values that `other` doesn't list. They are few if a large group grew or shrank at its end. A user counts
 /// as a group without members.
 pub(crate) fn members_beyond<'a>(other: &Resource, group: &'a Resource) -> &'a [Row]
     ensures { (v : List ℕ) → (is_value_of v result.now || is_group_with v other.now)

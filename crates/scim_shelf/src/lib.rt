@@ -1,6 +1,6 @@
-//! The store of a service provider as a trait (`Shelf`), with an implementation in memory and a cache over
-//! any other: resources by id, by unique name and by member, and the audit rows (RFC 7643 sections 2.2, 3.1
-//! and 4.2).
+//! The store of a service provider as a trait, `Shelf`, with an implementation in memory and a cache over any
+//! other implementation. A shelf finds resources by id, by unique name and by member, and stores the audit
+//! rows (RFC 7643 sections 2.2, 3.1 and 4.2).
 #![tactic(auto)]
 
 mod caches;

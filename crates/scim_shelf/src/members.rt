@@ -15,7 +15,7 @@ use scim_value::Resource;
 use std::alloc::Global;
 use std::collections::{BTreeSet, HashMap};
 
-/// The ids of the groups that are indexed under one value, most often one.
+/// The ids of the groups that are indexed under one value. Usually there is only one id.
 #[derive(Drop)]
 pub(crate) enum Holders {
     /// One id, which needs no allocation of its own.
@@ -65,7 +65,8 @@ impl Holders {
         Ok(())
     }
 
-    /// Removes the id unless it is the last one, and returns whether it is.
+    /// Removes the id from the set, and returns whether no other id is in it. In that case the set may still
+    /// contain the id, and the caller must drop the set.
     fn drops_last(&mut self, id: Id) -> bool
         ensures last { result ≡ true → (i : List ℕ)
             → cond (is_same id i) false (is_holder i self.old) ≡ false }
@@ -85,8 +86,8 @@ impl Holders {
 /// An index from member values to the ids of the groups that list them.
 ///
 /// In a collection a group is indexed under exactly the values that it lists, and a user under no value, so a
-/// look-up needn't read the group. A value is looked up in a hash table, an id within a value's set in a
-/// tree.
+/// look-up needn't read the group. Values are looked up in a hash table. Several ids under one value are kept
+/// in a tree.
 #[derive(Drop)]
 pub(crate) struct Members {
     by_value: HashMap<String, Holders>,
@@ -102,7 +103,7 @@ impl Members {
         }
     }
 
-    /// Returns the ids that are indexed under a value; None if there aren't any.
+    /// Returns the ids that are indexed under a value; `None` if there aren't any.
     pub(crate) fn of(&self, value: &str) -> Option<&Holders>
         ensures { option_copied result ≡ holders_at self.now value.now }
     {
@@ -183,7 +184,8 @@ impl Members {
 
     /// Adds the id under each of these values.
     ///
-    /// On an error the index is as before, provided that it had the id under none of these values.
+    /// On an error the index is unchanged, provided that the id wasn't indexed under any of these values
+    /// before.
     pub(crate) fn note_values(
         &mut self,
         alloc: Global,
@@ -203,7 +205,7 @@ impl Members {
         noted
     }
 
-    /// Adds the id under each of these values. On an error it may be under some of them already.
+    /// Adds the id under each of these values. On an error it may have been added under some of them.
     fn note_each(&mut self, alloc: Global, values: &[Text], id: Id) -> Result<(), NoMemory>
         ensures ok { OnOk result ((v i : List ℕ)
             → is_noted self.new v i ≡ cond (is_one_of v values.now && is_same id i) true

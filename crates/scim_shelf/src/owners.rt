@@ -25,7 +25,7 @@ impl Owners {
         }
     }
 
-    /// Returns the id of the resource that has the name; None if no resource has it.
+    /// Returns the id of the resource that has the name; `None` if no resource has it.
     pub(crate) fn of(&self, name: &UniqueName) -> Option<Id>
         ensures { result ≡ owner self.now name.now }
     {

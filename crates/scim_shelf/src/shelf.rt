@@ -16,7 +16,7 @@ use scim_text::{Failed, NoMemory};
 use scim_value::{Resource, UniqueName};
 use std::alloc::Global;
 
-/// A visitor of resources, which is passed one after another.
+/// A visitor, to which resources are passed one at a time.
 pub trait Visitor {
     ghost use Rattle.scim_cell.specs.Content.{Content};
 
@@ -42,9 +42,10 @@ pub trait Shelf {
     /// How often the device failed, 2^64 - 1 at most.
     ghost failures: { Self → ℕ };
 
-    /// Returns the resource of this kind with this id; None if there isn't one (RFC 7644 section 3.4.1).
+    /// Returns the resource of this kind with this id; `None` if there isn't one (RFC 7644 section 3.4.1).
     ///
-    /// Fails with Device if the device failed. An error leaves the stored resources and the audit unchanged.
+    /// Fails with `Device` if the device failed. An error leaves the stored resources and the audit
+    /// unchanged.
     fn by_id(
         &mut self,
         alloc: Global,
@@ -55,7 +56,7 @@ pub trait Shelf {
             found ≡ find (is_at kind id) store.resources)) }
         ensures read { OnlyReads stands is_honest failures self.old self.new result };
 
-    /// Returns the resource that has the unique name; None if no resource has it (RFC 7643 section 2.2,
+    /// Returns the resource that has the unique name; `None` if no resource has it (RFC 7643 section 2.2,
     /// uniqueness).
     ///
     /// Fails as `by_id` does.
@@ -71,8 +72,8 @@ pub trait Shelf {
     /// Passes the groups that list the value among their members to the visitor, in order of id (RFC 7643
     /// section 4.2).
     ///
-    /// Fails as `by_id` does, and if the visitor can't allocate. After Device the visitor has taken the first
-    /// of them, or none; after NoMemory it is unusable.
+    /// Fails as `by_id` does, and with `NoMemory` if the visitor can't allocate. After the error `Device` the
+    /// visitor has taken a prefix of these groups; after `NoMemory` it is unusable.
     fn groups_with<V: Visitor>(
         &mut self,
         alloc: Global,
@@ -88,8 +89,8 @@ pub trait Shelf {
 
     /// Passes the resources of the kind to the visitor, in order of id.
     ///
-    /// Fails as `by_id` does, and if the visitor can't allocate. After Device the visitor has taken the first
-    /// of them, or none; after NoMemory it is unusable.
+    /// Fails as `by_id` does, and with `NoMemory` if the visitor can't allocate. After the error `Device` the
+    /// visitor has taken a prefix of these resources; after `NoMemory` it is unusable.
     fn each<V: Visitor>(
         &mut self,
         alloc: Global,
@@ -102,13 +103,14 @@ pub trait Shelf {
             V.takes visitor.old (λ store. of_kind kind store.resources) visitor.new }
         ensures read { OnlyReads stands is_honest failures self.old self.new result };
 
-    /// Makes the change and adds the row to the audit, numbered one above the last row, or 1.
+    /// Makes the change and appends the row to the audit. The first audit row has number 1, and each other
+    /// row has the number after the previous row.
     ///
     /// For `Change::Keep` the caller guarantees, by `name_owner` and `by_id`, that no resource of another id
     /// shares a unique name with the new one, and that its id isn't used by a resource of the other kind.
     ///
-    /// Fails with Device if the device failed, and with Full if the last audit number, 2^63 - 1, is in use. On
-    /// any error nothing is changed and no row is added.
+    /// Fails with `Device` if the device failed, and with `Full` if the last audit number, 2^63 - 1, is in
+    /// use. On any error nothing is changed and no row is added.
     fn commit(
         &mut self,
         alloc: Global,
@@ -120,8 +122,8 @@ pub trait Shelf {
             → stands self.new (after change row store)) }
         ensures commits { Commits stands is_honest failures self.old self.new result };
 
-    /// Like `commit`, but the caller passes the resource that the change's id has now, of either kind, so
-    /// that it isn't read again. `old` is ignored for `Change::Nothing`.
+    /// Commits as `commit` does, but the caller passes as `old` the resource, of either kind, that currently
+    /// has the id of the change, so that it needn't be read again. `old` is ignored for `Change::Nothing`.
     fn commit_over(
         &mut self,
         alloc: Global,
@@ -144,7 +146,7 @@ pub trait Shelf {
         ensures { result ≡ failures self.now };
 }
 
-/// Passes these resources to the visitor, in their order. After an error the visitor is unusable.
+/// Passes these resources to the visitor, in the order of the slice. After an error the visitor is unusable.
 pub fn show_all<V: Visitor>(
     alloc: Global,
     resources: &[Resource],

@@ -1,4 +1,4 @@
--- The progress of a connection with its reading and with the bytes that it was offered.
+-- The state of a connection: what a turn read, and how much the connection took of the offered bytes.
 use Rattle.std.specs.Prelude.{◌≡◌, ◌≤◌, ◌⊎◌, ℕ, true, Option, None, Some, List, length}
 use Rattle.scim_sockets.specs.declared.connection.Connection.{Connection}
 use Rattle.scim_sockets.specs.declared.connection.Taking.{Taking}
@@ -34,6 +34,6 @@ abbrev pub AreAccepted : Option ℕ → ℕ → Type 0
 AreAccepted None accepted = ⊥
 AreAccepted (Some most) accepted = most ≤ accepted
 
--- at least the maximum number of connections was accepted, and none is open
+-- there is a maximum, at least that many connections were accepted, and no connection is open
 abbrev pub IsOver : Option ℕ → ℕ → ℕ → Type 0
 IsOver most accepted left = AreAccepted most accepted × (left ≡ 0)

@@ -8,14 +8,14 @@ use std::io::{ErrorKind, Read, Write};
 use std::net::Shutdown;
 use std::time::{Duration, Instant};
 
-/// The progress of a connection with the bytes that it was last offered.
+/// How much a connection has taken of the bytes that it was last offered.
 #[derive(Clone, Copy, PartialEq, Eq)]
 enum Taking {
-    /// It has taken all of them.
+    /// It has taken all bytes.
     All,
-    /// It has taken a part, and can't take more now.
+    /// It has taken a part of the bytes, or none, and can't take more now.
     Less,
-    /// It has taken a part, and may take more now.
+    /// It has taken a part of the bytes, or none, and may take more now.
     More,
 }
 
@@ -32,10 +32,11 @@ pub(crate) enum Turn {
     Left,
 }
 
-/// An accepted connection that wasn't reported to have left.
+/// An accepted connection that hasn't been reported as having left.
 ///
 /// The system's reports are edge-triggered: it reports a socket as readable or writable once, and again only
-/// after a call returned `WouldBlock`. Therefore the connection remembers the reports until then.
+/// after a call returned `WouldBlock`. Therefore the connection remembers a report until a call returns
+/// `WouldBlock`.
 #[derive(Drop)]
 pub(crate) struct Connection {
     // `None` after the connection has ended.
@@ -47,7 +48,7 @@ pub(crate) struct Connection {
     is_shut: bool,
     // Whether the connection is queued for a turn.
     is_waiting: bool,
-    // The time at which it last sent or took bytes.
+    // The time at which it last sent or took bytes, was accepted, or was shut.
     last: Instant,
 }
 
@@ -76,8 +77,8 @@ impl Connection {
         }
     }
 
-    /// Returns whether the connection must be queued: it has work to do and isn't queued. Then it counts as
-    /// queued.
+    /// Returns whether the connection must be queued: it has work to do and isn't queued. If so, it counts as
+    /// queued afterwards.
     pub(crate) fn begins_to_wait(&mut self) -> bool
         ensures { self.new.taking ≡ self.old.taking }
     {
@@ -131,7 +132,7 @@ impl Connection {
         }
     }
 
-    /// Returns the result of a turn whose read failed. Ends the connection unless the fault is temporary.
+    /// Returns the result of a turn whose read failed. Ends the connection unless the error is temporary.
     fn read_failed(&mut self, kind: ErrorKind) -> Turn
         ensures { IsUnread result }
     {
@@ -181,7 +182,7 @@ impl Connection {
         }
     }
 
-    /// Notes a failed write. Ends the connection unless the fault is temporary.
+    /// Notes a failed write. Ends the connection unless the error is temporary.
     fn write_failed(&mut self, kind: ErrorKind)
         ensures { IsBehind self.new ⊎ TakesNothing self.new }
     {
@@ -196,7 +197,7 @@ impl Connection {
     ///
     /// The socket is dropped after the client has closed its side too, or after two seconds. Until then the
     /// bytes that the client sends are read and dropped. If the socket were dropped at once, such bytes would
-    /// cause a reset, by which the client may lose the reply (RFC 9112 section 9.6).
+    /// cause a reset, and the client could lose the reply (RFC 9112 section 9.6).
     pub(crate) fn shut(&mut self, now: Instant)
         ensures { TakesNothing self.new }
     {

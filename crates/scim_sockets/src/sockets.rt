@@ -24,10 +24,10 @@ use thiserror::Error;
 /// connection has its turn, so a piece is short.
 const PIECE: usize = 4096;
 
-/// The maximum number of the system's reports per poll: one for the listener and for each connection.
+/// The maximum number of the system's reports per poll: one for the listener and one for each connection.
 const REPORTS: usize = 1025;
 
-/// The fault that the port can't be bound: another program uses it, or the system refuses it.
+/// The error that the port can't be bound: another program uses it, or the system refuses it.
 #[derive(Clone, Copy, Debug, PartialEq, Eq, Error)]
 #[error("the port can't be listened at")]
 pub struct CannotListen;
@@ -54,7 +54,7 @@ fn listen_at(rt: &impl Net, port: u16) -> io::Result<Listening> {
     })
 }
 
-/// The connections and buffers, allocated at the start.
+/// The open connections, and the buffers, which are allocated once.
 #[derive(Drop)]
 struct Room {
     turns: Turns,
@@ -63,7 +63,7 @@ struct Room {
 }
 
 impl Room {
-    /// Returns a room without connections.
+    /// Allocates the buffers, and returns them without open connections.
     fn new(alloc: Global) -> Result<Room, AllocError> {
         Ok(Room {
             turns: Turns::new(alloc)?,
@@ -72,7 +72,7 @@ impl Room {
         })
     }
 
-    /// Gives the connection with the number its turn.
+    /// Runs a turn of the connection with the number, and returns its result.
     fn turn(&mut self, number: u64, now: Instant) -> Turn
         ensures { FitsIn self.new.buffer.items result }
     {
@@ -99,7 +99,7 @@ impl Room {
     }
 }
 
-/// Returns the event that a connection joins or leaves, which needs no stamp.
+/// Returns an event of a connection that joins or leaves. Such an event has an unused stamp.
 fn unstamped(connection: u64, kind: OwnedEventKind) -> PeerEvent {
     PeerEvent::Event(OwnedEvent {
         connection,
@@ -111,8 +111,9 @@ fn unstamped(connection: u64, kind: OwnedEventKind) -> PeerEvent {
 /// The system's sockets as connections, many of which are served on one thread.
 ///
 /// A connection is closed if for a minute it has neither sent bytes nor taken bytes of a pending reply. A
-/// connection that is closed by number has left once the client has closed its side too, or two seconds
-/// later. At most 1,024 are open at once; further ones wait in the system's queue until one has left.
+/// connection that [`Peers::close`] closes leaves once the client has closed its side too, or two seconds
+/// later. At most 1,024 connections are open at once; further connections wait in the system's queue until
+/// one has left.
 #[derive(Drop)]
 pub struct Sockets<'r, R: Clock + RandomSource> {
     rt: &'r R,
@@ -120,7 +121,7 @@ pub struct Sockets<'r, R: Clock + RandomSource> {
     room: Room,
     // The number of turns until the next poll.
     round: usize,
-    // The number of accepted connections, which is the number of the next one.
+    // The number of accepted connections, which the next connection gets as its number.
     accepted: u64,
     most: Option<u64>,
     idle: Duration,
@@ -134,8 +135,8 @@ impl<'r, R: Net + Clock + RandomSource> Sockets<'r, R> {
     /// Listens on a port of the loopback address; on a free port if `port` is 0.
     ///
     /// With `most`, at most that many connections are accepted, and [`Peers::next`] returns `None` after the
-    /// last has left. Fails with [`CannotListen`] if the port can't be bound. After any error the port isn't
-    /// bound.
+    /// last has left. Fails with [`CannotListen`] if the port can't be bound, or if the system's poll or
+    /// clock fails. After any error the port isn't bound.
     pub fn listen(
         rt: &'r R,
         alloc: Global,
@@ -191,8 +192,8 @@ impl<'r, R: Clock + RandomSource> Sockets<'r, R> {
 
     /// Accepts a connection, if one is waiting and may join now.
     ///
-    /// If the system refuses for another reason, such as too many open files, accepting is tried again after
-    /// the next poll and after a connection has left.
+    /// If the system fails to accept one, for example because too many files are open, the attempt is
+    /// repeated after the next poll and after a connection has left.
     fn accept(&mut self) -> Option<PeerEvent> {
         if self.has_accepted_all() || self.room.turns.is_full() {
             return None;
@@ -231,10 +232,10 @@ impl<'r, R: Clock + RandomSource> Sockets<'r, R> {
         }
     }
 
-    /// Gives a connection its turn, and returns its event.
+    /// Runs a turn of a connection, and returns its event, if any.
     ///
-    /// Ends the connection if its piece can't be allocated or stamped, since the clock or the random source
-    /// failed; it leaves at its next turn.
+    /// Ends the connection if its piece can't be allocated, or can't be stamped because the clock or the
+    /// random source failed. The connection then leaves at its next turn.
     fn serve(&mut self, alloc: Global, number: u64) -> Option<PeerEvent> {
         match self.room.turn(number, self.time) {
             Turn::Nothing => None,
@@ -254,7 +255,8 @@ impl<'r, R: Clock + RandomSource> Sockets<'r, R> {
         }
     }
 
-    /// Polls the system, and ends late connections. Every turn that is queued then runs before the next poll.
+    /// Polls the system, and ends late connections. All turns that are queued after that run before the next
+    /// poll.
     fn wait(&mut self) -> io::Result<()> {
         self.room.wait(&mut self.listening.poll)?;
         self.time = Instant::now(self.rt)?;
@@ -282,7 +284,8 @@ impl<'r, R: Clock + RandomSource> Sockets<'r, R> {
         }
     }
 
-    /// Returns the next event; `None` if the maximum number of connections was accepted and all have left.
+    /// Waits for the next event, and returns it; `None` if the maximum number of connections was accepted and
+    /// all have left.
     fn await_event(&mut self, alloc: Global) -> Result<Option<PeerEvent>, PeersFault>
         ensures { IfOk result (λ told.
             IfNone told (IsOver self.new.most self.new.accepted
@@ -300,7 +303,7 @@ impl<'r, R: Clock + RandomSource> Sockets<'r, R> {
         Err(PeersFault)
     }
 
-    /// Reads the clock.
+    /// Reads the clock into `time`.
     fn look(&mut self) -> Result<(), PeersFault> {
         match Instant::now(self.rt) {
             Ok(now) => {

@@ -20,7 +20,7 @@ fn fresh(rt: &impl RandomSource) -> io::Result<Uuid>
     Ok(Builder::from_random_bytes(bytes).into_uuid())
 }
 
-/// Returns the moment this many seconds after 1970-01-01T00:00:00Z, at most the last one.
+/// Returns the moment this many seconds after 1970-01-01T00:00:00Z, but at most `Moment::LAST`.
 fn moment_at(seconds: u64) -> Moment
     ensures { result ≡ min seconds last_moment }
 {
@@ -31,7 +31,7 @@ fn moment_at(seconds: u64) -> Moment
     }
 }
 
-/// Returns the current second; 1970-01-01T00:00:00Z if the clock is before it.
+/// Returns the current time in whole seconds; 1970-01-01T00:00:00Z if the clock shows an earlier time.
 fn present(rt: &impl Clock) -> io::Result<Moment> {
     match SystemTime::now(rt)?.duration_since(UNIX_EPOCH) {
         Ok(since) => Ok(moment_at(since.as_secs())),

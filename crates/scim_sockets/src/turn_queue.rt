@@ -10,7 +10,7 @@ use std::alloc::{AllocError, Global};
 use std::collections::{BTreeMap, VecDeque};
 use std::time::{Duration, Instant};
 
-/// The maximum number of open connections. Further ones wait in the system's queue.
+/// The maximum number of open connections. Further connections wait in the system's queue.
 const MOST_OPEN: usize = 1024;
 
 /// The token of the listener in the system's reports.
@@ -19,7 +19,7 @@ pub(crate) const LISTENER: Token = Token(usize::MAX);
 /// An entry of the queue of turns.
 #[derive(Clone, Copy)]
 pub(crate) enum Place {
-    /// The listener, to accept a connection.
+    /// The listener, whose turn accepts a connection.
     Door,
     /// The connection with this number.
     Connection(u64),
@@ -38,8 +38,8 @@ enum Door {
 
 /// The open connections, and the queue of their turns.
 ///
-/// A connection with work to do is queued at most once. So a connection that sends without end has one turn
-/// in each round, and the queue never outgrows its initial capacity.
+/// A connection with work to do is queued at most once. So a connection that sends bytes without a pause has
+/// one turn in each round, and the queue never outgrows its initial capacity.
 #[derive(Drop)]
 pub(crate) struct Turns {
     connections: BTreeMap<u64, Connection>,
@@ -50,7 +50,7 @@ pub(crate) struct Turns {
 }
 
 impl Turns {
-    /// Returns a value without connections.
+    /// Returns an empty set of connections, with an empty queue.
     pub(crate) fn new(alloc: Global) -> Result<Turns, AllocError> {
         Ok(Turns {
             queue: VecDeque::with_capacity(alloc, MOST_OPEN + 1)?,
@@ -98,7 +98,7 @@ impl Turns {
         }
     }
 
-    /// Queues the listener, unless it is queued: connections may be waiting to be accepted.
+    /// Notes that connections may be waiting to be accepted, and queues the listener unless it is queued.
     pub(crate) fn open_door(&mut self)
         ensures { self.new.connections ≡ self.old.connections }
     {
@@ -127,7 +127,7 @@ impl Turns {
         }
         let number = event.token().0 as u64;
         if let Some(connection) = self.connections.get_mut(&number) {
-            // A fault counts as readable and writable: the next call on the socket finds it.
+            // An error counts as readable and writable: the next call on the socket returns the error.
             let fails = event.is_error() || event.is_read_closed() || event.is_write_closed();
             connection.note(event.is_readable() || fails, event.is_writable() || fails);
         }
@@ -143,7 +143,7 @@ impl Turns {
         has_joined
     }
 
-    /// Gives the connection with the number its turn, and removes it if it has ended.
+    /// Runs a turn of the connection with the number, and removes the connection if it has ended.
     pub(crate) fn turn(&mut self, number: u64, now: Instant, buffer: &mut [u8]) -> Turn
         ensures { FitsIn buffer.new result }
     {
@@ -188,13 +188,13 @@ impl Turns {
         self.enqueue(number);
     }
 
-    /// Drops the sockets of late connections, as [`Connection::is_late`].
+    /// Drops the sockets of the connections that are late by [`Connection::is_late`].
     pub(crate) fn end_late(&mut self, now: Instant, idle: Duration) {
         end_late(&mut self.connections, &mut self.queue, now, idle);
     }
 }
 
-/// Drops the sockets of late connections, and queues them to be removed.
+/// Drops the sockets of late connections, and queues the connections so that their next turn removes them.
 fn end_late(
     connections: &mut BTreeMap<u64, Connection>,
     queue: &mut VecDeque<Place>,

@@ -9,7 +9,7 @@ use Rattle.scim_shelf.specs.declared.changes.Change.{Change}
 use Rattle.scim_shelf.specs.Stores.{Store, CanKeep, IsOld, after}
 use Rattle.scim_store_rows.specs.Stands.{StandsFor}
 
--- If the connection is open, its tables hold the store and are committed.
+-- If the connection is open, its tables hold the store, and all changes are committed.
 pub record HasStore (base : List ℕ) (s : State) (store : Store) : Type 0 where
   pub stands : IsTrue s.is_open → StandsFor base s.now store
   pub settled : IsTrue s.is_open → s.now ≡ s.committed
@@ -30,11 +30,12 @@ pub record IsDueOver (old : Option Content) (change : Change) (number : ℕ) (st
 abbrev pub Changes : List ℕ → Change → AuditRow → (Store → Type 0) → Database → Database → Type 0
 Changes base change row May old new = (store : Store) → StandsFor base old store → May store → StandsFor base new (after change row store)
 
--- The trees are those of tables that hold the store.
+-- `trees` are the trees of a database whose tables hold the store.
 abbrev pub AreOf : List ℕ → Store → Trees → Type 0
 AreOf base store trees = (db : Database) × (trees ≡ db.trees) × StandsFor base db store
 
--- If the connection is open, it was before, and its database and the last commit are unchanged.
+-- If the connection is open after the call, it was open before, and its database and the last commit are
+-- unchanged.
 pub record Stays (old new : State) : Type 0 where
   pub was_open : IsTrue new.is_open → IsTrue old.is_open
   pub now : IsTrue new.is_open → new.now ≡ old.now

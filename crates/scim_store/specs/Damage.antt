@@ -1,4 +1,5 @@
--- Whether the rows of the three tables of resources are those of resources, and the first damaged id.
+-- Whether the tables `resource`, `taken` and `member` have exactly the rows of valid resources, and the least
+-- damaged id.
 use Rattle.std.specs.Prelude.{◌≡◌, ℕ, Bool, true, List, map, filter, All, Option, IsPermutation, [], ◌∷◌}
 use Rattle.std.specs.Option.{option_to_list}
 use Rattle.std.specs.List.{flat_map, list_any, IsDistinct}
@@ -15,7 +16,7 @@ use Rattle.scim_store_rows.specs.Stands.{Entry, IsEntry, resource_row, name_rows
 use Rattle.scim_store.specs.declared.damage.Judged.{Judged}
 use Rattle.scim_store.specs.declared.damage.Judged.TheVariants.{Sound, Damaged, Foreign}
 
--- The rows of the three tables, as queries return them.
+-- The rows of `resource`, `taken` and `member`, as queries return them.
 pub record Tables : Type 0 where
   -- Columns id, kind and document.
   pub resources : List Row
@@ -24,13 +25,14 @@ pub record Tables : Type 0 where
   -- Columns group and value of each member.
   pub members : List Row
 
--- The rows are in the order in which they are read: by id; by owner, attribute and text; by group and value.
+-- The rows are sorted: resources by id; names by owner, attribute and text; members by group and value.
 pub record AreOrdered (tables : Tables) : Type 0 where
   pub resources : DoNotFall (0 ∷ []) tables.resources
   pub names : DoNotFall (0 ∷ 1 ∷ 2 ∷ []) tables.names
   pub members : DoNotFall (0 ∷ 1 ∷ []) tables.members
 
--- The rows are those of these resources with locations below the base URI, each table's in any order.
+-- The rows are exactly the rows of these valid resources with locations below the base URI. The rows of a
+-- table may be in any order.
 pub record AreThoseOf (base : List ℕ) (entries : List Entry) (tables : Tables) : Type 0 where
   pub sound : All (IsEntry base) entries
   pub keyed : AreKeyed (map (λ e. e.content) entries)
@@ -38,30 +40,31 @@ pub record AreThoseOf (base : List ℕ) (entries : List Entry) (tables : Tables)
   pub names : IsPermutation tables.names (map owner_first (flat_map name_rows entries))
   pub members : IsPermutation tables.members (map group_first (flat_map member_rows entries))
 
--- The rows are those of some resources.
+-- The rows are exactly the rows of some valid resources.
 abbrev pub AreSound : List ℕ → Tables → Type 0
 AreSound base tables = (entries : List Entry) × AreThoseOf base entries tables
 
--- The rows of an id, in each table.
+-- The rows with this id in the first column, in each table.
 abbrev pub rows_at : List ℕ → Tables → Tables
 rows_at id tables = record { resources = filter (is_of id) tables.resources; names = filter (is_of id) tables.names; members = filter (is_of id) tables.members }
 
--- The rows of an id are empty, or those of one resource.
+-- An id has no rows, or exactly the rows of one valid resource.
 abbrev pub HoldsAt : List ℕ → Tables → List ℕ → Type 0
 HoldsAt base tables id = (entry : Option Entry) × AreThoseOf base (option_to_list entry) (rows_at id tables)
 
--- The least id whose rows are neither empty nor those of one resource.
+-- The least id that has rows, but not exactly the rows of one valid resource.
 pub record IsLeastDamage (base : List ℕ) (tables : Tables) (id : List ℕ) : Type 0 where
   pub is_id : IsId id
   pub here : ¬ HoldsAt base tables id
   pub before : (other : List ℕ) → IsId other → slice_cmp nat_cmp other id ≡ Less → HoldsAt base tables other
 
--- The rows of each id are empty or those of one resource, but together they aren't those of resources.
+-- Each id has no rows, or exactly the rows of one valid resource, but all rows together aren't the rows of
+-- valid resources.
 pub record IsForeign (base : List ℕ) (tables : Tables) : Type 0 where
   pub holds : (id : List ℕ) → IsId id → HoldsAt base tables id
   pub unsound : ¬ AreSound base tables
 
--- The result of the test is true of the rows.
+-- The result of the test is correct for the rows.
 abbrev pub Judges : List ℕ → Tables → Judged → Type 0
 Judges base tables Sound = AreSound base tables
 Judges base tables (Damaged id) = IsLeastDamage base tables id
@@ -71,18 +74,19 @@ Judges base tables Foreign = IsForeign base tables
 abbrev pub AreOwned : List (List ℕ) → Row → Type 0
 AreOwned ids row = list_any (λ id. is_of id row) ids ≡ true
 
--- Whether two rows have the same text of a name; `userName` is the only attribute with unique names.
+-- Whether two rows of unique names have the same folded text. The attributes needn't be compared: `userName`
+-- is the only attribute with unique names.
 abbrev pub is_shared : Row → Row → Bool
 is_shared r s = is_eq (value_cmp (column r 2) (column s 2))
 
--- If each row belongs to one of some ids, the rows of each id are valid and no name has two rows, then the
--- rows are those of resources.
+-- If each row belongs to one of the ids `ids`, the rows of each id are valid and no two rows have the same
+-- unique name, then the rows are exactly the rows of valid resources.
 abbrev pub HoldingRowsAreSound : Type 0
 HoldingRowsAreSound =
     (base : List ℕ) (tables : Tables) (ids : List (List ℕ)) → IsStrictlySortedBy (slice_cmp nat_cmp) ids → All IsId ids → All (AreOwned ids) tables.resources → All (AreOwned ids) tables.names → All (AreOwned ids) tables.members
     → ((id : List ℕ) → IsId id → HoldsAt base tables id) → IsDistinct is_shared tables.names → AreSound base tables
 
--- If the rows are those of resources, those of each id are empty or those of one resource; so if an id is
--- damaged, the rows aren't those of resources.
+-- If the rows are exactly the rows of valid resources, each id has no rows, or exactly the rows of one valid
+-- resource. So if an id is damaged, the rows aren't the rows of valid resources.
 abbrev pub SoundRowsHold : Type 0
 SoundRowsHold = (base : List ℕ) (tables : Tables) (id : List ℕ) → IsId id → AreSound base tables → HoldsAt base tables id

@@ -23,7 +23,7 @@ use Rattle.scim_store.specs.declared.edits.Edits.{Edits}
 use Rattle.scim_store_rows.specs.Audit.{kind_number, audit_row}
 use Rattle.scim_store_rows.specs.Stands.{StandsFor, is_among}
 
--- Whether a row in `taken` has one of these names, whatever its owner.
+-- Whether a row in `taken` has one of these names, with any owner.
 abbrev pub is_name : List UniqueName → Row → Bool
 is_name names row = list_any (λ n. has_texts (attribute_name n.leaf.attribute) (string_bytes n.text) row) names
 
@@ -31,11 +31,11 @@ is_name names row = list_any (λ n. has_texts (attribute_name n.leaf.attribute) 
 abbrev pub is_member : List ℕ → List (List ℕ) → Row → Bool
 is_member group_id values row = list_any (λ v. has_texts v group_id row) values
 
--- The rows of these names with their owner's id.
+-- The rows of these names, with the id of the resource that has them.
 abbrev pub rows_of_names : List ℕ → List UniqueName → List Row
 rows_of_names id names = map (λ n. name_values (attribute_name n.leaf.attribute) (string_bytes n.text) id) names
 
--- The rows of these member values with their group's id.
+-- The rows of these member values, with the id of the group that lists them.
 abbrev pub rows_of_members : List ℕ → List (List ℕ) → List Row
 rows_of_members group_id values = map (λ v. member_values v group_id) values
 
@@ -43,7 +43,7 @@ rows_of_members group_id values = map (λ v. member_values v group_id) values
 abbrev pub rows_of_document : Edits → List Row
 rows_of_document e = option_to_list (option_map (λ d. resource_values e.id (kind_number e.kind) (string_bytes d)) e.document)
 
--- The rows after the edits of one resource: without the rows to remove, and with those to add.
+-- The rows after the edits of one resource: the rows to remove are removed, and the rows to add are added.
 abbrev pub edited : Edits → Lists → Lists
 edited e lists = record lists {
   resources = rows_of_document e ++ without (has_text 0 e.id) lists.resources;
@@ -65,7 +65,7 @@ abbrev pub names_in : Option Content → List Name
 names_in None = []
 names_in (Some c) = unique_names c
 
--- The names that aren't among the others.
+-- The names that aren't in `others`.
 abbrev pub names_beyond : List Name → List Name → List Name
 names_beyond others names = filter (λ n. not (list_any (is_same_name n) others)) names
 
@@ -74,14 +74,15 @@ abbrev pub lists_in : List ℕ → Option Content → Bool
 lists_in value None = false
 lists_in value (Some c) = lists_value value c
 
--- The document of the edits is one of the resource `c`, or None without a resource.
+-- The edits have the kind and a valid document of the resource `c`. If there is no resource, they have no
+-- document.
 abbrev pub IsWritten : List ℕ → Option Content → Edits → Type 0
 IsWritten base None e = e.document ≡ None
 IsWritten base (Some c) e = (e.kind ≡ c.kind) × (text : List ℕ) × (option_map string_bytes e.document ≡ Some text) × IsDocumentText base text c
 
--- The edits replace the rows of the old resource of an id, if any, by those of the new one, if any: they
--- remove the names and member values that only the old one has, and add those that only the new one has, each
--- value once.
+-- The edits replace the rows of the old resource with this id, if any, by the rows of the new one, if any.
+-- They remove the names and member values that only the old resource has, and add the names and member values
+-- that only the new resource has, each value once.
 pub record Replaces (base : List ℕ) (id : List ℕ) (old new : Option Content) (e : Edits) : Type 0 where
   pub is_id : IsId id
   pub text : e.id ≡ id_text id
@@ -92,7 +93,7 @@ pub record Replaces (base : List ℕ) (id : List ℕ) (old new : Option Content)
   pub once : AllPairs (λ v w. v ≢ w) e.members_come.items
   pub document : IsWritten base new e
 
--- The edits are those of a change to the resources `cs`.
+-- The edits make the change to the resources `cs`.
 abbrev pub AreEdits : List ℕ → List Content → Change → Option Edits → Type 0
 AreEdits base cs Nothing edits = edits ≡ None
 AreEdits base cs (Keep c) None = ⊥
@@ -105,8 +106,8 @@ abbrev pub KeepsBelow : List ℕ → Change → Type 0
 KeepsBelow base (Keep c) = HasBase base c
 KeepsBelow base _ = ⊤
 
--- If the old tables hold a valid store, the new ones hold the store after each change with these edits and this
--- audit row.
+-- If the old tables hold a valid store, then for any change that these edits make and any audit row with
+-- these columns, the new tables hold the store after the change with the audit row.
 pub record Writes (edits : Option Edits) (columns : AuditColumns) (old new : Database) : Type 0 where
   pub stands : (base : List ℕ) (store : Store) (change : Change) (row : AuditRow) → StandsFor base old store → CanKeep store change → AreEdits base store.resources change edits
       → audit_values columns ≡ audit_row (length store.audit + 1) row → StandsFor base new (after change row store)

@@ -18,11 +18,12 @@ pub record HoldRowsOf (base : List ℕ) (cs : List Content) (db : Database) : Ty
   pub sound : All (IsEntry base) entries
   pub tables : Are db (lists_of entries [])
 
--- A database without tables, indexes and views becomes one with tables that hold the rows of these resources.
+-- A database without tables, indexes and views becomes a database with the five tables, which hold the rows
+-- of these resources.
 abbrev pub Fills : List Content → Database → Database → Type 0
 Fills cs old new = old.schema ≡ no_schema → (base : List ℕ) → All (HasBase base) cs → HoldRowsOf base cs new
 
--- The tables that a crash during an import may leave, in addition to those that it could leave before the import: if
--- the database was empty, the tables with the rows of all these resources; otherwise none.
+-- The tables that a crash may leave because of an import. If the database was empty, these are the tables
+-- with the rows of all these resources; otherwise there are none.
 abbrev pub LeavesImported : List ℕ → List Content → State → Trees → Type 0
 LeavesImported base cs s trees = (s.now.schema ≡ no_schema) × ((db : Database) × (trees ≡ db.trees) × HoldRowsOf base cs db × ((store : Store) → IsNewStore cs store → StandsFor base db store))

@@ -19,28 +19,29 @@ use Rattle.scim_store_rows.specs.AuditBack.{IsSound}
 use Rattle.scim_store.specs.Damage.{Tables, HoldsAt, IsLeastDamage}
 use Rattle.scim_store_rows.specs.Stands.{StandsFor}
 
--- The tables don't hold a valid store whose audit rows are valid.
+-- The tables hold no valid store with valid audit rows.
 abbrev pub StandForNoSound : List ℕ → Database → Type 0
 StandForNoSound base db = (store : Store) → All IsSound store.audit → StandsFor base db store → ⊥
 
--- The rows of resources among those that were read.
+-- The rows that were read from `resource`, `taken` and `member`.
 abbrev pub resource_tables : TableRows → Tables
 resource_tables rows = record { resources = rows.resources.items; names = rows.names.items; members = rows.members.items }
 
--- The least id whose rows in the tables are neither empty nor those of one resource.
+-- The least id that has rows in the tables, but not exactly the rows of one valid resource.
 pub record IsDamagedAt (base : List ℕ) (db : Database) (id : List ℕ) : Type 0 where
   pub rows : TableRows
   pub read : AreRowsOf (shown db) rows
   pub least : IsLeastDamage base (resource_tables rows) id
 
--- The tables are those of version 1, and the rows of each id are empty or those of one resource.
+-- The database has the tables of version 1, and each id has no rows, or exactly the rows of one valid
+-- resource.
 pub record HoldsAtEach (base : List ℕ) (db : Database) : Type 0 where
   pub tables : Are db (shown db)
   pub rows : TableRows
   pub read : AreRowsOf (shown db) rows
   pub holds : (id : List ℕ) → IsId id → HoldsAt base (resource_tables rows) id
 
--- The rows are this many valid audit rows, numbered from 1; or None if they aren't valid audit rows.
+-- The number of rows, if they are valid audit rows, numbered consecutively from 1; `None` otherwise.
 abbrev pub CountsAudit : List Row → Option ℕ → Type 0
 CountsAudit rows None = (audit : List AuditRow) → All IsSound audit → audit_rows 1 audit ≢ rows
 CountsAudit rows (Some count) = (audit : List AuditRow) × All IsSound audit × (audit_rows 1 audit ≡ rows) × (length audit ≡ count)
@@ -51,10 +52,11 @@ IsByAudit rows (Stands count) = CountsAudit rows (Some count)
 IsByAudit rows Foreign = CountsAudit rows None
 IsByAudit rows _ = ⊥
 
--- The meaning of a result for a store of resources with locations below the base URI: the database is empty, or its
--- tables hold a valid store with this many audit rows, all valid, or they are of another version, or an id is damaged,
--- or they are foreign: those of another program, or of version 1 with no id damaged. The last three are returned only
--- if the tables don't hold a valid store.
+-- The meaning of a result for a store of resources with locations below the base URI. `Empty`: the database
+-- is empty. `Stands`: its tables hold a valid store with this many audit rows, all valid. `WrongVersion`: its
+-- tables are of another version. `Damaged`: this is the least id with invalid rows. `Foreign`: it belongs to
+-- another program, or has the tables of version 1, and the rows of each id are valid. The last three results
+-- are returned only if the tables don't hold a valid store with valid audit rows.
 abbrev pub IsFor : List ℕ → Database → Examined → Type 0
 IsFor base db Empty = db.schema ≡ no_schema
 IsFor base db (Stands count) = (store : Store) × StandsFor base db store × All IsSound store.audit × (length store.audit ≡ count)
@@ -62,7 +64,7 @@ IsFor base db WrongVersion = Is db OtherVersion × StandForNoSound base db
 IsFor base db (Damaged id) = IsDamagedAt base db id × StandForNoSound base db
 IsFor base db Foreign = (Is db OtherProgram ⊎ HoldsAtEach base db) × StandForNoSound base db
 
--- The result is true of the database, and nothing is changed.
+-- The result is correct for the database, and nothing is changed.
 pub record Examines (base : List ℕ) (old new : State) (examined : Examined) : Type 0 where
   pub is : IsFor base old.now examined
   pub untouched : IsUntouched old new

@@ -1,4 +1,4 @@
--- The store of a shelf over a connection, what its commits leave, and the result of opening a database.
+-- The store of a shelf over a connection, the effects of its commits, and the result of opening a database.
 use Rattle.std.specs.Prelude.{◌≡◌, ◌⊎◌, ℕ, List, length, All, ⊤, IsTrue, Option, Result, OnOk}
 use Rattle.sqlite.specs.Effect.{Database}
 use Rattle.sqlite.specs.Tree.{Trees}
@@ -18,43 +18,46 @@ use Rattle.scim_store.specs.Opening.{IsFor}
 use Rattle.scim_store_rows.specs.AuditBack.{IsSound}
 use Rattle.scim_store_rows.specs.Stands.{StandsFor}
 
--- The tables hold the store, if the disk returned what was written, and its audit has `rows` rows.
+-- If the disk returned what was written, the tables hold the store. The audit of the store has `rows` rows.
 pub record IsKeptIn (base : List ℕ) (s : State) (rows : ℕ) (store : Store) : Type 0 where
   pub stored : HasCleanDisk s → HasStore base s store
   pub rows_are : length store.audit ≡ rows
 
--- A shelf stands for the store, and the change may be made to it.
+-- The shelf represents the store, and the change may be made to the store.
 abbrev pub MayMake : {H : Type 0} → (H → Store → Type 0) → H → Change → Store → Type 0
 MayMake Stands shelf change store = Stands shelf store × CanKeep store change
 
--- As `MayMake`, and `old` is the stored resource with the id of the change, if any.
+-- The shelf represents the store, the change may be made to the store, and `old` is the stored resource with
+-- the id of the change, if any.
 abbrev pub MayMakeOver : {H : Type 0} → (H → Store → Type 0) → H → Option Content → Change → Store → Type 0
 MayMakeOver Stands shelf old change store = MayMake Stands shelf change store × IsOld store.resources change old
 
--- A crash leaves what it could leave before the commit, or the tables with the change and its audit row. After
--- Ok it leaves those, if the disk returned what was written. `May` tells the stores that may be changed so.
+-- A crash leaves a state that a crash before the commit could also leave, or the tables with the change and
+-- its audit row. If the commit succeeded and the disk returned what was written, a crash leaves the tables
+-- with the change and its audit row. The store before the commit must satisfy `May`.
 pub record CommitsWhole {T E : Type 0} (base : List ℕ) (change : Change) (row : AuditRow) (May : Store → Type 0) (old new : State) (result : Result T E) : Type 0 where
   pub crash : Survives old new (Leaves (Changes base change row May) old.now)
   pub durable : HasCleanDisk new → OnOk result ((store : Store) → May store → (trees : Trees) → new.may_leave trees → AreOf base (after change row store) trees)
 
--- The store of an opened database: an empty one if the database was empty, and otherwise the store that its
--- tables stand for, whose audit rows are valid.
+-- The store of an opened database: an empty store if the database was empty, and otherwise the store that its
+-- tables hold, with valid audit rows.
 abbrev pub Opens : List ℕ → Database → Store → Type 0
 Opens base db store = ((db.schema ≡ no_schema) × (store ≡ no_store)) ⊎ (StandsFor base db store × All IsSound store.audit)
 
--- A database is opened as this store, and the shelf's count of audit rows is right.
+-- A database is opened as this store, and `rows` is the number of its audit rows.
 pub record HasOpened (base : List ℕ) (db : Database) (s : State) (rows : ℕ) (store : Store) : Type 0 where
   pub kept : IsKeptIn base s rows store
   pub opens : Opens base db store
 
--- The reason why a database isn't opened, if the database is the cause.
+-- The meaning of the fault with which opening a database fails. `NoStore` and `NoMemory` say nothing about
+-- the database.
 abbrev pub Refuses : List ℕ → Database → OpenFault → Type 0
 Refuses base db WrongVersion = IsFor base db OtherVersion
 Refuses base db (Damaged id) = IsFor base db (DamagedAt id)
 Refuses base db NoStore = ⊤
 Refuses base db NoMemory = ⊤
 
--- The tables that a crash during opening may leave, beside those that it could leave before: only if the
--- database was empty, and then those of an empty store.
+-- The tables that a crash may leave because of opening a database. If the database was empty, these are the
+-- tables of an empty store; otherwise there are none.
 abbrev pub LeavesBegun : List ℕ → State → Trees → Type 0
 LeavesBegun base s trees = (s.now.schema ≡ no_schema) × ((db : Database) × (trees ≡ db.trees) × (IsTrue s.is_open → StandsFor base db no_store))

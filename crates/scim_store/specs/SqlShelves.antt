@@ -8,10 +8,10 @@ use Rattle.scim_store.specs.declared.sql_shelf.SqlShelf.{SqlShelf}
 abbrev pub connection_of : {S : Type 0} {g : Ghosts S} → SqlShelf S g → Held S
 connection_of shelf = shelf.connection
 
--- The base URI of the locations of a shelf's resources.
+-- The base URI of the locations of the resources of a shelf.
 abbrev pub base_of : {S : Type 0} {g : Ghosts S} → SqlShelf S g → List ℕ
 base_of shelf = shelf.base
 
--- The number of audit rows that a shelf counts.
+-- The number of audit rows, as a shelf counts them.
 abbrev pub rows_of : {S : Type 0} {g : Ghosts S} → SqlShelf S g → ℕ
 rows_of shelf = shelf.rows

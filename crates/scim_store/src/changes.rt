@@ -32,7 +32,7 @@ fn names_in(alloc: Global, resource: Option<&Resource>) -> Result<Vec<UniqueName
     }
 }
 
-/// Returns the unique names of a resource that the other doesn't have.
+/// Returns the unique names that `resource`, if any, has and `other`, if any, doesn't have.
 fn names_beyond(
     alloc: Global,
     other: Option<&Resource>,
@@ -69,7 +69,7 @@ fn values_in(alloc: Global, resource: Option<&Resource>) -> Result<BTreeSet<&str
     }
 }
 
-/// Returns the values that aren't in the other set, each once.
+/// Returns the values that are in `values`, but not in `others`, each once.
 fn values_beyond<'v>(
     alloc: Global,
     others: &BTreeSet<&'v str>,
@@ -86,7 +86,7 @@ fn values_beyond<'v>(
     Ok(beyond)
 }
 
-/// Returns the edits that replace the old resource of an id, if any, by the new one, if any.
+/// Returns the edits that replace the old resource with this id, if any, by the new one, if any.
 fn replacement<'r>(
     alloc: Global,
     id: Id,
@@ -128,7 +128,7 @@ pub(crate) fn edits_to_keep(
     replacement(alloc, part.id(), part.kind(), document, old, Some(resource))
 }
 
-/// Returns the edits of a change; None for `Change::Nothing`. `old` must be the stored resource with the id
+/// Returns the edits of a change; `None` for `Change::Nothing`. `old` must be the stored resource with the id
 /// of the change, of either kind, if any.
 pub(crate) fn edits_of(
     alloc: Global,

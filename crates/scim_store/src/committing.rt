@@ -71,7 +71,7 @@ pub(crate) fn is_below(alloc: Global, base: &str, resource: &Resource) -> Result
     }
 }
 
-/// Whether the location of the resource to store, if any, is below the base URI.
+/// Whether the location of the resource to store is below the base URI; true if there is no such resource.
 fn keeps_below(alloc: Global, base: &str, change: &Change) -> Result<bool, NoMemory>
     ensures { IfOk result (λ below. IsTrue below ↔ KeepsBelow base.now change.now) }
 {
@@ -81,7 +81,8 @@ fn keeps_below(alloc: Global, base: &str, change: &Change) -> Result<bool, NoMem
     }
 }
 
-/// Returns the stored resource with the id of a change, of either kind, if any; None for `Change::Nothing`.
+/// Returns the stored resource with the id of a change, of either kind; `None` if there isn't one, or for
+/// `Change::Nothing`.
 fn find_old_of<S: Alter>(
     conn: &mut Connection<S>,
     alloc: Global,
@@ -107,19 +108,19 @@ fn find_old_of<S: Alter>(
     }
 }
 
-/// Makes the change and adds the audit row under the number, in one transaction. `old` must be the stored
+/// Makes the change and adds the audit row with this number, in one transaction. `old` must be the stored
 /// resource with the id of the change, of either kind, if any; it is ignored for `Change::Nothing`.
 ///
-/// The caller guarantees that the number is one above that of the last row (the first row has number 1), that
-/// no resource of another id shares a unique name with one to store, and that its id isn't used by a resource
-/// of the other kind.
+/// The caller guarantees that the number is one more than the number of the last row, or 1 for the first row.
+/// For `Change::Keep` the caller also guarantees that no resource with another id shares a unique name with
+/// the new resource, and that its id isn't used by a resource of the other kind.
 ///
-/// Fails with OtherBase if the resource to store has a location below another base URI, with NoMemory, or
-/// with the database's error, such as a constraint if the number is in use. Then nothing is changed and no
-/// row is added, or the connection is closed.
+/// Fails with `OtherBase` if the resource to store has a location below another base URI, with `NoMemory` if
+/// memory runs out, or with the database's error, such as a constraint error if the number is in use. Then
+/// nothing is changed and no row is added, or the connection is closed.
 ///
-/// A crash during the call leaves the store as before, or with the change and its row. A crash after Ok
-/// leaves the store with both, if the disk returns what was written.
+/// A crash during the call leaves the store as it was before, or with the change and its row. A crash after a
+/// successful call leaves the store with the change and its row, if the disk returns what was written.
 pub(crate) fn commit_over<S: Alter>(
     conn: &mut Connection<S>,
     alloc: Global,
@@ -140,12 +141,13 @@ pub(crate) fn commit_over<S: Alter>(
         → OnErr result ((store : Store) → HasStore base.now (state S.Store conn.old) store
         → HasStore base.now (state S.Store conn.new) store) }
 
-    // A crash leaves what it could leave before, or the tables with the change and its audit row.
+    // A crash leaves a state that a crash before the call could also leave, or the tables with the change and
+    // its audit row.
     ensures crash { Survives (state S.Store conn.old) (state S.Store conn.new)
         (Leaves (Changes base.now change.now row.now
         (IsDueOver (option_copied old.entry) change.now number)) (state S.Store conn.old).now) }
 
-    // After Ok, a crash leaves these tables.
+    // After Ok, a crash leaves the tables with the change and its audit row.
     ensures durable { HasCleanDisk (state S.Store conn.new)
         → OnOk result ((store : Store) → HasStore base.now (state S.Store conn.old) store
         → IsDueOver (option_copied old.entry) change.now number store → (trees : Trees)
@@ -162,8 +164,9 @@ pub(crate) fn commit_over<S: Alter>(
     Ok(())
 }
 
-/// Like [`commit_over`], but reads the stored resource with the id of the change from the database. Fails with
-/// the database's error for corrupt data if the document of that resource isn't valid.
+/// Commits a change as [`commit_over`] does, but reads the stored resource with the id of the change from the
+/// database. Also fails with the database's error `DatabaseCorrupt` if the document of that resource isn't
+/// valid.
 pub(crate) fn commit_change<S: Alter>(
     conn: &mut Connection<S>,
     alloc: Global,
@@ -183,12 +186,13 @@ pub(crate) fn commit_change<S: Alter>(
         → OnErr result ((store : Store) → HasStore base.now (state S.Store conn.old) store
         → HasStore base.now (state S.Store conn.new) store) }
 
-    // A crash leaves what it could leave before, or the tables with the change and its audit row.
+    // A crash leaves a state that a crash before the call could also leave, or the tables with the change and
+    // its audit row.
     ensures crash { Survives (state S.Store conn.old) (state S.Store conn.new)
         (Leaves (Changes base.now change.now row.now (IsDue change.now number))
         (state S.Store conn.old).now) }
 
-    // After Ok, a crash leaves these tables.
+    // After Ok, a crash leaves the tables with the change and its audit row.
     ensures durable { HasCleanDisk (state S.Store conn.new)
         → OnOk result ((store : Store) → HasStore base.now (state S.Store conn.old) store
         → IsDue change.now number store → (trees : Trees) → (state S.Store conn.new).may_leave trees

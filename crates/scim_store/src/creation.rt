@@ -12,8 +12,8 @@ use sqlite::{Alter, Connection, Error};
 /// Creates the tables of a store in a database without tables, indexes and views, in one transaction. The
 /// store has no resources and no audit rows.
 ///
-/// Fails with the database's error, for instance if a table of one of the names exists, or if the disk or the
-/// memory failed. Then nothing is changed, or the connection is closed.
+/// Fails with the database's error, for instance if a table with one of these names exists, if the disk
+/// failed or if memory ran out. Then nothing is changed, or the connection is closed.
 pub(crate) fn begin_store<S: Alter>(conn: &mut Connection<S>) -> Result<(), Error>
     requires { conn.old.in_transaction ≡ false }
     ensures idle { conn.new.in_transaction ≡ false }
@@ -22,7 +22,7 @@ pub(crate) fn begin_store<S: Alter>(conn: &mut Connection<S>) -> Result<(), Erro
     ensures undone { HasCleanDisk (state S.Store conn.new)
         → OnErr result (Undoes (state S.Store conn.old) (state S.Store conn.new)) }
 
-    // A crash leaves what it could leave before, or the new tables.
+    // A crash leaves the new tables, or a state that a crash before the call could also leave.
     ensures crash { Survives (state S.Store conn.old) (state S.Store conn.new)
         (Leaves Begins (state S.Store conn.old).now) }
 {

@@ -1,4 +1,4 @@
-//! Tests whether the rows of the tables are those of resources, and finds the first damaged id.
+//! Tests whether the tables have exactly the rows of valid resources, and finds the least damaged id.
 
 ghost use Rattle.std.specs.Prelude.{◌≡◌, ◌↔◌, ◌||◌, [], ◌∷◌, ℕ, List, true, false, map, IfOk, IfSome, None, IsTrue, All, AllPairs, IsPermutation};
 ghost use Rattle.std.specs.Ordering.{nat_cmp};
@@ -31,16 +31,16 @@ use std::alloc::Global;
 use std::collections::{BTreeSet, HashSet};
 use std::marker::Model;
 
-/// The result of a test of the rows of resources.
+/// The result of testing the rows of resources.
 #[derive(Clone, Copy, PartialEq, Eq)]
 pub(crate) enum Judged {
-    /// The rows are those of resources.
+    /// The rows are exactly the rows of valid resources.
     Sound,
-    /// The rows aren't those of resources: this is the least id whose rows are neither empty nor those of one
+    /// The rows aren't valid: this is the least id that has rows, but not exactly the rows of one valid
     /// resource.
     Damaged(Id),
-    /// The rows aren't those of resources, though those of each id are valid: some row belongs to no id, or
-    /// two resources share a unique name.
+    /// The rows aren't valid, although the rows of each id are valid: some row belongs to no id, or two
+    /// resources share a unique name.
     Foreign,
 }
 
@@ -48,14 +48,14 @@ pub(crate) enum Judged {
 #[derive(Clone, Copy, PartialEq, Eq)]
 pub(crate) struct Unreadable;
 
-/// The rows of the tables of resources, as `read_tables` of `scim_store_tables` returns them.
+/// The rows of `resource`, `taken` and `member`, as `read_tables` of `scim_store_tables` returns them.
 #[derive(Drop)]
 pub(crate) struct ResourceRows {
-    /// Columns id, kind and document of each resource.
+    /// The columns id, kind and document of each resource.
     pub resources: Vec<Row>,
-    /// Columns owner, attribute and folded text of each unique name.
+    /// The columns owner, attribute and folded text of each unique name.
     pub names: Vec<Row>,
-    /// Columns group and value of each member.
+    /// The columns group and value of each member.
     pub members: Vec<Row>,
 }
 
@@ -84,7 +84,7 @@ fn is_triple(row: &Row, first: &str, second: &str, third: &str) -> bool
         && has_text(row, 2, third)
 }
 
-/// Whether the rows are those of the names of the resource with the id, in the same order.
+/// Whether these are the rows of the unique names `names` of the resource with the id, in the same order.
 fn are_names(rows: &[Row], id: &str, names: &[UniqueName]) -> bool
     ensures { result ≡ true ↔ rows.now ≡ map (code.owned_name id.now) (map name_of names.now) }
 {
@@ -105,7 +105,7 @@ fn are_names(rows: &[Row], id: &str, names: &[UniqueName]) -> bool
     true
 }
 
-/// Whether the rows are those of the values that the group with the id lists, in the same order.
+/// Whether these are the rows of the member values `values` of the group with the id, in the same order.
 fn are_members(rows: &[Row], id: &str, values: &[Text]) -> bool
     ensures { result ≡ true ↔ rows.now ≡ map (code.owned_member id.now) values.now }
 {
@@ -120,7 +120,7 @@ fn are_members(rows: &[Row], id: &str, values: &[Text]) -> bool
     true
 }
 
-/// Returns the values that a resource lists among its members, each once, in order.
+/// Returns the values that a resource lists among its members, sorted, each once.
 fn listed_values(alloc: Global, resource: &Resource) -> Result<Vec<Text>, NoMemory>
     ensures listed { IfOk result (λ values. (v : List ℕ)
         → is_among v values.items ≡ lists_value v resource.now) }
@@ -159,8 +159,8 @@ fn is_row_of(row: &Row, resource: &Resource, document: &str) -> bool
         && has_text(row, 2, document)
 }
 
-/// Returns the document in the row of a resource; None if that column isn't a text. Fails with Unreadable if
-/// it isn't UTF-8.
+/// Returns the document in the row of a resource; `None` if that column isn't a text. Fails with `Unreadable`
+/// if the text isn't UTF-8.
 fn document_of(row: &Row) -> Result<Option<&str>, Failed<Unreadable>>
     ensures { IfOk result (λ found. option_copied found ≡ code.text_in (column row.now 2)) }
 {
@@ -176,8 +176,8 @@ fn document_of(row: &Row) -> Result<Option<&str>, Failed<Unreadable>>
     }
 }
 
-/// Reads a resource from its row; None if the row isn't that of a resource with a location below the base
-/// URI. Fails with Unreadable if the document isn't UTF-8.
+/// Reads a resource from its row; `None` if the row isn't the row of a valid resource with a location below
+/// the base URI. Fails with `Unreadable` if the document isn't UTF-8.
 fn read_resource(
     alloc: Global,
     base: &str,
@@ -202,7 +202,8 @@ fn read_resource(
     }
 }
 
-/// Whether the rows of names and members are those of the resource.
+/// Whether `names` and `members` are exactly the rows of the unique names and of the member values of the
+/// resource, in order.
 fn has_rows(
     alloc: Global,
     resource: &Resource,
@@ -221,8 +222,8 @@ fn has_rows(
     Ok(are_names(names, id, unique.as_slice()) && are_members(members, id, values.as_slice()))
 }
 
-/// Whether the rows are empty, or those of one resource with a location below the base URI. Fails with
-/// Unreadable if a document isn't UTF-8.
+/// Whether there are no rows, or exactly the rows of one valid resource with a location below the base URI.
+/// Fails with `Unreadable` if the document isn't UTF-8.
 fn are_of_one(
     alloc: Global,
     base: &str,
@@ -245,7 +246,7 @@ fn are_of_one(
     }
 }
 
-/// The index in each table after the rows of the last id.
+/// For each table, the index after the rows of the id that was looked up last.
 #[derive(Clone, Copy)]
 struct Places {
     resources: usize,
@@ -253,8 +254,8 @@ struct Places {
     members: usize,
 }
 
-/// Whether the rows of an id are empty, or those of one resource with a location below the base URI. Fails
-/// with Unreadable if a document isn't UTF-8.
+/// Whether an id has no rows, or exactly the rows of one valid resource with a location below the base URI.
+/// Sets `places` after the rows of the id. Fails with `Unreadable` if the document isn't UTF-8.
 fn holds_at(
     alloc: Global,
     base: &str,
@@ -276,8 +277,9 @@ fn holds_at(
     are_of_one(alloc, base, resources, names, members)
 }
 
-/// Returns the least id whose rows are neither empty nor those of one resource; None if there isn't one. Ids
-/// outside the set must have valid rows. Fails with Unreadable if a document isn't UTF-8.
+/// Returns the least id that has rows, but not exactly the rows of one valid resource; `None` if there isn't
+/// one. Tests only the ids in `ids`: every other id must have no rows, or valid rows. Fails with `Unreadable`
+/// if a document isn't UTF-8.
 fn first_damage(
     alloc: Global,
     base: &str,
@@ -307,7 +309,7 @@ fn first_damage(
     Ok(None)
 }
 
-/// Returns the ids that the rows of the tables belong to.
+/// Returns the ids in the first columns of the rows of the tables.
 fn owners(alloc: Global, tables: &ResourceRows) -> Result<BTreeSet<Id>, NoMemory>
     ensures { IfOk result (λ ids. (id : List ℕ) → IsId id → contains (slice_cmp nat_cmp) ids id
         ≡ ((is_owner tables.now.resources id || is_owner tables.now.names id)
@@ -320,7 +322,7 @@ fn owners(alloc: Global, tables: &ResourceRows) -> Result<BTreeSet<Id>, NoMemory
     Ok(ids)
 }
 
-/// Returns the text of the row of a name; None if that column isn't a text.
+/// Returns the folded text in the row of a unique name; `None` if that column isn't a text.
 fn text_of_name(name: &Row) -> Option<&[u8]>
     ensures { option_copied result ≡ code.text_in (column name.now 2) }
 {
@@ -333,8 +335,8 @@ fn text_of_name(name: &Row) -> Option<&[u8]>
     }
 }
 
-/// Whether each row of a name has a text, and no two have the same. The attribute isn't compared: only one
-/// attribute has unique names, and a resource has at most one such name.
+/// Whether each row of a unique name has a folded text, and no two rows have the same. The attribute isn't
+/// compared: only one attribute has unique names, and a resource has at most one unique name.
 fn are_apart(alloc: Global, names: &[Row]) -> Result<bool, NoMemory>
     ensures yes { IfOk result (λ apart. apart ≡ true → IsDistinct spec.is_shared names.now) }
     ensures no { IfOk result (λ apart. apart ≡ false → All code.HasName names.now
@@ -352,7 +354,7 @@ fn are_apart(alloc: Global, names: &[Row]) -> Result<bool, NoMemory>
     Ok(true)
 }
 
-/// Whether each row belongs to an id.
+/// Whether each row has an id in its first column.
 fn are_owned(resources: &[Row], names: &[Row], members: &[Row]) -> bool
     ensures resources { result ≡ true → All HasOwner resources.now }
     ensures names { result ≡ true → All HasOwner names.now }
@@ -369,7 +371,7 @@ fn are_owned(resources: &[Row], names: &[Row], members: &[Row]) -> bool
     have_owners(members)
 }
 
-/// Whether rows are those of resources, given that the rows of each id are valid.
+/// Whether the rows are exactly the rows of valid resources. The rows of each id must be valid.
 fn are_sound(alloc: Global, tables: &ResourceRows) -> Result<bool, NoMemory>
     ensures owned { IfOk result (λ sound. sound ≡ true → code.AreAllOwned tables.now) }
     ensures apart { IfOk result (λ sound. sound ≡ true
@@ -388,10 +390,11 @@ fn are_sound(alloc: Global, tables: &ResourceRows) -> Result<bool, NoMemory>
     are_apart(alloc, names)
 }
 
-/// Tests whether the rows of the tables are those of resources with locations below the base URI. The rows
-/// must be sorted: resources by id; names by owner, attribute and text; members by group and value.
+/// Tests whether the rows of the tables are exactly the rows of valid resources with locations below the base
+/// URI. The rows must be sorted: resources by id; names by owner, attribute and text; members by group and
+/// value.
 ///
-/// Fails with Unreadable if the document of a resource isn't UTF-8.
+/// Fails with `Unreadable` if the document of a resource isn't UTF-8.
 pub(crate) fn judge(
     alloc: Global,
     base: &str,
@@ -410,14 +413,14 @@ pub(crate) fn judge(
     }
 }
 
-/// Law: if the rows are those of resources, those of each id are empty or those of one resource. So if an id
-/// is damaged, the rows aren't those of resources.
+/// Law: if the rows are exactly the rows of valid resources, each id has no rows, or exactly the rows of one
+/// valid resource. So if an id is damaged, the rows aren't the rows of valid resources.
 pub fn sound_rows_hold()
     ensures { spec.SoundRowsHold }
 {}
 
-/// Law: if each row belongs to an id, the rows of each id are valid and no name has two rows, then the rows
-/// are those of resources.
+/// Law: if each row belongs to an id, the rows of each id are valid and no two rows have the same unique
+/// name, then the rows are exactly the rows of valid resources.
 pub fn holding_rows_are_sound()
     ensures { spec.HoldingRowsAreSound }
 {}

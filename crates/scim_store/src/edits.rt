@@ -10,15 +10,15 @@ pub(crate) struct Edits {
     pub id: Text,
     /// The resource's kind.
     pub kind: Kind,
-    /// The new document; None if the resource is removed.
+    /// The new document; `None` if the resource is removed.
     pub document: Option<String>,
-    /// The unique names to remove: those of the old resource that the new one doesn't have.
+    /// The unique names to remove, which only the old resource has.
     pub names_gone: Vec<UniqueName>,
-    /// The unique names to add: those of the new resource that the old one didn't have.
+    /// The unique names to add, which only the new resource has.
     pub names_come: Vec<UniqueName>,
-    /// The member values to remove: those that the old resource listed and the new one doesn't.
+    /// The member values to remove, which only the old resource lists.
     pub members_gone: Vec<Text>,
-    /// The member values to add: those that the new resource lists and the old one didn't, each once.
+    /// The member values to add, which only the new resource lists, each once.
     pub members_come: Vec<Text>,
 }
 

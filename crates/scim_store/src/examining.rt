@@ -28,15 +28,15 @@ pub(crate) enum Examined {
     Stands(u64),
     /// Its tables are of another version.
     WrongVersion,
-    /// Its tables don't hold a valid store: this is the least id whose rows are neither empty nor those of
-    /// one resource.
+    /// Its tables don't hold a valid store: this is the least id that has rows, but not exactly the rows of
+    /// one valid resource.
     Damaged(Id),
     /// Its tables don't hold a valid store, although the rows of each id are valid; or it belongs to another
     /// program.
     Foreign,
 }
 
-/// Returns the number of audit rows; None unless all of them are valid and numbered from 1.
+/// Returns the number of audit rows; `None` unless all of them are valid and numbered consecutively from 1.
 fn count_audit(alloc: Global, rows: &[Row]) -> Result<Option<u64>, NoMemory>
     ensures { IfOk result (spec.CountsAudit rows.now) }
 {
@@ -46,7 +46,8 @@ fn count_audit(alloc: Global, rows: &[Row]) -> Result<Option<u64>, NoMemory>
     }
 }
 
-/// Examines the audit rows, if the rows of resources are valid. Fails only if memory runs out.
+/// Examines the audit rows of a database in which the rows of resources are valid. Fails with `OutOfMemory`
+/// if memory runs out.
 fn examine_audit(alloc: Global, rows: &[Row]) -> Result<Examined, Error>
     ensures { IfOk result (spec.IsByAudit rows.now) }
 {
@@ -57,8 +58,8 @@ fn examine_audit(alloc: Global, rows: &[Row]) -> Result<Examined, Error>
     }
 }
 
-/// Examines the rows of resources. Fails if memory runs out, and with DatabaseCorrupt if a document isn't
-/// UTF-8.
+/// Examines the rows of resources. Fails with `OutOfMemory` if memory runs out, and with `DatabaseCorrupt` if
+/// a document isn't UTF-8.
 fn judge_resources(alloc: Global, base: &str, tables: &ResourceRows) -> Result<Judged, Error>
     ensures { AreOrdered tables.now → IfOk result (Judges base.now tables.now) }
 {
@@ -69,8 +70,8 @@ fn judge_resources(alloc: Global, base: &str, tables: &ResourceRows) -> Result<J
     }
 }
 
-/// Examines all rows of the tables. Fails if memory runs out, and with DatabaseCorrupt if a document isn't
-/// UTF-8.
+/// Examines all rows of the tables. Fails with `OutOfMemory` if memory runs out, and with `DatabaseCorrupt`
+/// if a document isn't UTF-8.
 fn examine_rows(alloc: Global, base: &str, rows: TableRows) -> Result<Examined, Error>
     ensures { IfOk result (λ it. (db : Database) → Are db (shown db) → AreRowsOf (shown db) rows
         → spec.IsFor base.now db it) }
@@ -96,9 +97,9 @@ fn examine_rows(alloc: Global, base: &str, rows: TableRows) -> Result<Examined, 
 /// Examines a database as a store of resources with locations below the base URI. Reads all rows, in time
 /// nearly linear in their number.
 ///
-/// Fails with the database's error, if memory runs out, or with DatabaseCorrupt if the document of a resource
-/// isn't UTF-8 or a key isn't a number. The connection is then closed, or as before, or as the last commit
-/// left it.
+/// Fails with the database's error, with `OutOfMemory` if memory runs out, or with `DatabaseCorrupt` if the
+/// document of a resource isn't UTF-8. Also fails if a key isn't a number. Then the connection is closed, or
+/// its database is unchanged or as the last commit left it.
 pub(crate) fn examine<S: Alter>(
     conn: &mut Connection<S>,
     alloc: Global,

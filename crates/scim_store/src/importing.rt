@@ -31,8 +31,8 @@ pub enum ImportFault {
     NotEmpty,
     /// A resource has a location below another base URI.
     OtherBase,
-    /// The database failed with this error: a constraint if two resources have the same id or share a unique
-    /// name, or a failure of the disk or the memory.
+    /// The database failed with this error: a constraint error if two resources have the same id or share a
+    /// unique name, or another error if the disk failed or memory ran out.
     Database(Error),
     /// Memory ran out.
     NoMemory,
@@ -146,16 +146,16 @@ fn fill<S: Alter>(
     Ok(())
 }
 
-/// Creates the tables in a database without tables, indexes and views and stores these resources, in one
-/// transaction; the audit has no rows. The time is nearly linear in the number of resources.
+/// Creates the tables in a database without tables, indexes and views, and stores these resources, in one
+/// transaction. The audit has no rows. The time is nearly linear in the number of resources.
 ///
-/// Fails with OtherBase if a resource has a location below another base URI, with NotEmpty if the database
-/// has a table, an index or a view, with NoMemory, or with the database's error, such as a violated constraint
-/// if two resources have the same id or share a unique name. Then the database is as before or as the last
-/// commit left it, or the connection is closed.
+/// Fails with `OtherBase` if a resource has a location below another base URI, with `NotEmpty` if the
+/// database has a table, an index or a view, with `NoMemory` if memory runs out, or with the database's
+/// error, such as a constraint error if two resources have the same id or share a unique name. Then the
+/// database is unchanged or as the last commit left it, or the connection is closed.
 ///
 /// A crash during the call leaves what was there before, or the tables with all these resources. A crash
-/// after Ok leaves the tables with them, if the disk returns what was written.
+/// after a successful call leaves the tables with all these resources, if the disk returns what was written.
 pub fn import<S: Alter>(
     conn: &mut Connection<S>,
     alloc: Global,
@@ -175,12 +175,12 @@ pub fn import<S: Alter>(
     ensures other_base { result ≡ Err ImportFault.OtherBase
         → ¬ All (HasBase base.now) resources.now }
 
-    // A crash leaves what it could leave before, or, if the database was empty, the tables with all these
-    // resources.
+    // A crash leaves a state that a crash before the call could also leave, or, if the database was empty,
+    // the tables with all these resources.
     ensures crash { Survives (state S.Store conn.old) (state S.Store conn.new)
         (LeavesImported base.now resources.now (state S.Store conn.old)) }
 
-    // After Ok, a crash leaves these tables.
+    // After Ok, a crash leaves the tables with all these resources.
     ensures durable { HasCleanDisk (state S.Store conn.new)
         → OnOk result ((store : Store) → IsNewStore resources.now store
         → (trees : Trees) → (state S.Store conn.new).may_leave trees → AreOf base.now store trees) }

@@ -1,5 +1,5 @@
-//! The store of a service provider in a database of SQLite: a shelf over its tables, which are checked as a
-//! whole when a database is opened. Each change is committed in one transaction with its audit row.
+//! The store of a service provider in an SQLite database, as a shelf over its tables. All rows of the tables
+//! are checked when the database is opened. Each change is committed in one transaction with its audit row.
 #![tactic(auto)]
 
 mod changes;

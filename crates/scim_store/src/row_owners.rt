@@ -21,7 +21,7 @@ use sqlite::types::ValueRef;
 use std::cmp::Ordering;
 use std::collections::BTreeSet;
 
-/// Returns the value at a place of a row; NULL past its end.
+/// Returns the value at a place of a row; NULL if the row has no such column.
 pub(crate) fn value_in(row: &Row, place: usize) -> ValueRef<'_>
     ensures { owned result ≡ column row.now place }
 {
@@ -55,8 +55,8 @@ fn compare_owner(row: &Row, text: &str) -> Ordering
     }
 }
 
-/// Whether exactly the rows before `place` have a first column below the text. Tests only the two rows beside
-/// `place`. The rows must be sorted by their first column.
+/// Whether exactly the rows before `place` have a first column below the text. Tests only the row at `place`
+/// and the row before it. The rows must be sorted by their first column.
 fn is_start(rows: &[Row], text: &str, place: usize) -> bool
     ensures { result ≡ true → IsPartedAt (λ r.
         is_lt (value_cmp (column r 0) (Text text.now))) rows.now place }
@@ -66,8 +66,8 @@ fn is_start(rows: &[Row], text: &str, place: usize) -> bool
         && (place == rows.len() || compare_owner(&rows[place], text).is_ge())
 }
 
-/// Returns how many rows have a first column below the text. The rows must be sorted by their first column. Tries
-/// `near` before it searches.
+/// Returns how many rows have a first column below the text. The rows must be sorted by their first column.
+/// Tries `near` before it searches.
 fn start_of(rows: &[Row], text: &str, near: usize) -> usize
     ensures within { result ≤ length rows.now }
     ensures start { DoNotFall (0 ∷ []) rows.now
@@ -80,8 +80,8 @@ fn start_of(rows: &[Row], text: &str, near: usize) -> usize
     rows.partition_point(|row| compare_owner(row, text).is_lt())
 }
 
-/// Returns how many rows begin with the text or less, by a linear scan. The rows must be sorted by their
-/// first column.
+/// Returns how many rows have a first column that isn't above the text, by a linear scan. The rows must be
+/// sorted by their first column.
 fn count_of(rows: &[Row], text: &str) -> usize
     ensures within { result ≤ length rows.now }
     ensures count { DoNotFall (0 ∷ []) rows.now
@@ -96,8 +96,9 @@ fn count_of(rows: &[Row], text: &str) -> usize
     rows.len()
 }
 
-/// Returns the rows whose first column is the text. The rows must be sorted by that column. Starts at `near`
-/// and leaves it after the rows returned, so look-ups in ascending order need no search.
+/// Returns the rows whose first column is the text. The rows must be sorted by that column. Tries the index
+/// `near` first, and sets it to the index after the returned rows, so look-ups in ascending order need no
+/// search.
 pub(crate) fn rows_of<'r>(rows: &'r [Row], text: &str, near: &mut usize) -> &'r [Row]
     ensures { DoNotFall (0 ∷ []) rows.now
         → result.now ≡ filter (tables.has_text 0 text.now) rows.now }
@@ -109,7 +110,7 @@ pub(crate) fn rows_of<'r>(rows: &'r [Row], text: &str, near: &mut usize) -> &'r 
     &rest[..count]
 }
 
-/// Returns the id whose text the bytes are; None if they aren't the text of an id.
+/// Returns the id whose text is `bytes`; `None` if `bytes` isn't the text of an id.
 fn id_of(bytes: &[u8]) -> Option<Id>
     ensures some { IfSome result (λ id. bytes.now ≡ id_text id) }
     ensures id { IfSome result IsId }
@@ -121,7 +122,7 @@ fn id_of(bytes: &[u8]) -> Option<Id>
     }
 }
 
-/// Returns the id in a row's first column; None if that isn't the text of an id.
+/// Returns the id in the first column of a row; `None` if that column isn't the text of an id.
 fn owner_of(row: &Row) -> Option<Id>
     ensures some { IfSome result (λ id. is_of id row.now ≡ true) }
     ensures id { IfSome result IsId }
@@ -149,7 +150,8 @@ pub(crate) fn have_owners(rows: &[Row]) -> bool
     true
 }
 
-/// Adds the ids in the first columns of the rows to the set. After an error some of them may be in it.
+/// Adds the ids in the first columns of the rows to the set. After an error some of the ids may have been
+/// added.
 pub(crate) fn note_owners(rows: &[Row], ids: &mut BTreeSet<Id>) -> Result<(), NoMemory>
     ensures { OnOk result ((id : List ℕ) → IsId id
         → contains (slice_cmp nat_cmp) ids.new id

@@ -38,7 +38,7 @@ use std::alloc::Global;
 /// A shelf over the tables of a database, whose resources have locations below one base URI.
 ///
 /// It looks up resources by id, by unique name and by member value through the keys of the tables. Committing
-/// a resource with a location below another base fails with Device.
+/// a resource with a location below another base fails with `Device`.
 pub struct SqlShelf<S: Alter> {
     connection: Connection<S>,
     base: Text,
@@ -55,17 +55,17 @@ pub struct SqlShelf<S: Alter> {
 pub enum OpenFault {
     /// Its tables are of another version.
     WrongVersion,
-    /// Its tables don't hold a valid store: this is the least id whose rows are neither empty nor those of
-    /// one resource.
+    /// Its tables don't hold a valid store: this is the least id that has rows, but not exactly the rows of
+    /// one valid resource.
     Damaged(Id),
-    /// It belongs to another program, or its tables don't hold a valid store though the rows of each id are
+    /// It belongs to another program, or its tables don't hold a valid store although the rows of each id are
     /// valid, or it can't be read or written.
     Store,
     /// Memory ran out.
     NoMemory,
 }
 
-/// Returns the fault that an error of the database is when it is opened.
+/// Converts an error of the database to the fault with which opening it fails.
 fn open_fault_of(error: &Error) -> OpenFault
     ensures { (base : List ℕ) (db : Database) → Refuses base db result }
 {
@@ -78,8 +78,8 @@ fn open_fault_of(error: &Error) -> OpenFault
 impl<S: Alter> SqlShelf<S> {
     ghost use Rattle.scim_store.specs.SqlShelves.{connection_of, base_of, rows_of};
 
-    /// Returns a shelf over the tables of a connection, whose audit has `rows` rows. On an error it gives the
-    /// connection back.
+    /// Returns a shelf over the tables of a connection, whose audit has `rows` rows. An error contains the
+    /// connection, unchanged.
     fn over(
         alloc: Global,
         connection: Connection<S>,
@@ -113,8 +113,8 @@ impl<S: Alter> SqlShelf<S> {
         }
     }
 
-    /// Creates the tables in an empty database, in one transaction, and returns a shelf over them. On an
-    /// error it gives the connection back.
+    /// Creates the tables in an empty database, in one transaction, and returns a shelf over them. An error
+    /// contains the connection.
     fn begin(
         alloc: Global,
         connection: Connection<S>,
@@ -148,10 +148,13 @@ impl<S: Alter> SqlShelf<S> {
     /// are created in one transaction. Otherwise all rows are read and checked, in time nearly linear in
     /// their number.
     ///
-    /// Fails with WrongVersion or Damaged if the tables don't hold a valid store; with Store if they don't
-    /// either, if the connection is in a transaction, or if the device failed; or with NoMemory. The
-    /// connection is given back with the fault: it is closed, or its database is as before or as the last
-    /// commit left it, except that an empty one may have been given its tables.
+    /// Fails with `WrongVersion` if the tables are of another version, with `Damaged` if an id has rows, but
+    /// not exactly the rows of one valid resource, and with `Store` if the database belongs to another
+    /// program, if its tables don't hold a valid store for another reason, if the connection is in a
+    /// transaction, or if the device failed. Fails with `NoMemory` if memory runs out.
+    ///
+    /// An error also contains the connection: it is closed, or its database is unchanged or as the last
+    /// commit left it, except that the tables may have been created in an empty database.
     pub fn open(
         alloc: Global,
         connection: Connection<S>,
@@ -169,8 +172,8 @@ impl<S: Alter> SqlShelf<S> {
             → (state S.Store connection).now.schema ≢ no_schema
             → Rests (state S.Store connection) (state S.Store e.1)) }
 
-        // A crash leaves what it could leave before, or, if the database was empty, the tables of an empty
-        // store.
+        // A crash leaves a state that a crash before the call could also leave, or, if the database was
+        // empty, the tables of an empty store.
         ensures crash { IfOk result (λ shelf.
             Survives (state S.Store connection) (state S.Store (connection_of shelf))
             (LeavesBegun base.now (state S.Store connection))) }
@@ -191,11 +194,12 @@ impl<S: Alter> SqlShelf<S> {
         }
     }
 
-    /// Returns the audit rows from number `from` on, in order, at most `count`. The first row has number 1,
-    /// and 0 counts as 1. Of a refused method, the methods of its endpoint aren't stored: those of a
-    /// collection are returned.
+    /// Returns at most `count` audit rows from number `from` on, in order. The first row has number 1, and 0
+    /// counts as 1. The refusal `BadMethod` is returned with the methods of a collection, since the methods
+    /// of the requested endpoint aren't stored.
     ///
-    /// Fails with Device if the device failed. An error leaves the stored resources and the audit unchanged.
+    /// Fails with `Device` if the device failed. An error leaves the stored resources and the audit
+    /// unchanged.
     pub fn audit_rows(
         &mut self,
         alloc: Global,
@@ -213,7 +217,7 @@ impl<S: Alter> SqlShelf<S> {
         told(&mut self.failures, read)
     }
 
-    /// Returns the connection of the shelf, as it is.
+    /// Returns the connection of the shelf, unchanged.
     pub fn into_connection(self) -> Connection<S>
         ensures connection { result ≡ connection_of self }
         ensures idle { result.in_transaction ≡ false }
@@ -228,8 +232,8 @@ impl<S: Alter> SqlShelf<S> {
     }
 }
 
-/// Returns the shelf's fault for a fault of the database: NoMemory, or Device, which is counted in
-/// `failures`.
+/// Converts a fault of a commit to a fault of the shelf: `NoMemory` if memory ran out, and otherwise
+/// `Device`, which is counted in `failures`.
 fn fault_of(failures: &mut u64, fault: &CommitFault) -> Failed<ShelfFault>
     ensures counted { failures.new ≡ count_after failures.old result }
     ensures device { result ≡ Failed.Because ShelfFault.Device
@@ -248,7 +252,7 @@ fn fault_of(failures: &mut u64, fault: &CommitFault) -> Failed<ShelfFault>
     }
 }
 
-/// Returns the result of a read as the shelf's, counting a failure of the device.
+/// Converts the result of a read to a result of the shelf, and counts a failure of the device in `failures`.
 fn told<T>(failures: &mut u64, found: Result<T, Error>) -> Result<T, Failed<ShelfFault>>
     ensures same { IfOk result (λ x. found ≡ Ok x) }
     ensures counts { Counts failures.old failures.new result }
@@ -262,7 +266,8 @@ fn told<T>(failures: &mut u64, found: Result<T, Error>) -> Result<T, Failed<Shel
     }
 }
 
-/// Returns the result of a commit as the shelf's, counting the new audit row or a failure of the device.
+/// Converts the result of a commit to a result of the shelf. Counts the new audit row in `rows`, or a failure
+/// of the device in `failures`.
 fn told_commit(
     failures: &mut u64,
     rows: &mut u64,

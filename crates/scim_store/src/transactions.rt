@@ -30,7 +30,7 @@ fn delete_names<S: Alter>(tx: &mut Transaction<'_, S>, names: &[UniqueName]) -> 
     Ok(())
 }
 
-/// Inserts unique names with the id of their owner.
+/// Inserts unique names with the id of the resource that has them.
 fn insert_names<S: Alter>(
     tx: &mut Transaction<'_, S>,
     id: &str,
@@ -82,7 +82,7 @@ fn insert_members<S: Alter>(
     Ok(())
 }
 
-/// Inserts the row of the resource, if there is a document.
+/// Inserts the row of the resource, if the edits have a document.
 fn put_resource<S: Alter>(tx: &mut Transaction<'_, S>, edits: &Edits) -> Result<(), Error>
     ensures does { DoesIn S.Store tx.old tx.new result
         (λ old new. (lists : Lists) → Are old lists
@@ -102,8 +102,8 @@ fn put_resource<S: Alter>(tx: &mut Transaction<'_, S>, edits: &Edits) -> Result<
     }
 }
 
-/// Updates the row of the resource with the id, or inserts it if there isn't one. Fails with DatabaseCorrupt
-/// if several rows have the id, or with the database's error.
+/// Updates the row of the resource with the id, or inserts it if there isn't one. Fails with
+/// `DatabaseCorrupt` if several rows have the id, or with the database's error.
 fn replace_resource<S: Alter>(
     tx: &mut Transaction<'_, S>,
     id: &str,
@@ -128,7 +128,7 @@ fn replace_resource<S: Alter>(
     }
 }
 
-/// Writes the row of the resource if there is a document, and deletes it otherwise.
+/// Writes the row of the resource if the edits have a document, and deletes the row otherwise.
 fn edit_resource<S: Alter>(tx: &mut Transaction<'_, S>, edits: &Edits) -> Result<(), Error>
     ensures does { DoesIn S.Store tx.old tx.new result
         (λ old new. (lists : Lists) → Are old lists
@@ -151,7 +151,7 @@ fn edit_resource<S: Alter>(tx: &mut Transaction<'_, S>, edits: &Edits) -> Result
     }
 }
 
-/// Deletes the names and members that the edits remove.
+/// Deletes the rows of the names and members that the edits remove.
 fn take_names_and_members<S: Alter>(tx: &mut Transaction<'_, S>, edits: &Edits) -> Result<(), Error>
     ensures does { DoesIn S.Store tx.old tx.new result
         (λ old new. (lists : Lists) → Are old lists → Are new (record lists {
@@ -163,7 +163,7 @@ fn take_names_and_members<S: Alter>(tx: &mut Transaction<'_, S>, edits: &Edits) 
     delete_members(tx, edits.id.as_str(), edits.members_gone.as_slice())
 }
 
-/// Inserts the names and members that the edits add.
+/// Inserts the rows of the names and members that the edits add.
 fn put_names_and_members<S: Alter>(tx: &mut Transaction<'_, S>, edits: &Edits) -> Result<(), Error>
     ensures does { DoesIn S.Store tx.old tx.new result
         (λ old new. (lists : Lists) → Are old lists → Are new (record lists {
@@ -188,7 +188,7 @@ pub(crate) fn put_rows<S: Alter>(tx: &mut Transaction<'_, S>, edits: &Edits) -> 
     put_names_and_members(tx, edits)
 }
 
-/// Deletes the rows that the edits remove, and writes those that they add.
+/// Deletes the rows that the edits remove, and writes the rows that they add.
 fn edit_rows<S: Alter>(tx: &mut Transaction<'_, S>, edits: &Edits) -> Result<(), Error>
     ensures does { DoesIn S.Store tx.old tx.new result
         (λ old new. (lists : Lists) → Are old lists → Are new (edited edits.now lists)) }
@@ -227,9 +227,9 @@ fn write_rows<S: Alter>(
 /// Makes the edits of a change, if any, and adds its audit row, in one transaction. The row's number and
 /// moment must be at most 2^63 - 1.
 ///
-/// Fails with the database's error: a constraint if a row to insert has a key that is in use, a corrupt
-/// database if several rows have the resource's id, or a failure of the disk or the memory. Then nothing is
-/// changed, or the connection is closed.
+/// Fails with a constraint error if the key of a row to insert is in use, with `DatabaseCorrupt` if several
+/// rows have the id of the resource, or with another error of the database if the disk failed or memory ran
+/// out. Then nothing is changed, or the connection is closed.
 pub(crate) fn write_change<S: Alter>(
     conn: &mut Connection<S>,
     edits: &Option<Edits>,
@@ -245,7 +245,8 @@ pub(crate) fn write_change<S: Alter>(
     ensures undone { HasCleanDisk (state S.Store conn.new)
         → OnErr result (Undoes (state S.Store conn.old) (state S.Store conn.new)) }
 
-    // A crash leaves what it could leave before, or the tables with the change and its audit row.
+    // A crash leaves a state that a crash before the call could also leave, or the tables with the change and
+    // its audit row.
     ensures crash { Survives (state S.Store conn.old) (state S.Store conn.new)
         (Leaves (Writes edits.now columns.now) (state S.Store conn.old).now) }
 {

@@ -38,22 +38,22 @@ decided_number Hidden = 2
 decided_number Absent = 3
 decided_number Refused = 4
 
--- The number of a refusal, counted from 0; of a refused method, the methods of its endpoint aren't stored.
+-- The number of a refusal, counted from 0. It is the same for `BadMethod` with any methods.
 abbrev pub refusal_number : Refusal → ℕ
 refusal_number refusal = number_of refusal - 1
 
--- An audit row with its number, as a row of the table; a missing field is NULL.
+-- An audit row with its number, as a row of the table. A missing field is NULL.
 abbrev pub audit_row : ℕ → AuditRow → Row
 audit_row n row =
     number n ∷ number row.moment ∷ Text row.client ∷ number (op_number row.op) ∷ number (kind_number row.kind) ∷ or_null Text (option_map id_text row.id)
     ∷ number (decided_number row.decided) ∷ or_null number row.rule ∷ or_null Text (option_map leaf_path row.leaf) ∷ or_null number (option_map refusal_number row.refusal) ∷ []
 
--- Audit rows as rows of the table; the first has this number.
+-- Audit rows as rows of the table, numbered consecutively from `n`.
 abbrev pub audit_rows : ℕ → List AuditRow → List Row
 audit_rows n [] = []
 audit_rows n (row ∷ rows) = audit_row n row ∷ audit_rows (n + 1) rows
 
--- The texts of a row's id and leaf.
+-- `texts` has the texts of the id and the leaf of the row.
 pub record AreTexts (texts : AuditTexts) (row : AuditRow) : Type 0 where
   pub id : texts.id ≡ option_map id_text row.id
   pub leaf : texts.leaf ≡ option_map leaf_path row.leaf

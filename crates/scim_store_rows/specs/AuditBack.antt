@@ -7,7 +7,7 @@ use Rattle.scim_schema.specs.Table.{HasLeaf}
 use Rattle.scim_cell.specs.Ids.{IsId}
 use Rattle.scim_audit.specs.declared.audit_rows.AuditRow.{AuditRow}
 
--- Reading back finds a valid value with the image `y`, or nothing if no valid value has that image.
+-- The result of reading back `y`: a valid value whose image is `y`, or `None` if there is no such value.
 abbrev pub ReadsBack : {X Y : Type 0} → (X → Type 0) → (X → Y) → Y → Option X → Type 0
 ReadsBack {X = X} IsOne image y None = (x : X) → IsOne x → image x ≢ y
 ReadsBack IsOne image y (Some x) = IsOne x × (image x ≡ y)
@@ -16,12 +16,12 @@ ReadsBack IsOne image y (Some x) = IsOne x × (image x ≡ y)
 abbrev pub Any : {X : Type 0} → X → Type 0
 Any x = ⊤
 
--- A leaf of some kind.
+-- Users or groups have the leaf.
 abbrev pub IsAnyLeaf : Leaf → Type 0
 IsAnyLeaf leaf = HasLeaf User leaf ⊎ HasLeaf Group leaf
 
--- A valid audit row: its moment is in range, its client's name is UTF-8, its id is an id, its rule number has
--- 32 bits, and its leaf is one of some kind.
+-- A valid audit row: its moment is in range, its client's name is UTF-8, its id is valid, its rule number
+-- has 32 bits, and users or groups have its leaf.
 pub record IsSound (row : AuditRow) : Type 0 where
   pub moment : row.moment ≤ last_moment
   pub client : IsUtf8 row.client

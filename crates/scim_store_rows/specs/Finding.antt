@@ -14,7 +14,7 @@ use Rattle.scim_store_rows.specs.Stands.{StandsFor}
 abbrev pub StandsIn : List ℕ → State → Store → Type 0
 StandsIn base s store = IsTrue s.is_open → StandsFor base s.now store
 
--- A document reads as a resource, and no document as no resource.
+-- Either `text` is a valid document of the resource, or there is neither a document nor a resource.
 abbrev pub Reads : List ℕ → Option (List ℕ) → Option Content → Type 0
 Reads base None None = Unit {0}
 Reads base (Some text) (Some c) = IsDocumentText base text c

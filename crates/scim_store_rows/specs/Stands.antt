@@ -25,12 +25,13 @@ pub record Entry : Type 0 where
 abbrev pub is_among : List ℕ → List (List ℕ) → Bool
 is_among value values = list_any (pointwise nat_eq value) values
 
--- The values are those that a resource lists among its members, each once (RFC 7643 section 4.2).
+-- The values are exactly the ones that a resource lists among its members, each once (RFC 7643 section 4.2).
 pub record AreMembers (c : Content) (values : List (List ℕ)) : Type 0 where
   pub once : AllPairs (λ v w. v ≢ w) values
   pub listed : (value : List ℕ) → is_among value values ≡ lists_value value c
 
--- An entry's document reads as its resource, and its values are those that the resource lists.
+-- The entry has a valid document of its resource, and exactly the values that the resource lists among its
+-- members.
 pub record IsEntry (base : List ℕ) (e : Entry) : Type 0 where
   pub document : IsDocumentText base e.document e.content
   pub members : AreMembers e.content e.members
@@ -59,10 +60,10 @@ member_rows e = map (member_row e.content.id) e.members
 abbrev pub lists_of : List Entry → List AuditRow → Lists
 lists_of entries audit = record { resources = map resource_row entries; taken = flat_map name_rows entries; member = flat_map member_rows entries; audit = audit_rows 1 audit }
 
--- A database holds a store of resources with locations below the base URI. It has exactly the five tables. `resource`
--- has a row for each resource, whose document reads as it; `taken` has one for each unique name of each resource;
--- `member` has one for each value that a group lists; and `audit` has the rows of the store's audit, numbered from 1.
--- The store's resources are in order of id, and no two share a unique name.
+-- A database holds a store of resources with locations below the base URI. It has exactly the five tables.
+-- `resource` has a row with a valid document for each resource; `taken` has a row for each unique name of
+-- each resource; `member` has a row for each value that a group lists; and `audit` has the audit rows of the
+-- store, numbered from 1. The resources of the store are in order of id, and no two share a unique name.
 pub record StandsFor (base : List ℕ) (db : Database) (store : Store) : Type 0 where
   pub entries : List Entry
   pub resources : map (λ e. e.content) entries ≡ store.resources

@@ -13,7 +13,7 @@ use scim_store_tables::AuditColumns;
 use scim_text::NoMemory;
 use std::alloc::Global;
 
-/// The texts of an audit row that its columns borrow.
+/// The texts of the id and the leaf of an audit row, which [`AuditColumns`] borrows.
 #[derive(Drop)]
 pub struct AuditTexts {
     id: Option<Text>,
@@ -41,7 +41,7 @@ fn leaf_of(alloc: Global, leaf: Option<Leaf>) -> Result<Option<Text>, NoMemory>
 }
 
 impl AuditTexts {
-    /// Returns the texts of a row.
+    /// Returns the texts of the id and the leaf of an audit row.
     pub fn of(alloc: Global, row: &AuditRow) -> Result<AuditTexts, NoMemory>
         ensures { IfOk result (λ texts. spec.AreTexts texts row.now) }
     {
@@ -106,7 +106,7 @@ fn text_in(text: &Option<Text>) -> Option<&str>
     }
 }
 
-/// Returns the columns of an audit row with its number. `texts` must be those of the row.
+/// Returns the columns of an audit row with this number. `texts` must be the texts of the row.
 pub fn columns_of<'a>(number: u64, row: &'a AuditRow, texts: &'a AuditTexts) -> AuditColumns<'a>
     requires { spec.AreTexts texts.now row.now }
     ensures values { audit_values result ≡ spec.audit_row number row.now }

@@ -21,7 +21,7 @@ use sqlite::Row;
 use sqlite::types::ValueRef;
 use std::str::from_utf8;
 
-/// Returns the integer in a column; None for NULL and for other types.
+/// Returns the integer in a column; `None` for NULL and for other types.
 fn integer_in(row: &Row, place: usize) -> Option<i64>
     requires { place < length row.now }
     ensures { ReadsBack Any Int (column row.now place) result }
@@ -32,7 +32,7 @@ fn integer_in(row: &Row, place: usize) -> Option<i64>
     }
 }
 
-/// Returns the number in a column; None unless it is an integer of at least 0.
+/// Returns the number in a column; `None` unless it is an integer of at least 0.
 pub(crate) fn number_in(row: &Row, place: usize) -> Option<u64>
     requires { place < length row.now }
     ensures { ReadsBack Any columns.number (column row.now place) result }
@@ -40,7 +40,7 @@ pub(crate) fn number_in(row: &Row, place: usize) -> Option<u64>
     u64::try_from(integer_in(row, place)?).ok()
 }
 
-/// Returns the text in a column; None for NULL, for other types, and for a text that isn't UTF-8.
+/// Returns the text in a column; `None` for NULL, for other types, and for a text that isn't UTF-8.
 pub(crate) fn text_in(row: &Row, place: usize) -> Option<&str>
     requires { place < length row.now }
     ensures { ReadsBack IsUtf8 Text (column row.now place) (option_copied result) }
@@ -51,7 +51,7 @@ pub(crate) fn text_in(row: &Row, place: usize) -> Option<&str>
     }
 }
 
-/// Returns the moment in a column; None unless it is an integer in the range of moments.
+/// Returns the moment in a column; `None` unless it is an integer in the range of [`Moment`].
 pub(crate) fn moment_in(row: &Row, place: usize) -> Option<Moment>
     requires { place < length row.now }
     ensures { ReadsBack (λ m. m ≤ last_moment) columns.number (column row.now place) result }
@@ -59,7 +59,7 @@ pub(crate) fn moment_in(row: &Row, place: usize) -> Option<Moment>
     Moment::new(integer_in(row, place)?)
 }
 
-/// Returns the operation whose number is in a column; None if no operation has it.
+/// Returns the operation whose number is in a column; `None` if no operation has it.
 pub(crate) fn op_in(row: &Row, place: usize) -> Option<Op>
     requires { place < length row.now }
     ensures { ReadsBack Any (λ op. columns.number (spec.op_number op))
@@ -68,7 +68,7 @@ pub(crate) fn op_in(row: &Row, place: usize) -> Option<Op>
     op_of(number_in(row, place)?)
 }
 
-/// Returns the kind whose number is in a column; None if no kind has it.
+/// Returns the kind whose number is in a column; `None` if no kind has it.
 pub(crate) fn kind_in(row: &Row, place: usize) -> Option<Kind>
     requires { place < length row.now }
     ensures { ReadsBack Any (λ kind. columns.number (spec.kind_number kind))
@@ -77,7 +77,7 @@ pub(crate) fn kind_in(row: &Row, place: usize) -> Option<Kind>
     kind_of(number_in(row, place)?)
 }
 
-/// Returns the decision whose number is in a column; None if no decision has it.
+/// Returns the decision whose number is in a column; `None` if no decision has it.
 pub(crate) fn decided_in(row: &Row, place: usize) -> Option<Decided>
     requires { place < length row.now }
     ensures { ReadsBack Any (λ decided. columns.number (spec.decided_number decided))
@@ -94,7 +94,7 @@ fn is_null(row: &Row, place: usize) -> bool
     matches!(row.get_ref(place), Ok(ValueRef::Null))
 }
 
-/// Returns the id whose text is in a column, Some(None) for NULL; None for anything else.
+/// Returns the id whose text is in a column, `Some(None)` for NULL, and `None` for any other value.
 pub(crate) fn id_in(row: &Row, place: usize) -> Option<Option<Id>>
     requires { place < length row.now }
     ensures { ReadsBack (λ id. IfSome id IsId) (λ id. or_null Text (option_map id_text id))
@@ -107,7 +107,8 @@ pub(crate) fn id_in(row: &Row, place: usize) -> Option<Option<Id>>
     Some(Some(id))
 }
 
-/// Returns the rule number in a column, Some(None) for NULL; None for anything but an integer of 32 bits.
+/// Returns the rule number in a column, `Some(None)` for NULL, and `None` for any value that isn't an
+/// unsigned 32-bit integer.
 pub(crate) fn rule_in(row: &Row, place: usize) -> Option<Option<u32>>
     requires { place < length row.now }
     ensures { ReadsBack (λ rule. IfSome rule (λ n. n < 2 ^ 32)) (λ rule.
@@ -120,7 +121,7 @@ pub(crate) fn rule_in(row: &Row, place: usize) -> Option<Option<u32>>
     Some(Some(rule))
 }
 
-/// Returns the leaf whose path is in a column, Some(None) for NULL; None for anything else.
+/// Returns the leaf whose path is in a column, `Some(None)` for NULL, and `None` for any other value.
 pub(crate) fn leaf_in(row: &Row, place: usize) -> Option<Option<Leaf>>
     requires { place < length row.now }
     ensures { ReadsBack (λ leaf. IfSome leaf IsAnyLeaf) (λ leaf.
@@ -134,7 +135,7 @@ pub(crate) fn leaf_in(row: &Row, place: usize) -> Option<Option<Leaf>>
     Some(Some(leaf))
 }
 
-/// Returns the refusal whose number is in a column, Some(None) for NULL; None for anything else.
+/// Returns the refusal whose number is in a column, `Some(None)` for NULL, and `None` for any other value.
 pub(crate) fn refusal_in(row: &Row, place: usize) -> Option<Option<Refusal>>
     requires { place < length row.now }
     ensures { ReadsBack Any (λ refusal.

@@ -21,8 +21,8 @@ use std::alloc::Global;
 /// The largest number of an audit row, 2^63 - 1: the largest integer of SQL.
 pub const LAST_NUMBER: u64 = 9_223_372_036_854_775_807;
 
-/// Returns the first number and the end, exclusive, of the rows to read. SQL has no number above its largest,
-/// so the end is at most that, and the first number is below it.
+/// Returns the range of the numbers of the rows to read, as the first number and the exclusive end. The end
+/// is at most 2^63 - 1, the largest integer of SQL, and the first number is below 2^63 - 1.
 fn span(from: u64, count: u64) -> (u64, u64)
     ensures { IsSpan from count result.0 result.1 }
 {
@@ -31,7 +31,7 @@ fn span(from: u64, count: u64) -> (u64, u64)
     (from.min(LAST_NUMBER - 1), end)
 }
 
-/// Returns a number as SQL has it.
+/// Converts a number to an SQL integer.
 fn sql_number(number: u64) -> i64
     requires { number ≤ last_number }
     ensures { result ≡ pos number }
@@ -39,9 +39,10 @@ fn sql_number(number: u64) -> i64
     number as i64
 }
 
-/// Reads the audit rows that a query found from `first` to `end`, exclusive. Fails with DatabaseCorrupt if a
-/// row isn't valid, or if memory runs out. Fails with TooBig if the rows reach up to the largest number: the
-/// row with that number, which the query can't include, may be missing.
+/// Reads the audit rows that a query returned for the numbers from `first` to `end`, exclusive. Fails with
+/// `DatabaseCorrupt` if a row isn't valid, and with `OutOfMemory` if memory runs out. Fails with `TooBig` if
+/// `end` is the largest number and there is a row for each number before it: then the row with the largest
+/// number, which the query can't include, may be missing.
 fn read_span(alloc: Global, first: u64, end: u64, rows: &[Row]) -> Result<Vec<AuditRow>, Error>
     requires { first ≤ last_number }
     ensures read { IfOk result (λ read. audit_rows first read.items ≡ rows.now) }
@@ -57,12 +58,13 @@ fn read_span(alloc: Global, first: u64, end: u64, rows: &[Row]) -> Result<Vec<Au
     }
 }
 
-/// Returns the audit rows from number `from` on, in order, at most `count`. The first row has number 1, and 0
-/// counts as 1. Of a refused method, the methods of its endpoint aren't stored: those of a collection are
-/// returned.
+/// Returns at most `count` audit rows from number `from` on, in order. The first row has number 1, and 0
+/// counts as 1. The refusal `BadMethod` is returned with the methods of a collection, since the methods of
+/// the requested endpoint aren't stored.
 ///
-/// Fails as [`crate::find_by_id`] does, with DatabaseCorrupt if a row of the table isn't a valid audit row,
-/// or with TooBig if the rows to return reach 2^63 - 1, the largest number.
+/// Fails with the database's error, with `OutOfMemory` if memory runs out, with `DatabaseCorrupt` if a row of
+/// the table isn't a valid audit row, or with `TooBig` if the rows to return reach 2^63 - 1, the largest
+/// number. Then the connection is closed, or its database is unchanged or as the last commit left it.
 pub fn read_audit_rows<S: Alter>(
     conn: &mut Connection<S>,
     alloc: Global,

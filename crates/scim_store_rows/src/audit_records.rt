@@ -18,8 +18,8 @@ use std::alloc::Global;
 /// The number of columns of the table `audit`.
 const COLUMNS: usize = 10;
 
-/// Returns the audit row with this client's name, reading all other fields from the columns; None if one
-/// isn't valid.
+/// Returns the audit row with this client name. Reads all other fields from the columns; returns `None` if
+/// one of them isn't valid.
 fn read_fields(client: Text, row: &Row) -> Option<AuditRow>
     requires long { length row.now ≡ 10 }
     requires client { column row.now 2 ≡ SqlText client }
@@ -40,9 +40,9 @@ fn read_fields(client: Text, row: &Row) -> Option<AuditRow>
     })
 }
 
-/// Reads the audit row with this number from a row of the table; None if the row isn't valid, or has another
-/// number. Of a refused method, the methods of its endpoint aren't stored: those of a collection are
-/// returned.
+/// Reads the audit row with this number from a row of the table; `None` if the row isn't valid, or has
+/// another number. The refusal `BadMethod` is returned with the methods of a collection, since the methods of
+/// the requested endpoint aren't stored.
 pub(crate) fn read_audit_row(
     alloc: Global,
     number: u64,
@@ -60,8 +60,8 @@ pub(crate) fn read_audit_row(
     Ok(read_fields(client, row))
 }
 
-/// Reads audit rows from rows of the table, the first of which has the number `first`; None if one isn't
-/// valid, or isn't numbered one above the row before it. Refused methods are read as by [`read_audit_row`].
+/// Reads audit rows from rows of the table; `None` if a row isn't valid, or if the rows aren't numbered
+/// consecutively from `first`. The refusal `BadMethod` is returned with the methods of a collection.
 pub fn are_audit_rows(
     alloc: Global,
     first: u64,

@@ -30,15 +30,15 @@ fn sub_attribute_in(sub_attributes: &[SubAttribute], name: &str) -> Option<SubAt
     sub_attributes.iter().copied().find(|s| s.name() == name)
 }
 
-/// Returns the sub-attribute of any attribute that has this name.
+/// Returns the sub-attribute with this name, whichever attribute it belongs to.
 fn sub_attribute_of(name: &str) -> Option<SubAttribute>
     ensures { ReadsBack Any sub_attribute_name name.now result }
 {
     sub_attribute_in(SubAttribute::all(), name)
 }
 
-/// Returns the attribute that a path names, and its sub-attribute if it names one. They may be no leaf of
-/// any kind.
+/// Returns the attribute and the sub-attribute, if any, that a path names; `None` if a name is unknown. It
+/// isn't tested that the attribute has the sub-attribute.
 fn named_in(path: &str) -> Option<Leaf>
     ensures { ReadsBack Any rows.leaf_path path.now result }
 {
@@ -54,14 +54,15 @@ fn named_in(path: &str) -> Option<Leaf>
     }
 }
 
-/// Whether a leaf is one of some kind.
+/// Whether users or groups have this leaf.
 fn is_any_leaf(leaf: Leaf) -> bool
     ensures { IsTrue result ↔ IsAnyLeaf leaf }
 {
     has_leaf(Kind::User, leaf) || has_leaf(Kind::Group, leaf)
 }
 
-/// Returns the leaf with this path, such as `userName` or `emails.value`; None if no leaf of any kind has it.
+/// Returns the leaf with this path, such as `userName` or `emails.value`; `None` if neither users nor groups
+/// have such a leaf.
 pub(crate) fn leaf_of_path(path: &str) -> Option<Leaf>
     ensures { ReadsBack IsAnyLeaf rows.leaf_path path.now result }
 {

@@ -25,8 +25,8 @@ use scim_value::{Resource, UniqueName};
 use sqlite::{Alter, Connection, Error, ErrorCode, Row};
 use std::alloc::Global;
 
-/// Reads the resource of a document, if any. Fails with DatabaseCorrupt if the document isn't valid, or if
-/// memory runs out.
+/// Reads a resource from its document; `None` if there is no document. Fails with `DatabaseCorrupt` if the
+/// document isn't valid, and with `OutOfMemory` if memory runs out.
 pub(crate) fn read_document(
     alloc: Global,
     base: &str,
@@ -44,11 +44,12 @@ pub(crate) fn read_document(
     }
 }
 
-/// Returns the resource of this kind with this id; None if there isn't one (RFC 7644 section 3.4.1). Its
+/// Returns the resource of this kind with this id; `None` if there isn't one (RFC 7644 section 3.4.1). Its
 /// location is below the base URI.
 ///
-/// Fails with the database's error, if memory runs out, or with DatabaseCorrupt if the document isn't valid.
-/// The connection is then closed, or as before, or as the last commit left it.
+/// Fails with the database's error, with `OutOfMemory` if memory runs out, or with `DatabaseCorrupt` if the
+/// document isn't valid. Then the connection is closed, or its database is unchanged or as the last commit
+/// left it.
 pub fn find_by_id<S: Alter>(
     conn: &mut Connection<S>,
     alloc: Global,
@@ -71,7 +72,7 @@ pub fn find_by_id<S: Alter>(
     read_document(alloc, base, document)
 }
 
-/// Reads an id from a text in the tables. Fails with DatabaseCorrupt if the text isn't an id.
+/// Reads an id from a text in the tables. Fails with `DatabaseCorrupt` if the text isn't an id.
 fn read_id(text: &str) -> Result<Id, Error>
     ensures value { IfOk result (λ id. text.now ≡ id_text id) }
     ensures id { IfOk result IsId }
@@ -82,15 +83,16 @@ fn read_id(text: &str) -> Result<Id, Error>
     }
 }
 
-/// Whether a user's name at this leaf is unique.
+/// Whether the values of users at this leaf must be unique.
 fn is_unique(leaf: Leaf) -> bool
     ensures { result ≡ list_any (λ l. is_same_leaf l leaf) (unique_leaves User) }
 {
     unique_leaves(Kind::User).contains(&leaf)
 }
 
-/// Reads the id of the owner that was found for a name at the leaf. Returns None if the leaf isn't unique:
-/// then no resource has a unique name there.
+/// Reads the id of the owner that was found for a name at the leaf. Returns `None` if no owner was found, or
+/// if values at the leaf needn't be unique, so that no resource has a unique name there. Fails with
+/// `DatabaseCorrupt` if the text isn't an id.
 fn read_owner(leaf: Leaf, owner: Option<String>) -> Result<Option<Id>, Error>
     ensures unique { list_any (λ l. is_same_leaf l leaf) (unique_leaves User) ≡ true
         → IfOk result (λ id. option_map id_text id ≡ option_map string_bytes owner) }
@@ -104,7 +106,7 @@ fn read_owner(leaf: Leaf, owner: Option<String>) -> Result<Option<Id>, Error>
     }
 }
 
-/// Returns the id of the resource that has a unique name; None if no resource has it.
+/// Returns the id of the resource that has a unique name; `None` if no resource has it.
 fn find_owner_id<S: Alter>(conn: &mut Connection<S>, name: &UniqueName) -> Result<Option<Id>, Error>
     ensures mode { conn.old.in_transaction ≡ false → conn.new.in_transaction ≡ false }
     ensures clean { doubt (state S.Store conn.old).is_clean
@@ -123,7 +125,7 @@ fn find_owner_id<S: Alter>(conn: &mut Connection<S>, name: &UniqueName) -> Resul
     read_owner(name.leaf, owner)
 }
 
-/// Returns the resource that has the unique name; None if no resource has it (RFC 7643 section 2.2,
+/// Returns the resource that has the unique name; `None` if no resource has it (RFC 7643 section 2.2,
 /// uniqueness). Its location is below the base URI.
 ///
 /// Fails as [`find_by_id`] does.
@@ -152,7 +154,7 @@ pub fn find_owner_of_name<S: Alter>(
 }
 
 /// Returns the group whose id is in the first column of a row. Fails as [`find_by_id`] does, and with
-/// DatabaseCorrupt if there is no such group.
+/// `DatabaseCorrupt` if there is no such group.
 fn find_group<S: Alter>(
     conn: &mut Connection<S>,
     alloc: Global,
@@ -209,7 +211,7 @@ fn find_groups<S: Alter>(
 /// Returns the groups that list the value among their members, in order of id (RFC 7643 section 4.2). Their
 /// locations are below the base URI.
 ///
-/// Fails as [`find_by_id`] does, and with DatabaseCorrupt if an indexed group is missing.
+/// Fails as [`find_by_id`] does, and with `DatabaseCorrupt` if a group in the table `member` is missing.
 pub fn find_groups_with<S: Alter>(
     conn: &mut Connection<S>,
     alloc: Global,

@@ -23,8 +23,9 @@ use scim_value::Resource;
 use sqlite::{Alter, Connection, Error, ErrorCode, Row};
 use std::alloc::Global;
 
-/// Reads the resource of a row, if it is of the kind. Fails with DatabaseCorrupt if the document isn't valid,
-/// with the error of a column of another type, or if memory runs out.
+/// Reads the resource of a row; `None` if it isn't of the kind. Fails with `DatabaseCorrupt` if the document
+/// isn't valid, with the database's error if a column has the wrong type, and with `OutOfMemory` if memory
+/// runs out.
 fn read_row(alloc: Global, base: &str, kind: Kind, row: &Row) -> Result<Option<Resource>, Error>
     ensures { IfOk result (λ found. (e : Entry) → IsEntry base.now e → row.now ≡ resource_row e
         → option_to_list found ≡ of_kind kind (e.content ∷ [])) }
@@ -38,7 +39,7 @@ fn read_row(alloc: Global, base: &str, kind: Kind, row: &Row) -> Result<Option<R
 }
 
 /// Passes the resource of a row to the visitor, if it is of the kind. Fails as `read_row` does, or with
-/// OutOfMemory if the visitor can't allocate. After any error but OutOfMemory the visitor has taken nothing.
+/// `OutOfMemory` if the visitor can't allocate. After any other error the visitor is unchanged.
 fn show_row<V: Visitor>(
     alloc: Global,
     base: &str,
@@ -63,8 +64,8 @@ fn show_row<V: Visitor>(
 /// Passes the resources of the kind to the visitor, in order of id, each as soon as its row is read. Their
 /// locations are below the base URI.
 ///
-/// Fails as [`crate::find_by_id`] does, or with OutOfMemory if the visitor can't allocate. After OutOfMemory
-/// the visitor is unusable; after any other error it has taken the first of the resources, or none.
+/// Fails as [`crate::find_by_id`] does, or with `OutOfMemory` if the visitor can't allocate. After
+/// `OutOfMemory` the visitor is unusable; after any other error it has taken a prefix of these resources.
 pub fn walk<S: Alter, V: Visitor>(
     conn: &mut Connection<S>,
     alloc: Global,

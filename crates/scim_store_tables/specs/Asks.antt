@@ -33,9 +33,10 @@ pub record IsAnswered (q : Query) (params : Row) (old new : State) (rows : List 
   pub unchanged : IsUnchanged old new
   pub answer : IsAnswer q (overlay old.now.trees []) params rows
 
--- Running a text begins no transaction. If the text is a query on the five tables, a crash leaves only what
--- it could leave before, and the rows are the query's result. After an error the connection is closed, or as
--- before, or as the last commit left it.
+-- The postcondition of running an SQL text. It begins no transaction. If the text is a query on the five
+-- tables, the rows are the result of the query, and a crash leaves only a state that a crash before the call
+-- could also leave. After an error the connection is closed, or its database is unchanged or as the last
+-- commit left it.
 pub record IsAsked (text : List ℕ) (params : Row) (old new : State) (result : Result (Vec Row) Error) : Type 0 where
   pub mode : old.in_transaction ≡ false → new.in_transaction ≡ false
   pub clean : doubt old.is_clean ≤ doubt new.is_clean

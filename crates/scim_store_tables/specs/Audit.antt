@@ -11,11 +11,11 @@ use Rattle.scim_store_tables.specs.declared.audit.AuditColumns.{AuditColumns}
 abbrev pub last_number : ℕ
 last_number = 9223372036854775807
 
--- A number as a value of SQL.
+-- A number as an SQL integer.
 abbrev pub number : ℕ → Value
 number n = Int (pos n)
 
--- The row with these columns; None is NULL.
+-- The row with these columns; `None` becomes NULL.
 abbrev pub audit_values : AuditColumns → Row
 audit_values a =
     number a.number ∷ number a.moment ∷ Text a.client.now ∷ number a.op ∷ number a.kind ∷ or_null Text (option_copied a.id) ∷ number a.decided ∷ or_null number a.rule ∷ or_null Text (option_copied a.leaf) ∷ or_null number a.refusal ∷ []

@@ -29,7 +29,8 @@ pub record AreKeyed (rows : List Row) : Type 0 where
   pub keyed : AllByRecursion (λ r. is_int (rowid r) ≡ true) rows
   pub once : (id : ℤ) → length (filter (has_rowid id) rows) ≤ 1
 
--- A table's rows have keys, and a query returns these values from them, in some order.
+-- Each row of a table has a key, no key occurs twice, and a query returns `values` from these rows, in some
+-- order.
 pub record IsTableOf (shows : Row → Row) (rows values : List Row) : Type 0 where
   pub keys : AreKeyed rows
   pub same : IsPermutation (map shows rows) values
@@ -38,7 +39,7 @@ pub record IsTableOf (shows : Row → Row) (rows values : List Row) : Type 0 whe
 abbrev pub version_values : Row
 version_values = Text (codes "version") ∷ Int (pos 1) ∷ []
 
--- The contents of the tables, each in any order.
+-- The contents of the tables except `setting`. The rows of a table may be in any order.
 pub record Lists : Type 0 where
   -- Columns id, kind and document.
   pub resources : List Row
@@ -49,7 +50,7 @@ pub record Lists : Type 0 where
   -- Columns number, moment, client, op, kind, id, decided, rule, leaf and refusal.
   pub audit : List Row
 
--- The database has exactly the five tables, and they hold these rows.
+-- The database has exactly the five tables, with these rows and version 1.
 pub record Are (db : Database) (lists : Lists) : Type 0 where
   pub schema : db.schema ≡ store_schema
   pub version : IsTableOf pair (db.trees 0) (version_values ∷ [])

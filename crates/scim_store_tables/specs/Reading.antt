@@ -11,7 +11,7 @@ use Rattle.sqlite.specs.Tree.{IsAscending}
 use Rattle.scim_store_tables.specs.Tables.{store_schema}
 use Rattle.scim_store_tables.specs.Lists.{Lists, Are, pair, triple, entry, has_text}
 
--- A failed query leaves the connection closed, or its database as before or as the last commit left it.
+-- After a failed query the connection is closed, or its database is unchanged or as the last commit left it.
 pub record Rests (old new : State) : Type 0 where
   pub was_open : IsTrue new.is_open → IsTrue old.is_open
   pub now : IsTrue new.is_open → (new.now ≡ old.now) ⊎ (new.now ≡ old.committed)
@@ -21,31 +21,32 @@ pub record Rests (old new : State) : Type 0 where
 abbrev pub HasTables : State → Type 0
 HasTables s = IsTrue s.is_open → s.now.schema ≡ store_schema
 
--- Under the schema of the five tables, a crash leaves only what it could leave before the call.
+-- If the database has exactly the five tables, a crash leaves only a state that a crash before the call could
+-- also leave.
 abbrev pub Spares : State → State → Type 0
 Spares old new = Survives old new (λ _. old.now.schema ≢ store_schema)
 
--- If the connection is open, its tables hold these rows.
+-- If the connection is open, its database has exactly the five tables, with these rows.
 abbrev pub Holds : State → Lists → Type 0
 Holds s lists = IsTrue s.is_open → Are s.now lists
 
--- The rows that queries return from the five trees, whatever they hold.
+-- The rows that queries return from the four tables other than `setting`, for any contents of the database.
 abbrev pub shown : Database → Lists
 shown db = record { resources = map triple (db.trees 2); taken = map triple (db.trees 4); member = map pair (db.trees 6); audit = map entry (db.trees 8) }
 
--- The rows that a query returns from the table `setting`, whatever they hold.
+-- The rows that a query returns from the table `setting`, for any contents of the database.
 abbrev pub shown_settings : Database → List Row
 shown_settings db = map pair (db.trees 0)
 
--- The group column of a member's row, alone.
+-- A row with only the group column of a row of `member`.
 abbrev pub group_alone : Row → Row
 group_alone v = column v 1 ∷ []
 
--- A unique name's row with the owner's column first.
+-- A row of `taken` with the owner column moved to the front.
 abbrev pub owner_first : Row → Row
 owner_first v = column v 2 ∷ column v 0 ∷ column v 1 ∷ []
 
--- A member's row with the group's column first.
+-- A row of `member` with the group column moved to the front.
 abbrev pub group_first : Row → Row
 group_first v = column v 1 ∷ column v 0 ∷ []
 
@@ -54,7 +55,7 @@ abbrev pub columns_cmp : List ℕ → Row → Row → Ordering
 columns_cmp [] a b = Equal
 columns_cmp (place ∷ more) a b = ordering_then (value_cmp (column a place) (column b place)) (columns_cmp more a b)
 
--- Rows sorted by the columns at these places.
+-- The rows are sorted by the columns at these places.
 abbrev pub DoNotFall : List ℕ → List Row → Type 0
 DoNotFall places = IsAscending (λ a b. is_lt (columns_cmp places b a) ≡ false)
 
@@ -72,12 +73,13 @@ is_resource id kind row = has_text 0 id row && is_eq (value_cmp (column row 1) (
 abbrev pub is_between : ℤ → ℤ → Row → Bool
 is_between first end row = is_ge (value_cmp (column row 0) (Int first)) && is_lt (value_cmp (column row 0) (Int end))
 
--- The text that the first row has at a place; None if there are no rows.
+-- `found` is the text in the column at `place` of the first row, or `None` if there are no rows.
 abbrev pub IsTextOfFirst : ℕ → List Row → Option (List ℕ) → Type 0
 IsTextOfFirst place [] found = found ≡ None
 IsTextOfFirst place (row ∷ more) found = (text : List ℕ) × (found ≡ Some text) × (column row place ≡ Text text)
 
--- The text that one of the rows `values` has at a place, None if there are no rows, and nothing is changed.
+-- `found` is the text in the column at `place` of one of the rows `values`, or `None` if there are no rows.
+-- Nothing is changed.
 pub record Finds (place : ℕ) (values : List Row) (old new : State) (found : Option (List ℕ)) : Type 0 where
   pub unchanged : IsUnchanged old new
   pub ordered : List Row

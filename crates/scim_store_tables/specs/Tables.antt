@@ -13,12 +13,12 @@ use Rattle.sqlite.specs.Change.{created}
 abbrev pub no_schema : Schema
 no_schema = record { tables = []; indexes = []; views = [] }
 
--- A column of this kind, with or without NOT NULL, and with no other rule.
+-- A column with this name, kind and NOT NULL flag, the binary collation and no default.
 abbrev pub column : List ℕ → Kind → Bool → Column
 column name kind not_null = record { name = name; kind = kind; is_strict = false; not_null = not_null; default = Null; collation = Binary }
 
--- A table with these columns, a primary key and no other table constraint. `primary` lists the places of the key's
--- columns, counted from 1. The table's tree is set when it is created.
+-- A table with these columns, a primary key and no other table constraint. `primary` lists the places of the
+-- columns of the key, counted from 1. The tree of the table is set when the table is created.
 abbrev pub table : List ℕ → List Column → List ℕ → Table
 table name columns primary = record {
   name = name;
@@ -35,23 +35,23 @@ table name columns primary = record {
   is_counted = false;
 }
 
--- The settings of the file: its one row has the version of the tables.
+-- The table `setting`, whose only row has the version of the tables.
 abbrev pub setting_table : Table
 setting_table = table (codes "setting") (column (codes "name") Text false ∷ column (codes "number") Integer true ∷ []) (1 ∷ [])
 
--- The resources, each with its kind as a number and its document.
+-- The table `resource`: each resource with its kind, as a number, and its document.
 abbrev pub resource_table : Table
 resource_table = table (codes "resource") (column (codes "id") Text false ∷ column (codes "kind") Integer true ∷ column (codes "document") Text true ∷ []) (1 ∷ [])
 
--- The unique names in use, each with the id of its owner.
+-- The table `taken`: each unique name in use with the id of its owner.
 abbrev pub taken_table : Table
 taken_table = table (codes "taken") (column (codes "attribute") Text false ∷ column (codes "folded") Text false ∷ column (codes "id") Text false ∷ []) (1 ∷ 2 ∷ [])
 
--- The members of the groups.
+-- The table `member`: the members of the groups.
 abbrev pub member_table : Table
 member_table = table (codes "member") (column (codes "value") Text false ∷ column (codes "group_id") Text false ∷ []) (1 ∷ 2 ∷ [])
 
--- The audit, whose number is the rowid.
+-- The table `audit`, whose column `number` is the rowid.
 abbrev pub audit_table : Table
 audit_table = record {
   name = codes "audit";
@@ -69,7 +69,7 @@ audit_table = record {
   is_counted = false;
 }
 
--- The five tables, in this order, and nothing else; they have the trees 0, 2, 4, 6 and 8, and each but the
--- last has an index in the tree after its own.
+-- The schema of exactly the five tables, in this order. Their trees are 0, 2, 4, 6 and 8. Each table except
+-- the last has an index, in the next tree.
 abbrev pub store_schema : Schema
 store_schema = created (created (created (created (created no_schema setting_table) resource_table) taken_table) member_table) audit_table

@@ -19,26 +19,26 @@ use Rattle.scim_store_tables.specs.declared.database_kinds.DatabaseKind.TheVaria
 abbrev pub has_table : Schema → List ℕ → Bool
 has_table schema name = list_any (λ t. same_name t.name name) schema.tables
 
--- Whether a schema has all four of our tables beside `setting`.
+-- Whether a schema has tables with the names `resource`, `taken`, `member` and `audit`.
 abbrev pub has_others : Schema → Bool
 has_others schema = has_table schema (codes "resource") && has_table schema (codes "taken") && has_table schema (codes "member") && has_table schema (codes "audit")
 
--- Whether a schema has at least one of our four tables beside `setting`.
+-- Whether a schema has a table with one of the names `resource`, `taken`, `member` and `audit`.
 abbrev pub has_another : Schema → Bool
 has_another schema = has_table schema (codes "resource") || has_table schema (codes "taken") || has_table schema (codes "member") || has_table schema (codes "audit")
 
--- Whether a schema other than that of version 1 counts as one of another version: it has all five names, or
--- no `setting` but one of the other four.
+-- Whether a schema that isn't the schema of version 1 counts as a schema of another version: it has tables
+-- with all five names of our tables, or it has no `setting`, but at least one of the other four.
 abbrev pub is_of_other_version : Schema → Bool
 is_of_other_version schema = if has_table schema (codes "setting") then has_others schema else has_another schema
 
 -- ---- classification by rows
 
--- The rows of `setting` are exactly the one of version 1.
+-- The table `setting` has exactly one row, which says that the tables have version 1.
 abbrev pub HasVersion : Database → Type 0
 HasVersion db = IsPermutation (shown_settings db) (version_values ∷ [])
 
--- In each table but the audit every row has a key, and no key occurs twice.
+-- In each table except `audit` every row has a key, and no key occurs twice.
 pub record AreAllKeyed (db : Database) : Type 0 where
   pub settings : AreKeyed (db.trees 0)
   pub resources : AreKeyed (db.trees 2)
@@ -50,8 +50,8 @@ pub record AreInOrder (places : List ℕ) (values rows : List Row) : Type 0 wher
   pub same : IsPermutation values rows
   pub order : DoNotFall places rows
 
--- The rows read are those of `lists`: resources by id, names by owner, attribute and text, members by group
--- and value, and the audit by number.
+-- `rows` has the rows of `lists`, sorted: resources by id, names by owner, attribute and text, members by
+-- group and value, and audit rows by number.
 pub record AreRowsOf (lists : Lists) (rows : TableRows) : Type 0 where
   pub resources : AreInOrder (0 ∷ []) lists.resources rows.resources.items
   pub names : AreInOrder (0 ∷ 1 ∷ 2 ∷ []) (map owner_first lists.taken) rows.names.items
@@ -60,35 +60,37 @@ pub record AreRowsOf (lists : Lists) (rows : TableRows) : Type 0 where
 
 -- ---- the result of reading
 
--- If the connection was open, nothing is changed; if it is open after the call, it was before.
+-- If the connection was open before the call, nothing is changed. If it is open after the call, it was open
+-- before.
 pub record IsUntouched (old new : State) : Type 0 where
   pub was_open : IsTrue new.is_open → IsTrue old.is_open
   pub unchanged : IsTrue old.is_open → IsUnchanged old new
 
--- The classification by table names of a database whose schema isn't that of version 1.
+-- The classification by table names of a database whose schema isn't the schema of version 1.
 abbrev pub IsByNames : Schema → DatabaseKind → Type 0
 IsByNames schema Empty = schema ≡ no_schema
 IsByNames schema WrongVersion = (schema ≢ no_schema) × (is_of_other_version schema ≡ true)
 IsByNames schema Foreign = (schema ≢ no_schema) × (is_of_other_version schema ≡ false)
 IsByNames schema (Tables rows) = ⊥
 
--- The classification by rows of a database with the five tables: of another version if `setting` isn't that
--- of version 1, foreign if a key occurs twice, which no valid file has, and otherwise its rows.
+-- The classification by rows of a database with the five tables: `WrongVersion` if `setting` doesn't have
+-- exactly the row of version 1, `Foreign` if a row has no key or a key occurs twice, which never happens in a
+-- valid file, and `Tables` with the rows otherwise.
 abbrev pub IsByRows : Database → DatabaseKind → Type 0
 IsByRows db Empty = ⊥
 IsByRows db WrongVersion = ¬ HasVersion db
 IsByRows db Foreign = HasVersion db × (¬ AreAllKeyed db)
 IsByRows db (Tables rows) = Are db (shown db) × AreRowsOf (shown db) rows
 
--- The classification of a database: by table names, or by rows if its schema is that of version 1.
+-- The classification of a database: by rows if it has the schema of version 1, and by table names otherwise.
 abbrev pub Is : Database → DatabaseKind → Type 0
 Is db reading = ((db.schema ≢ store_schema) × IsByNames db.schema reading) ⊎ ((db.schema ≡ store_schema) × IsByRows db reading)
 
--- A reading is the classification of the database, and nothing is changed.
+-- `reading` is the classification of the database, and nothing is changed.
 pub record IsReading (old new : State) (reading : DatabaseKind) : Type 0 where
   pub is : Is old.now reading
   pub untouched : IsUntouched old new
 
--- The tables don't hold rows that the tables of version 1 may hold.
+-- The database isn't a valid database of version 1: `Are` holds for no contents.
 abbrev pub AreNone : Database → Type 0
 AreNone db = (lists : Lists) → ¬ Are db lists

@@ -1,4 +1,5 @@
-//! The queries on the tables. They change nothing, but one that fails inside a transaction may roll it back.
+//! The queries on the tables. They change nothing, but a query that fails inside a transaction may roll the
+//! transaction back.
 
 ghost use Rattle.std.specs.Prelude.{◌≡◌, ◌≤◌, [], ◌∷◌, false, map, filter, string_bytes, option_map, IfOk, OnErr};
 ghost use Rattle.sqlite.specs.State.{HasCleanDisk};
@@ -16,8 +17,8 @@ use sqlite::{Alter, Connection, Error, Row, params};
 
 /// Runs a query and returns all its rows.
 ///
-/// Fails with the database's error. The connection is then closed, or as before, or as the last commit left
-/// it.
+/// Fails with the database's error. Then the connection is closed, or its database is unchanged or as the
+/// last commit left it.
 pub fn ask<S: Alter>(
     conn: &mut Connection<S>,
     sql: &str,
@@ -29,7 +30,7 @@ pub fn ask<S: Alter>(
     conn.query_all(sql, params)
 }
 
-/// Returns the text in the first column of the first row; None if there are no rows. Fails if that column
+/// Returns the text in the first column of the first row; `None` if there are no rows. Fails if that column
 /// isn't a text, or if memory runs out.
 pub fn first_text(rows: &[Row]) -> Result<Option<String>, Error>
     ensures { IfOk result (λ found. IsTextOfFirst 0 rows.now (option_map string_bytes found)) }
@@ -43,7 +44,7 @@ pub fn first_text(rows: &[Row]) -> Result<Option<String>, Error>
     }
 }
 
-/// Returns the document of the resource with this id and kind; None if there isn't one.
+/// Returns the document of the resource with this id and kind; `None` if there isn't one.
 ///
 /// Fails as [`ask`] does.
 pub fn find_resource<S: Alter>(
@@ -70,7 +71,7 @@ pub fn find_resource<S: Alter>(
     first_text(rows.as_slice())
 }
 
-/// Returns the id of the resource that has a unique name; None if no resource has it.
+/// Returns the id of the resource that has a unique name; `None` if no resource has it.
 ///
 /// Fails as [`ask`] does.
 pub fn find_owner<S: Alter>(
@@ -105,7 +106,7 @@ pub(crate) fn read_rows<S: Alter>(conn: &mut Connection<S>, table: Table) -> Res
     ask(conn, rows_query(table), &[])
 }
 
-/// Reads the keys of a table, sorted; they are strictly ascending if no key occurs twice. Fails as [`ask`]
+/// Reads the keys of a table, sorted. They are strictly ascending if no key occurs twice. Fails as [`ask`]
 /// does.
 pub(crate) fn read_keys<S: Alter>(conn: &mut Connection<S>, table: Table) -> Result<Vec<Row>, Error>
     ensures { OnlyAsks (λ db keys. AreKeys table db keys.items) (state S.Store conn.old)
@@ -114,7 +115,7 @@ pub(crate) fn read_keys<S: Alter>(conn: &mut Connection<S>, table: Table) -> Res
     ask(conn, keys_query(table), &[])
 }
 
-/// Returns the ids of the groups that have a member of this value, sorted.
+/// Returns the ids of the groups that have a member with this value, sorted.
 ///
 /// Fails as [`ask`] does.
 pub fn read_groups<S: Alter>(conn: &mut Connection<S>, value: &str) -> Result<Vec<Row>, Error>

@@ -7,12 +7,12 @@ ghost use Rattle.scim_store_tables.specs.Steps.{DoesIn};
 
 use sqlite::{Alter, Error, Transaction, params};
 
-/// The columns of an audit row. None is NULL in the table.
+/// The columns of an audit row. `None` is NULL in the table.
 #[derive(Clone, Copy)]
 pub struct AuditColumns<'a> {
     /// The number of the row, which is its key.
     pub number: u64,
-    /// The moment of the request, in seconds.
+    /// The time of the request, in seconds.
     pub moment: u64,
     /// The name of the client.
     pub client: &'a str,
@@ -24,7 +24,7 @@ pub struct AuditColumns<'a> {
     pub id: Option<&'a str>,
     /// The decision, as a number.
     pub decided: u32,
-    /// The number of the rule that decided, 0 if no rule fitted.
+    /// The number of the rule that decided; 0 if no rule matched.
     pub rule: Option<u32>,
     /// The path of the leaf that the rule denied, or would have allowed anew.
     pub leaf: Option<&'a str>,
@@ -32,7 +32,7 @@ pub struct AuditColumns<'a> {
     pub refusal: Option<u32>,
 }
 
-/// Returns a number as SQL has it.
+/// Converts a number to an SQL integer.
 fn sql_number(number: u64) -> i64
     requires { number ≤ last_number }
     ensures { result ≡ pos number }
@@ -40,7 +40,7 @@ fn sql_number(number: u64) -> i64
     number as i64
 }
 
-/// Inserts an audit row, with its two 64-bit numbers converted for SQL.
+/// Inserts an audit row, whose number and moment are passed as SQL integers.
 fn insert_columns<S: Alter>(
     tx: &mut Transaction<'_, S>,
     number: i64,
@@ -72,9 +72,9 @@ fn insert_columns<S: Alter>(
 
 /// Inserts an audit row. Its number and moment must be at most 2^63 - 1.
 ///
-/// Returns how many rows it wrote, as the database counts them. Fails with a constraint error if a row has
-/// the number, or with the database's error if the disk or the memory failed. Then nothing is committed, but
-/// the transaction may have been rolled back: the caller must drop it.
+/// Returns the number of rows written, as the database counts them. Fails with a constraint error if another
+/// row has this number, or with the database's error if the disk failed or memory ran out. Then nothing is
+/// committed, but the transaction may have been rolled back: the caller must drop it.
 pub fn insert_audit<S: Alter>(
     tx: &mut Transaction<'_, S>,
     columns: &AuditColumns<'_>,

@@ -34,7 +34,7 @@ fn creation(table: Table) -> &'static str
     }
 }
 
-/// Creates a table, after those that come before it in the schema.
+/// Creates a table. The tables that come before it in the schema must exist.
 fn create_table<S: Alter>(tx: &mut Transaction<'_, S>, table: Table) -> Result<usize, Error>
     ensures does { DoesIn S.Store tx.old tx.new result (Makes (IsBefore table) (IsBehind table)) }
 {
@@ -64,9 +64,9 @@ fn create_first<S: Alter>(tx: &mut Transaction<'_, S>) -> Result<usize, Error>
 /// Creates the five tables inside a transaction, in a database without tables, indexes and views, and writes
 /// version 1 to `setting`.
 ///
-/// Returns how many rows it wrote, as the database counts them. Fails with the database's error, for instance
-/// if a table of one of the names exists, or if the disk or the memory failed. Then nothing is committed, but
-/// the transaction may have been rolled back: the caller must drop it.
+/// Returns the number of rows written, as the database counts them. Fails with the database's error, for
+/// instance if a table with one of these names exists, if the disk failed or if memory ran out. Then nothing
+/// is committed, but the transaction may have been rolled back: the caller must drop it.
 pub fn make_tables<S: Alter>(tx: &mut Transaction<'_, S>) -> Result<usize, Error>
     ensures does { DoesIn S.Store tx.old tx.new result MakesTables }
 {
@@ -79,8 +79,8 @@ pub fn make_tables<S: Alter>(tx: &mut Transaction<'_, S>) -> Result<usize, Error
 /// Creates the five tables in a database without tables, indexes and views, and writes version 1 to
 /// `setting`, all in one transaction.
 ///
-/// Fails with the database's error, for instance if a table of one of the names exists, or if the disk or the
-/// memory failed. Then nothing is changed, or the connection is closed.
+/// Fails with the database's error, for instance if a table with one of these names exists, if the disk
+/// failed or if memory ran out. Then nothing is changed, or the connection is closed.
 pub fn create_tables<S: Alter>(conn: &mut Connection<S>) -> Result<(), Error>
     requires { conn.old.in_transaction ≡ false }
     ensures idle { conn.new.in_transaction ≡ false }
@@ -89,7 +89,7 @@ pub fn create_tables<S: Alter>(conn: &mut Connection<S>) -> Result<(), Error>
     ensures undone { HasCleanDisk (state S.Store conn.new)
         → OnErr result (Undoes (state S.Store conn.old) (state S.Store conn.new)) }
 
-    // A crash leaves what it could leave before, or the new tables.
+    // A crash leaves the new tables, or a state that a crash before the call could also leave.
     ensures crash { Survives (state S.Store conn.old) (state S.Store conn.new)
         (Leaves MakesTables (state S.Store conn.old).now) }
 {

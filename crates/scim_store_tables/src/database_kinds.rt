@@ -1,4 +1,4 @@
-//! Classifies a database by its schema and its rows, and reads the rows of one with the tables of version 1.
+//! Classifies a database by its schema and its rows, and reads the rows if it has the tables of version 1.
 
 ghost use Rattle.std.specs.Prelude.{◌≡◌, ◌≢◌, ◌≤◌, ◌∷◌, [], false, true, pos, IfOk, OnErr, IsTrue};
 ghost use Rattle.sqlite_value.specs.Value.{owned};
@@ -22,14 +22,14 @@ use sqlite::{Alter, Connection, Error, Row};
 use sqlite_schema::names::same_name;
 use sqlite_schema::schema::Schema;
 
-/// All rows of the tables, each list in its own order. The columns aren't checked.
+/// All rows of the tables, sorted. The types of the columns aren't checked.
 #[derive(Drop)]
 pub struct TableRows {
-    /// Columns id, kind and document of each resource, sorted by id.
+    /// The columns id, kind and document of each resource, sorted by id.
     pub resources: Vec<Row>,
-    /// Columns owner, attribute and folded text of each unique name, sorted by these.
+    /// The columns owner, attribute and folded text of each unique name, sorted by them in this order.
     pub names: Vec<Row>,
-    /// Columns group and value of each member, sorted by these.
+    /// The columns group and value of each member, sorted by them in this order.
     pub members: Vec<Row>,
     /// All columns of the audit rows, sorted by number.
     pub audit: Vec<Row>,
@@ -40,7 +40,7 @@ pub struct TableRows {
 pub enum DatabaseKind {
     /// It has no table, index or view.
     Empty,
-    /// It has some of our tables, but not those of version 1.
+    /// It has tables of this program, but of a version other than 1.
     WrongVersion,
     /// It belongs to another program, or is damaged.
     Foreign,
@@ -59,7 +59,7 @@ fn has_table(schema: &Schema, name: &str) -> bool
         .any(|table| same_name(table.name.as_slice(), name.as_bytes()))
 }
 
-/// Whether a schema has all four of our tables beside `setting`.
+/// Whether a schema has tables with the names `resource`, `taken`, `member` and `audit`.
 fn has_others(schema: &Schema) -> bool
     ensures { result ≡ spec.has_others schema.now }
 {
@@ -69,7 +69,7 @@ fn has_others(schema: &Schema) -> bool
         && has_table(schema, "audit")
 }
 
-/// Whether a schema has at least one of our tables other than `setting`.
+/// Whether a schema has a table with one of the names `resource`, `taken`, `member` and `audit`.
 fn has_another(schema: &Schema) -> bool
     ensures { result ≡ spec.has_another schema.now }
 {
@@ -79,8 +79,9 @@ fn has_another(schema: &Schema) -> bool
         || has_table(schema, "audit")
 }
 
-/// Whether a schema other than that of version 1 counts as one of another version: it has all five names, or
-/// no `setting` but one of the other four. A table whose SQL the reader doesn't understand isn't counted.
+/// Whether a schema that isn't the schema of version 1 counts as a schema of another version: it has tables
+/// with all five names of our tables, or it has no `setting`, but at least one of the other four. A table
+/// whose SQL isn't supported isn't counted.
 fn is_of_other_version(schema: &Schema) -> bool
     ensures { result ≡ spec.is_of_other_version schema.now }
 {
@@ -99,7 +100,7 @@ fn is_no_schema(schema: &Schema) -> bool
     schema.tables.is_empty() && schema.indexes.is_empty() && schema.views.is_empty()
 }
 
-/// Classifies a database by the names of its tables, if its schema isn't that of version 1.
+/// Classifies a database by the names of its tables, if its schema isn't the schema of version 1.
 pub(crate) fn reading_by_names(schema: &Schema) -> DatabaseKind
     ensures { IsByNames schema.now result }
 {
@@ -142,7 +143,7 @@ fn is_number(value: ValueRef<'_>, number: i64) -> bool
     }
 }
 
-/// Whether a row of `setting` is the one of version 1.
+/// Whether a row of `setting` says that the tables have version 1.
 fn is_version_row(row: &Row) -> Result<bool, Error>
     ensures yes { IfOk result (λ is. IsTrue is → row.now ≡ version_values) }
     ensures no { IfOk result (λ is. is ≡ false → row.now ≢ version_values) }
@@ -155,7 +156,7 @@ fn is_version_row(row: &Row) -> Result<bool, Error>
     Ok(is_text(name, "version") && is_number(number, 1))
 }
 
-/// Whether these rows are exactly the one row of version 1.
+/// Whether these rows of `setting` are exactly one row, which says that the tables have version 1.
 fn is_version(rows: &[Row]) -> Result<bool, Error>
     ensures yes { IfOk result (λ is. IsTrue is → rows.now ≡ version_values ∷ []) }
     ensures no { IfOk result (λ is. is ≡ false → rows.now ≢ version_values ∷ []) }
@@ -166,7 +167,7 @@ fn is_version(rows: &[Row]) -> Result<bool, Error>
     }
 }
 
-/// Whether `setting` names version 1. The schema must be that of the five tables.
+/// Whether `setting` has exactly one row, which says version 1. The schema must have exactly the five tables.
 fn has_version<S: Alter>(conn: &mut Connection<S>) -> Result<bool, Error>
     ensures { OnlyAsks (λ db. Decides (HasVersion db)) (state S.Store conn.old)
         (state S.Store conn.new) result }
@@ -175,7 +176,8 @@ fn has_version<S: Alter>(conn: &mut Connection<S>) -> Result<bool, Error>
     is_version(rows.as_slice())
 }
 
-/// Whether each row of a table has a key and no key occurs twice. The schema must be that of the five tables.
+/// Whether each row of a table has a key and no key occurs twice. The schema must have exactly the five
+/// tables.
 fn are_keyed<S: Alter>(conn: &mut Connection<S>, table: Table) -> Result<bool, Error>
     ensures { OnlyAsks (DecidesKeyed table) (state S.Store conn.old)
         (state S.Store conn.new) result }
@@ -184,7 +186,8 @@ fn are_keyed<S: Alter>(conn: &mut Connection<S>, table: Table) -> Result<bool, E
     do_keys_rise(keys.as_slice())
 }
 
-/// Whether `are_keyed` holds for each table but the audit. The schema must be that of the five tables.
+/// Whether in each table except `audit` every row has a key and no key occurs twice. The schema must have
+/// exactly the five tables.
 fn are_all_keyed<S: Alter>(conn: &mut Connection<S>) -> Result<bool, Error>
     ensures { OnlyAsks (λ db. Decides (AreAllKeyed db)) (state S.Store conn.old)
         (state S.Store conn.new) result }
@@ -201,7 +204,7 @@ fn are_all_keyed<S: Alter>(conn: &mut Connection<S>) -> Result<bool, Error>
     are_keyed(conn, Table::Member)
 }
 
-/// Reads the rows of the tables. The schema must be that of the five tables.
+/// Reads all rows of the tables except `setting`. The schema must have exactly the five tables.
 fn read_all_rows<S: Alter>(conn: &mut Connection<S>) -> Result<TableRows, Error>
     ensures { OnlyAsks (λ db. AreRowsOf (shown db)) (state S.Store conn.old)
         (state S.Store conn.new) result }
@@ -218,7 +221,7 @@ fn read_all_rows<S: Alter>(conn: &mut Connection<S>) -> Result<TableRows, Error>
     })
 }
 
-/// Classifies a database by its rows. The schema must be that of the five tables.
+/// Classifies a database by its rows. The schema must have exactly the five tables.
 fn reading_by_rows<S: Alter>(conn: &mut Connection<S>) -> Result<DatabaseKind, Error>
     ensures { OnlyAsks IsByRows (state S.Store conn.old) (state S.Store conn.new) result }
 {
@@ -232,18 +235,20 @@ fn reading_by_rows<S: Alter>(conn: &mut Connection<S>) -> Result<DatabaseKind, E
     Ok(DatabaseKind::Tables(rows))
 }
 
-/// Reads the rows of a database with the tables of version 1, and classifies any other as empty, of another
-/// version, or foreign.
+/// Reads the rows of a database that has the tables of version 1, and classifies any other database as
+/// `Empty`, `WrongVersion` or `Foreign`.
 ///
-/// A database without tables, indexes and views is empty. If its schema isn't that of version 1, it is of
-/// another version if it has tables of all our five names, or no `setting` but one of the other four,
-/// ignoring the case of ASCII letters; otherwise it is foreign. So a table `setting` of another program makes
-/// it foreign, whatever its rows are. If its schema is that of version 1, it is of another version if
-/// `setting` has other rows than the one of version 1, and foreign if a key occurs twice, which no valid file
-/// has.
+/// A database without tables, indexes and views is `Empty`. Any other database whose schema isn't the schema
+/// of version 1 is `WrongVersion` if it has tables with all five names of our tables, or if it has no
+/// `setting`, but at least one of the other four; otherwise it is `Foreign`. Names are compared ignoring the
+/// case of ASCII letters. So a database of another program that has a table `setting`, but not all of the
+/// other four, is `Foreign`, whatever its rows are. A database with the schema of version 1 is `WrongVersion`
+/// if `setting` doesn't have exactly the row of version 1, and `Foreign` if a key occurs twice, which never
+/// happens in a valid file.
 ///
-/// Fails with the database's error, or if a key isn't a number. The connection is then closed, or as before,
-/// or as the last commit left it. A crash can leave only what it could leave before the call.
+/// Fails with the database's error, or if a key isn't a number. Then the connection is closed, or its
+/// database is unchanged or as the last commit left it. A crash leaves only a state that a crash before the
+/// call could also leave.
 pub fn read_tables<S: Alter>(conn: &mut Connection<S>) -> Result<DatabaseKind, Error>
     ensures mode { conn.old.in_transaction ≡ false → conn.new.in_transaction ≡ false }
     ensures clean { doubt (state S.Store conn.old).is_clean

@@ -6,7 +6,7 @@ ghost use Rattle.scim_store_tables.specs.code.Keys as spec;
 
 use sqlite::{Error, Row};
 
-/// Whether a key is above the last one; true if there is no last one.
+/// Whether a key is greater than the previous key `last`; true if there is no previous key.
 fn is_above(last: Option<i64>, key: i64) -> bool
     ensures { result ≡ spec.is_above last key }
 {
@@ -16,10 +16,10 @@ fn is_above(last: Option<i64>, key: i64) -> bool
     }
 }
 
-/// Whether the first columns of these rows are strictly ascending. Of rows sorted by key that holds if no key
-/// occurs twice.
+/// Whether the values in the first column of these rows are strictly ascending. If the rows are sorted by
+/// key, this tests that no key occurs twice.
 ///
-/// Fails if a row has no first column or one that isn't an integer.
+/// Fails if a row has no first column, or if the value in it isn't an integer.
 pub(crate) fn do_keys_rise(rows: &[Row]) -> Result<bool, Error>
     ensures yes { IfOk result (λ rise. IsTrue rise → AreRising rows.now) }
     ensures no { IfOk result (λ rise. rise ≡ false → ¬ AreRising rows.now) }

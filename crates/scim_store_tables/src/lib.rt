@@ -1,5 +1,5 @@
-//! The five tables of a database file, in version 1, and the SQL statements over them. Contracts see the rows
-//! of a table as a plain list.
+//! Version 1 of the five tables of a database file, and the SQL statements on them. In contracts the contents
+//! of a table are a plain list of rows.
 #![tactic(auto)]
 
 mod asking;

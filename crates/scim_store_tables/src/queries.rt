@@ -6,7 +6,7 @@ ghost use Rattle.scim_store_tables.specs.Asks.{IsAsk};
 /// One of the five tables.
 #[derive(Clone, Copy)]
 pub(crate) enum Table {
-    /// The settings of the file: the version of its tables.
+    /// The settings of the file. There is only one: the version of the tables.
     Setting,
     /// The resources with their documents.
     Resource,
@@ -21,8 +21,8 @@ pub(crate) enum Table {
 /// Returns the query for all rows of a table, sorted.
 ///
 /// Resources are sorted by id and kind, not by id alone, so that the database scans the table and sorts.
-/// Sorting by id alone would follow the key's index and look up each row in the table, and since ids come in
-/// no order, each look-up would read a page.
+/// Sorting by id alone would follow the index of the key and look up each row in the table. The rows aren't
+/// stored in order of id, so each look-up would read a page.
 pub(crate) fn rows_query(table: Table) -> &'static str
     ensures { IsAsk result.now (spec.rows_query table) }
 {

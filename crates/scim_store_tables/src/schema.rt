@@ -11,7 +11,8 @@ use sqlite_schema::schema::{Column, Index, Kind, Schema, Table};
 use sqlite_value::keys::{Collation, Order};
 use sqlite_value::value::Value;
 
-/// Whether a column has this name, kind and NOT NULL flag, and no other rule.
+/// Whether a column has this name, kind and NOT NULL flag, the binary collation and no default, and isn't
+/// strict.
 fn is_column(it: &Column, name: &str, kind: Kind, not_null: bool) -> bool
     ensures yes { IsTrue result → it.now ≡ column name.now kind not_null }
     ensures no { result ≡ false → it.now ≢ column name.now kind not_null }
@@ -25,7 +26,7 @@ fn is_column(it: &Column, name: &str, kind: Kind, not_null: bool) -> bool
         && it.collation == Collation::Binary
 }
 
-/// Whether a table has no rule beside its primary key.
+/// Whether a table has no CHECK constraint, no foreign key, no computed default and no AUTOINCREMENT.
 fn is_bare(it: &Table) -> bool
     ensures yes { IsTrue result → IsBare it.now }
     ensures no { result ≡ false → ¬ IsBare it.now }
@@ -61,7 +62,8 @@ fn is_plain(orders: &[Order]) -> bool
     }
 }
 
-/// Whether a table has this name, tree and primary key and no other rule. Its columns aren't compared.
+/// Whether a table has this name, tree and primary key, and no other table constraint. The columns aren't
+/// compared.
 fn is_keyed(it: &Table, name: &str, tree: u32, primary: &[usize]) -> bool
     ensures yes { IsTrue result → it.now
         ≡ record (table name.now it.now.columns primary.now) { tree = tree } }
@@ -135,8 +137,7 @@ fn is_member(it: &Table) -> bool
     }
 }
 
-/// Whether an index belongs to a primary key of texts, with this name and tree, over these columns of this
-/// table.
+/// Whether an index has this name and tree, and is unique and ascending over these columns of this table.
 fn is_index(it: &Index, name: &str, tree: u32, table: u32, columns: &[usize]) -> bool
     ensures yes { IsTrue result → it.now ≡ index name.now tree table columns.now }
     ensures no { result ≡ false → it.now ≢ index name.now tree table columns.now }
@@ -241,7 +242,7 @@ fn are_audit_columns(all: &[Column]) -> bool
     }
 }
 
-/// Whether a table is `audit`. Its columns aren't compared.
+/// Whether a table is `audit`, apart from its columns, which aren't compared.
 fn is_numbered(it: &Table) -> bool
     ensures yes { IsTrue result → it.now
         ≡ record audit_table { tree = 8; columns = it.now.columns } }
@@ -264,7 +265,7 @@ fn is_audit(it: &Table) -> bool
     are_audit_columns(it.columns.as_slice()) && is_numbered(it)
 }
 
-/// Whether these are the five tables, in order.
+/// Whether these are the five tables of version 1, in order.
 fn are_tables(all: &[Table]) -> bool
     ensures yes { IsTrue result → all.now ≡ store_tables }
     ensures no { result ≡ false → all.now ≢ store_tables }

@@ -1,8 +1,9 @@
 //! The statements that write resources, unique names and members, each inside a transaction.
 //!
-//! Each returns how many rows it wrote, as the database counts them. It fails with a constraint error if a
-//! row to insert has a key that is in use, or with the database's error if the disk or the memory failed.
-//! Then nothing is committed, but the transaction may have been rolled back: the caller must drop it.
+//! Each function returns the number of rows written, as the database counts them. It fails with a constraint
+//! error if the key of a row to insert is in use, or with the database's error if the disk failed or memory
+//! ran out. Then nothing is committed, but the transaction may have been rolled back: the caller must drop
+//! it.
 
 ghost use Rattle.std.specs.Prelude.{◌≡◌, ◌∷◌, ◌++◌, length, filter, replicate};
 ghost use Rattle.scim_store_tables.specs.Lists.{Lists, Are, without, has_text, has_texts, resource_values, name_values, member_values};
@@ -10,7 +11,7 @@ ghost use Rattle.scim_store_tables.specs.Steps.{DoesIn, DoesBy};
 
 use sqlite::{Alter, Error, Transaction, params};
 
-/// Inserts the row of a resource. Fails with a constraint error if a row has its id, or with the database's
+/// Inserts the row of a resource. Fails with a constraint error if a row has this id, or with the database's
 /// error.
 pub fn insert_resource<S: Alter>(
     tx: &mut Transaction<'_, S>,
@@ -30,7 +31,7 @@ pub fn insert_resource<S: Alter>(
     )
 }
 
-/// Sets the kind and the document of the resource with this id, if any. Returns how many rows have the id.
+/// Sets the kind and the document of the resource with this id, if any. Returns how many rows have this id.
 /// Fails with the database's error.
 pub fn update_resource<S: Alter>(
     tx: &mut Transaction<'_, S>,
@@ -81,7 +82,7 @@ pub fn insert_name<S: Alter>(
     )
 }
 
-/// Deletes a unique name, if it is there. Fails with the database's error.
+/// Deletes the row of a unique name, if there is one. Fails with the database's error.
 pub fn delete_name<S: Alter>(
     tx: &mut Transaction<'_, S>,
     attribute: &str,
@@ -116,7 +117,7 @@ pub fn insert_member<S: Alter>(
     )
 }
 
-/// Deletes a member of a group, if it is there. Fails with the database's error.
+/// Deletes the row of a member of a group, if there is one. Fails with the database's error.
 pub fn delete_member<S: Alter>(
     tx: &mut Transaction<'_, S>,
     value: &str,

@@ -1,6 +1,6 @@
 -- The reading of a moment's text, as a function of the text (RFC 7643 section 2.3.5).
 -- Each part of a moment has a fixed place in its text. The function reads the parts from there, and accepts
--- them if they are valid and their text is the given one.
+-- them if they are valid and their text equals the given text.
 use Rattle.std.specs.Prelude.{◌≡◌, ◌↔◌, ℕ, ◌+◌, ◌*◌, ◌-◌, ◌==◌, nat_le, ◌&&◌, Bool, true, if◌then◌else◌, List, [], ◌∷◌, length, drop, take_while, slice_index, bytes_eq, Option, None, Some, pos}
 use Rattle.std.specs.Char.{is_ascii_digit}
 use Rattle.std.specs.Int.{is_in_range}
@@ -67,16 +67,16 @@ is_zone utc = true
 is_zone (ahead hours minutes) = is_offset hours minutes
 is_zone (behind hours minutes) = is_offset hours minutes
 
--- whether the parts are those of a moment
+-- whether all parts are valid
 abbrev pub is_spelling : Spelling → Bool
 is_spelling s = is_date s.date && is_clock s.clock && list_all is_ascii_digit s.fraction && is_zone s.zone
 
--- the reading of a text, or None if the parts at their places aren't a moment's or are written in another way
+-- the reading of a text, or None if a part is invalid or the text of the parts differs from the given text
 unfoldable pub moment_in : List ℕ → Option Reading
 moment_in text =
     let shown = spelling_shown text in
     if is_spelling shown && bytes_eq (spelling_text shown) text then Some (reading_of shown) else None
 
--- `moment_in` gives the reading that the text spells, and None if it spells none
+-- `moment_in` returns a reading exactly if the text denotes that reading
 abbrev pub MomentInIsSpelled : Type 0
 MomentInIsSpelled = (text : List ℕ) (r : Reading) → (moment_in text ≡ Some r) ↔ Spells text r

@@ -12,7 +12,7 @@ unfoldable pub last_passing : (ℕ → Bool) → ℕ → ℕ
 last_passing test zero = 0
 last_passing test (suc n) = if test (suc n) then suc n else last_passing test n
 
--- the date isn't after the day of that number, counted from 1970-01-01, which is day 0
+-- whether the date isn't after the day with this number, where 1970-01-01 is day 0
 abbrev pub has_begun : ℕ → ℕ → ℕ → ℕ → Bool
 has_begun number year month day = int_le (days_from_civil (pos year) month day) (pos number)
 
@@ -34,7 +34,7 @@ abbrev pub date_of_day : ℕ → CivilDate
 date_of_day number =
     record { year = year_of_day number; month = month_of_day number; day = day_of_month number }
 
--- the time of day so many seconds after midnight
+-- the time of day this many seconds after midnight
 abbrev pub clock_at : ℕ → Clock
 clock_at seconds =
     record { hour = seconds / 3600; minute = seconds / 60 % 60; second = seconds % 60 }
@@ -44,7 +44,7 @@ abbrev pub moment_spelling : ℕ → Spelling
 moment_spelling n =
     record { date = date_of_day (n / 86400); clock = clock_at (n % 86400); fraction = []; zone = utc }
 
--- the text of the moment that many seconds after 1970-01-01T00:00:00Z
+-- the text of the moment this many seconds after 1970-01-01T00:00:00Z
 unfoldable pub moment_text : ℕ → List ℕ
 moment_text n = spelling_text (moment_spelling n)
 
@@ -57,6 +57,6 @@ last_below test (suc n) = if test n then Some n else last_below test n
 unfoldable pub moment_of : List ℕ → Option ℕ
 moment_of text = last_below (λ n. bytes_eq (moment_text n) text) (last_moment + 1)
 
--- the text of each moment is the text of that moment only
+-- no two moments have the same text
 abbrev pub PrintedIsRead : Type 0
 PrintedIsRead = (n : ℕ) → n ≤ last_moment → moment_of (moment_text n) ≡ Some n

@@ -33,7 +33,8 @@ zone_seconds (behind hours minutes) = neg_ℤ (pos (offset_seconds hours minutes
 abbrev pub is_above_zero : List ℕ → Bool
 is_above_zero fraction = list_any (λ digit. not (digit == 48)) fraction
 
--- the instant in whole seconds since 1970-01-01T00:00:00Z, and whether a fraction greater than zero follows
+-- the instant that these parts denote: the whole seconds since 1970-01-01T00:00:00Z, and whether the fraction
+-- is greater than zero
 abbrev pub reading_of : Spelling → Reading
 reading_of s = record {
   second = day_number s.date *ℤ pos 86400 +ℤ pos (clock_seconds s.clock) -ℤ zone_seconds s.zone;
@@ -74,6 +75,6 @@ pub record ReadingsAreOrdered : Type 0 where
   pub total : IsTotalOrder reading_cmp
   pub apart : (a b : Reading) → (reading_cmp a b ≡ Equal) ↔ (a ≡ b)
 
--- the readings of the texts of two moments compare as the moments do
+-- the readings of the printed texts of two moments are in the same order as the moments
 abbrev pub PrintedInOrder : Type 0
 PrintedInOrder = (m n : ℕ) (a b : Reading) → m ≤ last_moment → n ≤ last_moment → Spells (moment_text m) a → Spells (moment_text n) b → reading_cmp a b ≡ nat_cmp m n

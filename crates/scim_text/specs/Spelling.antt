@@ -1,5 +1,5 @@
 -- The form of a moment's text: the `dateTime` of RFC 7643 section 2.3.5, as in RFC 3339.
--- The zone may be left out, as in XML Schema. A text is the list of its bytes.
+-- The zone may be absent, as in XML Schema. A text is the list of its bytes.
 use Rattle.std.specs.Prelude.{ℕ, ◌+◌, ◌/◌, ◌%◌, ◌≤◌, List, [], ◌∷◌, ◌++◌, pos, codes, IsTrue}
 use Rattle.std.specs.List.{list_all}
 use Rattle.std.specs.Char.{is_ascii_digit}
@@ -25,7 +25,7 @@ pub record Clock : Type 0 where
   pub minute : ℕ
   pub second : ℕ
 
--- the zone of a text: left out, UTC, or hours and minutes ahead of UTC or behind it
+-- the zone of a text: absent, UTC, or hours and minutes ahead of UTC or behind it
 pub data Zone : Type 0 where
   absent : Zone
   utc : Zone
@@ -48,7 +48,7 @@ abbrev pub clock_text : Clock → List ℕ
 clock_text c =
     codes "T" ++ two_digits c.hour ++ codes ":" ++ two_digits c.minute ++ codes ":" ++ two_digits c.second
 
--- the text of a fraction, such as `.5`, or nothing
+-- the text of a fraction, such as `.5`; empty if there are no digits
 abbrev pub fraction_text : List ℕ → List ℕ
 fraction_text [] = []
 fraction_text (digit ∷ digits) = codes "." ++ digit ∷ digits
@@ -94,7 +94,7 @@ IsZone utc = Unit {0}
 IsZone (ahead hours minutes) = IsOffset hours minutes
 IsZone (behind hours minutes) = IsOffset hours minutes
 
--- the parts are those of a moment
+-- all parts are valid
 pub record IsSpelling (s : Spelling) : Type 0 where
   pub date : IsDate s.date
   pub clock : IsClock s.clock

@@ -23,8 +23,8 @@ pub fn printed_moments_are_read()
     ensures { PrintedIsRead }
 {}
 
-/// Lemma: `moment_in`, the function by which contracts give the reading of a text, agrees with the
-/// relation `Spells`. A text that isn't a moment's has no reading in either.
+/// Lemma: `moment_in`, the function that contracts use for the reading of a text, agrees with the
+/// relation `Spells`. It returns a reading exactly if the text denotes that reading.
 pub fn moment_in_is_spelled()
     ensures { MomentInIsSpelled }
 {}
@@ -36,7 +36,7 @@ pub fn readings_are_ordered()
     ensures total { ReadingsAreOrdered }
 {}
 
-/// Lemma: the readings of the texts of two moments compare as the moments do.
+/// Lemma: reading the printed texts of two moments keeps the order of the moments.
 pub fn printed_moments_are_ordered()
     ensures { PrintedInOrder }
 {}

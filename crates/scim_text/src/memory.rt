@@ -6,8 +6,8 @@ use std::error::Error as StdError;
 use std::fmt;
 use thiserror::Error;
 
-/// An allocation failed. A caller can only give up. A public function that returns this leaves what
-/// it borrows unchanged, unless its comment says otherwise.
+/// An allocation failed. A caller can only give up. A public function that returns this leaves the
+/// values that it borrows unchanged, unless its comment says otherwise.
 #[derive(Clone, Copy, Debug, PartialEq, Eq, Error)]
 #[error("out of memory")]
 pub struct NoMemory;
@@ -26,8 +26,8 @@ impl<T: Drop> From<AllocFailed<T>> for NoMemory {
 
 /// Appends a value. If memory runs out, the vector is unchanged and the value is dropped.
 ///
-/// `Vec::push` returns the value with its error instead. A caller without a use for it should call
-/// this function: dropping the value in each caller would cost more proof than the rest of a push.
+/// `Vec::push` returns the value with its error instead. Callers that don't need the value back should
+/// call this function: dropping the value in each caller would need a longer proof.
 pub fn push<T: Drop>(values: &mut Vec<T>, value: T) -> Result<(), NoMemory>
     ensures items { values.new.items ≡ (if is_ok result then values.old.items ++ value
         ∷ [] else values.old.items) }
@@ -39,13 +39,13 @@ pub fn push<T: Drop>(values: &mut Vec<T>, value: T) -> Result<(), NoMemory>
 /// The error of a function that allocates and can also fail for a reason `E` of its own.
 #[derive(Clone, Copy, Debug, PartialEq, Eq)]
 pub enum Failed<E> {
-    /// A fault of the arguments, independent of the memory at hand.
+    /// An error in the arguments, independent of the available memory.
     Because(E),
     /// An allocation failed.
     NoMemory,
 }
 
-// Written by hand, since the text is that of the fault.
+// Written by hand, because it prints the text of the fault.
 impl<E: fmt::Display> fmt::Display for Failed<E> {
     fn fmt<W: fmt::Write>(&self, f: &mut fmt::Formatter<W>) -> fmt::Result {
         match self {

@@ -1,6 +1,6 @@
-//! Reads the text of a moment. Each private function reads one piece of it. Its clause `found`
-//! states that the result is written in the text; `complete` states that the piece is found if it
-//! is written.
+//! Reads the text of a moment. Each private function reads one part of it. Its clause `found`
+//! states that the text contains the part that the function returns; `complete` states that the
+//! function finds the part if the text contains it.
 ghost use Rattle.std.specs.Prelude.{◌≡◌, length, take_while, drop, ◌≤◌, ◌<◌, ◌+◌, ◌*◌, ◌↔◌, ◌++◌, ◌∷◌, ℕ, List, IsOk, IfOk, IsSome, IfSome, IsSomeAnd, SomeIff, pos, string_bytes};
 ghost use Rattle.std.specs.Char.{is_ascii_digit};
 ghost use Rattle.std.specs.List.{prefix_len};
@@ -72,7 +72,7 @@ fn number_after(text: &[u8], mark: u8, last: u8) -> Option<(u8, &[u8])>
     number(after(text, mark)?, last)
 }
 
-/// The number of the day, or None if the calendar doesn't have it. Day 0 is 1970-01-01, and years
+/// The number of the day, or `None` if the calendar doesn't have the day. Day 0 is 1970-01-01, and years
 /// begin with 1.
 fn day_number(year: u16, month: u8, day: u8) -> Option<i64>
     requires year { year < 10000 }
@@ -124,7 +124,7 @@ fn clock(text: &[u8]) -> Option<(u32, &[u8])>
     ))
 }
 
-/// Reads hours and minutes, the whole of the text. Returns them in seconds.
+/// Reads the whole text as hours and minutes, such as `05:30`. Returns them in seconds.
 fn offset(text: &[u8]) -> Option<u32>
     ensures found { IfSome result (λ o. (h m : ℕ) × IsOffset h m × (o ≡ offset_seconds h m)
         × (text.now ≡ offset_text h m)) }
@@ -139,7 +139,8 @@ fn offset(text: &[u8]) -> Option<u32>
     Some(u32::from(hours) * 3600 + u32::from(minutes) * 60)
 }
 
-/// Reads a zone, the whole of the text. Returns how many seconds its clock is ahead of UTC.
+/// Reads the whole text as a zone, such as `Z` or `+05:30`. Returns its offset from UTC in seconds,
+/// negative if it is behind UTC.
 fn zone(text: &[u8]) -> Option<i64>
     ensures found { IfSome result (λ o. (z : Zone) × IsZone z × (o ≡ zone_seconds z)
         × (text.now ≡ zone_text z)) }
@@ -168,7 +169,7 @@ fn digit_count(text: &[u8]) -> usize
     text.iter().take_while(|byte| byte.is_ascii_digit()).count()
 }
 
-/// Splits the text after its longest prefix of digits.
+/// Splits the text into its longest prefix of digits and the rest of the text.
 fn digits(text: &[u8]) -> (&[u8], &[u8])
     ensures digits { result.0.now ≡ take_while is_ascii_digit text.now }
     ensures rest { result.1.now ≡ drop (prefix_len is_ascii_digit text.now) text.now }
@@ -176,8 +177,8 @@ fn digits(text: &[u8]) -> (&[u8], &[u8])
     text.split_at(digit_count(text))
 }
 
-/// Reads a point and at least one digit, if the text begins with a point. Returns whether a digit
-/// other than `0` is among them, with the rest of the text.
+/// Reads a point and at least one digit, if the text begins with a point. Returns whether one of
+/// the digits isn't `0`, with the rest of the text.
 fn fraction(text: &[u8]) -> Option<(bool, &[u8])>
     ensures found { IfSome result (λ p. (f : List ℕ) × IsFraction f × (p.0 ≡ is_above_zero f)
         × (text.now ≡ fraction_text f ++ p.1.now)) }
@@ -202,7 +203,7 @@ fn is_above_zero(digits: &[u8]) -> bool
     digits.iter().any(|digit| *digit != b'0')
 }
 
-/// Reads a date, a time of day, a fraction and a zone, the whole of the text.
+/// Reads the whole text as a date, a time of day, a fraction and a zone.
 fn read_bytes(text: &[u8]) -> Option<Reading>
     ensures found { IfSome result (Spells text.now) }
     ensures complete { IsMomentForm text.now → IsSome result }
@@ -220,13 +221,13 @@ fn read_bytes(text: &[u8]) -> Option<Reading>
 /// Reads the text of a moment, such as `2024-02-29T23:59:59.5+05:30` (RFC 7643 section 2.3.5, RFC 3339
 /// section 5.6). The text is year, month and day, `T`, hours, minutes and seconds; then, optionally, `.`
 /// with one or more digits; then the zone. The zone is `Z`, or the hours and minutes by which the
-/// clock is ahead of UTC (`+`) or behind it (`-`), or is left out for UTC.
+/// clock is ahead of UTC (`+`) or behind it (`-`), or is absent for UTC.
 ///
 /// Years go from 0001 to 9999, and the day must exist in the calendar. Hours go up to 23, minutes
 /// and seconds up to 59, also in the zone. `T` and `Z` are capital letters, and the text has
 /// nothing before or after.
 ///
-/// Any other text is a [`BadMoment`].
+/// Fails with [`BadMoment`] for any other text.
 #[tactic(auto, using(crate::proofs::MomentInLemmas::is_moment_in))]
 pub fn read_moment(text: &str) -> Result<Reading, BadMoment>
     ensures form { IsOk result ↔ IsMomentForm text.now }

@@ -60,7 +60,7 @@ impl Moment {
     }
 }
 
-/// The date of a day by its number: 1970-01-01 is day 0, and 9999-12-31 is day 2,932,896.
+/// The date of the day with this number: 1970-01-01 is day 0, and 9999-12-31 is day 2,932,896.
 fn date_of(day: u64) -> Date
     requires { day ≤ 2932896 }
     ensures { epoch_day result ≡ pos day }
@@ -100,8 +100,8 @@ pub fn print_moment(alloc: Global, moment: Moment) -> Result<String, NoMemory>
     Ok(format!(in alloc; "{shown}Z")?)
 }
 
-/// The moment that the text denotes in any zone, or None if the text has a fraction other than
-/// zero, is out of range, or isn't a moment's.
+/// Returns the moment that the text denotes, in any zone. Returns `None` if the text isn't a date
+/// and time, has a fraction other than zero, or denotes a moment out of range.
 fn moment_meant(text: &str) -> Option<Moment>
     ensures found { IfSome result (λ n.
         Spells text.now (record { second = pos n; later = false })) }
@@ -116,8 +116,8 @@ fn moment_meant(text: &str) -> Option<Moment>
     Moment::new(reading.second)
 }
 
-/// Reads a moment in exactly the form of [`print_moment`]. Returns `None` for any other text, also
-/// for one that denotes a moment in another form, such as with an offset or a fraction.
+/// Reads a moment in exactly the form of [`print_moment`]. Returns `None` for any other text,
+/// even if it denotes a moment in another form, such as with an offset or a fraction.
 pub fn read_printed_moment(alloc: Global, text: &str) -> Result<Option<Moment>, NoMemory>
     ensures { IfOk result (λ found. found ≡ moment_of text.now) }
 {

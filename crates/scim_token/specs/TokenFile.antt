@@ -20,11 +20,11 @@ abbrev pub says_nothing : List ℕ → Bool
 says_nothing [] = true
 says_nothing (b ∷ bs) = b == 35
 
--- the 32 bytes of 64 hex digits of either case, or None for any other text
+-- the 32 bytes that 64 hex digits in upper or lower case encode; `None` for any other text
 abbrev pub digest_in : List ℕ → Option (List ℕ)
 digest_in text = result_ok (decode_sized text 32)
 
--- the entry of a client with a digest, or a fault if there is no digest
+-- the entry of a client with a digest; the error `BadDigest` if there is no digest
 abbrev pub entry_with : List ℕ → Option (List ℕ) → Result Entry LineFault
 entry_with client None = Err BadDigest
 entry_with client (Some digest) = Ok (record { client = client; digest = digest })
@@ -33,7 +33,8 @@ entry_with client (Some digest) = Ok (record { client = client; digest = digest 
 abbrev pub is_space : ℕ → Bool
 is_space b = b == 32
 
--- the entry in a line: a client before the first space and a digest after it
+-- the entry in a line: the client's name before the first space, and the digest after it; or the first fault
+-- of the line
 abbrev pub entry_in : List ℕ → Result Entry LineFault
 entry_in line =
     if position_or_len is_space line == length line then Err BadLine
@@ -44,26 +45,27 @@ entry_in line =
 abbrev pub has_digest : List ℕ → Entry → Bool
 has_digest digest e = pointwise nat_eq digest e.digest
 
--- the entries with one more, or a fault if its digest is there or there are 10,000 entries
+-- the entries with one more; the error `Twice` if another entry has its digest, or `TooMany` if there are
+-- 10,000 entries already
 abbrev pub added : List Entry → Entry → Result (List Entry) LineFault
 added known e = if list_any (has_digest e.digest) known then Err Twice else if length known == MOST_TOKENS then Err TooMany else Ok (known ++ e ∷ [])
 
--- the entries with the entry of a line added, or the fault of the line
+-- the entries with the entry that was read from a line added, or the first fault of the line
 abbrev pub list_with_entry : List Entry → Result Entry LineFault → Result (List Entry) LineFault
 list_with_entry known (Ok e) = added known e
 list_with_entry known (Err fault) = Err fault
 
--- the entries once one more line is read
+-- the entries after one more line is read, or the first fault of the line
 abbrev pub after_line : List Entry → List ℕ → Result (List Entry) LineFault
 after_line known line = if says_nothing line then Ok known else list_with_entry known (entry_in line)
 
--- the result for the remaining lines, or the fault of line n
+-- the result of the remaining lines, or the fault of line `n` if it has one
 abbrev pub if_well : ℕ → Result (List Entry) LineFault → (List Entry → Result (List Entry) TokenFault) → Result (List Entry) TokenFault
 if_well n (Ok known) rest = rest known
 if_well n (Err cause) rest = Err (record { line = n; cause = cause })
 
--- the entries after these lines, given the number of the first line and the entries before it, or the first
--- faulty line
+-- the entries after these lines, or the first faulty line; `n` is the number of the first of these lines, and
+-- `known` are the entries before it
 unfoldable pub entries_from : ℕ → List Entry → List (List ℕ) → Result (List Entry) TokenFault
 entries_from n known [] = Ok known
 entries_from n known (line ∷ lines) = if_well n (after_line known line) (λ next. entries_from (n + 1) next lines)
@@ -76,6 +78,6 @@ is_line_feed b = b == 10
 abbrev pub entries_in : List ℕ → Result (List Entry) TokenFault
 entries_in text = entries_from 1 [] (slice_split is_line_feed text)
 
--- the client with the token of this digest, or None
+-- the client that has the token with this digest; `None` if no client has it
 abbrev pub client_with : List Entry → List ℕ → Option (List ℕ)
 client_with entries digest = option_map (λ e. e.client) (find (has_digest digest) entries)

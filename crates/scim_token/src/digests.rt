@@ -13,7 +13,7 @@ pub(crate) struct Digest {
 }
 
 impl Digest {
-    /// The digest of this token.
+    /// Returns the digest of this token.
     pub(crate) fn of(token: &[u8]) -> Digest
         ensures { result.bytes ≡ sha256 token.now }
     {
@@ -22,7 +22,7 @@ impl Digest {
         }
     }
 
-    /// Reads a digest from 64 hex digits of either case. None for any other text.
+    /// Reads a digest from 64 hex digits in upper or lower case. Returns `None` for any other text.
     pub(crate) fn read(text: &str) -> Option<Digest>
         ensures { option_map (λ d. d.bytes) result ≡ spec.digest_in text.now }
     {

@@ -1,7 +1,7 @@
 //! The faults of token files.
 use thiserror::Error;
 
-/// The fault of a line of a token file. The checks are made in this order.
+/// The fault of a line of a token file. The variants are in the order in which they are checked.
 #[derive(Clone, Copy, Debug, PartialEq, Eq, Error)]
 pub enum LineFault {
     /// The line has no space.
@@ -16,7 +16,7 @@ pub enum LineFault {
     /// An earlier line has the same digest.
     #[error("digest of an earlier line")]
     Twice,
-    /// There are 10,000 tokens in the lines before this one.
+    /// The lines before this one already have 10,000 tokens.
     #[error("too many tokens")]
     TooMany,
 }

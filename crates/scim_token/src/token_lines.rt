@@ -24,7 +24,8 @@ pub(crate) fn says_nothing(line: &str) -> bool
     }
 }
 
-/// Reads a line that isn't empty or a comment. The error is its first fault.
+/// Reads a line that is neither empty nor a comment. Fails with the first fault of the line, in the order of
+/// [`LineFault`].
 pub(crate) fn read_line(line: &str) -> Result<TokenLine<'_>, LineFault>
     ensures ok { IfOk result (λ l. spec.entry_in line.now ≡ Ok (entry_of l)) }
     ensures err { IfErr result (λ fault. spec.entry_in line.now ≡ Err fault) }

@@ -26,10 +26,11 @@ pub struct Tokens {
 
 impl Tokens {
     /// Reads a token file. It has one line for each token: the client's name, one space, and the
-    /// SHA-256 of the token in 64 hex digits of either case. Lines end in LF; a CR before it belongs to
-    /// the line. Empty lines and lines that begin with `#` are skipped.
+    /// SHA-256 of the token in 64 hex digits in upper or lower case. Lines end in LF; a CR before the LF
+    /// belongs to the line. Empty lines and lines that begin with `#` are skipped.
     ///
-    /// The error is the first faulty line, with its first fault in the order of [`LineFault`].
+    /// Fails with the number of the first faulty line and the first fault of that line, in the order of
+    /// [`LineFault`].
     pub fn read(alloc: Global, text: &str) -> Result<Tokens, Failed<TokenFault>>
         ensures { UnlessMemory (Reads (spec.entries_in text.now)) result }
     {
@@ -58,7 +59,7 @@ impl Tokens {
         Ok(tokens)
     }
 
-    /// Returns the client with this token, or None. The token isn't stored.
+    /// Returns the name of the client with this token; `None` if no client has it. Doesn't store the token.
     pub fn client_of(&self, token: &[u8]) -> Option<&str>
         ensures { (entries : List Entry) → Knows entries self.now
             → option_copied result ≡ spec.client_with entries (sha256 token.now) }
@@ -67,9 +68,9 @@ impl Tokens {
         self.clients.get(&digest).map(|client| client.as_str())
     }
 
-    /// Adds the entry in a line, if there is one.
+    /// Adds the entry in a line. Ignores a line that is empty or a comment.
     ///
-    /// The fault is that of the line, and the tokens are unchanged then.
+    /// Fails with the first fault of the line, if it has one; then the tokens are unchanged.
     fn take_line(&mut self, alloc: Global, line: &str) -> Result<(), Failed<LineFault>>
         ensures ok { OnOk result ((known : List Entry) → Knows known self.old → (next : List Entry)
             × (spec.after_line known line.now ≡ Ok next) × Knows next self.new) }
@@ -87,7 +88,8 @@ impl Tokens {
 
     /// Adds an entry.
     ///
-    /// The fault is `Twice` or `TooMany`, and the tokens are unchanged then.
+    /// Fails with `Twice` if another entry has the same digest, or with `TooMany` if there are 10,000 entries
+    /// already; then the tokens are unchanged.
     fn add(&mut self, alloc: Global, line: TokenLine<'_>) -> Result<(), Failed<LineFault>>
         ensures ok { OnOk result ((known : List Entry) → Knows known self.old → (next : List Entry)
             × (spec.added known (entry_of line.entry) ≡ Ok next) × Knows next self.new) }

@@ -8,7 +8,7 @@ use Rattle.scim_cell.specs.Place.{place_at}
 use Rattle.scim_cell.specs.Content.{Content}
 use Rattle.scim_cell.specs.Rows.{Row, Test, rows_of, rows, content, restricted, put_values}
 
--- a part with this atom at a position of a leaf, replacing one that is there
+-- a part with this atom at a position of a leaf, in place of any atom there
 abbrev pub with_cell : Leaf → ℕ → Atom → Content → Content
 with_cell l k atom c = record c { cells = insert c.cells (place_at l k) atom }
 
@@ -17,11 +17,11 @@ with_cell l k atom c = record c { cells = insert c.cells (place_at l k) atom }
 abbrev pub without_cell : Leaf → ℕ → Content → Content
 without_cell l k c = content c.kind c.id (rows_of (entries (remove c.cells (place_at l k))))
 
--- a part with only the fields that a test of row and leaf keeps; values that lose all fields are removed, so
--- that positions have no gaps
+-- a part with only the fields that a test keeps; values that lose all fields are removed, so that positions
+-- have no gaps
 abbrev pub restricted_part : Test → Content → Content
 restricted_part keeps c = content c.kind c.id (restricted keeps (rows c))
 
--- a part with the values of a unit replaced
+-- the part `c`, with the values of the unit `u` replaced by `vs`
 abbrev pub with_values : AttributeUnit → List Row → Content → Content
 with_values u vs c = content c.kind c.id (put_values u vs (rows c))

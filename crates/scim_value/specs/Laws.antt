@@ -19,6 +19,6 @@ SoundRowsMakeAPart = (kind : Kind) (id : List ℕ) (rs : List Row) → AreSound 
 abbrev pub RowsDetermineCells : Type 0
 RowsDetermineCells = (c d : Content) → IsPart c → IsPart d → c.kind ≡ d.kind → c.id ≡ d.id → rows c ≡ rows d → c ≡ d
 
--- the atom at a position of a leaf is that of the leaf's field in the row at this index
+-- the atom at a position of a leaf is in the row with this index among the rows of the leaf's unit
 abbrev pub CellsStandInRows : Type 0
 CellsStandInRows = (c : Content) → IsPart c → (l : Leaf) (k : ℕ) → get c.cells (place_at l k) ≡ cell_at l k (rows c)

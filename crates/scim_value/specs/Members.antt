@@ -11,7 +11,7 @@ use Rattle.scim_cell.specs.Content.{Content}
 use Rattle.scim_cell.specs.Ids.{id_text}
 use Rattle.scim_cell.specs.Rows.{Row, rows, values, atom_in}
 
--- whether the atom is there and is this text
+-- whether the option contains this text
 abbrev pub is_text : List ℕ → Option Atom → Bool
 is_text t (Some (Text u)) = pointwise nat_eq t u
 is_text t _ = false

@@ -11,7 +11,8 @@ use Rattle.scim_cell.specs.Content.{Content}
 abbrev pub HasCellAt : Content → Attribute → ℕ → Type 0
 HasCellAt c a k = (l : Leaf) × (l.attribute ≡ a) × IsSome (get c.cells (place_at l k))
 
--- exactly the positions below n of the attribute have cells, and n is at most 1 if it is single-valued
+-- exactly the positions below n of the attribute have cells, and n is at most 1 if the attribute is
+-- single-valued
 pub record HasPositions (c : Content) (a : Attribute) (n : ℕ) : Type 0 where
   pub filled : (k : ℕ) → (k < n) ↔ HasCellAt c a k
   pub single : is_multi_valued a ≡ false → n ≤ 1

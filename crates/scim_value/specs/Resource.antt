@@ -44,12 +44,12 @@ location base kind id = base ++ (endpoint kind ++ (codes "/" ++ id_text id))
 abbrev pub HasBase : List ℕ → Content → Type 0
 HasBase base c = first_at (leaf_at Meta Location) c ≡ Some (Text (location base c.kind c.id))
 
--- the atom is there and is a text that isn't empty
+-- the option contains a text that isn't empty
 abbrev pub IsFilled : Option Atom → Type 0
 IsFilled (Some (Text t)) = t ≢ []
 IsFilled _ = ⊥
 
--- a resource of the kind has its name: `userName`, not empty, for a user, and `displayName` for a group
+-- the part has the name that the kind requires: a user a `userName` that isn't empty, a group a `displayName`
 abbrev pub IsNamedAs : Kind → Content → Type 0
 IsNamedAs User c = IsFilled (first_at (simple UserName) c)
 IsNamedAs Group c = IsSome (first_at (simple DisplayName) c)

@@ -12,7 +12,7 @@ use Rattle.scim_value.specs.declared.uniqueness.UniqueName.{UniqueName}
 use Rattle.scim_cell.specs.Content.{Content}
 use Rattle.scim_value.specs.Resource.{first_at}
 
--- a leaf, and the text by which names are compared there
+-- a unique name: its leaf, and the text by which it is compared with other names
 pub record Name : Type 0 where
   pub leaf : Leaf
   pub text : List ℕ
@@ -25,7 +25,7 @@ name_of n = record { leaf = n.leaf; text = string_bytes n.text }
 abbrev pub known_text : Kind → Leaf → List ℕ → List ℕ
 known_text kind l t = if (characteristics_of kind l).case_exact then t else folded t
 
--- the name at a leaf with this atom, or no name if there is no text
+-- the name at a leaf with this atom, or no name if the atom is absent or not a text
 abbrev pub name_at : Kind → Leaf → Option Atom → List Name
 name_at kind l (Some (Text t)) = record { leaf = l; text = known_text kind l t } ∷ []
 name_at kind l _ = []
@@ -34,8 +34,8 @@ name_at kind l _ = []
 abbrev pub unique_names : Content → List Name
 unique_names c = flat_map (λ l. name_at c.kind l (first_at l c)) (unique_leaves c.kind)
 
--- two resources may be on one server: their ids differ, and they share no unique name (RFC 7643 sections 2.2
--- and 3.1)
+-- two resources may be on the same server: their ids differ, and they share no unique name (RFC 7643
+-- sections 2.2 and 3.1)
 pub record AreApart (c d : Content) : Type 0 where
   pub ids : c.id ≢ d.id
   pub names : (n : Name) → Contains (unique_names c) n → Contains (unique_names d) n → ⊥

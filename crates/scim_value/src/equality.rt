@@ -4,7 +4,7 @@ ghost use Rattle.std.specs.Prelude.{◌≡◌, ◌↔◌, IsTrue};
 use crate::parts::Part;
 use crate::resources::Resource;
 
-/// Parts are equal if their kinds, their ids and their cells are.
+/// Parts are equal if their kinds, their ids and their cells are equal.
 impl PartialEq for Part {
     ghost use Rattle.std.specs.Cmp.{partial_equiv_from_equiv};
     ghost use Rattle.scim_value.specs.Equality.{is_same_part, is_same_part-IsEquivalence};
@@ -27,7 +27,7 @@ impl Eq for Part {
     ghost laws = { is_same_part-IsEquivalence };
 }
 
-/// Resources are equal if their kinds, their ids and their cells are.
+/// Resources are equal if their kinds, their ids and their cells are equal.
 impl PartialEq for Resource {
     ghost use Rattle.std.specs.Cmp.{partial_equiv_from_equiv};
     ghost use Rattle.scim_value.specs.Equality.{is_same_part, is_same_part-IsEquivalence};

@@ -1,8 +1,8 @@
-//! The fault of cells that don't make up a part, and of parts that aren't resources.
+//! The error for cells that don't form a part and for parts that aren't resources.
 use scim_text::Failed;
 use thiserror::Error;
 
-/// The cells aren't those of a part, or the part isn't a resource.
+/// The cells don't form a part, or the part isn't a resource.
 #[derive(Clone, Copy, Debug, PartialEq, Eq, Error)]
 #[error("these are not the cells of such a part or resource")]
 pub struct Invalid;

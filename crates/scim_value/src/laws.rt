@@ -13,15 +13,15 @@ pub fn rows_determine_cells()
     ensures { RowsDetermineCells }
 {}
 
-/// Lemma: the atom at a position of a leaf is that of the leaf's field in the row at this index,
-/// among the rows of the leaf's unit.
+/// Lemma: the atom at a position of a leaf is in the row with this index among the rows of the leaf's
+/// unit.
 pub fn cells_stand_in_rows()
     ensures { CellsStandInRows }
 {}
 
-/// Lemma: the cells of a part, in order of place, are those of each attribute of its kind in turn.
-/// Those of a multi-valued attribute are ordered by value and then by sub-attribute, those of a
-/// complex attribute by sub-attribute.
+/// Lemma: the cells of a part, in order of place, are the cells of each attribute of its kind, one
+/// attribute after another. The cells of a multi-valued attribute are ordered by value and then by
+/// sub-attribute; the cells of a single-valued complex attribute are ordered by sub-attribute.
 pub fn cells_are_listed()
     ensures { CellsAreListed }
 {}

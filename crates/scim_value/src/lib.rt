@@ -1,4 +1,4 @@
-//! Parts and resources: their cells, changes of cells, and the rules and limits that resources keep
+//! Parts and resources: their cells, changes of cells, and the rules and limits that resources obey
 //! (RFC 7643 sections 2 to 4).
 #![tactic(auto)]
 

@@ -27,11 +27,11 @@ impl Part {
         cells_of(alloc, self.rows())
     }
 
-    /// Returns the part with this cell added, or replaced if there is one at this place.
+    /// Returns the part with this cell added. It replaces a cell at the same place, if there is one.
     ///
-    /// Fails with Invalid if no part has these cells: the leaf doesn't belong to the kind, the atom isn't of
-    /// its type, there is no value at the position before, or the attribute is single-valued and the position
-    /// isn't 0.
+    /// Fails with `Invalid` if no part has these cells: the leaf doesn't belong to the kind, the atom doesn't
+    /// have the type of the leaf, there is no value at the previous position, or the attribute is
+    /// single-valued and the position isn't 0.
     pub fn with(
         &self,
         alloc: Global,
@@ -69,7 +69,7 @@ impl Part {
     }
 }
 
-/// The position of a row of the unit, given unit and position of the row before it.
+/// The position of a row of the unit, given the unit and the position of the previous row, if any.
 fn next_position(last: Option<(Unit, usize)>, unit: Unit) -> usize
     requires { ForSome last (λ l. l.1 + 1 < 2 ^ 64) }
     ensures { result ≡ spec.next_position last unit }
@@ -82,7 +82,7 @@ fn next_position(last: Option<(Unit, usize)>, unit: Unit) -> usize
     }
 }
 
-/// Appends copies of the fields as cells at the position. After NoMemory some may have been
+/// Appends copies of the fields as cells at the position. If memory runs out, some cells may have been
 /// appended.
 fn append_fields(
     alloc: Global,
@@ -119,7 +119,7 @@ fn cells_of(alloc: Global, rows: &[Row]) -> Result<Vec<Cell>, NoMemory>
     Ok(cells)
 }
 
-/// The index of the cell at the place, or as an error the index at which to insert one.
+/// Returns the index of the cell at the place or, as the error, the index at which to insert a new cell.
 fn place_in(cells: &[Cell], place: Place) -> Result<usize, usize>
     ensures range { IsSearchInRange result (length cells.now) }
     ensures searched { IsBinarySearchResult (λ c. place_cmp (place_of c) place) cells.now result }
@@ -127,7 +127,7 @@ fn place_in(cells: &[Cell], place: Place) -> Result<usize, usize>
     cells.binary_search_by(|cell| cell.place().compare(place))
 }
 
-/// Puts a cell at its place, replacing one that is there.
+/// Inserts a cell at its place, or replaces the cell that is there.
 fn put_cell(cells: &mut Vec<Cell>, cell: Cell) -> Result<(), NoMemory>
     requires { is_sorted place_cmp (entries_of cells.old.items) ≡ true }
     ensures { OnOk result (entries_of cells.new.items

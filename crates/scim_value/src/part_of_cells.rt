@@ -18,9 +18,9 @@ use std::alloc::Global;
 impl Part {
     /// Returns the part of these cells, which may be in any order.
     ///
-    /// Fails with Invalid if no part of the kind has these cells: a leaf doesn't belong to the kind, an atom
-    /// isn't of its leaf's type, two cells have the same place, positions have a gap, or a single-valued
-    /// attribute has a position other than 0.
+    /// Fails with `Invalid` if no part of the kind has these cells: a leaf doesn't belong to the kind, an
+    /// atom doesn't have the type of its leaf, two cells have the same place, positions have a gap, or a
+    /// single-valued attribute has a position other than 0.
     pub fn of(
         alloc: Global,
         kind: Kind,
@@ -41,7 +41,7 @@ impl Part {
     /// Returns the part of cells that are in order of place: by attribute in the order of the
     /// table, by position, by sub-attribute.
     ///
-    /// Fails with Invalid if they aren't in this order, and as for [`Part::of`].
+    /// Fails with `Invalid` if the cells aren't in this order, or if [`Part::of`] fails for them.
     pub fn of_sorted(
         alloc: Global,
         kind: Kind,
@@ -80,8 +80,8 @@ fn joins_last(before: Option<Place>, place: Place) -> bool
     }
 }
 
-/// Adds the cell to the last row, or to a new row of its own. After NoMemory the last row may be
-/// missing.
+/// Adds the cell to the last row if `is_joined` is true and there is a row, otherwise as a new row. If
+/// memory runs out, the last row may be missing.
 fn group_cell(
     alloc: Global,
     rows: &mut Vec<Row>,
@@ -111,7 +111,7 @@ fn group_cell(
     Ok(())
 }
 
-/// The rows of cells that are in order of place.
+/// Groups cells that are in order of place into rows.
 pub(crate) fn rows_from(alloc: Global, cells: Vec<Cell>) -> Result<Vec<Row>, NoMemory>
     ensures { IfOk result (λ v. v.items ≡ rows_of (entries_of cells.items)) }
 {

@@ -23,10 +23,10 @@ use std::alloc::Global;
 use std::marker::Model;
 
 /// A kind, an id and cells of the kind, whose positions run from 0 without a gap. The cells are all
-/// those of a resource, or a selection, such as those that a client may see.
+/// cells of a resource or a selection, such as the cells that a client may see.
 ///
-/// A part stores its cells by value, as rows. Contracts see the finite map from leaf and position
-/// to atom; `rows` lends the rows of that map.
+/// A part stores its cells grouped by value, as rows. Contracts see the finite map from leaf and
+/// position to atom; `rows` returns the rows of that map.
 pub struct Part {
     kind: Kind,
     id: Id,
@@ -64,7 +64,7 @@ impl Model for Part {
 
 impl Part {
     /// Returns the part with these rows. Each must be valid for the kind and have a field. They
-    /// must be in order of unit, with at most one for each unit that isn't multi-valued.
+    /// must be in order of unit, with at most one row for each unit that isn't multi-valued.
     pub fn of_rows(kind: Kind, id: Id, rows: Vec<Row>) -> Part
         requires { AreSound kind rows.items }
         ensures whole { result ≡ spec.content kind id rows.items }
@@ -98,7 +98,7 @@ impl Part {
         self.rows.as_slice()
     }
 
-    /// The kind, the id and the rows, owned.
+    /// Converts the part into its kind, its id and its rows.
     pub fn into_parts(self) -> (Kind, Id, Vec<Row>)
         ensures kind { result.0 ≡ self.kind }
         ensures id { result.1 ≡ self.id }
@@ -109,8 +109,8 @@ impl Part {
         (kind, id, rows)
     }
 
-    /// Splits the rows into those of the units before this one, of this unit, and of the units
-    /// after it.
+    /// Splits the rows into the rows of earlier units, the rows of this unit and the rows of later
+    /// units.
     fn split(&self, unit: Unit) -> (&[Row], &[Row], &[Row])
         ensures before { result.0.now ≡ filter (λ r. is_lt (unit_cmp r.unit unit))
             (spec.rows self.now) }
@@ -132,9 +132,9 @@ impl Part {
     }
 
     /// The rows of an attribute, in order of unit: the values of a multi-valued attribute, or one
-    /// row for each leaf of a single-valued one that has a cell.
+    /// row for each leaf of a single-valued attribute that has a cell.
     ///
-    /// It takes one binary search, so it is the fast way to visit many attributes of a part.
+    /// It takes one binary search if the attribute has no rows, otherwise two.
     pub fn attribute_rows(&self, attribute: Attribute) -> &[Row]
         ensures rows { result.now ≡ spec.attribute_rows attribute (spec.rows self.now) }
         ensures valid { IsPart self.now }
@@ -149,7 +149,7 @@ impl Part {
         rest.split_at(end).0
     }
 
-    /// Returns the part with the values of a unit replaced.
+    /// Returns the part with the values of the unit replaced by `values`.
     ///
     /// The values must be valid for the unit, which [`scim_cell::are_values`] checks. The rows of
     /// other units are moved, not copied.
@@ -173,14 +173,14 @@ impl Part {
         Ok(Part::of_rows(kind, id, rows))
     }
 
-    /// The atom at a position of a leaf, counted from 0, or None if there is no cell.
+    /// The atom at a position of a leaf, counted from 0, or `None` if there is no cell.
     pub fn get(&self, leaf: Leaf, position: usize) -> Option<&Atom>
         ensures { option_copied result ≡ get self.now.cells (place_at leaf position) }
     {
         atom_at(self.values(unit_of(leaf)), leaf, position)
     }
 
-    /// The number of values of a multi-valued attribute. For a single-valued one, 1 if it has a
+    /// The number of values of a multi-valued attribute. For a single-valued attribute, 1 if it has a
     /// cell, otherwise 0.
     #[tactic(auto, using(crate::proofs::PositionLemmas::number_filled))]
     pub fn positions(&self, attribute: Attribute) -> usize
@@ -230,7 +230,7 @@ fn begins_with(rows: &[Row], attribute: Attribute) -> bool
     }
 }
 
-/// The atom of a leaf in the row at this index, or None.
+/// The atom of a leaf in the row at this index, or `None` if there is no such row or atom.
 fn atom_at(own: &[Row], leaf: Leaf, position: usize) -> Option<&Atom>
     ensures { option_copied result ≡ spec.atom_at leaf position own.now }
 {

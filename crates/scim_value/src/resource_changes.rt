@@ -15,11 +15,12 @@ use scim_text::Failed;
 use std::alloc::Global;
 
 impl Resource {
-    /// Returns the resource with this cell added, or replaced if there is one at this place. `self`
-    /// isn't changed. Unless the leaf is `meta.location`, the base of the location is the same.
+    /// Returns the resource with this cell added. It replaces a cell at the same place, if there is one.
+    /// `self` isn't changed. Unless the leaf is `meta.location`, the base of the location stays the same.
     ///
-    /// Fails with Invalid if the result isn't a resource: the leaf doesn't belong to the kind, the atom isn't
-    /// of its type, there is no value at the position before, or a rule for resources is broken.
+    /// Fails with `Invalid` if the result isn't a resource: the leaf doesn't belong to the kind, the atom
+    /// doesn't have the type of the leaf, there is no value at the previous position, or the result breaks
+    /// a rule for resources.
     pub fn with(
         &self,
         alloc: Global,
@@ -39,9 +40,9 @@ impl Resource {
 
     /// Returns the resource without the cell at a position of a leaf, if there is one. A value that
     /// loses its last cell is removed, and the positions after it move down by one. `self` isn't
-    /// changed. Unless the leaf is `meta.location`, the base of the location is the same.
+    /// changed. Unless the leaf is `meta.location`, the base of the location stays the same.
     ///
-    /// Fails with Invalid if the result isn't a resource, for example because the cell is required.
+    /// Fails with `Invalid` if the result isn't a resource, for example because the cell is required.
     pub fn without(
         &self,
         alloc: Global,

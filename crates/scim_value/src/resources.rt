@@ -1,4 +1,4 @@
-//! Resources: parts with all that RFC 7643 sections 2 to 4 require.
+//! Resources: parts that meet all requirements of RFC 7643 sections 2 to 4.
 ghost use Rattle.std.specs.Prelude.{◌≡◌, ◌↔◌, IfOk, IsOk};
 ghost use Rattle.std.specs.Option.{option_copied};
 ghost use Rattle.std.specs.FinMap.{get};
@@ -17,10 +17,10 @@ use scim_text::NoMemory;
 use std::alloc::Global;
 use std::marker::Model;
 
-/// A complete resource: a part with all that RFC 7643 sections 3.1, 4.1 and 4.2 require, within the
-/// limits of this server. [`crate::is_resource`] checks a part.
+/// A complete resource: a part that meets all requirements of RFC 7643 sections 3.1, 4.1 and 4.2, within
+/// the limits of this server. [`crate::is_resource`] checks whether a part is one.
 ///
-/// Contracts see a resource as its part, with the fact that it is a resource.
+/// Contracts see a resource as its part, and know that the part is a valid resource.
 pub struct Resource {
     part: Part,
 }
@@ -62,10 +62,11 @@ impl Model for Resource {
 }
 
 impl Resource {
-    /// Makes a resource of a part. Its `meta.location` must be below `base`, such as `http://127.0.0.1:8080`.
+    /// Makes a resource from a part. Its `meta.location` must be below `base`, such as
+    /// `http://127.0.0.1:8080`.
     ///
-    /// Fails with Invalid if the part isn't a resource or its location is below another base. The part is
-    /// dropped then.
+    /// Fails with `Invalid` if the part isn't a resource or its location is below another base. In that case
+    /// the part is dropped.
     pub fn of(part: Part, base: &str) -> Result<Resource, Invalid>
         ensures value { IfOk result (λ r. r ≡ part) }
         ensures valid { IsOk result ↔ (IsResource part × HasBase base.now part) }
@@ -77,7 +78,7 @@ impl Resource {
         }
     }
 
-    /// Makes a resource from a part, whose location may be below any base. Fails with Invalid if the part
+    /// Makes a resource from a part, whose location may be below any base. Fails with `Invalid` if the part
     /// isn't valid as a resource.
     pub(crate) fn of_part(part: Part) -> Result<Resource, Invalid>
         ensures value { IfOk result (λ r. r ≡ part) }
@@ -106,7 +107,7 @@ impl Resource {
         &self.part
     }
 
-    /// The part, owned.
+    /// Converts the resource into its part.
     pub fn into_part(self) -> Part
         ensures value { result ≡ self }
         ensures valid { IsResource self }
@@ -129,14 +130,14 @@ impl Resource {
         self.part().id()
     }
 
-    /// The atom at a position of a leaf, counted from 0, or None if there is no cell.
+    /// The atom at a position of a leaf, counted from 0, or `None` if there is no cell.
     pub fn get(&self, leaf: Leaf, position: usize) -> Option<&Atom>
         ensures { option_copied result ≡ get self.now.cells (place_at leaf position) }
     {
         self.part().get(leaf, position)
     }
 
-    /// The number of values of a multi-valued attribute. For a single-valued one, 1 if it has a
+    /// The number of values of a multi-valued attribute. For a single-valued attribute, 1 if it has a
     /// cell, otherwise 0.
     pub fn positions(&self, attribute: Attribute) -> usize
         ensures rows { result ≡ positions attribute (rows self.now) }

@@ -1,4 +1,4 @@
-//! Splits rows in order of unit at a unit.
+//! Splits a list of rows, which is in order of unit, at a given unit.
 ghost use Rattle.std.specs.Prelude.{◌≡◌, ◌++◌, AllPairs, filter, take};
 ghost use Rattle.std.specs.List.{list_any};
 ghost use Rattle.std.specs.Ordering.{is_lt, is_eq, is_gt};
@@ -9,8 +9,8 @@ ghost use Rattle.scim_cell.specs.Rows.{Precedes};
 use scim_cell::{Row, compare_units};
 use scim_schema::Unit;
 
-/// Splits rows in order of unit into those of the units before this one, of this unit, and of the
-/// units after it.
+/// Splits rows that are in order of unit into the rows of earlier units, the rows of this unit and the
+/// rows of later units.
 pub(crate) fn split_rows(rows: &[Row], unit: Unit) -> (&[Row], &[Row], &[Row])
     requires { AllPairs (λ r s. Precedes r.unit s.unit) rows.now }
     ensures before { result.0.now ≡ filter (λ r. is_lt (unit_cmp r.unit unit)) rows.now }
@@ -38,8 +38,8 @@ fn begins_with_unit(rows: &[Row], unit: Unit) -> bool
     }
 }
 
-/// The values of a unit in order of position, among rows that are in order of unit as those of a
-/// part.
+/// Returns the values of a unit, in order of position. The rows must be in order of unit, as they are
+/// in a part.
 pub fn values_among(rows: &[Row], unit: Unit) -> &[Row]
     requires { AllPairs (λ r s. Precedes r.unit s.unit) rows.now }
     ensures { result.now ≡ spec.values unit rows.now }

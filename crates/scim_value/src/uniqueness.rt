@@ -12,8 +12,8 @@ use scim_schema::{Kind, Leaf, characteristics_of, unique_leaves};
 use scim_text::{NoMemory, fold, push};
 use std::alloc::Global;
 
-/// A name that no other resource may have: a leaf, and the text by which names are compared there.
-/// The text is folded unless the attribute is caseExact.
+/// A name that at most one resource may have: its leaf, and the text by which it is compared with other
+/// names. The text is folded unless the attribute is caseExact.
 #[derive(PartialEq, Eq, Hash)]
 pub struct UniqueName {
     pub leaf: Leaf,
@@ -38,7 +38,7 @@ pub fn unique_names(alloc: Global, resource: &Resource) -> Result<Vec<UniqueName
     Ok(names)
 }
 
-/// Appends the names of the resource at the leaves. After NoMemory some may have been appended.
+/// Appends the names of the resource at the leaves. If memory runs out, some may have been appended.
 fn push_names(
     alloc: Global,
     resource: &Resource,

@@ -18,11 +18,11 @@ use scim_schema::{
 
 /// Whether the part is a resource, with a location below any base.
 ///
-/// These are the rules: `id` is its id and `meta` is complete (RFC 7643 section 3.1). A user has a
-/// `userName` that isn't empty (section 4.1.1), a group a `displayName` (section 4.2). Each member
+/// These are the rules: `id` is the id of the part and `meta` is complete (RFC 7643 section 3.1). A user
+/// has a `userName` that isn't empty (section 4.1.1), a group a `displayName` (section 4.2). Each member
 /// has a `value` (section 4.2). No attribute has two values whose `primary` is true (section 2.4).
-/// There are no cells of `groups` and of writeOnly attributes (sections 4.1.2 and 7). The limits
-/// `MOST_VALUES` and `LONGEST_VALUE` hold.
+/// There are no cells of `groups` or of writeOnly attributes (sections 4.1.2 and 7). The part is within
+/// the limits `MOST_VALUES` and `LONGEST_VALUE`.
 pub fn is_resource(part: &Part) -> bool
     ensures { IsTrue result ↔ IsResource part.now }
 {
@@ -50,7 +50,7 @@ fn has(part: &Part, leaf: Leaf) -> bool
     part.get(leaf, 0).is_some()
 }
 
-/// The text at the first position of a leaf, or None.
+/// The text at the first position of a leaf, or `None` if there is no text.
 fn first_text(part: &Part, leaf: Leaf) -> Option<&str>
     ensures { (text : List ℕ) → (option_copied result ≡ Some text)
         ↔ (first_at leaf part.now ≡ Some (Text text)) }
@@ -95,7 +95,7 @@ fn has_meta(part: &Part) -> bool
         && has(part, Leaf::of(Attribute::Meta, SubAttribute::LastModified))
 }
 
-/// The text without the suffix `end`, or None if it doesn't have it.
+/// The text without the suffix `end`, or `None` if the text doesn't end with it.
 fn before<'a>(text: &'a str, end: &str) -> Option<&'a str>
     ensures { (front : List ℕ) → (option_copied result ≡ Some front)
         ↔ (text.now ≡ front ++ end.now) }
@@ -103,8 +103,7 @@ fn before<'a>(text: &'a str, end: &str) -> Option<&'a str>
     text.strip_suffix(end)
 }
 
-/// The base of a location of this kind and id, or None if the location isn't that of such a
-/// resource.
+/// The base of a location, or `None` if it isn't the location of a resource with this kind and this id.
 fn base_of<'a>(location: &'a str, kind: Kind, id: &str) -> Option<&'a str>
     ensures { (base : List ℕ) → (option_copied result ≡ Some base)
         ↔ (location.now ≡ base ++ (endpoint kind ++ (codes "/" ++ id.now))) }
@@ -112,7 +111,8 @@ fn base_of<'a>(location: &'a str, kind: Kind, id: &str) -> Option<&'a str>
     before(before(before(location, id)?, "/")?, kind.endpoint())
 }
 
-/// The base of `meta.location`, or None if it isn't a location of the part's kind and id.
+/// The base of `meta.location`, or `None` if it isn't the location of a resource with the kind and the id
+/// of the part.
 fn location_base(part: &Part) -> Option<&str>
     ensures { (base : List ℕ) → (option_copied result ≡ Some base) ↔ HasBase base part.now }
 {
@@ -190,7 +190,7 @@ fn has_few_values(part: &Part) -> bool
         .all(|attribute| has_few_values_in(part, *attribute))
 }
 
-/// Whether a text has at most `LONGEST_VALUE` bytes; other atoms pass.
+/// Whether the atom is a text of at most `LONGEST_VALUE` bytes, or not a text.
 fn is_short(atom: &Atom) -> bool
     ensures { IsTrue result ↔ IsShort atom.now }
 {
@@ -207,8 +207,8 @@ fn is_location(leaf: Leaf) -> bool
     leaf == Leaf::of(Attribute::Meta, SubAttribute::Location)
 }
 
-/// Whether a resource may have the field: it isn't of `groups` or of a writeOnly leaf, and isn't
-/// too long.
+/// Whether a resource may have the field: it doesn't belong to `groups` or to a writeOnly leaf, and its
+/// text isn't too long, unless it is `meta.location`.
 fn may_be_kept(kind: Kind, field: &Field) -> bool
     ensures { IsTrue result ↔ MayBeKept kind field.now }
 {

@@ -51,8 +51,8 @@ abbrev pub display_field : Option (List ℕ) → List Field
 display_field None = []
 display_field (Some t) = field Display t ∷ []
 
--- the value of `groups` for a group of this id and, if any, this name: its id, its location below the base,
--- its name, and the type "direct"
+-- the value of `groups` for a group with this id and, if it has one, this name: its id, its location
+-- below the base, its name, and the type "direct"
 abbrev pub membership_of : List ℕ → List ℕ → Option (List ℕ) → Row
 membership_of base id display = record {
   unit = whole Groups;
@@ -67,7 +67,8 @@ membership base g = membership_of base g.id (display_of g)
 abbrev pub membership_at : List ℕ → Bor SeenGroup → Row
 membership_at base g = membership_of base g.now.id g.now.display
 
--- the values of `groups` for the resource of an id: one for each visible group that lists it, sorted by id
+-- the values of `groups` for the resource with this id: one for each of these groups that lists it, sorted by
+-- the groups' ids
 abbrev pub memberships : List ℕ → List Content → List ℕ → List Row
 memberships base gs id = map (membership base) (sorted_by id_cmp (filter (lists id) gs))
 
@@ -75,15 +76,18 @@ memberships base gs id = map (membership base) (sorted_by id_cmp (filter (lists 
 abbrev pub rows_with : List Row → Content → List Row
 rows_with ms c = if sameb the_kind c.kind User then put_values (whole Groups) ms (rows c) else rows c
 
--- the part of a resource with these values of `groups` that the decisions on reading let be seen
+-- the resource with these values of `groups`, restricted to the cells that the decisions on reading let be
+-- seen
 unfoldable pub visible_with : (Leaf → Decision) → List Row → Content → Content
 visible_with decision ms c = content c.kind c.id (restricted (may_be_seen decision c.kind) (rows_with ms c))
 
--- the part of a resource that the client may see, with `groups` made from the given groups that it sees
+-- the part of a resource that the client may see, with `groups` computed from those of the
+-- given groups that it sees
 unfoldable pub with_groups : Viewer → List Content → Content → Content
 with_groups v groups c = visible_with (read_decision v c) (memberships v.base (seen v groups) c.id) c
 
--- the part of a resource with its `groups` that the client may see; None if it doesn't see the resource
+-- the part of a resource that the client may see, with its computed `groups`; None if the client doesn't see
+-- the resource
 abbrev pub view_with_groups : Viewer → List Content → Content → Option Content
 view_with_groups v groups c = if sees v c then Some (with_groups v groups c) else None
 

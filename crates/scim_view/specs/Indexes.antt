@@ -1,4 +1,4 @@
--- The index of groups by member, made group by group.
+-- The index of groups by member, built group by group.
 use Rattle.std.specs.Prelude.{List}
 use Rattle.scim_cell.specs.Content.{Content}
 use Rattle.scim_view.specs.declared.group_index.GroupIndex.{GroupIndex}
@@ -6,6 +6,6 @@ use Rattle.scim_view.specs.View.{Viewer}
 use Rattle.scim_view.specs.Groups.{seen}
 use Rattle.scim_view.specs.code.Index.{IsMadeOf}
 
--- the index is made from those of the groups that the viewer sees, each as the viewer sees it
+-- the index has those of the groups that the viewer sees, each as the viewer sees it
 abbrev pub IsIndexOf : Viewer → List Content → GroupIndex → Type 0
 IsIndexOf v groups index = IsMadeOf (seen v groups) index

@@ -1,4 +1,4 @@
--- The theorem that a change which widens no access of a client brings no unchanged cell into its view.
+-- The theorem that a change which doesn't widen a client's access brings no unchanged cell into its view.
 use Rattle.std.specs.Prelude.{◌≡◌, ℕ, false, true, None, Some}
 use Rattle.scim_schema.specs.declared.Leaf.{Leaf}
 use Rattle.scim_schema.specs.Mutability.{is_write_only}
@@ -15,7 +15,7 @@ pub record IsSeenAt (v : Viewer) (c : Content) (l : Leaf) (k : ℕ) (atom : Atom
   pub shown : is_write_only c.kind l ≡ false
   pub readable : may_read v c l ≡ true
 
--- after a change that widens no access of a viewer, the viewer sees no unchanged cell that it didn't see
+-- after a change that doesn't widen a viewer's access, the viewer sees no unchanged cell that it didn't see
 -- before
 abbrev pub NothingComesIntoView : Type 0
 NothingComesIntoView =

@@ -1,4 +1,4 @@
--- The groups that list one resource, gathered one by one.
+-- The groups that list one resource as a member, gathered one by one.
 use Rattle.std.specs.Prelude.{◌≡◌, ℕ, List, map, filter}
 use Rattle.scim_cell.specs.Content.{Content}
 use Rattle.scim_value.specs.Members.{lists}
@@ -7,6 +7,6 @@ use Rattle.scim_view.specs.View.{Viewer}
 use Rattle.scim_view.specs.Groups.{seen}
 use Rattle.scim_view.specs.code.Memberships.{kept_of}
 
--- the listing keeps those of the given groups in which the viewer sees the resource of the id as a member
+-- the listing has those of the given groups in which the viewer sees the resource with this id as a member
 abbrev pub AreListing : Viewer → List ℕ → List Content → ListingGroups → Type 0
 AreListing v id groups listing = listing.groups.items ≡ map kept_of (filter (lists id) (seen v groups))

@@ -11,13 +11,14 @@ use Rattle.scim_view.specs.declared.projection.Wanted.{Wanted}
 use Rattle.scim_view.specs.declared.projection.Wanted.TheVariants as wanted
 use Rattle.scim_view.specs.Names.{includes}
 
--- whether a leaf with `returned` "default" is shown: by default, if named, or if not excluded
+-- whether a leaf with `returned` "default" is shown: always for Default, if it is named for
+-- Only, and if it isn't named for Without
 abbrev pub shows_default : Wanted → Leaf → Bool
 shows_default wanted.Default l = true
 shows_default (wanted.Only names) l = includes names l
 shows_default (wanted.Without names) l = not (includes names l)
 
--- whether a leaf with `returned` "request" is shown: if the client names it
+-- whether a leaf with `returned` "request" is shown: only if it is named for Only
 abbrev pub shows_requested : Wanted → Leaf → Bool
 shows_requested wanted.Default l = false
 shows_requested (wanted.Only names) l = includes names l
@@ -30,7 +31,7 @@ shows_returned w returned.Never l = false
 shows_returned w returned.Default l = shows_default w l
 shows_returned w returned.Request l = shows_requested w l
 
--- whether a leaf of a kind is shown to a client with these wishes
+-- whether a leaf of a kind is shown to a client that wants these attributes
 abbrev pub shows : Wanted → Kind → Leaf → Bool
 shows w kind l = shows_returned w (characteristics_of kind l).returned l
 

@@ -18,7 +18,8 @@ use Rattle.scim_policy.specs.Rules.{Rule}
 use Rattle.scim_policy.specs.Decide.{decide}
 use Rattle.scim_view.specs.declared.viewers.Viewer.{Viewer as ViewerInCode}
 
--- the client for whom a resource is viewed: the policy's rules, the client's name, and the base of locations
+-- the client for whom a resource is viewed: the policy's rules, the client's name, and the base
+-- URL of all locations
 pub record Viewer : Type 0 where
   pub policy : List Rule
   pub client : List ℕ
@@ -40,7 +41,8 @@ may_read v c l = (read_decision v c l).allow
 unfoldable pub sees : Viewer → Content → Bool
 sees v c = may_read v c (simple Id)
 
--- whether the decisions on reading let a leaf of a kind be seen: reading is allowed, and it isn't writeOnly
+-- whether the decisions on reading let a leaf of a kind be seen: reading is allowed, and the
+-- leaf isn't writeOnly
 abbrev pub may_be_seen : (Leaf → Decision) → Kind → Test
 may_be_seen decision kind _ l = not (is_write_only kind l) && (decision l).allow
 
@@ -48,8 +50,8 @@ may_be_seen decision kind _ l = not (is_write_only kind l) && (decision l).allow
 abbrev pub shows_some : (Leaf → Decision) → Kind → Attribute → Bool
 shows_some decision kind a = list_any (λ l. sameb the_attribute l.attribute a && (not (is_write_only kind l) && (decision l).allow)) (leaves kind)
 
--- the part of the resource that the decisions on reading let be seen: values without a visible cell are left out, and
--- later positions move down
+-- the part of the resource that the decisions on reading let be seen: values without a visible cell are left
+-- out, and later positions move down
 unfoldable pub visible_by : (Leaf → Decision) → Content → Content
 visible_by decision c = content c.kind c.id (restricted (may_be_seen decision c.kind) (rows c))
 
@@ -57,11 +59,11 @@ visible_by decision c = content c.kind c.id (restricted (may_be_seen decision c.
 unfoldable pub view_by : (Leaf → Decision) → Content → Option Content
 view_by decision c = if (decision (simple Id)).allow then Some (visible_by decision c) else None
 
--- whether the decisions on reading let a leaf be seen and its row is of one of the attributes
+-- whether the row is of one of the attributes and the decisions on reading let the leaf be seen
 abbrev pub may_be_seen_of : List Attribute → (Leaf → Decision) → Kind → Test
 may_be_seen_of attributes decision kind r l = list_any (sameb the_attribute r.unit.attribute) attributes && may_be_seen decision kind r l
 
--- the resource cut down to these attributes and, within them, to what the decisions on reading allow
+-- the part of the resource that is in these attributes and that the decisions on reading let be seen
 unfoldable pub visible_attributes : List Attribute → (Leaf → Decision) → Content → Content
 visible_attributes attributes decision c = content c.kind c.id (restricted (may_be_seen_of attributes decision c.kind) (rows c))
 

@@ -21,12 +21,12 @@ pub struct Names {
 }
 
 impl Names {
-    /// Returns the names that the texts spell, for a kind (RFC 7644 section 3.9). The URN of an extension of
+    /// Reads the texts of an attribute list, for a kind (RFC 7644 section 3.9). The URN of an extension of
     /// the kind, alone and in any ASCII case, names all attributes of the extension. The path of an attribute
     /// or sub-attribute, such as `name.familyName`, names that attribute or sub-attribute, with or without a
     /// URN prefix, in any ASCII case, and with spaces around it.
     ///
-    /// Any other text is ignored: one that isn't a path, has a value filter, is longer than 4,096 bytes, or
+    /// Other texts are ignored: a text that isn't a path, has a value filter, is longer than 4,096 bytes, or
     /// names an attribute that the kind doesn't have.
     pub fn of(alloc: Global, kind: Kind, texts: &[&str]) -> Result<Names, NoMemory>
         ensures { IfOk result (λ names. (l : Leaf)

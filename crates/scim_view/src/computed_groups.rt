@@ -30,12 +30,12 @@ use std::alloc::Global;
 #[derive(Drop)]
 pub(crate) struct SeenGroup {
     id: Id,
-    /// The `displayName`; None if the group has none or the client may not read it.
+    /// The `displayName`; `None` if the group has none or the client may not read it.
     display: Option<Text>,
 }
 
 /// Returns the parts of a group that appear in its members' `groups`.
-/// `decisions` are those on reading the group.
+/// `decisions` are the decisions on reading the group.
 pub(crate) fn seen_group(
     alloc: Global,
     decisions: &Decisions,
@@ -74,7 +74,7 @@ fn seen_name(
     }
 }
 
-/// Copies the text of an atom; None if it isn't a text.
+/// Copies the text of an atom; `None` if there is no atom or it isn't a text.
 fn text_of(alloc: Global, atom: Option<&Atom>) -> Result<Option<Text>, NoMemory>
     ensures { IfOk result (λ t. t ≡ spec.text_in (option_copied atom.entry)) }
 {
@@ -107,7 +107,7 @@ pub(crate) fn visible_with(
 }
 
 /// Returns the values of a user's `groups`, each with the fields that `decisions` let the client read.
-/// Values without such a field are left out.
+/// Values without a readable field are left out.
 fn memberships(
     alloc: Global,
     decisions: &Decisions,
@@ -133,10 +133,10 @@ fn memberships(
 }
 
 impl Viewer<'_> {
-    /// Returns the part of the resource that the client may see, including a user's `groups`. Like
-    /// [`Viewer::visible`]. A user's `groups` has those of the given groups that list the user, that the
-    /// client sees, and in which it sees the user's id, in ascending order of their ids. The policy decides
-    /// on `groups` as on any other attribute (RFC 7643 section 4.1.2).
+    /// Like [`Viewer::visible`], but with the `groups` of a user computed (RFC 7643 section 4.1.2). They have
+    /// a value for each of the given groups that lists the user, if the client sees the group and the ids of
+    /// its members. The values are in ascending order of the groups' ids. The policy decides on `groups` as
+    /// on any other attribute.
     pub fn with_groups(
         &self,
         alloc: Global,
@@ -170,7 +170,7 @@ impl Viewer<'_> {
         visible_among(alloc, decisions, resource, groups.as_slice(), self.base)
     }
 
-    /// Like [`Viewer::with_groups`], but returns None if the client doesn't see the resource at all.
+    /// Like [`Viewer::with_groups`], but returns `None` if the client doesn't see the resource at all.
     /// Evaluates the policy once for the resource, and once for each group that lists it.
     pub fn view_with_groups(
         &self,

@@ -21,14 +21,15 @@ use scim_value::Resource;
 use std::alloc::Global;
 use std::collections::HashMap;
 
-/// The groups that a client sees, indexed by the members that each shows.
+/// The groups that a client sees, indexed by the ids of the members that it sees in them.
 ///
 /// Groups are added one by one, and [`Viewer::view_by_index`] looks up one resource at a time, so a caller
 /// can stream groups and users from a store without holding lists of them.
 #[derive(Drop)]
 pub struct GroupIndex {
     groups: Vec<SeenGroup>,
-    /// For each member id, the positions in `groups` of the groups that show it, ascending and distinct.
+    /// For each id, the positions in `groups` of the groups in which the client sees it as a member,
+    /// ascending and distinct.
     by_member: HashMap<Id, Vec<usize>>,
 }
 
@@ -45,7 +46,7 @@ impl GroupIndex {
 
     /// Adds a group, if the viewer sees it.
     /// `decisions` must come from [`Viewer::decisions`] for the group, or from [`Viewer::decisions_on_all`]
-    /// for groups. After NoMemory the index is unusable.
+    /// for groups. After `NoMemory` the index is unusable.
     pub fn push(
         &mut self,
         alloc: Global,
@@ -63,7 +64,7 @@ impl GroupIndex {
         Ok(())
     }
 
-    /// Returns the index of those groups that the viewer sees.
+    /// Returns an index of those of `groups` that the viewer sees.
     pub(crate) fn of(
         alloc: Global,
         viewer: &Viewer<'_>,
@@ -79,7 +80,7 @@ impl GroupIndex {
         Ok(index)
     }
 
-    /// Returns the groups that show `id` as a member, in the order in which they were added.
+    /// Returns the groups in which the client sees `id` as a member, in the order in which they were added.
     pub(crate) fn groups_of(&self, alloc: Global, id: Id) -> Result<Vec<&SeenGroup>, NoMemory>
         ensures { IfOk result (λ v. map (λ g. g.now) v.items ≡ spec.groups_of self.now id) }
     {
@@ -92,7 +93,7 @@ impl GroupIndex {
         Ok(groups)
     }
 
-    /// Returns the positions in `groups` of the groups that show `id` as a member.
+    /// Returns the positions in `groups` of the groups in which the client sees `id` as a member.
     fn positions_of(&self, id: Id) -> &[usize]
         ensures { result.now ≡ spec.positions_of self.now id }
     {
@@ -103,7 +104,7 @@ impl GroupIndex {
     }
 
     /// Adds a group that the client sees, with the parts that `decisions` let it read.
-    /// After NoMemory the index is unusable.
+    /// After `NoMemory` the index is unusable.
     fn add(
         &mut self,
         alloc: Global,
@@ -126,7 +127,7 @@ impl GroupIndex {
         Ok(())
     }
 
-    /// Records the next position for each of the members.
+    /// Records the position of the next group for each of the members.
     fn add_members(&mut self, alloc: Global, members: &[Row]) -> Result<(), NoMemory>
         ensures groups { self.new.groups ≡ self.old.groups }
         ensures positions { OnOk result ((id : List ℕ) → IsId id → spec.positions_of self.new id
@@ -142,7 +143,7 @@ impl GroupIndex {
         Ok(())
     }
 
-    /// Records the next position for one member.
+    /// Records the position of the next group for one member.
     fn add_member(&mut self, alloc: Global, id: Id) -> Result<(), NoMemory>
         ensures groups { self.new.groups ≡ self.old.groups }
         ensures positions { OnOk result ((other : List ℕ) → spec.positions_of self.new other
@@ -156,7 +157,7 @@ impl GroupIndex {
     }
 }
 
-/// Returns the id that a value of `members` names; None if its `value` isn't the text of an id.
+/// Returns the id in the `value` of a member; `None` if its `value` isn't the text of an id.
 fn member_id(member: &Row) -> Option<Id>
     ensures id { (id : List ℕ) → IsId id
         → spec.names_member id member.now ≡ spec.is_found id result }

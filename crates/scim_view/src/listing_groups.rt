@@ -1,4 +1,4 @@
-//! The groups that list one resource, gathered one by one.
+//! The groups that list one resource as a member, gathered one by one.
 ghost use Rattle.std.specs.Prelude.{◌≡◌, ◌++◌, ◌∷◌, [], ℕ, List, true, IfOk, OnOk};
 ghost use Rattle.scim_schema.specs.declared.Leaf.{Leaf};
 ghost use Rattle.scim_cell.specs.Content.{Content};
@@ -18,8 +18,8 @@ use scim_value::Resource;
 use std::alloc::Global;
 
 /// The groups that appear in a resource's `groups`.
-/// They are those in which the client sees the resource as a member. Groups are added one by one, so a caller
-/// can lend them from a store.
+/// They are the groups in which the client sees the resource as a member. Groups are added one by
+/// one, so a caller can borrow them from a store.
 #[derive(Drop)]
 pub struct ListingGroups {
     groups: Vec<SeenGroup>,
@@ -36,9 +36,9 @@ impl ListingGroups {
     }
 
     /// Adds a group that lists the resource, if the viewer sees the group and the ids of its members.
-    /// The caller must know that the group lists the resource: its members aren't looked at. `decisions` must
+    /// The caller must know that the group lists the resource: its members aren't checked. `decisions` must
     /// come from [`Viewer::decisions`] for the group, or from [`Viewer::decisions_on_all`] for groups. After
-    /// NoMemory the list is unusable.
+    /// `NoMemory` the list is unusable.
     pub fn push(
         &mut self,
         alloc: Global,
@@ -57,9 +57,9 @@ impl ListingGroups {
         Ok(())
     }
 
-    /// Returns those of the groups that list the resource and that the viewer sees to list it.
-    /// Empty, without a look at the groups, if the resource isn't a user. Evaluates the policy only for
-    /// groups that list the resource.
+    /// Returns those of `groups` in which the viewer sees the resource as a member.
+    /// Empty if the resource isn't a user. Evaluates the policy only for groups that list the
+    /// resource.
     pub(crate) fn of(
         alloc: Global,
         viewer: &Viewer<'_>,
@@ -76,7 +76,7 @@ impl ListingGroups {
         }
     }
 
-    /// Returns the groups that list the resource `id`, if the viewer sees the group and the ids of its members.
+    /// Returns those of `groups` in which the viewer sees the resource `id` as a member.
     fn of_id(
         alloc: Global,
         viewer: &Viewer<'_>,

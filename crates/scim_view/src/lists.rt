@@ -19,8 +19,8 @@ use std::alloc::Global;
 
 impl Viewer<'_> {
     /// Returns the client's view of each resource that it sees, in their order.
-    /// Each is as [`Viewer::view_with_groups`] returns it. Evaluates the policy once for each resource and
-    /// once for each group.
+    /// Each view is what [`Viewer::view_with_groups`] returns. Evaluates the policy once for each resource
+    /// and once for each group.
     pub fn views(
         &self,
         alloc: Global,
@@ -42,7 +42,7 @@ impl Viewer<'_> {
         Ok(views)
     }
 
-    /// Like [`Viewer::view_with_groups`], with the groups of the index. None if the client doesn't see the
+    /// Like [`Viewer::view_with_groups`], with the groups of the index. `None` if the client doesn't see the
     /// resource. `decisions` must come from [`Viewer::decisions`] for the resource, or from
     /// [`Viewer::decisions_on_all`] for its kind; otherwise the result is unspecified. The policy isn't
     /// evaluated again.

@@ -12,12 +12,12 @@ use scim_value::Part;
 use std::alloc::Global;
 
 /// The attributes that a client wants in a reply.
-/// Attributes with `returned` "always" are shown in any case, and those with "never" in no case (RFC 7643
-/// section 7).
+/// Attributes with `returned` "always" are always shown, and attributes with "never" are never shown (RFC
+/// 7643 section 7).
 pub enum Wanted {
     /// The attributes that are returned by default.
     Default,
-    /// The named attributes, where they are returned by default or on request.
+    /// The named attributes, if they are returned by default or on request.
     /// This is the parameter `attributes` (RFC 7644 section 3.9).
     Only(Names),
     /// The attributes returned by default, except the named ones.
@@ -35,7 +35,7 @@ impl Drop for Wanted {
     }
 }
 
-/// A test of cells: those of a kind that the reply shows.
+/// A test that keeps the cells that the reply shows, in resources of the kind.
 #[derive(Clone, Copy)]
 struct Shown<'w> {
     wanted: &'w Wanted,

@@ -35,9 +35,9 @@ impl Viewer<'_> {
             .decisions(alloc, self.client, Op::Read, resource)
     }
 
-    /// Returns the decisions on reading that hold for all resources of the kind, if there are any.
-    /// [`Viewer::decisions`] returns the same decisions for each of these resources. None if a rule that may
-    /// decide has a target, so that the decisions depend on the resource.
+    /// Returns the decisions on reading any resource of the kind.
+    /// [`Viewer::decisions`] returns the same decisions for each resource of the kind. `None` if a rule that
+    /// may decide has a target, so that the decisions depend on the resource.
     pub fn decisions_on_all(&self, alloc: Global, kind: Kind) -> Result<Option<Decisions>, NoMemory>
         ensures same { IfOk result (λ o. IfSome o (λ decisions. (c : Content) → c.kind ≡ kind
             → (l : Leaf)

@@ -15,7 +15,7 @@ use scim_text::NoMemory;
 use scim_value::{Part, Resource};
 use std::alloc::Global;
 
-/// A test of cells: those of a kind that `decisions` let the client see.
+/// A test that keeps the cells that `decisions` let the client see, in resources of the kind.
 #[derive(Clone, Copy)]
 pub(crate) struct MayBeSeen<'d> {
     pub(crate) kind: Kind,
@@ -52,8 +52,8 @@ pub struct MayBeSeenOf<'a> {
 
 impl<'a> MayBeSeenOf<'a> {
     /// Returns the test for `attributes` of resources of the kind, by the decisions on reading them.
-    /// It keeps the same cells as [`Viewer::visible`], but only those of `attributes`; rows of other
-    /// attributes are skipped unread.
+    /// It keeps the cells of `attributes` that [`Viewer::visible`] keeps. It skips rows of other attributes
+    /// unread.
     pub fn new(attributes: &'a [Attribute], kind: Kind, decisions: &'a Decisions) -> MayBeSeenOf<'a>
         ensures { result ≡ record {
           attributes = attributes.entry;
@@ -101,7 +101,7 @@ impl Viewer<'_> {
 
     /// Returns the part of the resource that the client may see. It has the cells that the policy lets the
     /// client read, except those of writeOnly attributes (RFC 7643 section 7). Values without a visible cell
-    /// are left out, and the positions of the later ones move down.
+    /// are left out, and the positions of later values move down.
     pub fn visible(&self, alloc: Global, resource: &Resource) -> Result<Part, NoMemory>
         ensures { IfOk result (λ p. p ≡ spec.visible (spec.viewer_of self.now) resource.now) }
     {
@@ -124,7 +124,7 @@ impl Viewer<'_> {
         visible_by(alloc, decisions, resource)
     }
 
-    /// Like [`Viewer::visible`], but None if the client doesn't see that the resource exists. Evaluates the
+    /// Like [`Viewer::visible`], but `None` if the client doesn't see that the resource exists. Evaluates the
     /// policy once.
     pub fn view(&self, alloc: Global, resource: &Resource) -> Result<Option<Part>, NoMemory>
         ensures { IfOk result (λ o. o ≡ spec.view (spec.viewer_of self.now) resource.now) }
@@ -134,7 +134,7 @@ impl Viewer<'_> {
     }
 }
 
-/// Like [`visible_by`], but None if `decisions` don't let the client read the `id`.
+/// Like [`visible_by`], but `None` if `decisions` don't let the client read the `id`.
 #[tactic(auto, unfolding(crate::specs::View::view_by))]
 fn view_by(
     alloc: Global,

@@ -8,7 +8,7 @@ use Rattle.scim_wire.specs.declared.chunk_faults.BadChunks.TheVariants.{TooLarge
 use Rattle.scim_wire.specs.declared.body_framing.Framing.{Framing}
 use Rattle.scim_wire.specs.declared.body_framing.Framing.TheVariants.{Sized, Chunked}
 
--- whether a body follows the head: a chunked one, or one of at least one byte
+-- whether a body follows the head: the body is chunked, or it has at least one byte
 abbrev pub has_body : Framing → Bool
 has_body (Sized n) = nat_lt 0 n
 has_body Chunked = true

@@ -12,7 +12,7 @@ use Rattle.scim_wire.specs.Fronts.{IsFrontOf, IsDeadEnd}
 abbrev pub most_content : ℕ
 most_content = MAX_BODY
 
--- the text is a chunk line with its CR LF, of at most 1,024 bytes, that gives this size
+-- the text is a chunk line with this size, of at most 1,024 bytes with its CR LF
 pub record IsLineOf (size : ℕ) (text : List ℕ) : Type 0 where
   pub line : ChunkLine
   pub reads : ReadsChunkLine text line []
@@ -36,8 +36,8 @@ pub record AreTrailers (text : List ℕ) : Type 0 where
   pub few : length fields ≤ 64
   pub short : length text ≤ 16384
 
--- the text may follow a chunk line of this size: trailers after the last chunk, whose size is 0, and data
--- after others
+-- the text may follow a chunk line with this size: trailers if the size is 0, which marks the last chunk, and
+-- otherwise data of this size and CR LF
 abbrev pub Follows : ℕ → List ℕ → Type 0
 Follows size text = ((size ≡ 0) × AreTrailers text) ⊎ ((0 < size) × IsDataOf size text)
 
@@ -46,20 +46,20 @@ pub record Chunk : Type 0 where
   pub line : List ℕ
   pub bytes : List ℕ
 
--- the chunk has data, and its line gives the length of the data
+-- the chunk has data, and the size in its line is the length of the data
 pub record IsChunk (chunk : Chunk) : Type 0 where
   pub is_line : IsLineOf (length chunk.bytes) chunk.line
   pub some : 0 < length chunk.bytes
 
--- the bytes of the chunks
+-- the bytes of the chunks as they are sent: the line, the data and CR LF of each chunk
 abbrev pub print_chunks : List Chunk → List ℕ
 print_chunks chunks = flat_map (λ c. c.line ++ (c.bytes ++ crlf_bytes)) chunks
 
--- the content of the chunks
+-- the data of all chunks, one after another
 abbrev pub content : List Chunk → List ℕ
 content chunks = flat_map (λ c. c.bytes) chunks
 
--- the bytes are whole chunks with this content, within the limit, and then the rest
+-- the bytes are whole chunks followed by `rest`; `body` is the content of the chunks, within the limit
 pub record HasChunks (bytes body rest : List ℕ) : Type 0 where
   pub chunks : List Chunk
   pub each : All IsChunk chunks
@@ -67,7 +67,7 @@ pub record HasChunks (bytes body rest : List ℕ) : Type 0 where
   pub holds : body ≡ content chunks
   pub within : length body ≤ most_content
 
--- the rest is a chunk line and a text that has this property with the line's size
+-- `rest` is a chunk line followed by a text, and `IsText` holds for the size in the line and this text
 pub record IsAfterLine (IsText : ℕ → List ℕ → Type 0) (rest : List ℕ) : Type 0 where
   pub size : ℕ
   pub line : List ℕ
@@ -76,19 +76,19 @@ pub record IsAfterLine (IsText : ℕ → List ℕ → Type 0) (rest : List ℕ) 
   pub is_line : IsLineOf size line
   pub is_text : IsText size text
 
--- the rest is the last chunk and the trailers
+-- `rest` is the last chunk, whose size is 0, and the trailers
 abbrev pub IsEnd : List ℕ → Type 0
 IsEnd rest = IsAfterLine (λ size text. (size ≡ 0) × AreTrailers text) rest
 
--- the rest is an unfinished chunk line, or a chunk line within the limit and a proper prefix of a text that
--- may follow it
+-- `rest` is an unfinished chunk line, or a chunk line that keeps the content within its limit, followed by a
+-- proper prefix of a text that may follow this line
 abbrev pub IsEndPart : List ℕ → List ℕ → Type 0
 IsEndPart body rest =
     IsFrontOf IsLine rest
     ⊎ IsAfterLine (λ size text. (length body + size ≤ most_content) × IsFrontOf (Follows size) text) rest
 
--- the rest is refused at its last byte: a chunk line exceeds the limit of the content, or no chunk line or
--- following text goes on so
+-- `rest` becomes invalid at its last byte. `TooLarge`: it is a chunk line whose size makes the content exceed
+-- its limit. `Malformed`: no chunk line, or no text that may follow a chunk line, continues with this byte.
 abbrev pub IsBadEnd : List ℕ → List ℕ → BadChunks → Type 0
 IsBadEnd body rest TooLarge = (size : ℕ) × IsLineOf size rest × (most_content < length body + size)
 IsBadEnd body rest Malformed =
@@ -103,6 +103,6 @@ IsChunked bytes body = (rest : List ℕ) × HasChunks bytes body rest × IsEnd r
 abbrev pub IsChunkedPart : List ℕ → Type 0
 IsChunkedPart bytes = (body : List ℕ) × (rest : List ℕ) × HasChunks bytes body rest × IsEndPart body rest
 
--- the bytes are refused as a chunked body at the last byte, with this fault
+-- the last of these bytes makes the chunked body invalid, with this fault
 abbrev pub IsBadChunked : List ℕ → BadChunks → Type 0
 IsBadChunked bytes fault = (body : List ℕ) × (rest : List ℕ) × HasChunks bytes body rest × IsBadEnd body rest fault

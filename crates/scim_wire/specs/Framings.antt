@@ -14,30 +14,32 @@ use Rattle.scim_wire.specs.Headers.{same_name, values_named}
 abbrev pub is_number : List ℕ → Bool
 is_number digits = nat_lt 0 (length digits) && list_all is_ascii_digit digits
 
--- the number that the digits write, or the cap if it is larger
+-- the number with these decimal digits, or `cap` if the number is larger; `None` if the bytes aren't one or
+-- more digits
 abbrev pub number_up_to : ℕ → List ℕ → Option ℕ
 number_up_to cap digits = if is_number digits then Some (min (digits_value 10 digits) cap) else None
 
--- whether the digits write a number above the limit of a body
+-- whether the bytes are the digits of a number above the limit of a body
 abbrev pub is_over_limit : List ℕ → Bool
 is_over_limit digits = is_number digits && nat_lt MAX_BODY (digits_value 10 digits)
 
--- the framing by one `Content-Length`
+-- the framing for one value of `Content-Length`; the error `BadFraming` if it isn't a number
 abbrev pub sized : List ℕ → Result Framing Refusal
 sized digits = if is_number digits then Ok (Sized (digits_value 10 digits)) else Err BadFraming
 
--- the framing by one `Transfer-Encoding`
+-- the framing for one value of `Transfer-Encoding`; the error `UnknownCoding` if it isn't `chunked`
 abbrev pub coded : List ℕ → Result Framing Refusal
 coded coding = if same_name coding (codes "chunked") then Ok Chunked else Err UnknownCoding
 
--- the framing by the values of `Content-Length`, within the limit, and of `Transfer-Encoding`
+-- the framing for these values of `Content-Length`, which are within the limit, and these values of
+-- `Transfer-Encoding`
 abbrev pub framing_by : List (List ℕ) → List (List ℕ) → Result Framing Refusal
 framing_by [] [] = Ok (Sized 0)
 framing_by (length ∷ []) [] = sized length
 framing_by [] (coding ∷ []) = coded coding
 framing_by _ _ = Err BadFraming
 
--- the framing of the body by the names and values of the headers
+-- the framing of the body that follows headers with these names and values
 abbrev pub framing : List (List ℕ × List ℕ) → Result Framing Refusal
 framing fields =
     let lengths = values_named (codes "content-length") fields in

@@ -9,7 +9,8 @@ IsFrontOf Is bytes = (next : ℕ) × (more : List ℕ) × Is (bytes ++ next ∷ 
 abbrev pub CanNotBegin : (List ℕ → Type 0) → List ℕ → Type 0
 CanNotBegin Is bytes = (more : List ℕ) → ¬ (Is (bytes ++ more))
 
--- no text with this property begins with these bytes, but one begins with all of them except the last
+-- no text with this property begins with these bytes, but a text with this property begins with all of them
+-- except the last
 pub record IsDeadEnd (Is : List ℕ → Type 0) (bytes : List ℕ) : Type 0 where
   pub before : List ℕ
   pub last : ℕ

@@ -2,7 +2,7 @@
 use Rattle.std.specs.Prelude.{ℕ, ◌≤◌, List, [], length}
 use Rattle.httparse.specs.Grammar.{RequestHead, ReadsRequest}
 
--- the text is this request line with these headers, at most 64
+-- the text is the request line and headers of `h`, with at most 64 headers
 abbrev pub IsRequestText : List ℕ → RequestHead → Type 0
 IsRequestText text h = ReadsRequest text h [] × (length h.fields ≤ 64)
 

@@ -24,7 +24,7 @@ closes h = h.minor == 0 || options.says_close (fields_of h)
 abbrev pub expects_continue : RequestHead → Bool
 expects_continue h = h.minor == 1 && options.expects_continue (fields_of h)
 
--- the contents of a head with this framing, or the refusal
+-- the contents of a head with this framing, or the refusal of its framing
 abbrev pub framed : RequestHead → Result Framing Refusal → Result MessageHead Refusal
 framed h (Ok by) = Ok (record {
   method = h.method;
@@ -40,8 +40,8 @@ framed h (Err refusal) = Err refusal
 abbrev pub message_head_of : RequestHead → Result MessageHead Refusal
 message_head_of h = framed h (framing (fields_of h))
 
--- the text of a head reads as these contents or this refusal: `BadHead` if it isn't a request line with at
--- most 64 headers
+-- the result of parsing the text of a head is these contents or this refusal; the refusal is `BadHead` if the
+-- text isn't a request line with at most 64 headers
 abbrev pub ReadsMessage : List ℕ → Result MessageHead Refusal → Type 0
 ReadsMessage text read =
     ((h : RequestHead) × IsRequestText text h × (read ≡ message_head_of h))

@@ -1,4 +1,4 @@
--- The messages of a stream of requests, and the items that the stream gives (RFC 9112).
+-- The messages of a stream of requests, and the items that are read from the stream (RFC 9112).
 use Rattle.std.specs.Prelude.{◌≡◌, ℕ, ◌⊎◌, ◌&&◌, List, [], ◌∷◌, ◌++◌, Result, Ok, Err, All, if◌then◌else◌}
 use Rattle.std.specs.List.{flat_map}
 use Rattle.scim_audit.specs.declared.refusals.Refusal.{Refusal}
@@ -12,7 +12,7 @@ use Rattle.scim_wire.specs.MessageHeads.{ReadsMessage}
 use Rattle.scim_wire.specs.Parts.{IsHeadText, IsOverlong}
 use Rattle.scim_wire.specs.Streams.{OpensThen, IsUnended}
 
--- the text of a head has these contents or this refusal: `BadHead` if it exceeds a limit
+-- the text of a head has these contents or this refusal; the refusal is `BadHead` if the text exceeds a limit
 abbrev pub Says : List ℕ → Result MessageHead Refusal → Type 0
 Says text read = (IsHeadText text × ReadsMessage text read) ⊎ (IsOverlong text × (read ≡ Err BadHead))
 
@@ -29,32 +29,32 @@ abbrev pub message_of : MessageHead → List ℕ → Message
 message_of head body =
     record { method = head.method; target = head.target; token = head.token; body = body; close = head.close }
 
--- the bytes are this message, which has this head
+-- the bytes are this message, and `head` is its head
 pub record IsMessage (bytes : List ℕ) (head : MessageHead) (message : Message) : Type 0 where
   pub after : List ℕ
   pub opens : OpensSaying bytes (Ok head) after
   pub is_body : IsBody head.framing after message.body
   pub made_of : message ≡ message_of head message.body
 
--- the bytes are the beginning of an unfinished message, and give these items
+-- the bytes are the beginning of an unfinished message, and these items are read from them
 abbrev pub LeavesUnfinished : List ℕ → List Item → Type 0
 LeavesUnfinished bytes items =
     (IsUnended bytes × (items ≡ []))
     ⊎ ((head : MessageHead) × (after : List ℕ) × OpensSaying bytes (Ok head) after × IsBodyPart head.framing after
     × (items ≡ announced head))
 
--- the head and the bytes after it are refused, and give these items, of which the last is the refusal
+-- the head, or the body after it, is refused; these items are read, and the last of them is the refusal
 abbrev pub GivesRefusal : Result MessageHead Refusal → List ℕ → List Item → Type 0
 GivesRefusal (Err refusal) after items = items ≡ Refused refusal ∷ []
 GivesRefusal (Ok head) after items =
     (refusal : Refusal) × IsBadBody head.framing after refusal × (items ≡ announced head ++ Refused refusal ∷ [])
 
--- the bytes are refused, whatever follows, and give these items
+-- the bytes are refused, whatever follows them, and these items are read from them
 abbrev pub LeavesRefused : List ℕ → List Item → Type 0
 LeavesRefused bytes items =
     (read : Result MessageHead Refusal) × (after : List ℕ) × OpensSaying bytes read after × GivesRefusal read after items
 
--- the bytes after the last whole message are unfinished or refused, and give these items
+-- the bytes after the last whole message are unfinished or refused, and these items are read from them
 abbrev pub Leaves : List ℕ → List Item → Type 0
 Leaves bytes items = LeavesUnfinished bytes items ⊎ LeavesRefused bytes items
 
@@ -68,16 +68,16 @@ pub record Turn : Type 0 where
 abbrev pub IsTurn : Turn → Type 0
 IsTurn turn = IsMessage turn.bytes turn.head turn.message
 
--- the items of a message on a stream
+-- the items that are read from a message on a stream
 abbrev pub turn_items : Turn → List Item
 turn_items turn = announced turn.head ++ Whole turn.message ∷ []
 
--- the stream consists of these messages and the rest
+-- the stream consists of these messages, followed by `rest`
 pub record Splits (stream : List ℕ) (turns : List Turn) (rest : List ℕ) : Type 0 where
   pub each : All IsTurn turns
   pub split : stream ≡ flat_map (λ t. t.bytes) turns ++ rest
 
--- the stream has these items: those of its whole messages, then those of the bytes after them
+-- the stream has these items: first the items of its whole messages, then the items of the bytes after them
 abbrev pub HasItems : List ℕ → List Item → Type 0
 HasItems stream items =
     (turns : List Turn) × (rest : List ℕ) × (last : List Item)

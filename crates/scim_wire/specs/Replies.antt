@@ -15,12 +15,12 @@ crlf = 13 ∷ 10 ∷ []
 abbrev pub line : List ℕ → List ℕ → List ℕ
 line name value = name ++ codes ": " ++ value ++ crlf
 
--- a header line if there is a value
+-- a header line if there is a value, otherwise nothing
 abbrev pub option_line : List ℕ → Option (List ℕ) → List ℕ
 option_line name None = []
 option_line name (Some value) = line name value
 
--- a header line if it is due
+-- a header line if `due` is true, otherwise nothing
 abbrev pub optional_line : Bool → List ℕ → List ℕ → List ℕ
 optional_line due name value = if due then line name value else []
 
@@ -44,17 +44,18 @@ pub record Said : Type 0 where
 abbrev pub body_text : Said → List ℕ
 body_text said = unwrap_or said.body []
 
--- the form of a whole reply, which closes the connection or not
+-- the form of a reply that doesn't omit its body; `closes` tells whether the reply has the header
+-- `Connection: close`
 abbrev pub whole_form : Bool → ReplyForm
 whole_form closes = record { closes = closes; omits_body = false }
 
--- the form of the reply to a message: without a body if the method, compared as written, is HEAD (RFC 9110
--- section 9.3.2)
+-- the form of the reply to a message; it omits the body if the method is exactly `HEAD` (RFC 9110 section
+-- 9.3.2)
 abbrev pub form_of : Message → ReplyForm
 form_of message = record { closes = message.close; omits_body = bytes_eq message.method (codes "HEAD") }
 
 -- the head of a reply: status line, the headers that apply and an empty line (RFC 9112 section 4);
--- `Content-Length` counts the body also where the reply omits it
+-- `Content-Length` is the length of the body even if the reply omits the body
 unfoldable pub head_text : Said → Bool → List ℕ
 head_text said closes =
     status_line said.status
@@ -66,7 +67,7 @@ head_text said closes =
     ++ optional_line closes (codes "Connection") (codes "close")
     ++ crlf
 
--- the text of a reply in a form: its head, and its body unless the form omits it
+-- the text of a reply, printed in this form: its head, and its body unless the form omits it
 abbrev pub text_of : Said → ReplyForm → List ℕ
 text_of said form = head_text said form.closes ++ (if form.omits_body then [] else body_text said)
 
@@ -75,6 +76,6 @@ abbrev pub said_by : HttpReply → Said
 said_by reply =
     record { status = reply.status; body = option_copied reply.body; location = option_copied reply.location; allow = option_copied reply.allow; asks_for_token = reply.asks_for_token }
 
--- the text of a reply in a form
+-- the text of a reply, printed in this form
 abbrev pub reply_text : HttpReply → ReplyForm → List ℕ
 reply_text reply form = text_of (said_by reply) form

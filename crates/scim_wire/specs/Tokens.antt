@@ -2,11 +2,12 @@
 use Rattle.std.specs.Prelude.{ℕ, List, [], ◌∷◌, take, drop, Option, Some, None, if◌then◌else◌, nat_lt, length, codes}
 use Rattle.scim_wire.specs.Headers.{same_name, values_named}
 
--- the bytes after the scheme `Bearer`, in any case, and one space
+-- the bytes of a header's value after the scheme `Bearer`, in any case, and one space; `None` if the value
+-- doesn't begin with them
 abbrev pub bearer : List ℕ → Option (List ℕ)
 bearer value = if nat_lt (length value) 7 then None else (if same_name (take 7 value) (codes "bearer ") then Some (drop 7 value) else None)
 
--- the bearer token of the value if there is exactly one
+-- the bearer token in the value if there is exactly one value; `None` otherwise
 abbrev pub lone_bearer : List (List ℕ) → Option (List ℕ)
 lone_bearer [] = None
 lone_bearer (value ∷ []) = bearer value

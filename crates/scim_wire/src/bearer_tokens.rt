@@ -9,7 +9,8 @@ use crate::octets::Octets;
 use scim_text::NoMemory;
 use std::alloc::Global;
 
-/// Returns the bytes after the scheme `Bearer`, in any case, and one space; `None` for any other value.
+/// Returns the bytes of a header's value after the scheme `Bearer`, in any case, and one space; `None` if the
+/// value doesn't begin with them.
 fn bearer(value: &[u8]) -> Option<&[u8]>
     ensures { option_copied result ≡ bearer value.now }
 {
@@ -24,7 +25,7 @@ fn bearer(value: &[u8]) -> Option<&[u8]>
     }
 }
 
-/// Returns the bearer token of the value if there is exactly one.
+/// Returns the bearer token in the value if there is exactly one value; `None` otherwise.
 fn lone_bearer<'b>(values: &[&'b [u8]]) -> Option<&'b [u8]>
     ensures { option_copied result ≡ lone_bearer (texts values.now) }
 {

@@ -22,7 +22,7 @@ pub enum Framing {
 }
 
 impl Framing {
-    /// Whether a body follows the head: a chunked one, or one of at least one byte.
+    /// Whether a body follows the head: the body is chunked, or it has at least one byte.
     pub fn has_body(self) -> bool
         ensures { result ≡ has_body self }
     {
@@ -33,7 +33,8 @@ impl Framing {
     }
 }
 
-/// Parses decimal digits. Returns at most `MAX_BODY + 1`, whatever they write; `None` if they aren't digits.
+/// Parses a decimal number. Returns `MAX_BODY + 1` if the number is larger than that, and `None` if the bytes
+/// aren't one or more digits.
 fn number(digits: &[u8]) -> Option<u64>
     ensures { result ≡ number_up_to (MAX_BODY + 1) digits.now }
 {
@@ -50,7 +51,7 @@ fn number(digits: &[u8]) -> Option<u64>
     Some(number)
 }
 
-/// Whether the digits write a number above [`MAX_BODY`].
+/// Whether the bytes are the digits of a number above [`MAX_BODY`].
 fn is_over_limit(digits: &[u8]) -> bool
     ensures { result ≡ is_over_limit digits.now }
 {
@@ -69,7 +70,8 @@ fn any_over_limit(lengths: &[&[u8]]) -> bool
     false
 }
 
-/// Returns the framing for the values of `Content-Length`, within the limit, and of `Transfer-Encoding`.
+/// Returns the framing for these values of `Content-Length`, which aren't above [`MAX_BODY`], and these
+/// values of `Transfer-Encoding`. Fails with `UnknownCoding` or `BadFraming` as [`framing_of`] does.
 fn framing_by(lengths: &[&[u8]], codings: &[&[u8]]) -> Result<Framing, Refusal>
     requires { list_any is_over_limit (texts lengths.now) ≡ false }
     ensures { result ≡ framing_by (texts lengths.now) (texts codings.now) }
@@ -88,8 +90,8 @@ fn framing_by(lengths: &[&[u8]], codings: &[&[u8]]) -> Result<Framing, Refusal>
 /// Returns the framing of the body that follows these headers.
 ///
 /// Fails with `TooLarge` if a `Content-Length` is above [`MAX_BODY`]. Otherwise fails with `UnknownCoding` if
-/// the only framing header is one `Transfer-Encoding` other than `chunked`, and `BadFraming` if there are
-/// several framing headers or the `Content-Length` isn't a number (RFC 9112 section 6.3).
+/// the only framing header is one `Transfer-Encoding` other than `chunked`, and with `BadFraming` if there
+/// are several framing headers or the `Content-Length` isn't a number (RFC 9112 section 6.3).
 pub fn framing_of(alloc: Global, headers: &[Header<'_>]) -> Result<Framing, Failed<Refusal>>
     ensures { UnlessMemory (λ r. r ≡ framing (map header_parts headers.now)) result }
 {

@@ -1,4 +1,4 @@
-//! Proof that a chunked body is read in one way.
+//! Proof that a chunked body can be read in only one way.
 ghost use Rattle.std.specs.Prelude.{◌≡◌, ℕ, List, ◌++◌};
 ghost use Rattle.scim_wire.specs.declared.chunk_faults.BadChunks.{BadChunks};
 ghost use Rattle.scim_wire.specs.declared.chunked.ChunkedPart.{ChunkedPart};
@@ -7,8 +7,9 @@ ghost use Rattle.scim_wire.specs.ChunkParts.{StandsFor};
 
 /// States that bytes are read as a chunked body in at most one way.
 ///
-/// At most one prefix of the bytes is a whole body or a refused one. It has one content or one fault, never
-/// both. The bytes that an unfinished [`ChunkedPart`] has read have no such prefix.
+/// At most one prefix of the bytes is a whole body or an invalid body. This prefix has one content or one
+/// fault, never both. If an unfinished [`ChunkedPart`] has read the bytes, no prefix of them is a whole or an
+/// invalid body.
 pub fn chunked_bodies_are_read_in_one_way()
     ensures part { (part : ChunkedPart) (bytes : List ℕ) → StandsFor part bytes
         → IsChunkedPart bytes }

@@ -9,7 +9,7 @@ use httparse::{Status, parse_chunk_size};
 /// The maximum length of a chunk line in bytes, with its CR LF.
 const MAX_LINE: usize = 1_024;
 
-/// The fault of bytes with which no chunk line begins.
+/// The error for bytes that no chunk line begins with.
 #[derive(Clone, Copy)]
 pub struct BadLine;
 
@@ -23,7 +23,7 @@ fn has_room(line: &[u8]) -> bool
     line.len() < MAX_LINE && line.ends_with(b"\r")
 }
 
-/// Returns the chunk size that a whole chunk line gives, or `None` if the line isn't finished.
+/// Returns the chunk size in a whole chunk line, or `None` if the line isn't finished.
 ///
 /// Fails with [`BadLine`] if no chunk line of at most 1,024 bytes begins with these bytes.
 pub fn judge_line(line: &[u8]) -> Result<Option<u64>, BadLine>

@@ -17,7 +17,7 @@ use std::alloc::Global;
 enum Place {
     /// In a chunk line.
     Line,
-    /// In the data of a chunk: this many bytes are left, and then CR LF.
+    /// In the data of a chunk, of which this many bytes are missing. CR LF follows the data.
     Data(u64),
     /// After the CR that follows a chunk's data.
     Return,
@@ -27,8 +27,9 @@ enum Place {
 
 /// The part of a chunked body that was read so far.
 ///
-/// Its memory grows with the bytes received: a chunk line's size allocates nothing. A byte of a chunk line
-/// parses that line again from its start (at most 1,024 bytes); any other byte takes constant time.
+/// Allocates memory only for the bytes received, not for the size that a chunk line announces. At each byte
+/// of a chunk line, the line is parsed again from its start (at most 1,024 bytes). Any other byte takes
+/// constant time.
 #[derive(Drop)]
 pub struct ChunkedPart {
     place: Place,
@@ -60,8 +61,8 @@ impl ChunkedPart {
     /// Reads one byte of the body. Chunk extensions and trailers are checked and dropped.
     ///
     /// Fails with [`BadChunks::Malformed`] at the first byte that can't continue a chunk line, the end of a
-    /// chunk's data or the trailers. Fails with [`BadChunks::TooLarge`] at the end of the chunk line by which
-    /// the content would exceed 1,048,576 bytes.
+    /// chunk's data or the trailers. Fails with [`BadChunks::TooLarge`] at the end of a chunk line whose size
+    /// would make the content exceed 1,048,576 bytes.
     pub fn take(self, byte: u8) -> Result<ChunkStep, Failed<BadChunks>>
         ensures { (bytes : List ℕ) → StandsFor self bytes
             → UnlessMemory (Leads (bytes ++ byte ∷ [])) result }
@@ -136,7 +137,7 @@ impl ChunkedPart {
         Ok(ChunkStep::More(self))
     }
 
-    /// Reads the CR after a chunk's data.
+    /// Reads the CR after a chunk's data. Fails with [`BadChunks::Malformed`] for any other byte.
     fn take_return(mut self, byte: u8) -> Result<ChunkStep, Failed<BadChunks>>
         ensures { (bytes : List ℕ) → StandsAt (Place.Data 0) self.body.items self.line.items bytes
             → UnlessMemory (Leads (bytes ++ byte ∷ [])) result }
@@ -148,7 +149,7 @@ impl ChunkedPart {
         Ok(ChunkStep::More(self))
     }
 
-    /// Reads the LF after a chunk's data.
+    /// Reads the LF after a chunk's data. Fails with [`BadChunks::Malformed`] for any other byte.
     fn take_feed(mut self, byte: u8) -> Result<ChunkStep, Failed<BadChunks>>
         ensures { (bytes : List ℕ) → StandsAt Place.Return self.body.items self.line.items bytes
             → UnlessMemory (Leads (bytes ++ byte ∷ [])) result }

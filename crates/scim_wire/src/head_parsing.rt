@@ -39,8 +39,8 @@ fn headers_at<'b>(
 
 /// Parses the text of a head (RFC 9112 sections 2 to 6).
 ///
-/// Fails with `BadHead` if the text isn't a request line with at most 64 headers. Otherwise `TooLarge`,
-/// `BadFraming` or `UnknownCoding`, as [`framing_of`].
+/// Fails with `BadHead` if the text isn't a request line with at most 64 headers. Otherwise fails with
+/// `TooLarge`, `BadFraming` or `UnknownCoding` as [`framing_of`] does.
 pub fn parse_message_head(alloc: Global, text: &[u8]) -> Result<MessageHead, Failed<Refusal>>
     ensures { UnlessMemory (ReadsMessage text.now) result }
 {

@@ -64,8 +64,8 @@ impl HeadPart {
 
     /// Reads a prefix of `piece` without a line feed, and returns its length in bytes.
     ///
-    /// Stops before a byte that would reach the limit of a head, so the head neither ends nor becomes too
-    /// long. After `NoMemory` the part must not be used.
+    /// Stops before the byte that would make the head 16,384 bytes long, so the head neither ends nor becomes
+    /// too long. After `NoMemory` the part must not be used.
     pub fn take_run(&mut self, piece: &[u8]) -> Result<usize, NoMemory>
         ensures within { IfOk result (λ n. n ≤ length piece.now) }
         ensures holds { (bytes : List ℕ) → HoldsHead self.old bytes

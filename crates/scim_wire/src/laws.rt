@@ -7,7 +7,7 @@ use crate::messages::Item;
 use crate::wires::Wire;
 use scim_audit::Refusal;
 
-/// States that a stream has at most one list of items, and that a wire returns those.
+/// States that a stream has at most one list of items, and that a wire returns the items of this list.
 ///
 /// So the result of [`Wire::feed`] depends on the bytes of the stream and not on how they are cut into
 /// pieces. After a refusal the wire is shut.

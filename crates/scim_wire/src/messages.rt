@@ -9,8 +9,9 @@ pub struct Message {
     pub method: Octets,
     /// The request target with its query, as in the request line.
     pub target: Octets,
-    /// The bytes after the scheme `Bearer`, in any case, and one space in the only header `Authorization`
-    /// (RFC 6750 section 2.1). `None` if there is no such header, more than one, or another scheme.
+    /// The bearer token in the only header `Authorization`: the bytes after the scheme `Bearer`, in any case,
+    /// and one space (RFC 6750 section 2.1). `None` if there is no such header or more than one, or if its
+    /// scheme isn't `Bearer`.
     pub token: Option<Octets>,
     /// The body, at most 1,048,576 bytes; empty if the head announces none.
     pub body: Octets,
@@ -26,7 +27,7 @@ pub enum Item {
     Continue,
     /// A whole request.
     Whole(Message),
-    /// The bytes aren't a valid request: `BadHead`, `TooLarge`, `BadFraming` or `UnknownCoding`. No item
-    /// follows.
+    /// The bytes aren't a valid request. The refusal is `BadHead`, `TooLarge`, `BadFraming` or
+    /// `UnknownCoding`. No item follows.
     Refused(Refusal),
 }

@@ -13,8 +13,8 @@ use std::alloc::Global;
 #[derive(Clone, Copy)]
 pub struct HttpReply<'a> {
     /// The status code (RFC 9110 section 15), a number of three digits. Any other number is printed as it is,
-    /// without a phrase. 204 prints no `Content-Length`, since it has no body. A plain number rather than a
-    /// type of `http`, so that callers don't depend on that crate.
+    /// without a phrase. 204 prints no `Content-Length`, since it has no body. This is a plain number rather
+    /// than a type of the crate `http`, so that callers don't depend on that crate.
     pub status: u16,
     /// The body, in JSON (RFC 7644 section 3.1).
     pub body: Option<&'a str>,
@@ -36,7 +36,8 @@ pub struct ReplyForm {
 }
 
 impl ReplyForm {
-    /// Returns the form of a whole reply, which closes the connection or not.
+    /// Returns the form of a reply that doesn't omit its body. `closes` tells whether the reply has the
+    /// header `Connection: close`.
     pub fn whole(closes: bool) -> ReplyForm
         ensures { result ≡ spec.whole_form closes }
     {
@@ -46,7 +47,7 @@ impl ReplyForm {
         }
     }
 
-    /// Returns the form of the reply to a message: without a body if the method, compared as written, is HEAD.
+    /// Returns the form of the reply to a message. It omits the body if the method is exactly `HEAD`.
     pub fn of(message: &Message) -> ReplyForm
         ensures { result ≡ spec.form_of message.now }
     {
@@ -79,7 +80,7 @@ fn push_option(text: &mut String, name: &str, value: Option<&str>) -> Result<(),
     }
 }
 
-/// Appends a header line if `due`.
+/// Appends a header line if `due` is true.
 fn push_if(text: &mut String, due: bool, name: &str, value: &str) -> Result<(), NoMemory>
     ensures { OnOk result (string_bytes text.new ≡ string_bytes text.old
         ++ optional_line due name.now value.now) }
@@ -151,7 +152,7 @@ fn head_text(alloc: Global, reply: &HttpReply<'_>, closes: bool) -> Result<Strin
     Ok(text)
 }
 
-/// Returns the text of a reply in a form: its head, and its body unless the form omits it.
+/// Returns the text of a reply, printed in this form: its head, and its body unless the form omits it.
 pub fn print_reply(
     alloc: Global,
     reply: &HttpReply<'_>,

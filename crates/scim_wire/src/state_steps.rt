@@ -19,7 +19,7 @@ use scim_audit::Refusal;
 use scim_text::{Failed, NoMemory};
 use std::alloc::Global;
 
-/// Returns the step that refuses the stream: the state is shut.
+/// Returns the step that refuses the stream and changes the state to `Shut`.
 fn refused(refusal: Refusal) -> StateStep
     ensures state { result.state ≡ State.Shut }
     ensures item { result.item ≡ Some (Item.Refused refusal) }
@@ -66,7 +66,7 @@ fn announced(head: &MessageHead) -> Option<Item>
     }
 }
 
-/// Returns the step after a whole head.
+/// Returns the step after a whole head: it begins the body, or completes the message if there is no body.
 fn begin_body(alloc: Global, head: MessageHead) -> StateStep
     ensures { (bytes : List ℕ) → OpensSaying bytes (Ok head) []
         → Steps result.state result.item bytes [] }
@@ -92,7 +92,7 @@ fn begin_body(alloc: Global, head: MessageHead) -> StateStep
     }
 }
 
-/// Returns the step after the text of a head, which may be refused.
+/// Parses the text of a head, and returns the step after it. The step is a refusal if the head is invalid.
 fn open_message(alloc: Global, text: &[u8]) -> Result<StateStep, NoMemory>
     ensures { (bytes : List ℕ) → OpensThen (λ t. IsHeadText t × (t ≡ text.now)) bytes []
         → IfOk result (λ r. Steps r.state r.item bytes []) }
@@ -136,7 +136,7 @@ impl BodyPart {
         })
     }
 
-    /// Reads a prefix of `piece` without the body's last byte, and returns its length in bytes.
+    /// Reads a prefix of `piece` that doesn't contain the body's last byte, and returns its length in bytes.
     ///
     /// After `NoMemory` the part must not be used.
     pub fn take_run(&mut self, piece: &[u8]) -> Result<usize, NoMemory>

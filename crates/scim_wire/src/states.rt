@@ -84,7 +84,7 @@ impl State {
 
     /// Reads a prefix of `piece` that completes no item, and returns its length in bytes, perhaps 0.
     ///
-    /// In `Shut` this is the whole piece. After `NoMemory` the state must not be used.
+    /// In `Shut`, reads the whole piece. After `NoMemory` the state must not be used.
     pub fn take_run(&mut self, piece: &[u8]) -> Result<usize, NoMemory>
         ensures within { IfOk result (λ n. n ≤ length piece.now) }
         ensures stands { (bytes : List ℕ) (items : List Item) → StandsAt self.old bytes items

@@ -8,9 +8,10 @@ use std::io::{ErrorKind, Write};
 
 /// Writes the whole text and nothing else. Doesn't flush the writer.
 ///
-/// Repeats a write that a signal interrupted. Returns the error of any other failed write, or
-/// [`ErrorKind::WriteZero`] if the writer accepts no more bytes. After an error a prefix of the text has been
-/// written, perhaps empty or whole, and nothing else.
+/// Repeats a write that a signal interrupted. Fails with the error of any other failed write, with
+/// [`ErrorKind::WriteZero`] if the writer accepts no more bytes, or with [`ErrorKind::TimedOut`] after
+/// `u64::MAX` writes. After an error, a prefix of the text has been written, perhaps empty or whole, and
+/// nothing else.
 pub fn write_text<W: Write>(text: &str, writer: &mut W) -> io::Result<()>
     ensures whole { OnOk result (Appends (W.contents writer.old) (W.contents writer.new) text.now) }
     ensures front { OnErr result (AppendsFront (W.contents writer.old)

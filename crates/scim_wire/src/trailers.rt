@@ -77,14 +77,14 @@ impl TrailerPart {
         }
     }
 
-    /// Returns this state at another position.
+    /// Returns this state with its position replaced by `place`.
     fn at(self, place: TrailerPlace) -> TrailerPart
         ensures { result ≡ record self { place = place } }
     {
         TrailerPart { place, ..self }
     }
 
-    /// Reads a byte at the start of a line.
+    /// Reads a byte at the start of a line; `None` if the byte is invalid there.
     fn at_line_start(self, byte: u8) -> Option<TrailerPart>
         ensures { ByteLeads (IsRestOfLines self.headers) byte result }
     {
@@ -104,7 +104,7 @@ impl TrailerPart {
         })
     }
 
-    /// Reads a byte in the name of a header, after its first byte.
+    /// Reads a byte in the name of a header, after its first byte; `None` if the byte is invalid there.
     fn in_name(self, byte: u8) -> Option<TrailerPart>
         ensures { ByteLeads (IsRestOfName self.headers) byte result }
     {
@@ -117,7 +117,7 @@ impl TrailerPart {
         None
     }
 
-    /// Reads a byte in the value of a header.
+    /// Reads a byte in the value of a header; `None` if the byte is invalid there.
     fn in_value(self, byte: u8) -> Option<TrailerPart>
         ensures { ByteLeads (IsRestOfValue self.headers) byte result }
     {
@@ -143,7 +143,7 @@ impl TrailerPart {
         None
     }
 
-    /// Returns the position after one byte, ignoring the limit of bytes; `None` if the byte is invalid here.
+    /// Returns the state after one byte, ignoring the limit of bytes; `None` if the byte is invalid here.
     fn step(self, byte: u8) -> Option<TrailerPart>
         ensures { ByteLeads (IsFree self) byte result }
     {
@@ -157,7 +157,8 @@ impl TrailerPart {
         }
     }
 
-    /// Reads one byte. `Bad` also if the trailers can't end within the limit of bytes.
+    /// Reads one byte. Returns `Bad` if the byte is invalid here, or if the trailers can't end within the
+    /// limit of bytes.
     pub fn take(self, byte: u8) -> Trailed
         ensures { Trails self byte result }
     {

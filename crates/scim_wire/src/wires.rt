@@ -29,7 +29,7 @@ fn add(items: &mut Vec<Item>, item: Option<Item>) -> Result<(), NoMemory>
 }
 
 impl Wire {
-    /// Returns a wire before the first byte of its stream.
+    /// Returns a wire that hasn't read any byte of its stream.
     pub fn new(alloc: Global) -> Wire
         ensures { StandsFor result [] [] }
     {
@@ -42,18 +42,18 @@ impl Wire {
     ///
     /// A body allocates only for the bytes received, whatever length was announced.
     ///
-    /// Invalid requests are refused as:
+    /// An invalid request is refused with one of these refusals:
     ///
-    /// - `BadHead`: 16,384 bytes without the end of a head, more than 66 line feeds or 64 headers in it, or
-    ///   no valid request line and headers (RFC 9112 sections 2 to 5);
-    /// - `TooLarge`: a `Content-Length` above 1,048,576, or chunks with more bytes together;
-    /// - `BadFraming`: a `Content-Length` that isn't a number, several `Content-Length` or
-    ///   `Transfer-Encoding` headers (RFC 9112 section 6.3), or an invalid chunked body
+    /// - `BadHead`: the head doesn't end within 16,384 bytes, has more than 66 line feeds or 64 headers, or
+    ///   isn't a valid request line with headers (RFC 9112 sections 2 to 5);
+    /// - `TooLarge`: a `Content-Length` is above 1,048,576, or the chunks have more bytes in total;
+    /// - `BadFraming`: the `Content-Length` isn't a number, there are several `Content-Length` or
+    ///   `Transfer-Encoding` headers (RFC 9112 section 6.3), or the chunked body is invalid
     ///   ([`crate::BadChunks`]);
-    /// - `UnknownCoding`: a transfer coding other than `chunked` (RFC 9112 section 7).
+    /// - `UnknownCoding`: the transfer coding isn't `chunked` (RFC 9112 section 7).
     ///
-    /// Of several causes in one head the first in this list applies. After `NoMemory` the items of this piece
-    /// are lost.
+    /// If a head has several of these faults, the refusal is the first in this list. After `NoMemory` the
+    /// items of this piece are lost.
     pub fn feed(&mut self, alloc: Global, piece: &[u8]) -> Result<Vec<Item>, NoMemory>
         ensures items { (stream : List ℕ) (items : List Item) → StandsFor self.old stream items
             → IfOk result (λ new. StandsFor self.new (stream ++ piece.now) (items ++ new.items)) }

@@ -10,7 +10,7 @@ use sqlite::Connection;
 
 /// Opens the database at a path, runs a command on it, and closes it. The file is created if there is none.
 ///
-/// Fails with Database or NoMemory if the database can't be opened, or with the fault of the command. A
+/// Fails with `Database` or `NoMemory` if the database can't be opened, or with the error of the command. A
 /// failed close loses nothing: committed changes are in the log, which is read when the database is next
 /// opened.
 pub(crate) fn with_database<W: DatabaseWork + Drop>(
@@ -28,7 +28,9 @@ pub(crate) fn with_database<W: DatabaseWork + Drop>(
     }
 }
 
-/// Like [`with_database`], for a file that must exist. Fails with CannotRead if it doesn't.
+/// Opens the existing database at a path, runs a command on it, and closes it. Fails with `CannotRead` if the
+/// file doesn't exist. Otherwise fails with `Database` or `NoMemory` if the database can't be opened, or with
+/// the error of the command.
 fn with_database_there<W: DatabaseWork + Drop>(
     rt: &HostRuntime,
     path: &str,
@@ -60,7 +62,8 @@ pub(crate) fn run_export(rt: &HostRuntime, matches: &ArgMatches<'_>) -> Result<(
 
 /// Runs `import`: stores the resources of a users file in an empty database.
 ///
-/// The file is validated before the database is opened, so that an invalid one creates no database.
+/// The users file is validated before the database is opened, so that no database is created for an invalid
+/// file.
 pub(crate) fn run_import(rt: &HostRuntime, matches: &ArgMatches<'_>) -> Result<(), CommandFault> {
     let options = ImportOptions::of(matches)?;
     let users = read_file(rt, FileKind::Users, options.users)?;

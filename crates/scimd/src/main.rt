@@ -1,7 +1,6 @@
-//! `scimd`: a SCIM 2.0 service provider (RFC 7643, RFC 7644) whose access policy is proved to be kept.
+//! `scimd`: a SCIM 2.0 service provider (RFC 7643, RFC 7644) that is proved to enforce its access policy.
 //!
-//! The exit status is 0 on success, 1 for a fault of a file, the database, the input or memory, and 2 for a
-//! fault of the command line.
+//! The exit status is 0 on success, 2 for an error in the command line, and 1 for any other error.
 #![tactic(auto)]
 
 mod databases;
@@ -18,8 +17,8 @@ use std::io::ErrorKind;
 use std::process::ExitCode;
 use std::{env, io};
 
-/// Runs the command line. If standard error can't be written, or memory runs out for the arguments, the exit
-/// status alone tells the failure.
+/// Runs the command line. If standard error can't be written, or memory runs out for the arguments, only the
+/// exit status shows the failure.
 fn main(rt: HostRuntime) -> ExitCode {
     match words(&rt) {
         Ok(words) => run_words(&rt, words.as_slice()),
@@ -28,7 +27,7 @@ fn main(rt: HostRuntime) -> ExitCode {
     }
 }
 
-/// Returns the arguments of the program. Fails with InvalidData if one isn't UTF-8.
+/// Returns the arguments of the program. Fails with `InvalidData` if an argument isn't UTF-8.
 fn words(rt: &HostRuntime) -> io::Result<Vec<String>> {
     Ok(env::args(rt)?.collect(rt.alloc())?)
 }
@@ -44,7 +43,7 @@ fn run_words(rt: &HostRuntime, words: &[String]) -> ExitCode {
     }
 }
 
-/// Prints clap's text: a usage error, or the help or version asked for. Returns its exit status.
+/// Prints clap's text: a usage error, or the requested help or version. Returns the exit status.
 fn show(rt: &HostRuntime, error: &Error) -> ExitCode {
     match error.print(rt) {
         Ok(()) => ExitCode::from(error.exit_code() as u8),
@@ -80,7 +79,7 @@ fn run_command(rt: &HostRuntime, matches: &ArgMatches<'_>) -> Result<(), Command
     }
 }
 
-/// Prints a fault as one line on standard error and returns its exit status.
+/// Prints an error as one line on standard error, and returns the exit status.
 fn tell(rt: &HostRuntime, fault: &CommandFault) -> ExitCode {
     match eprintln!(rt; "scimd: {fault}") {
         Ok(()) => ExitCode::from(fault.exit_status()),

@@ -56,7 +56,7 @@ impl DatabaseWork for Serving<'_> {
 }
 
 /// Runs `serve`: serves a database, which is created if there is none. The policy and token files are read
-/// before it is opened.
+/// before the database is opened.
 pub(crate) fn run_serve(rt: &HostRuntime, matches: &ArgMatches<'_>) -> Result<(), CommandFault> {
     let options = ServeOptions::of(matches)?;
     let Ok(base) = Text::copy_of(rt.alloc(), options.base) else {

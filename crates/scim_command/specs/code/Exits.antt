@@ -9,7 +9,7 @@ use Rattle.scim_audit.specs.declared.refusals.Refusal.TheVariants.{Store}
 use Rattle.scim_wire.specs.Replies.{whole_form}
 use Rattle.scim_exchange.specs.Replies.{refusal_text}
 
--- the fault is in the input
+-- the fault is `InputEnded` or `InputFailed`
 abbrev pub IsOfInput : RunFault → Type 0
 IsOfInput InputEnded = Unit {0}
 IsOfInput InputFailed = Unit {0}
@@ -20,12 +20,12 @@ abbrev pub text_or_store : Result (String Global) NoMemory → List ℕ
 text_or_store (Ok t) = string_bytes t
 text_or_store (Err e) = refusal_text Store (whole_form false)
 
--- the fault is in the policy file or the users file, or `NoMemory`
+-- the fault is `Policy`, `Users` or `NoMemory`
 abbrev pub IsOfFiles : RunFault → Type 0
 IsOfFiles (Policy rule cause) = Unit {0}
 IsOfFiles f = IsOfUsers f
 
--- the fault is in the policy file, or `NoMemory`
+-- the fault is `Policy` or `NoMemory`
 abbrev pub IsOfPolicy : RunFault → Type 0
 IsOfPolicy (Policy rule cause) = Unit {0}
 IsOfPolicy WantOfMemory = Unit {0}

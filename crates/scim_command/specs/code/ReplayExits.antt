@@ -12,13 +12,13 @@ use Rattle.scim_command.specs.declared.faults.RunFault.{RunFault}
 use Rattle.scim_command.specs.declared.faults.RunFault.TheVariants.{Policy, Users, Tokens, Events, NoMemory}
 use Rattle.scim_command.specs.declared.replays.Recording.{Recording}
 
--- the fault is in the token file, or `NoMemory`
+-- the fault is `Tokens` or `NoMemory`
 abbrev pub IsOfTokens : RunFault → Type 0
 IsOfTokens (Tokens n) = Unit {0}
 IsOfTokens NoMemory = Unit {0}
 IsOfTokens _ = ⊥
 
--- the fault is in the policy, token or users file, or it is `NoMemory`
+-- the fault is `Policy`, `Tokens`, `Users` or `NoMemory`
 abbrev pub IsOfFiles : RunFault → Type 0
 IsOfFiles (Policy rule cause) = Unit {0}
 IsOfFiles (Users n) = Unit {0}
@@ -26,13 +26,13 @@ IsOfFiles (Tokens n) = Unit {0}
 IsOfFiles NoMemory = Unit {0}
 IsOfFiles _ = ⊥
 
--- the fault is in the events file, or `NoMemory`
+-- the fault is `Events` or `NoMemory`
 abbrev pub IsOfEvents : RunFault → Type 0
 IsOfEvents (Events n) = Unit {0}
 IsOfEvents NoMemory = Unit {0}
 IsOfEvents _ = ⊥
 
--- the fault is in one of the files (policy, token, users or events), or it is `NoMemory`
+-- the fault is `Policy`, `Tokens`, `Users`, `Events` or `NoMemory`
 abbrev pub IsReplayFault : RunFault → Type 0
 IsReplayFault (Events n) = Unit {0}
 IsReplayFault fault = IsOfFiles fault

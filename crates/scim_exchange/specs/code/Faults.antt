@@ -4,7 +4,7 @@ use Rattle.scim_text.specs.declared.memory.Failed.TheVariants.{Because, NoMemory
 use Rattle.scim_audit.specs.declared.refusals.Refusal.{Refusal}
 use Rattle.scim_audit.specs.declared.refusals.Refusal.TheVariants.{Store}
 
--- the refusal of a fault, which is `Store` for `NoMemory`
+-- the refusal that a fault contains, or `Store` for `NoMemory`
 abbrev pub refusal_for : Failed Refusal → Refusal
 refusal_for (Because refusal) = refusal
 refusal_for NoMemory = Store

@@ -1,4 +1,4 @@
--- The values of the program's types as values of the definitions.
+-- Converts values of the program's types to the types of the specification.
 use Rattle.std.specs.Prelude.{◌≡◌, ℕ, List, map, Option, None, Result}
 use Rattle.std.specs.Global.{Vec}
 use denote.Ref.{Bor}
@@ -15,14 +15,14 @@ use Rattle.scim_exchange.specs.Searches.{Settings}
 abbrev pub texts_in : Vec (Bor (List ℕ)) → List (List ℕ)
 texts_in v = map (λ text. text.now) v.items
 
--- the attribute lists of the program's value
+-- the program's attribute lists, converted to the specification's type
 abbrev pub lists_in : AttributeLists → Lists
 lists_in lists = record { attributes = texts_in lists.attributes; excluded = texts_in lists.excluded }
 
--- the program's settings of a search, as a value of the definitions
+-- the program's settings of a search, converted to the specification's type
 abbrev pub settings_in : SettingsInCode → Settings
 settings_in settings = record { lists = lists_in settings.lists; arrangement = settings.arrangement }
 
--- a refusal in the result is `MessageValue`, and the expected value doesn't exist
+-- if the result is a refusal, it is `MessageValue`, and there is no expected value
 abbrev pub IsWrong : {X Y : Type 0} → Option X → Result Y (Failed Refusal) → Type 0
 IsWrong read result = IfFault result (λ refusal. (refusal ≡ MessageValue) × (read ≡ None))

@@ -9,7 +9,7 @@ unfoldable pub admitted : {T : Type 0} → (T → Test) → Look T → Test
 admitted keeps looks.Everything r leaf = true
 admitted keeps (looks.Admitted test) r leaf = keeps test.now r leaf
 
--- whether a row counts as present
+-- whether a row counts as present; with a test, a row counts only if it has an admitted field
 unfoldable pub stays : {T : Type 0} → (T → Test) → Look T → Row → Bool
 stays keeps looks.Everything r = true
 stays keeps (looks.Admitted test) r = has_fields (restricted_row (keeps test.now) r)

@@ -15,7 +15,7 @@ past_gap (b ∷ bs) = if b == 32 then Some (behind is_space bs) else None
 abbrev pub past_join : List ℕ → List ℕ → Option (List ℕ)
 past_join keyword bytes = option_and_then (λ rest. if is_word keyword (front is_word_byte rest) then past_gap (behind is_word_byte rest) else None) (past_gap bytes)
 
--- the bytes after the last colon, if `names` are the bytes after the last colon so far
+-- the bytes after the last colon; `names` are the bytes after the last colon read so far
 abbrev pub names_from : List ℕ → List ℕ → List ℕ
 names_from names [] = names
 names_from names (b ∷ bs) = if b == 58 then names_from bs bs else names_from names bs

@@ -4,6 +4,7 @@ use Rattle.scim_text.specs.Names.{folded}
 use Rattle.scim_filter_grammar.specs.declared.string_literals.StringLiteral.TheInside.{Inside as LiteralInside}
 use Rattle.scim_text.specs.MomentIn.{moment_in}
 
--- the invariant of a stored string literal: its folded text and its moment are those of its text
+-- the invariant of a stored string literal: its folded text, and its date and time, are computed from its
+-- text
 abbrev pub IsSoundLiteral : LiteralInside → Type 0
 IsSoundLiteral s = (s.folded ≡ folded s.text) × (s.moment ≡ moment_in s.text)

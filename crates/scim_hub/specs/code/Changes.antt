@@ -32,21 +32,21 @@ abbrev pub IsFed : code.Connection → List ℕ → Result (Vec Item) HubFault �
 IsFed (Open wire) bytes result new = (stream : List ℕ) (items : List Item) → StandsFor wire stream items → IsReadOn stream items bytes result (Some new)
 IsFed Shut bytes result new = (result ≡ Err Closed) × (new ≡ Shut)
 
--- the connection has joined under the number, or the result is the fault by the number's state
+-- the connection has joined with the number, or the result is the error for the number's state
 abbrev pub IsJoined : Connection → ℕ → (ℕ → Connection) → Result Unit HubFault → Connections → Type 0
 IsJoined absent n connections (Ok x) new = AreConnections new (set n (joined [] []) connections)
 IsJoined absent n connections (Err fault) new = (fault ≡ NoMemory) × AreConnections new connections
 IsJoined _ n connections (Ok x) new = ⊥
 IsJoined _ n connections (Err fault) new = (fault ≡ AlreadyJoined) × AreConnections new connections
 
--- the connection with the number has left, or the result is the fault by the number's state
+-- the connection with the number has left, or the result is the error for the number's state
 abbrev pub IsGone : Connection → ℕ → (ℕ → Connection) → Result Unit HubFault → Connections → Type 0
 IsGone absent n connections (Ok x) new = ⊥
 IsGone absent n connections (Err fault) new = (fault ≡ Unknown) × AreConnections new connections
 IsGone _ n connections (Ok x) new = AreConnections new (set n absent connections)
 IsGone _ n connections (Err fault) new = ⊥
 
--- the connection with the number has read the piece, or the result is the fault by the connection's state
+-- the connection with the number has read the piece, or the result is the error for the connection's state
 abbrev pub IsPieceTaken : Connection → ℕ → List ℕ → (ℕ → Connection) → Result (Vec Item) HubFault → Connections → Type 0
 IsPieceTaken (joined stream items) n bytes connections (Ok new) kept =
     HasItems (stream ++ bytes) (items ++ new.items) × AreConnections kept (set n (joined (stream ++ bytes) (items ++ new.items)) connections)

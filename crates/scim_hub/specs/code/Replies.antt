@@ -15,7 +15,8 @@ use Rattle.scim_hub.specs.Answering.{IsReplied, IsAnswered, AreAnswered}
 use Rattle.scim_hub.specs.Events.{hub_outputs, writing}
 use Rattle.scim_hub.specs.HubStates.{output_of}
 
--- the reply has this text and closes the connection or not, unless the result is `NoMemory`
+-- the reply has this text, and `closing` tells whether it closes the connection, unless the result is
+-- `NoMemory`
 abbrev pub Says : Result Reply NoMemory → List ℕ → Bool → Type 0
 Says result text closing = IfOk result (λ reply. (string_bytes reply.text ≡ text) × (reply.closes ≡ closing))
 
@@ -34,7 +35,7 @@ abbrev pub AreAllAnswered : List Rule → List ℕ → List Entry → Stamp → 
 AreAllAnswered policy base entries stamp n items store outputs closed next =
     (texts : List (List ℕ)) × AreAnswered policy base entries stamp 0 items store texts closed next × (map output_of outputs ≡ hub_outputs n texts closed)
 
--- a prefix of the items was answered and left this store
+-- a prefix of the items was answered, and `next` is the store after it
 abbrev pub IsFrontAnswered : List Rule → List ℕ → List Entry → Stamp → List Item → Store → Store → Type 0
 IsFrontAnswered policy base entries stamp items store next =
     (front : List Item) × (back : List Item) × (texts : List (List ℕ)) × (closed : Bool)
@@ -46,23 +47,23 @@ abbrev pub AreReplies : List Rule → List ℕ → List Entry → Stamp → ℕ 
 AreReplies policy base entries stamp n items store (Ok replies) next = AreAllAnswered policy base entries stamp n items store replies.outputs.items replies.closed next
 AreReplies policy base entries stamp n items store (Err e) next = IsFrontAnswered policy base entries stamp items store next
 
--- with any further items, these items are answered first, with these texts, and lead from the first store to
--- the second
+-- whatever items follow, the items `front` are answered first, with these texts, and change the store from
+-- `store` to `mid`
 abbrev pub GoesBefore : List Rule → List ℕ → List Entry → Stamp → List Item → Store → List (List ℕ) → ℕ → Store → Type 0
 GoesBefore policy base entries stamp front store texts k mid =
     (tail : List Item) (rest : List (List ℕ)) (closed : Bool) (next : Store)
     → AreAnswered policy base entries stamp k tail mid rest closed next
     → AreAnswered policy base entries stamp 0 (front ++ tail) store (texts ++ rest) closed next
 
--- the items so far were answered with these outputs for the connection, and the shelf has the store that they
--- left
+-- the items so far were answered with these outputs for the connection, and the shelf contains the store
+-- after them
 abbrev pub IsReached : {H : Type 0} → (H → Store → Type 0) → H → List Rule → List ℕ → List Entry → Stamp → ℕ → List Item → Store → ℕ → List Output → Type 0
 IsReached Stands shelf policy base entries stamp n front store k outputs =
     (mid : Store) × (texts : List (List ℕ)) × Stands shelf mid × IsStore base mid
     × GoesBefore policy base entries stamp front store texts k mid
     × (map output_of outputs ≡ map (writing n) texts)
 
--- the items so far and the next one were answered, and the shelf has the store that it left
+-- the items so far and the next one were answered, and the shelf contains the store after them
 abbrev pub IsNextAnswered : {H : Type 0} → (H → Store → Type 0) → H → List Rule → List ℕ → List Entry → Stamp → ℕ → List Item → Store → ℕ → List Output → Item → Result Reply NoMemory → Type 0
 IsNextAnswered Stands shelf policy base entries stamp n front store k outputs item result =
     (next : Store) × (mid : Store) × (texts : List (List ℕ)) × (text : List ℕ) × (closing : Bool) × Stands shelf next × IsStore base next

@@ -15,8 +15,8 @@ use Rattle.scim_hub.specs.Streams.{AnsweredEvent, AreServed, shuts, replies_done
 abbrev pub IsWrittenOut : Option (List ℕ) → Option (List ℕ) → List ℕ → Result Unit IoFault → Type 0
 IsWrittenOut old new text result = MatchResult result (λ _. Appends old new text) (λ fault. (fault ≡ Write) × AppendsFront old new text)
 
--- there was one turn, without a fault of the hub, and the result tells its replies and whether it shut the
--- connection
+-- there was one turn, the hub didn't fail, and `written` has the turn's number of replies and whether it shut
+-- the connection
 pub record IsToldOf (turns : List AnsweredEvent) (written : Written) : Type 0 where
   pub turn : AnsweredEvent
   pub turns_are : turns ≡ turn ∷ []
@@ -24,14 +24,15 @@ pub record IsToldOf (turns : List AnsweredEvent) (written : Written) : Type 0 wh
   pub replies : written.replies ≡ replies_done turn.done
   pub shut : written.shut ≡ shuts turn.done
 
--- the turns of a piece with this fault: none without a stamp, else one, which has the hub's fault or none
+-- the turns of a piece whose serving failed: none for `Stamp`, one that succeeded for `Write`, and one with
+-- the hub's error for `Hub`
 abbrev pub IsFaultOf : List AnsweredEvent → IoFault → Type 0
 IsFaultOf turns NoStamp = turns ≡ []
 IsFaultOf turns Write = (turn : AnsweredEvent) × (turns ≡ turn ∷ []) × IsOk turn.done
 IsFaultOf turns (Hub fault) = (turn : AnsweredEvent) × (turns ≡ turn ∷ []) × (turn.done ≡ Err fault)
 IsFaultOf turns _ = ⊥
 
--- the piece was served in one turn, or in none without a stamp
+-- the piece was served in one turn, or in no turn if there was no stamp
 pub record IsPieceServed (policy : List Rule) (base : List ℕ) (entries : List Entry) (n : ℕ) (state next : HubState) (piece : List ℕ)
     (given given_then : Option (List Stamp)) (contents contents_then : Option (List ℕ)) (result : Result Written IoFault) : Type 0 where
   pub turns : List AnsweredEvent

@@ -8,15 +8,14 @@ use Rattle.scim_cell.specs.Content.{Content}
 use Rattle.scim_json.specs.PartData.{stored_data}
 use Rattle.scim_json.specs.Documents.{documents_and}
 
--- the maximal nesting of an item
+-- the maximum nesting depth of an item
 abbrev pub item_depth : ℕ
 item_depth = 126
 
--- the next tokens are those of the stored document of the resource, and `rest` follows them
+-- the tokens begin with the stored document of the resource, and `rest` follows it
 abbrev pub ReadsItem : List Token → Content → List Token → Type 0
 ReadsItem ts c rest = (j : json.Json) × (json.value item_depth ts ≡ Some (j, rest)) × (of_json j ≡ Some (stored_data c))
 
--- the next tokens are those of the stored documents of the resources up to the end of the list, and `rest`
--- follows them
+-- the tokens begin with the stored documents of the resources and the end of the list, and `rest` follows
 abbrev pub ReadsItems : List Token → List Content → List Token → Type 0
 ReadsItems ts cs rest = (js : json.Items) × (json.items (json.value item_depth) (length ts) ts ≡ Some (js, rest)) × (of_items js ≡ Some (documents_and cs no_items))

@@ -12,7 +12,7 @@ abbrev pub steps_or_fault : List KeptStep → Option PatchFault → Read
 steps_or_fault steps None = Ok (map step_of steps)
 steps_or_fault steps (Some f) = Err f
 
--- the steps that a reading has read, or its fault
+-- the steps of a reading, or its fault
 abbrev pub read_of : Reading → Read
 read_of r = steps_or_fault r.steps.items r.fault
 

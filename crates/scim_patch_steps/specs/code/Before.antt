@@ -1,4 +1,4 @@
--- What the code keeps of a resource before a patch, to tell afterwards whether its values changed.
+-- What the code keeps of a resource before a patch, to detect afterwards whether its values changed.
 use Rattle.std.specs.Prelude.{◌≡◌, Bool, not, ◌||◌, ◌==◌, List, length, AllPairs, Some}
 use Rattle.std.specs.List.{list_any}
 use Rattle.scim_cell.specs.Rows.{Row, values, Precedes}
@@ -13,7 +13,7 @@ abbrev pub IsInOrder : Before → Type 0
 IsInOrder (Number u n) = Unit {0}
 IsInOrder (Rows v) = AllPairs (λ (r s : Row). Precedes r.unit s.unit) v.items
 
--- the code has kept this of the rows before the patch
+-- this is what the code keeps of the rows before the patch
 abbrev pub IsBefore : Patch → List Row → Before → Type 0
 IsBefore p rs (Number u n) = (unit_told_by_length p ≡ Some u) × (n ≡ length (values u rs))
 IsBefore p rs (Rows v) = (v.items ≡ rows_about (touched p) rs) × IsInOrder (Rows v)

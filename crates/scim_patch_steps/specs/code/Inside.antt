@@ -2,6 +2,6 @@
 use Rattle.scim_patch_steps.specs.declared.patches.Patch.TheInside.{Inside as PatchInside}
 use Rattle.scim_patch_steps.specs.Kept.{Kept}
 
--- the patch with its fields as values
+-- the value of a patch in code: its kind and its steps
 abbrev pub kept_of : PatchInside → Kept
 kept_of p = record { kind = p.kind; steps = p.steps.items }

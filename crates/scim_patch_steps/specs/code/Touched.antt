@@ -6,7 +6,7 @@ use Rattle.scim_schema.specs.Units.{is_same_unit}
 use Rattle.scim_cell.specs.Rows.{Row, values}
 use Rattle.scim_change.specs.Agreement.{are_same_values}
 
--- whether a unit is one of these
+-- whether a unit is one of these units
 abbrev pub is_about : List AttributeUnit → AttributeUnit → Bool
 is_about us u = list_any (is_same_unit u) us
 

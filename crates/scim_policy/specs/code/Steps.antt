@@ -13,7 +13,8 @@ use Rattle.scim_filter_grammar.specs.contracts.tree.AttributePath as path
 use Rattle.scim_filter_grammar.specs.Tree as tree
 use Rattle.scim_filter_grammar.specs.Tree.{Tree}
 
--- a step: it pushes a leaf of the tree, or replaces the top one or two trees by a tree of them
+-- a step pushes a leaf of the tree, or replaces the top one or two trees of the stack by a tree built from
+-- them
 pub data Step : Type 0 where
   Or : Step
   And : Step
@@ -83,7 +84,7 @@ step_of (inr (inl (zero, p))) = Present p
 step_of (inr (inl (suc n, p))) = Values p
 step_of (inr (inr (p, (op, x)))) = Compare p op x
 
--- decoding an encoded step gives the step
+-- decoding an encoded step returns the step
 pub step_back : (s : Step) → step_of (stored s) ≡ s
 step_back Or = refl
 step_back And = refl

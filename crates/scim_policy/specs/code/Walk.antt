@@ -30,11 +30,12 @@ by_paths paths d l = if list_any (covers l) paths then Some d else None
 abbrev pub by_name : SubAttribute → Decision → Option SubAttribute → Option Decision
 by_name b d sub = if option_eq (sameb the_sub_attribute) sub (Some b) then Some d else None
 
--- the decision of a numbered rule on a leaf, if the rule is for the client, the operation and the resource
+-- the decision of a numbered rule on a leaf, if the rule fits the client, the operation, the resource and the
+-- leaf
 abbrev pub by_rule : List ℕ → Op → Content → Leaf → ℕ → Rule → Option Decision
 by_rule client op c l n r = if speaks_of client op c r then by_paths (paths_on c.kind r.paths) (record { rule = n; allow = r.allow }) l else None
 
--- the decision on a leaf of the first rule that makes one, of rules numbered from n
+-- the decision on a leaf by the first of the rules that decides it; the rules are numbered from n
 abbrev pub by_rules : List ℕ → Op → Content → Leaf → ℕ → List Rule → Option Decision
 by_rules client op c l n [] = None
 by_rules client op c l n (r ∷ rs) = or_else (by_rule client op c l n r) (by_rules client op c l (n + 1) rs)
@@ -43,11 +44,11 @@ by_rules client op c l n (r ∷ rs) = or_else (by_rule client op c l n r) (by_ru
 abbrev pub is_for : List ℕ → Content → Rule → Bool
 is_for client c r = list_any (names client) r.clients && (list_any (sameb the_kind c.kind) r.kinds && is_target_met c r)
 
--- the decision on a leaf of a numbered rule that is for the client and the resource, if it is for the
--- operation
+-- the decision of a numbered rule on a leaf, if the rule is for the operation and covers the leaf; the rule
+-- must be for the client and the resource
 abbrev pub by_op : Op → Kind → ℕ → Rule → Leaf → Option Decision
 by_op op kind n r l = if list_any (sameb the_op op) r.ops then by_paths (paths_on kind r.paths) (record { rule = n; allow = r.allow }) l else None
 
--- the new table has the old decisions, and the added ones for leaves without a decision
+-- the new table has the old decisions, and the added decisions for leaves that had none
 abbrev pub Adds : (Leaf → Option Decision) → Decisions → Decisions → Type 0
 Adds added old new = (l : Leaf) → decided new l ≡ or_else (decided old l) (added l)

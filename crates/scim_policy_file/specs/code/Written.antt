@@ -10,7 +10,7 @@ use Rattle.scim_policy_file.specs.declared.policy_files.WrittenRule.{WrittenRule
 use Rattle.scim_policy_file.specs.declared.faults.Cause.{Cause}
 use Rattle.scim_policy_file.specs.File.{Parts, RuleTexts}
 
--- a function returned the specified result, seen through `words`, or NoMemory
+-- a function returned the specified result, with its value converted by `words`, or failed with `NoMemory`
 abbrev pub Gives : {X Y : Type 0} → (X → Y) → Result X (Failed Cause) → Result Y Cause → Type 0
 Gives words (Ok x) said = said ≡ Ok (words x)
 Gives words (Err (Because cause)) said = said ≡ Err cause

@@ -21,13 +21,13 @@ kept_cmp descending a b = rank_cmp descending (kept_rank a) (kept_rank b)
 abbrev pub comes_before : Bool → KeptPart → KeptPart → Bool
 comes_before descending a b = is_lt (kept_cmp descending a b)
 
--- the held parts with one more inserted at its place, if it has one
+-- the held parts with one more part inserted at its place; unchanged if it has no place
 abbrev pub held_with : Option ℕ → KeptPart → List KeptPart → List KeptPart
 held_with None k held = held
 held_with (Some place) k held = insert held place k
 
--- inserting the next matching part, of this rank, at this place (or leaving it out, for None) and then
--- cutting off the excess yields the parts to hold
+-- `place` is where to insert the next matching part, which has this rank, or None to leave it out: with the
+-- part inserted and the parts beyond the maximum dropped, the pager holds the parts that it must hold
 abbrev pub IsPlace : Query → ℕ → List KeptPart → Rank → Option ℕ → Type 0
 IsPlace query before held rank place = (found : List Content) (p : Content) → rank_of query.sort_by p ≡ rank → before ≡ length found
     → Holds query.sort_by query found held

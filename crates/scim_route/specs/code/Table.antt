@@ -9,25 +9,25 @@ use Rattle.scim_route.specs.declared.endpoints.DiscoveryPage.TheVariants.{Servic
 use Rattle.scim_route.specs.declared.route_table.Leads.{Leads}
 use Rattle.scim_route.specs.declared.route_table.Leads.TheVariants.{Unsupported, Page, ResourceType, Schema, Collection, Search, Resource}
 
--- the rows with a parsed route put in its place; unchanged if the route is not valid
+-- the rows with a parsed route inserted at its position; unchanged if the route isn't valid
 abbrev pub with_route : Result Scan InsertError → Leads → RowsOf Leads → RowsOf Leads
 with_route (Ok scan) leads rows = placed (scan.pattern, leads) rows
 with_route (Err fault) leads rows = rows
 
--- the rows with a route put in its place
+-- the rows with a route inserted at its position
 abbrev pub with_path : List ℕ → Leads → RowsOf Leads → RowsOf Leads
 with_path path leads rows = with_route (parse_route path) leads rows
 
--- the rows with routes put in their places, one after another
+-- the rows with these routes inserted at their positions, one after another
 unfoldable pub with_paths : List (List ℕ × Leads) → RowsOf Leads → RowsOf Leads
 with_paths [] rows = rows
 with_paths (route ∷ rest) rows = with_paths rest (with_path route.0 route.1 rows)
 
--- a segment that a parameter matches
+-- the pattern of a parameter, which matches one segment
 abbrev pub any : List ℕ
 any = param_token ∷ []
 
--- the rows of all routes; those with a common prefix are together, the longer ones first
+-- the rows of all routes; the routes with a common prefix are together, the longer routes first
 abbrev pub routes : RowsOf Leads
 routes =
     (codes ".search", Unsupported)

@@ -5,11 +5,11 @@ use Rattle.scim_text.specs.Names.{is_same_name}
 use Rattle.scim_route.specs.declared.query_parameters.Parameters.{Parameters}
 use Rattle.scim_route.specs.Parameters.{first_named}
 
--- the value of a parameter once one more pair is read; the first value stays
+-- the value of a parameter after one more pair is read; a value that the parameter already has is kept
 abbrev pub taken : List ℕ → List ℕ × List ℕ → Option (List ℕ) → Option (List ℕ)
 taken name pair held = option_or held (if is_same_name pair.0 name then Some pair.1 else None)
 
--- all parameters after one more pair
+-- all parameters after one more pair is read
 abbrev pub with_pair : List ℕ × List ℕ → Parameters → Parameters
 with_pair pair held = record {
   attributes = taken (codes "attributes") pair held.attributes;
@@ -21,7 +21,7 @@ with_pair pair held = record {
   count = taken (codes "count") pair held.count;
 }
 
--- all parameters once these pairs are read
+-- all parameters after these pairs are read
 abbrev pub with_pairs : List (List ℕ × List ℕ) → Parameters → Parameters
 with_pairs pairs held = record {
   attributes = option_or held.attributes (first_named (codes "attributes") pairs);

@@ -8,7 +8,7 @@ use Rattle.scim_serve.specs.declared.pending_bytes.Waiting.{Waiting}
 abbrev pub waiting_for : Waiting → ℕ → Option (List ℕ)
 waiting_for waiting m = get nat_cmp waiting.by_number m
 
--- the pending bytes of connection n are `rest`, and those of all others are unchanged
+-- the pending bytes of connection n are `rest`, and the pending bytes of all other connections are unchanged
 pub record Becomes (n : ℕ) (rest : Option (List ℕ)) (old new : Waiting) : Type 0 where
   pub waits : (m : ℕ) → waiting_for new m ≡ (if n == m then rest else waiting_for old m)
   pub next : new.next ≡ old.next

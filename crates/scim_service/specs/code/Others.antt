@@ -9,7 +9,7 @@ abbrev pub beside : Option (List ℕ) → List Content → List Content
 beside None cs = cs
 beside (Some id) cs = without id cs
 
--- Whether there is a resource that has another id than this one, if one is given.
+-- Whether there is a resource, and its id isn't `own`.
 abbrev pub is_another : Option (List ℕ) → Option Content → Bool
 is_another own None = false
 is_another None (Some c) = true

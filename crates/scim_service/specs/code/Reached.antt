@@ -10,12 +10,13 @@ use Rattle.scim_service.specs.declared.plans.Plan.{Plan}
 use Rattle.scim_service.specs.declared.reached_resources.Reached.{Reached}
 use Rattle.scim_service.specs.Step.{access_to, sought_resource, plan_for_seen}
 
--- The rights that come with a resource are the client's access to it.
+-- The rights returned with a resource are the client's access to it.
 abbrev pub HasRights : Viewer → Reached → Type 0
 HasRights v (Reached.Seen c rights) = access_in rights ≡ access_to v c
 HasRights v (Reached.Told plan) = ⊤
 
--- The resource exists and the client sees it, or the plan is the one of a resource that is absent or hidden.
+-- The request names this resource and the client sees it, or the plan is the one for a resource that doesn't
+-- exist or that the client doesn't see.
 abbrev pub IsReached : Viewer → Turn → List Content → Reached → Type 0
 IsReached v turn cs (Reached.Seen c rights) = (Some c ≡ sought_resource turn cs) × ((read_decision v c (simple Id)).allow ≡ true)
 IsReached v turn cs (Reached.Told plan) = (next : Content → Plan) → plan ≡ plan_for_seen v turn next (sought_resource turn cs)

@@ -6,10 +6,10 @@ use Rattle.scim_shelf.specs.declared.copies.Collecting.{Collecting}
 use Rattle.scim_shelf.specs.Stores.{HasPlace, keep}
 use Rattle.scim_shelf.specs.Collections.{IsCollection}
 
--- The visitor's list has one more resource, at its end.
+-- The visitor has appended the resource to its list.
 abbrev pub Takes : Copies → Content → Copies → Type 0
 Takes old c new = new.resources.items ≡ old.resources.items ++ c ∷ []
 
--- The visitor's collection has one more resource, if that resource has a place in it.
+-- The visitor has stored the resource in its collection, provided that `HasPlace` holds for it.
 abbrev pub Keeps : Collecting → Content → Collecting → Type 0
 Keeps old c new = (cs : List Content) → IsCollection cs old.collection → HasPlace cs c → IsCollection (keep c cs) new.collection

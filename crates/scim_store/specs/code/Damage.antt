@@ -36,7 +36,7 @@ is_pair first second row = length row == 2 && (has_text 0 first row && has_text 
 abbrev pub is_triple : List ℕ → List ℕ → List ℕ → Row → Bool
 is_triple first second third row = length row == 3 && (has_text 0 first row && (has_text 1 second row && has_text 2 third row))
 
--- The row of a unique name, with its owner's id in the first column.
+-- The row of a unique name, with the id of the resource that has it in the first column.
 abbrev pub owned_name : List ℕ → Name → Row
 owned_name id n = triple_of id (attribute_name n.leaf.attribute) n.text
 
@@ -58,23 +58,24 @@ abbrev pub text_in : Value → Option (List ℕ)
 text_in (Text t) = Some t
 text_in _ = None
 
--- A row is that of the resource, whose location is below the base URI, with a document that reads as it.
+-- A row has the id, the kind and a valid document of the resource, whose location is below the base URI.
 abbrev pub IsRowOf : List ℕ → Row → Content → Type 0
 IsRowOf base row c = (document : List ℕ) × (row ≡ resource_values (id_text c.id) (kind_number c.kind) document) × IsDocumentText base document c
 
--- The rows of names and members are those of the resource, in order.
+-- `names` and `members` are exactly the rows of the unique names and of the member values of the resource, in
+-- order.
 abbrev pub HasRows : Content → List Row → List Row → Type 0
 HasRows c names members =
     (names ≡ map (owned_name (id_text c.id)) (unique_names c))
     × (values : List (List ℕ)) × IsStrictlySortedBy (slice_cmp nat_cmp) values × ((v : List ℕ) → is_among v values ≡ lists_value v c) × (members ≡ map (owned_member (id_text c.id)) values)
 
--- The rows are empty, or those of one resource.
+-- There are no rows, or exactly the rows of one valid resource.
 abbrev pub AreOfOne : List ℕ → List Row → List Row → List Row → Type 0
 AreOfOne base [] names members = (names ≡ []) × (members ≡ [])
 AreOfOne base (row ∷ []) names members = (c : Content) × IsRowOf base row c × HasRows c names members
 AreOfOne base (row ∷ other ∷ rows) names members = ⊥
 
--- The row of a name has a text.
+-- The row of a unique name has a folded text.
 abbrev pub HasName : Row → Type 0
 HasName row = (text : List ℕ) × (column row 2 ≡ Text text)
 
@@ -88,7 +89,7 @@ pub record AreAllOwned (tables : Tables) : Type 0 where
 abbrev pub is_in : {S : Type 0} → List ℕ → HashSet (Bor (List ℕ)) S → Bool
 is_in text texts = contains_by (λ t. pointwise nat_eq text t.now) texts
 
--- The row before `place` passes the test and the row at `place` doesn't, as far as there are such rows.
+-- The row before `place`, if there is one, passes the test, and the row at `place`, if there is one, doesn't.
 pub record IsPartedAt (test : Row → Bool) (rows : List Row) (place : ℕ) : Type 0 where
   pub within : place ≤ length rows
   pub before : (d : Row) → 0 < place → test (get_or rows (place - 1) d) ≡ true

@@ -5,21 +5,21 @@ use Rattle.sqlite.specs.Tree.{put_row}
 use Rattle.sqlite.specs.Edit.{is_taken, have_rowids, are_fresh, put_all, IsNoIndex}
 use Rattle.sqlite.specs.Effect.{Database}
 
--- One row is inserted into one table, whose rows don't have its rowid, and no other table is changed.
+-- One row is inserted into one table, in which no row had its rowid before. No other table is changed.
 pub record Puts (tree : ℕ) (row : Row) (old new : Database) : Type 0 where
   pub schema : new.schema ≡ old.schema
   pub rows : new.trees tree ≡ put_row row (old.trees tree)
   pub fresh : is_taken (old.trees tree) row ≡ false
   pub others : (t : ℕ) → t ≢ tree → IsNoIndex old.schema t → new.trees t ≡ old.trees t
 
--- The rows that pass the test are deleted from one table, and no other table is changed.
+-- The rows that pass the test are deleted from one table. No other table is changed.
 pub record Takes (tree : ℕ) (test : Row → Bool) (old new : Database) : Type 0 where
   pub schema : new.schema ≡ old.schema
   pub rows : new.trees tree ≡ filter (λ r. not (test r)) (old.trees tree)
   pub others : (t : ℕ) → t ≢ tree → IsNoIndex old.schema t → new.trees t ≡ old.trees t
 
--- The `count` rows of one table that pass the test are replaced by `turned` ones, and no other table is
--- changed.
+-- In one table, each of the `count` rows that pass the test is replaced by its image under `turned`. No other
+-- table is changed.
 pub record Turns (tree : ℕ) (test : Row → Bool) (turned : Row → Row) (count : ℕ) (old new : Database) : Type 0 where
   pub schema : new.schema ≡ old.schema
   pub news : List Row

@@ -37,7 +37,7 @@ creation Taken = codes "CREATE TABLE taken (attribute TEXT, folded TEXT, id TEXT
 creation Member = codes "CREATE TABLE member (value TEXT, group_id TEXT, PRIMARY KEY (value, group_id))"
 creation Audit = codes "CREATE TABLE audit (number INTEGER PRIMARY KEY, moment INTEGER, client TEXT, op INTEGER, kind INTEGER, id TEXT, decided INTEGER, rule INTEGER, leaf TEXT, refusal INTEGER)"
 
--- A database that has the tables before this one, without rows.
+-- The database has exactly the tables that come before this one in the schema, and they have no rows.
 abbrev pub IsBefore : Name → Database → Type 0
 IsBefore Setting = λ db. db.schema ≡ no_schema
 IsBefore Resource = IsMade schema_1 (0 ∷ [])
@@ -45,7 +45,7 @@ IsBefore Taken = IsMade schema_2 (2 ∷ 0 ∷ [])
 IsBefore Member = IsMade schema_3 (4 ∷ 2 ∷ 0 ∷ [])
 IsBefore Audit = IsMade schema_4 (6 ∷ 4 ∷ 2 ∷ 0 ∷ [])
 
--- A database that has the tables up to this one, without rows.
+-- The database has exactly the tables up to and including this one, and they have no rows.
 abbrev pub IsBehind : Name → Database → Type 0
 IsBehind Setting = IsBefore Resource
 IsBehind Resource = IsBefore Taken

@@ -6,7 +6,7 @@ use Rattle.sqlite.specs.Kind.TheVariants.{Integer, Text}
 use Rattle.sqlite_schema.specs.declared.schema.Index.{Index}
 use Rattle.scim_store_tables.specs.Tables.{column, setting_table, resource_table, taken_table, member_table, audit_table}
 
--- A table has no rule beside its primary key.
+-- A table has no CHECK constraint, no foreign key, no computed default and no AUTOINCREMENT.
 pub record IsBare (table : Table) : Type 0 where
   pub checks : table.checks ≡ []
   pub references : table.references ≡ []
@@ -16,7 +16,7 @@ pub record IsBare (table : Table) : Type 0 where
   pub formats : table.stamps.formats ≡ []
   pub counted : table.is_counted ≡ false
 
--- The index of a primary key of texts.
+-- A unique, ascending index, as SQLite creates it for a primary key of text columns.
 abbrev pub index : List ℕ → ℕ → ℕ → List ℕ → Index
 index name tree table columns = record { name = name; tree = tree; table = table; columns = columns; order = record { digits = 0 }; is_unique = true }
 

@@ -1,4 +1,4 @@
--- What a call that only reads leaves, and its result.
+-- The postcondition of a call that only reads.
 use Rattle.std.specs.Prelude.{◌≡◌, false, Bool, IsTrue, List, [], ◌∷◌, map, Result, IfOk, OnErr}
 use Rattle.sqlite.specs.declared.error.Error.{Error}
 use Rattle.sqlite.specs.Effect.{Database}
@@ -12,16 +12,17 @@ use Rattle.scim_store_tables.specs.Whole.{AreInOrder}
 use Rattle.scim_store_tables.specs.code.Keys.{key_alone, AreRising}
 use Rattle.scim_store_tables.specs.Queries.{tree_of}
 
--- A call that only reads begins no transaction, and a crash leaves only what it could leave before. Under the
--- five tables nothing is changed and the result fits the database, or after an error the connection is
--- closed, or as before, or as the last commit left it.
+-- The postcondition of a call that only reads the five tables. It begins no transaction, and a crash leaves
+-- only a state that a crash before the call could also leave. If the call succeeds, nothing is changed, and
+-- the returned value satisfies `IsTold` for the database. After an error the connection is closed, or its
+-- database is unchanged or as the last commit left it.
 pub record OnlyAsks {T : Type 0} (IsTold : Database → T → Type 0) (old new : State) (result : Result T Error) : Type 0 where
   pub mode : old.in_transaction ≡ false → new.in_transaction ≡ false
   pub spares : Spares old new
   pub told : HasCleanDisk new → HasTables old → IfOk result (λ x. IsUnchanged old new × IsTold old.now x)
   pub rests : HasCleanDisk new → HasTables old → OnErr result (Rests old new)
 
--- A test's result tells whether P holds.
+-- The result of a test is true if and only if `P` holds.
 pub record Decides (P : Type 0) (found : Bool) : Type 0 where
   pub yes : IsTrue found → P
   pub no : found ≡ false → ¬ P
@@ -34,13 +35,13 @@ AreRows Taken db = AreInOrder (0 ∷ 1 ∷ 2 ∷ []) (map owner_first (shown db)
 AreRows Member db = AreInOrder (0 ∷ 1 ∷ []) (map group_first (shown db).member)
 AreRows Audit db = AreInOrder (0 ∷ []) (shown db).audit
 
--- The keys of one table, sorted; they are strictly ascending exactly if each is a number and none occurs
--- twice.
+-- The keys of one table, sorted. They are strictly ascending numbers if and only if each key is a number and
+-- none occurs twice.
 pub record AreKeys (table : Table) (db : Database) (rows : List Row) : Type 0 where
   pub are : AreInOrder (0 ∷ []) (map key_alone (db.trees (tree_of table))) rows
   pub sound : AreRising rows → AreKeyed (db.trees (tree_of table))
   pub complete : AreKeyed (db.trees (tree_of table)) → AreRising rows
 
--- A test's result tells whether each row of a table has a key and no key occurs twice.
+-- The result of a test is true if and only if each row of the table has a key and no key occurs twice.
 abbrev pub DecidesKeyed : Table → Database → Bool → Type 0
 DecidesKeyed table db = Decides (AreKeyed (db.trees (tree_of table)))

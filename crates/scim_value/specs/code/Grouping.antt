@@ -8,7 +8,8 @@ use Rattle.scim_cell.specs.Rows.{Row, unit_at, field_of, goes_with}
 abbrev pub row_with : Entry → Row
 row_with e = record { unit = unit_at e.0; fields = field_of e ∷ [] }
 
--- rows with one more cell at the end: in the last row if the flag is true, otherwise in a row of its own
+-- rows with a cell added at the end: to the last row if the flag is true and there is one, otherwise as a new
+-- row
 abbrev pub grouped : Bool → Entry → List Row → List Row
 grouped false e rs = rs ++ row_with e ∷ []
 grouped true e [] = row_with e ∷ []

@@ -1,4 +1,4 @@
--- The index, in code, of the groups that a client sees by the ids of their members.
+-- The code's index of the groups that a client sees, by the ids of their members.
 use Rattle.std.specs.Prelude.{◌≡◌, ℕ, ◌+◌, ◌-◌, Bool, false, List, [], ◌∷◌, ◌++◌, length, map, filter, nat_eq, Option, None, Some, if◌then◌else◌}
 use Rattle.std.specs.Global.{Vec}
 use Rattle.std.specs.List.{slice_get}
@@ -17,7 +17,7 @@ use Rattle.scim_value.specs.Members.{is_text, lists}
 use Rattle.scim_view.specs.Groups.{and_those}
 use Rattle.scim_view.specs.code.Memberships.{kept_of}
 
--- whether an id was found and is this one
+-- whether an id was found and is equal to `id`
 abbrev pub is_found : List ℕ → Option (List ℕ) → Bool
 is_found id None = false
 is_found id (Some found) = is_same_id found id
@@ -52,7 +52,7 @@ positions_of index id = positions_in (get is_same_id index.by_member id)
 abbrev pub groups_of : GroupIndex → List ℕ → List SeenGroup
 groups_of index id = at_positions index.groups.items (positions_of index id)
 
--- for each id, the index has those of the groups that list it, in their order
+-- for each id, the index has the groups that list it, in their order
 abbrev pub Indexes : List Content → GroupIndex → Type 0
 Indexes gs index = (id : List ℕ) → IsId id → groups_of index id ≡ map kept_of (filter (lists id) gs)
 

@@ -8,7 +8,7 @@ use Rattle.scim_wire.specs.Fronts.{IsFrontOf}
 use Rattle.scim_wire.specs.Chunked.{IsLine, IsLineOf, AreTrailers, HasChunks, most_content}
 use Rattle.scim_wire.specs.code.Trailers.{IsRest, GoesOn}
 
--- the bytes end in a chunk's data of which `left` bytes are missing, followed by the bytes `after`
+-- the bytes end in a chunk's data, of which `left` bytes are missing, followed by the bytes `after`
 pub record IsInData (bytes body : List ℕ) (left : ℕ) (after : List ℕ) : Type 0 where
   pub before : List ℕ
   pub line : List ℕ
@@ -28,7 +28,7 @@ pub record IsInTrailers (bytes body : List ℕ) (part : TrailerPart) : Type 0 wh
   pub rest : (more : List ℕ) → AreTrailers (text ++ more) ↔ IsRest part more
   pub goes_on : GoesOn part
 
--- the bytes end at this position, with this content read and this chunk line begun
+-- the bytes end at this position; `body` is the content read so far, and `line` is the current chunk line
 abbrev pub StandsAt : Place → List ℕ → List ℕ → List ℕ → Type 0
 StandsAt Line body line bytes = HasChunks bytes body line × IsFrontOf IsLine line
 StandsAt (Data left) body line bytes = IsInData bytes body left []

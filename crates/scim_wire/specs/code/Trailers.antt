@@ -53,8 +53,8 @@ IsFree part text = IsRestAt part.place part.headers text
 abbrev pub IsRest : TrailerPart → List ℕ → Type 0
 IsRest part text = IsFree part text × (length text ≤ part.bytes)
 
--- after the byte the part is `next`: it has the continuations of the texts that begin with the byte, or no
--- text begins with it
+-- the result of reading the byte: a part that a text may follow exactly if the byte and this text together
+-- have the property, or `None` if no text with the property begins with the byte
 abbrev pub ByteLeads : (List ℕ → Type 0) → ℕ → Option TrailerPart → Type 0
 ByteLeads Is byte None = (text : List ℕ) → ¬ (Is (byte ∷ text))
 ByteLeads Is byte (Some next) = (text : List ℕ) → Is (byte ∷ text) ↔ IsFree next text

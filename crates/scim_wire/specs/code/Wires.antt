@@ -25,14 +25,14 @@ pub record HoldsChunks (part : ChunksPart) (bytes : List ℕ) : Type 0 where
   pub chunked : part.head.framing ≡ Chunked
   pub stands : chunks.StandsFor part.chunks after
 
--- the state is reached by these bytes after the last whole message, which gave these items
+-- the state after reading these bytes, which follow the last whole message; `items` were read from them
 abbrev pub StandsAt : State → List ℕ → List Item → Type 0
 StandsAt (state.Opening part) bytes items = HoldsHead part bytes × (items ≡ [])
 StandsAt (state.InBody part) bytes items = HoldsBody part bytes × (items ≡ announced part.head)
 StandsAt (state.InChunks part) bytes items = HoldsChunks part bytes × (items ≡ announced part.head)
 StandsAt state.Shut bytes items = LeavesRefused bytes items
 
--- the bytes lead to this state and give one more item or none
+-- reading the last of these bytes leads to this state, and to one more item or none; `items` were read before
 abbrev pub Steps : State → Option Item → List ℕ → List Item → Type 0
 Steps next None bytes items = StandsAt next bytes items
 Steps next (Some Continue) bytes items = StandsAt next bytes (items ++ Continue ∷ [])
